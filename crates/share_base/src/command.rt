@@ -1,0 +1,79 @@
+//! What a link is asked to do, and what it answers.
+ghost use Rattle.std.specs.Prelude.{◌≡◌};
+
+use crate::naming::Name;
+use crate::number::{FlowNo, TicketNo};
+use crate::refusal::Refusal;
+
+/// A change of the funding or of the flows.
+#[derive(Clone, Copy, Debug)]
+pub enum Command {
+    /// Issues a ticket of this amount, 1 to 2^20, in a currency.
+    MakeTicket { amount: u64, currency: Name },
+    /// Lets a ticket without a holder fund an open flow.
+    FundFlow { ticket: u64, flow: Name },
+    /// Opens a flow with a buffer of `limit` packets, 1 to 1024, under a tariff of the shelf.
+    OpenFlow { name: Name, limit: u64, tariff: u64 },
+}
+
+/// The answer to a command or an arrival.
+#[derive(Clone, Copy, Debug, PartialEq, Eq)]
+pub enum Reply {
+    Done,
+    Ticket(TicketNo),
+    Flow(FlowNo),
+    /// The flow that was closed, how many of its packets were dropped, and its account.
+    Closed {
+        flow: FlowNo,
+        dropped: u32,
+        account: u64,
+    },
+    /// The packet that was accepted.
+    Packet {
+        flow: FlowNo,
+        seq: u32,
+    },
+    Refused(Refusal),
+}
+
+impl Reply {
+    /// An equal reply, made without memory.
+    pub fn same(&self) -> Reply
+        ensures { result ≡ self.now }
+    {
+        *self
+    }
+}
+
+/// The answer to a turn of the link.
+#[derive(Clone, Copy, Debug, PartialEq, Eq)]
+pub enum Turn {
+    /// The writer accepted `k` bytes of the frame of this packet, which is `whole` now or in part.
+    Wrote {
+        flow: FlowNo,
+        seq: u32,
+        k: u32,
+        whole: bool,
+    },
+    /// The writer failed after `j` bytes of the frame of this packet, and the link is broken.
+    Torn {
+        flow: FlowNo,
+        seq: u32,
+        j: u32,
+    },
+    /// There is nothing to send.
+    Idle,
+    /// The write was interrupted, and nothing changed.
+    Again,
+    /// The link was broken before.
+    Broken,
+    /// The life was spent before.
+    Spent,
+}
+
+/// The answer to an event of either kind.
+#[derive(Clone, Copy, Debug, PartialEq, Eq)]
+pub enum Outcome {
+    Replied(Reply),
+    Turned(Turn),
+}

@@ -1,0 +1,15 @@
+//! The words that every layer of stridelink speaks: names, numbers, commands, replies, refusals, and
+//! the payloads of packets. Plain types, each small enough to be read at a glance.
+#![tactic(auto)]
+
+mod command;
+mod naming;
+mod number;
+mod parcel;
+mod refusal;
+
+pub use command::{Command, Outcome, Reply, Turn};
+pub use naming::Name;
+pub use number::{FlowNo, TicketNo};
+pub use parcel::{Body, Parcel};
+pub use refusal::Refusal;

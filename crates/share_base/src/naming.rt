@@ -1,0 +1,153 @@
+//! The names of currencies and flows.
+ghost use Rattle.std.specs.Prelude.{◌≡◌, ◌≤◌, length, Some, nat_eq, refl, None, ◌<◌, slice_index, if◌then◌else◌};
+ghost use Rattle.std.specs.List.{list_all};
+ghost use Rattle.std.specs.Ordering.{nat_cmp};
+ghost use Rattle.std.specs.Hash as fed;
+ghost use Rattle.std.specs.Cmp.Lexicographic.{pointwise, slice_cmp, nat_list_eq_equiv, nat_list_cmp_total, texts_ties, texts_po};
+ghost use Rattle.std.specs.Cmp.{partial_equiv_from_equiv};
+ghost use Rattle.std.specs.Cmp.Rules.{hashing};
+ghost use Rattle.std.proofs.Common.{rules};
+ghost use Rattle.share_base.specs.Name.{is_letter, is_name_byte, is_name};
+
+use std::cmp::Ordering;
+use std::hash::{Hash, Hasher};
+use std::marker::Model;
+
+/// The longest name, in bytes.
+pub const MAX_NAME: usize = 16;
+
+/// The name of a currency or a flow: a letter from `a` to `z`, and then at most 15 more of these letters,
+/// digits, `_` or `-`. A contract sees it as its bytes.
+#[derive(Clone, Copy, Debug)]
+pub struct Name {
+    bytes: [u8; 16],
+    len: usize,
+}
+
+impl Model for Name {
+    ghost use Rattle.std.specs.Prelude.{◌≡◌, ℕ, List, length, take};
+    ghost use Rattle.share_base.specs.Name.{padded};
+
+    ghost Value = { List ℕ };
+
+    ghost view = { λ name. take name.len name.bytes };
+
+    ghost invariant = { λ name. (length (take name.len name.bytes) ≡ name.len) × (padded (take name.len name.bytes) ≡ name.bytes) };
+
+    ghost inverse = { λ bs. record { bytes = padded bs; len = length bs } };
+
+    ghost inverse_ok = { λ a h i. record { bytes = h.1 i; len = h.0 i } };
+}
+
+impl Name {
+    /// The name that these bytes spell, if they spell one.
+    pub fn read(bytes: &[u8]) -> Option<Name>
+        ensures { result ≡ (if is_name bytes.now then Some bytes.now else None) }
+    {
+        if !spells_name(bytes) {
+            return None;
+        }
+        Some(Name::padded(bytes))
+    }
+
+    fn padded(bytes: &[u8]) -> Name
+        requires { length bytes.now ≤ 16 }
+        ensures { result ≡ bytes.now }
+    {
+        let mut padded = [0; MAX_NAME];
+        padded[..bytes.len()].copy_from_slice(bytes);
+        Name {
+            bytes: padded,
+            len: bytes.len(),
+        }
+    }
+
+    /// The bytes of the name.
+    pub fn as_bytes(&self) -> &[u8]
+        ensures value { result.now ≡ self.now }
+        ensures short { length self.now ≤ 16 }
+    {
+        &self.bytes[..self.len]
+    }
+}
+
+fn spells_name(bytes: &[u8]) -> bool
+    ensures { result ≡ is_name bytes.now }
+{
+    begins_well(bytes) && bytes.len() <= MAX_NAME && has_name_bytes(bytes)
+}
+
+fn begins_well(bytes: &[u8]) -> bool
+    ensures { result ≡ is_letter (slice_index bytes.now 0) }
+{
+    match bytes.first() {
+        None => false,
+        Some(first) => is_letter(*first),
+    }
+}
+
+fn has_name_bytes(bytes: &[u8]) -> bool
+    ensures { result ≡ list_all is_name_byte bytes.now }
+{
+    bytes.iter().all(|byte| is_name_byte(*byte))
+}
+
+fn is_letter(byte: u8) -> bool
+    ensures { result ≡ is_letter byte }
+{
+    b'a' <= byte && byte <= b'z'
+}
+
+fn is_name_byte(byte: u8) -> bool
+    ensures { result ≡ is_name_byte byte }
+{
+    is_letter(byte) || (b'0' <= byte && byte <= b'9') || byte == b'_' || byte == b'-'
+}
+
+impl PartialEq for Name {
+    ghost eq = { pointwise nat_eq };
+
+    ghost laws = { partial_equiv_from_equiv nat_list_eq_equiv };
+
+    fn eq(&self, other: &Name) -> bool {
+        self.as_bytes() == other.as_bytes()
+    }
+}
+
+impl Eq for Name {
+    ghost laws = { nat_list_eq_equiv };
+}
+
+impl PartialOrd for Name {
+    ghost partial_cmp = { λ x y. Some (slice_cmp nat_cmp x y) };
+
+    ghost laws = { texts_po };
+
+    fn partial_cmp(&self, other: &Name) -> Option<Ordering> {
+        Some(self.cmp(other))
+    }
+}
+
+impl Ord for Name {
+    ghost cmp = { slice_cmp nat_cmp };
+
+    ghost total = { nat_list_cmp_total };
+
+    ghost matches_partial_cmp = { λ x y. refl };
+
+    ghost matches_eq = { texts_ties };
+
+    fn cmp(&self, other: &Name) -> Ordering {
+        self.as_bytes().cmp(other.as_bytes())
+    }
+}
+
+impl Hash for Name {
+    ghost hash_input = { fed.slice fed.u8 };
+
+    ghost respects_eq = { Prim.search (hashing, rules) };
+
+    fn hash<H: Hasher>(&self, state: &mut H) {
+        self.as_bytes().hash(state);
+    }
+}

@@ -1,0 +1,91 @@
+//! The payloads of packets, and the two copies in which a payload is handed in.
+ghost use Rattle.std.specs.Prelude.{◌≡◌, ◌<◌, ◌≤◌, length, IfOk, IfErr, None};
+ghost use Rattle.share_base.specs.Body.{payload_refusal};
+ghost use Rattle.share_base.specs.Refusal.{IsRefused};
+
+use crate::refusal::Refusal;
+use std::alloc::Global;
+use std::marker::Model;
+
+/// The longest payload, in bytes.
+pub const MAX_PAYLOAD: usize = 1490;
+
+/// The payload of a packet: 1 to 1490 bytes. A contract sees it as these bytes.
+#[derive(Drop)]
+pub struct Body {
+    bytes: Vec<u8>,
+}
+
+impl Model for Body {
+    ghost use Rattle.std.specs.Prelude.{ℕ, List, length, ◌≤◌};
+
+    ghost Value = { List ℕ };
+
+    ghost view = { λ body. body.bytes.items };
+
+    ghost invariant = { λ body. (1 ≤ length body.bytes.items) × (length body.bytes.items ≤ 1490) };
+}
+
+impl Body {
+    /// A copy of these bytes. `Range` where they are not 1 to 1490, `NoMemory` where a growth was refused.
+    pub fn new(alloc: Global, bytes: &[u8]) -> Result<Body, Refusal>
+        ensures ok { IfOk result (λ body. (body ≡ bytes.now) × (payload_refusal bytes.now ≡ None)) }
+        ensures refused { IfErr result (IsRefused (payload_refusal bytes.now)) }
+    {
+        if bytes.is_empty() || bytes.len() > MAX_PAYLOAD {
+            return Err(Refusal::Range);
+        }
+        match Vec::from_slice(alloc, bytes) {
+            Ok(bytes) => Ok(Body { bytes }),
+            Err(_) => Err(Refusal::NoMemory),
+        }
+    }
+
+    /// The bytes.
+    pub fn as_slice(&self) -> &[u8]
+        ensures value { result.now ≡ self.now }
+        ensures some { 1 ≤ length self.now }
+        ensures few { length self.now ≤ 1490 }
+    {
+        self.bytes.as_slice()
+    }
+}
+
+/// A payload held twice, so that it can be sent and recorded with no further memory. A contract sees it as
+/// its bytes.
+#[derive(Drop)]
+pub struct Parcel {
+    sending: Body,
+    audit: Body,
+}
+
+impl Model for Parcel {
+    ghost use Rattle.std.specs.Prelude.{ℕ, List, ◌≡◌};
+
+    ghost Value = { List ℕ };
+
+    ghost view = { λ parcel. parcel.sending };
+
+    ghost invariant = { λ parcel. parcel.audit ≡ parcel.sending };
+}
+
+impl Parcel {
+    /// Two copies of these bytes. `Range` where they are not 1 to 1490, `NoMemory` where a growth was refused.
+    pub fn new(alloc: Global, bytes: &[u8]) -> Result<Parcel, Refusal>
+        ensures ok { IfOk result (λ parcel. (parcel ≡ bytes.now) × (payload_refusal bytes.now ≡ None)) }
+        ensures refused { IfErr result (IsRefused (payload_refusal bytes.now)) }
+    {
+        let sending = Body::new(alloc, bytes)?;
+        let audit = Body::new(alloc, bytes)?;
+        Ok(Parcel { sending, audit })
+    }
+
+    /// The copy to send and the copy to record. It takes no memory.
+    pub fn split(self) -> (Body, Body)
+        ensures sending { result.0 ≡ self }
+        ensures audit { result.1 ≡ self }
+    {
+        let Parcel { sending, audit } = self;
+        (sending, audit)
+    }
+}

@@ -1,0 +1,27 @@
+//! Tickets, their holders, and the flows that they fund.
+
+use share_base::{FlowNo, Name, TicketNo};
+
+/// Whom a ticket funds.
+#[derive(Clone, Copy, Debug)]
+pub enum Holder {
+    Nobody,
+    Currency(Name),
+    Flow(FlowNo),
+}
+
+/// A ticket: an amount in a currency, its denomination, and whom it funds.
+#[derive(Clone, Copy, Debug)]
+pub struct Ticket {
+    pub number: TicketNo,
+    pub amount: u32,
+    pub denomination: Name,
+    pub holder: Holder,
+}
+
+/// An open flow as funding sees it. It is active while its buffer holds a packet.
+#[derive(Clone, Copy, Debug)]
+pub struct OpenFlow {
+    pub number: FlowNo,
+    pub active: bool,
+}

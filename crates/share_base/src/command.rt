@@ -3,6 +3,7 @@ ghost use Rattle.std.specs.Prelude.{◌≡◌};
 
 use crate::naming::Name;
 use crate::number::{FlowNo, TicketNo};
+use crate::parcel::Body;
 use crate::refusal::Refusal;
 
 /// A change of the funding or of the flows.
@@ -19,8 +20,11 @@ pub enum Command {
 /// The answer to a command or an arrival.
 #[derive(Clone, Copy, Debug, PartialEq, Eq)]
 pub enum Reply {
+    /// What was asked is done, and there is nothing to tell.
     Done,
+    /// The number of the ticket that was made.
     Ticket(TicketNo),
+    /// The number of the flow that was opened.
     Flow(FlowNo),
     /// The flow that was closed, how many of its packets were dropped, and its account.
     Closed {
@@ -28,11 +32,12 @@ pub enum Reply {
         dropped: u32,
         account: u64,
     },
-    /// The packet that was accepted.
+    /// The packet that was accepted: its flow and its sequence number.
     Packet {
         flow: FlowNo,
         seq: u32,
     },
+    /// Why nothing was done.
     Refused(Refusal),
 }
 
@@ -71,9 +76,24 @@ pub enum Turn {
     Spent,
 }
 
+/// What can happen to a link. Refused commands and arrivals are events too.
+#[derive(Drop)]
+pub enum Event {
+    /// A command was made.
+    Commanded(Command),
+    /// A packet of this payload came for the flow of this name.
+    Arrived { flow: Name, body: Body },
+    /// The writer accepted this many bytes, at least 1, of the frame that is sent.
+    Written(u32),
+    /// The writer failed on the frame that is sent.
+    Failed,
+}
+
 /// The answer to an event of either kind.
 #[derive(Clone, Copy, Debug, PartialEq, Eq)]
 pub enum Outcome {
+    /// The answer to a command or an arrival.
     Replied(Reply),
+    /// The answer to a turn of the link, or to a declared fault.
     Turned(Turn),
 }

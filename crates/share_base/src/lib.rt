@@ -7,8 +7,10 @@ mod naming;
 mod number;
 mod parcel;
 mod refusal;
+#[cfg(test)]
+mod tests;
 
-pub use command::{Command, Outcome, Reply, Turn};
+pub use command::{Command, Event, Outcome, Reply, Turn};
 pub use naming::Name;
 pub use number::{FlowNo, TicketNo};
 pub use parcel::{Body, Parcel};

@@ -1,5 +1,5 @@
 //! The names of currencies and flows.
-ghost use Rattle.std.specs.Prelude.{◌≡◌, ◌≤◌, length, Some, nat_eq, refl, None, ◌<◌, slice_index, if◌then◌else◌};
+ghost use Rattle.std.specs.Prelude.{◌≡◌, ◌≤◌, length, Some, nat_eq, refl, true, None, ◌<◌, slice_index, if◌then◌else◌};
 ghost use Rattle.std.specs.List.{list_all};
 ghost use Rattle.std.specs.Ordering.{nat_cmp};
 ghost use Rattle.std.specs.Hash as fed;
@@ -25,14 +25,14 @@ pub struct Name {
 }
 
 impl Model for Name {
-    ghost use Rattle.std.specs.Prelude.{◌≡◌, ℕ, List, length, take};
-    ghost use Rattle.share_base.specs.Name.{padded};
+    ghost use Rattle.std.specs.Prelude.{◌≡◌, ℕ, List, length, take, true};
+    ghost use Rattle.share_base.specs.Name.{padded, is_name};
 
     ghost Value = { List ℕ };
 
     ghost view = { λ name. take name.len name.bytes };
 
-    ghost invariant = { λ name. (length (take name.len name.bytes) ≡ name.len) × (padded (take name.len name.bytes) ≡ name.bytes) };
+    ghost invariant = { λ name. (length (take name.len name.bytes) ≡ name.len) × (padded (take name.len name.bytes) ≡ name.bytes) × (is_name (take name.len name.bytes) ≡ true) };
 
     ghost inverse = { λ bs. record { bytes = padded bs; len = length bs } };
 
@@ -51,7 +51,8 @@ impl Name {
     }
 
     fn padded(bytes: &[u8]) -> Name
-        requires { length bytes.now ≤ 16 }
+        requires short { length bytes.now ≤ 16 }
+        requires name { is_name bytes.now ≡ true }
         ensures { result ≡ bytes.now }
     {
         let mut padded = [0; MAX_NAME];
@@ -66,6 +67,7 @@ impl Name {
     pub fn as_bytes(&self) -> &[u8]
         ensures value { result.now ≡ self.now }
         ensures short { length self.now ≤ 16 }
+        ensures name { is_name self.now ≡ true }
     {
         &self.bytes[..self.len]
     }

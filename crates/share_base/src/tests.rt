@@ -1,0 +1,218 @@
+//! Worked values: the spellings of names, the lengths of payloads, and the number, name and text of each refusal.
+use crate::{Body, FlowNo, Name, Parcel, Refusal, Reply, TicketNo};
+use std::cmp::Ordering;
+use std::hash::{DefaultHasher, Hash, Hasher};
+use std::process::Abort;
+use std::test::Fail;
+
+#[test]
+fn names_are_spelled(rt: HostRuntime) {
+    let spellings = [
+        (b"a".as_slice(), true),
+        (b"base".as_slice(), true),
+        (b"z9_-".as_slice(), true),
+        (b"abcdefghijklmnop".as_slice(), true),
+        (b"abcdefghijklmnopq".as_slice(), false),
+        (b"".as_slice(), false),
+        (b"A".as_slice(), false),
+        (b"aB".as_slice(), false),
+        (b"9a".as_slice(), false),
+        (b"_a".as_slice(), false),
+        (b"-a".as_slice(), false),
+        (b"a\x00".as_slice(), false),
+        (b"a\xff".as_slice(), false),
+        (b"a b".as_slice(), false),
+        (b"a.b".as_slice(), false),
+        (b"a`".as_slice(), false),
+        (b"a{".as_slice(), false),
+    ];
+    for (bytes, good) in spellings {
+        match Name::read(bytes) {
+            Some(name) => {
+                assert!(rt; good, "{bytes:?} is no name");
+                assert_eq!(rt; name.as_bytes(), bytes);
+            }
+            None => assert!(rt; !good, "{bytes:?} is a name"),
+        }
+    }
+}
+
+fn name(rt: &impl Abort, text: &str) -> Name {
+    Name::read(text.as_bytes()).expect(rt, "a name")
+}
+
+fn hash_of(name: &Name) -> u64 {
+    let mut state = DefaultHasher::new();
+    name.hash(&mut state);
+    state.finish()
+}
+
+#[test]
+fn names_are_ordered_and_hashed_as_their_bytes(rt: HostRuntime) {
+    let rows = [
+        ("a", "a", Ordering::Equal),
+        ("a", "aa", Ordering::Less),
+        ("b", "aa", Ordering::Greater),
+        ("a-", "a0", Ordering::Less),
+        ("a_", "a9", Ordering::Greater),
+        ("abcdefghijklmnop", "abcdefghijklmnoq", Ordering::Less),
+    ];
+    for (left, right, order) in rows {
+        let a = name(&rt, left);
+        let b = name(&rt, right);
+        assert_eq!(rt; a.cmp(&b), order, "{left} and {right}");
+        assert_eq!(rt; a.partial_cmp(&b), Some(order), "{left} and {right}");
+        assert_eq!(rt; a == b, order == Ordering::Equal, "{left} and {right}");
+        assert_eq!(rt;
+            hash_of(&a) == hash_of(&b),
+            order == Ordering::Equal,
+            "{left} and {right}"
+        );
+    }
+}
+
+#[test]
+fn payloads_are_1_to_1490_bytes(rt: HostRuntime) {
+    let bytes = [7; 1491];
+    let rows = [
+        (0, Some(Refusal::Range)),
+        (1, None),
+        (1490, None),
+        (1491, Some(Refusal::Range)),
+    ];
+    for (count, refusal) in rows {
+        let payload = &bytes[..count];
+        match Body::new(rt.alloc(), payload) {
+            Ok(body) => {
+                assert_eq!(rt; refusal, None, "a body of {count} bytes");
+                assert_eq!(rt; body.as_slice(), payload);
+            }
+            Err(answer) => assert_eq!(rt; refusal, Some(answer), "a body of {count} bytes"),
+        }
+        match Parcel::new(rt.alloc(), payload) {
+            Ok(parcel) => {
+                assert_eq!(rt; refusal, None, "a parcel of {count} bytes");
+                let (sending, audit) = parcel.split();
+                assert_eq!(rt; sending.as_slice(), payload);
+                assert_eq!(rt; audit.as_slice(), payload);
+            }
+            Err(answer) => assert_eq!(rt; refusal, Some(answer), "a parcel of {count} bytes"),
+        }
+    }
+}
+
+#[test]
+fn refusals_have_numbers_names_and_texts(rt: HostRuntime) -> Result<(), Fail> {
+    let rows = [
+        (Refusal::NoMemory, 1, "NoMemory", "memory was refused"),
+        (
+            Refusal::Spent,
+            2,
+            "Spent",
+            "the link has made as many events as its life allows",
+        ),
+        (
+            Refusal::Syntax,
+            3,
+            "Syntax",
+            "the line is not one that can be read",
+        ),
+        (
+            Refusal::Range,
+            4,
+            "Range",
+            "a number or a payload is out of its range",
+        ),
+        (
+            Refusal::NoCurrency,
+            5,
+            "NoCurrency",
+            "no currency has this name",
+        ),
+        (
+            Refusal::NoTicket,
+            6,
+            "NoTicket",
+            "no ticket has this number",
+        ),
+        (Refusal::NoFlow, 7, "NoFlow", "no open flow has this name"),
+        (
+            Refusal::NoTariff,
+            8,
+            "NoTariff",
+            "no tariff has this number",
+        ),
+        (Refusal::Taken, 9, "Taken", "the name is taken"),
+        (
+            Refusal::Base,
+            10,
+            "Base",
+            "the base currency can be neither removed nor funded",
+        ),
+        (
+            Refusal::InUse,
+            11,
+            "InUse",
+            "a ticket is denominated in the currency, or funds it",
+        ),
+        (Refusal::Funding, 12, "Funding", "the ticket has a holder"),
+        (
+            Refusal::Unfunded,
+            13,
+            "Unfunded",
+            "the ticket has no holder",
+        ),
+        (
+            Refusal::Crowded,
+            14,
+            "Crowded",
+            "the holder is funded by as many tickets as it may be",
+        ),
+        (
+            Refusal::Cycle,
+            15,
+            "Cycle",
+            "the currency would back itself",
+        ),
+        (
+            Refusal::Deep,
+            16,
+            "Deep",
+            "the chain of currencies would be too long",
+        ),
+        (Refusal::TableFull, 17, "TableFull", "the table is full"),
+        (
+            Refusal::Sending,
+            18,
+            "Sending",
+            "a frame of the flow is in part",
+        ),
+        (
+            Refusal::BufferFull,
+            19,
+            "BufferFull",
+            "the buffer of the flow is full",
+        ),
+        (Refusal::Broken, 20, "Broken", "the link is broken"),
+    ];
+    for (refusal, number, name, text) in rows {
+        assert_eq!(rt; refusal.number(), number, "{refusal:?}");
+        assert_eq!(rt; refusal.name().as_bytes(), name.as_bytes(), "{refusal:?}");
+        assert_eq!(rt; refusal.same(), refusal);
+        let shown = refusal.to_string(rt.alloc())?;
+        assert_eq!(rt; shown.as_bytes(), text.as_bytes(), "{refusal:?}");
+    }
+    Ok(())
+}
+
+#[test]
+fn numbers_and_replies_are_read(rt: HostRuntime) {
+    assert_eq!(rt; FlowNo(7).number(), 7);
+    assert_eq!(rt; TicketNo(4_294_967_295).number(), 4_294_967_295);
+    let reply = Reply::Closed {
+        flow: FlowNo(1),
+        dropped: 3,
+        account: 13,
+    };
+    assert_eq!(rt; reply.same(), reply);
+}

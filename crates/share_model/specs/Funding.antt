@@ -1,9 +1,8 @@
 -- Ticket currencies: which tickets are active, what each is worth, and the tickets of a flow, computed from
 -- the whole graph at each use. A chain of steps is followed for at most nine of them, one more than the longest
 -- chain of currencies.
-use Rattle.std.specs.Prelude.{ℕ, ◌+◌, ◌*◌, ◌/◌, ◌^◌, zero, suc, Bool, true, false, not, ◌&&◌, ◌||◌, min, List, [], ◌∷◌, length, filter, find, sum_by, nat_eq, nat_le, bytes_eq, codes, Option, None, Some, option_map, is_some, if◌then◌else◌}
+use Rattle.std.specs.Prelude.{ℕ, ◌*◌, ◌/◌, ◌^◌, zero, suc, Bool, true, false, not, ◌&&◌, ◌||◌, min, List, [], filter, sum_by, nat_eq, bytes_eq, codes, if◌then◌else◌}
 use Rattle.std.specs.List.{list_any}
-use Rattle.std.specs.Map.{lookup}
 use Rattle.share_model.specs.declared.funding.Holder.{Holder}
 use Rattle.share_model.specs.declared.funding.Holder.TheVariants.{Nobody, Currency, Flow}
 use Rattle.share_model.specs.declared.funding.Ticket.{Ticket}

@@ -1,11 +1,11 @@
 -- The definitions of funding, checked against worked examples: each equation holds by computation alone.
-use Rattle.std.specs.Prelude.{◌≡◌, ℕ, ◌^◌, Bool, true, false, List, [], ◌∷◌, map, codes, Option, None, Some, refl}
-use Rattle.share_base.specs.declared.refusal.Refusal.{Refusal}
+use Rattle.std.specs.Prelude.{◌≡◌, ℕ, ◌^◌, Bool, true, false, List, [], ◌∷◌, map, codes, Some, refl}
 use Rattle.share_base.specs.declared.refusal.Refusal.TheVariants.{Cycle, Deep}
 use Rattle.share_model.specs.declared.funding.Holder.TheVariants.{Nobody, Currency, Flow}
 use Rattle.share_model.specs.declared.funding.Ticket.{Ticket}
 use Rattle.share_model.specs.declared.funding.OpenFlow.{OpenFlow}
-use Rattle.share_model.specs.Funding.{NameBytes, base, Graph, issued, backing, funding, act, is_active, active, worth_by, val, worth, tickets}
+use Rattle.share_model.specs.Funding.{NameBytes, base, Graph, issued, backing, funding, act, is_active, active, worth_by, val, worth, tickets, chain, chain_within, runs, is_deep}
+use Rattle.share_model.specs.FundingChanges.{with_holder, fund_currency_refusal}
 
 x : NameBytes
 x = codes "x"
@@ -47,3 +47,77 @@ c_idle = refl
 only_a : shares (three_deep false false) ≡ 100 ∷ 0 ∷ 0 ∷ []
 unfolding three_deep x y issued backing funding act is_active active worth_by val worth tickets
 only_a = refl
+
+-- 1000 of base back x, of which 1 funds a and 2 fund b
+two_shares : Bool → Graph
+two_shares b = record {
+  currencies = x ∷ [];
+  tickets = backing_of 1 1000 base x ∷ ticket_for 2 1 x 1 ∷ ticket_for 3 2 x 2 ∷ [];
+  next_ticket = 4;
+  flows = opened 1 (codes "a") true ∷ opened 2 (codes "b") b ∷ [];
+  next_flow = 3;
+}
+
+b_waits : map (tickets (two_shares false)) (1 ∷ 2 ∷ []) ≡ 1000 ∷ 0 ∷ []
+unfolding two_shares x issued backing funding act is_active active worth_by val worth tickets
+b_waits = refl
+
+both_share : map (tickets (two_shares true)) (1 ∷ 2 ∷ []) ≡ 333 ∷ 666 ∷ []
+unfolding two_shares x issued backing funding act is_active active worth_by val worth tickets
+both_share = refl
+
+-- 5 of x fund a, and x has this backing
+one_flow : List Ticket → Graph
+one_flow behind = record {
+  currencies = x ∷ [];
+  tickets = ticket_for 1 5 x 1 ∷ behind;
+  next_ticket = 3;
+  flows = opened 1 (codes "a") true ∷ [];
+  next_flow = 2;
+}
+
+without_backing : tickets (one_flow []) 1 ≡ 0
+unfolding one_flow x issued backing funding act is_active active worth_by val worth tickets
+without_backing = refl
+
+with_backing : tickets (one_flow (backing_of 2 10 base x ∷ [])) 1 ≡ 10
+unfolding one_flow x issued backing funding act is_active active worth_by val worth tickets
+with_backing = refl
+
+-- two tickets of the greatest amount are worth no more than one
+capped : tickets (one_flow (ticket_for 2 (2 ^ 20) base 1 ∷ ticket_for 3 (2 ^ 20) base 1 ∷ [])) 1 ≡ 1048576
+unfolding one_flow x issued backing funding act is_active active worth_by val worth tickets
+capped = refl
+
+abbrev idle_ticket : ℕ → NameBytes → Ticket
+idle_ticket n c = record { number = n; amount = 1; denomination = c; holder = Nobody }
+
+-- x backs y, and a ticket of y is to back x
+back_and_forth : Graph
+back_and_forth = record {
+  currencies = x ∷ y ∷ [];
+  tickets = backing_of 1 1 x y ∷ idle_ticket 2 y ∷ [];
+  next_ticket = 3;
+  flows = [];
+  next_flow = 1;
+}
+
+cycle_refused : fund_currency_refusal back_and_forth 2 x ≡ Some Cycle
+unfolding back_and_forth x y issued backing chain chain_within runs is_deep with_holder
+cycle_refused = refl
+
+-- eight currencies back one another in a row, and a ticket of the eighth is to back a ninth
+nine_in_a_row : Graph
+nine_in_a_row = record {
+  currencies = codes "c1" ∷ codes "c2" ∷ codes "c3" ∷ codes "c4" ∷ codes "c5" ∷ codes "c6" ∷ codes "c7" ∷ codes "c8" ∷ codes "c9" ∷ [];
+  tickets =
+      backing_of 1 1 (codes "c1") (codes "c2") ∷ backing_of 2 1 (codes "c2") (codes "c3") ∷ backing_of 3 1 (codes "c3") (codes "c4") ∷ backing_of 4 1 (codes "c4") (codes "c5")
+      ∷ backing_of 5 1 (codes "c5") (codes "c6") ∷ backing_of 6 1 (codes "c6") (codes "c7") ∷ backing_of 7 1 (codes "c7") (codes "c8") ∷ idle_ticket 8 (codes "c8") ∷ [];
+  next_ticket = 9;
+  flows = [];
+  next_flow = 1;
+}
+
+ninth_refused : fund_currency_refusal nine_in_a_row 8 (codes "c9") ≡ Some Deep
+unfolding nine_in_a_row issued backing chain chain_within runs is_deep with_holder
+ninth_refused = refl

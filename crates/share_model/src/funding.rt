@@ -5,8 +5,11 @@ use share_base::{FlowNo, Name, TicketNo};
 /// Whom a ticket funds.
 #[derive(Clone, Copy, Debug)]
 pub enum Holder {
+    /// It funds nobody yet.
     Nobody,
+    /// It backs the currency of this name.
     Currency(Name),
+    /// It funds the open flow of this number.
     Flow(FlowNo),
 }
 

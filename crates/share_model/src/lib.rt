@@ -4,5 +4,28 @@
 #![tactic(auto)]
 
 mod funding;
+mod laws;
+mod line;
+mod link;
+mod rates;
+mod reader;
+mod scripted;
+mod stride;
+mod tape;
+#[cfg(test)]
+mod tests;
+mod writer;
 
 pub use funding::{Holder, OpenFlow, Ticket};
+pub use laws::{
+    accounts_are_bills, bytes_tell_packets, events_add_bytes, events_are_counted,
+    events_keep_sound, numbers_rise, packets_are_kept,
+};
+pub use line::Line;
+pub use link::{Book, Part};
+pub use rates::{Rate, Rates};
+pub use reader::{Got, PlainReader, Source};
+pub use scripted::Scripted;
+pub use stride::{Client, GlobalPart, Position};
+pub use tape::Tape;
+pub use writer::{Answer, PlainWriter, Telling};

@@ -1,0 +1,8 @@
+use Rattle.share_model.specs.HistoryLaws.{run-frames, frames-unique}
+use Rattle.share_model.proofs.laws.bytes_tell_packets.Goals as goal
+
+pub returns-clause-frames : goal.returns-clause-frames
+returns-clause-frames c = run-frames
+
+pub returns-clause-unique : goal.returns-clause-unique
+returns-clause-unique c = frames-unique

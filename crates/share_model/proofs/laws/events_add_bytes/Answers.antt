@@ -1,0 +1,5 @@
+use Rattle.share_model.specs.FoldLaws.{run-bytes}
+use Rattle.share_model.proofs.laws.events_add_bytes.Goals as goal
+
+pub returns : goal.returns
+returns c = run-bytes

@@ -1,0 +1,5 @@
+use Rattle.share_model.specs.FoldLaws.{run-sound}
+use Rattle.share_model.proofs.laws.events_keep_sound.Goals as goal
+
+pub returns : goal.returns
+returns c = run-sound

@@ -1,0 +1,63 @@
+-- The history of a run: whose packets were sent, what they cost, and the bytes that tell them.
+use Rattle.std.specs.Prelude.{◌≡◌, ◌<◌, ◌+◌, ◌-◌, ◌*◌, ℕ, List, ◌++◌, length, take, map, flat_map, filter, sum_by, nat_eq, Option, None, Some, if◌then◌else◌}
+use Rattle.share_model.specs.declared.rates.Rate.{Rate}
+use Rattle.share_model.specs.Tariff.{rate_of, units_of}
+use Rattle.share_model.specs.Frame.{Head, FitsHeader, frame}
+use Rattle.share_model.specs.Buffers.{Buffer}
+use Rattle.share_model.specs.Link.{Live}
+use Rattle.share_model.specs.Fold.{Sent, TornFrame, State}
+use Rattle.share_model.specs.Each.{Each}
+
+-- the packets that were written whole
+abbrev pub sent_heads : List Sent → List Head
+sent_heads done = map (λ (d : Sent). d.head) done
+
+-- those of a flow, and their numbers
+abbrev pub sent_by : ℕ → List Sent → List Sent
+sent_by f done = filter (λ (d : Sent). nat_eq f d.head.flow) done
+
+abbrev pub sent_numbers : ℕ → List Sent → List ℕ
+sent_numbers f done = map (λ (d : Sent). d.head.seq) (sent_by f done)
+
+-- what n bytes of a frame cost under a tariff
+abbrev pub cost : List Rate → ℕ → ℕ → ℕ
+cost rates tariff n = (rate_of rates tariff).price * units_of (rate_of rates tariff) n
+
+abbrev pub sent_cost : List Rate → Sent → ℕ
+sent_cost rates d = cost rates d.tariff (length (frame d.head))
+
+-- a torn frame costs its flow the bytes that are out
+abbrev pub torn_cost : List Rate → ℕ → Option TornFrame → ℕ
+torn_cost rates f None = 0
+torn_cost rates f (Some t) = if nat_eq f t.head.flow then cost rates t.tariff t.out else 0
+
+-- what a flow's packets cost: those that were written whole, and the torn one
+abbrev pub bill : List Rate → State → ℕ → ℕ
+bill rates s f = sum_by (sent_cost rates) (sent_by f s.done) + torn_cost rates f s.torn
+
+-- the packets in the buffers, a torn one among them
+abbrev pub packets_in : List Buffer → ℕ
+packets_in bs = sum_by (λ (b : Buffer). length b.packets) bs
+
+-- the beginning of a frame, and not the whole
+pub record IsBeginning (x : List ℕ) : Type 0 where
+  pub head : Head
+  pub fits : FitsHeader head
+  pub at : ℕ
+  pub few : at < length (frame head)
+  pub is : x ≡ take at (frame head)
+
+-- bytes that are the frames of these packets, and the beginning of one more
+pub record AreFramesOf (hs : List Head) (bytes : List ℕ) : Type 0 where
+  pub fits : Each FitsHeader hs
+  pub rest : List ℕ
+  pub begins : IsBeginning rest
+  pub is : bytes ≡ flat_map frame hs ++ rest
+
+-- a link's torn packet, if it has one, and the packets in its buffers besides
+abbrev pub torn_packets : Option ℕ → ℕ
+torn_packets None = 0
+torn_packets (Some f) = 1
+
+abbrev pub waiting : Live → ℕ
+waiting l = packets_in l.buffers - torn_packets l.torn

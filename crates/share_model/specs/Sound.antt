@@ -1,0 +1,68 @@
+-- What holds of every link that events have made: the bounds by which no number leaves its type, and the ties between
+-- the funding, the buffers and the books. Callers learn it from each call; the laws say that each event keeps it.
+use Rattle.std.specs.Prelude.{◌≡◌, ◌<◌, ◌≤◌, ◌+◌, ◌*◌, ◌^◌, ℕ, true, false, List, [], ◌∷◌, map, length, Option, None, Some, IsTrue, is_some}
+use Rattle.share_model.specs.Each.{Each}
+use Rattle.share_model.specs.declared.link.Book.{Book}
+use Rattle.share_model.specs.declared.link.Part.{Part}
+use Rattle.share_model.specs.declared.rates.Rate.{Rate}
+use Rattle.share_model.specs.declared.funding.OpenFlow.{OpenFlow}
+use Rattle.share_model.specs.Tariff.{rate_at}
+use Rattle.share_model.specs.Frame.{Head, frame}
+use Rattle.share_model.specs.Buffers.{Buffer, head_of, is_some_packet}
+use Rattle.share_model.specs.Funding.{NameBytes}
+use Rattle.share_model.specs.Link.{Live}
+use Rattle.share_model.specs.Fold.{State, out}
+
+-- the numbers rise, and stay below a limit
+unfoldable pub Rises : ℕ → List ℕ → Type 0
+Rises limit [] = Unit {0}
+Rises limit (n ∷ ns) = (n < limit) × Each (λ m. n < m) ns × Rises limit ns
+
+-- each accepted packet was an event, and no payload is too long
+pub record IsSoundBuffer (events : ℕ) (b : Buffer) : Type 0 where
+  pub numbers : b.next ≤ events + 1
+  pub payloads : Each (λ p. length p ≤ 1490) b.packets
+
+-- the tariff is on the shelf, and an event posts less than 2^28
+pub record IsSoundBook (events : ℕ) (rates : List Rate) (b : Book) : Type 0 where
+  pub known : IsTrue (is_some (rate_at rates b.tariff))
+  pub account : b.account ≤ events * 2 ^ 28
+
+-- the flow of the frame in part has a packet, and some of its frame's bytes are out, but not all
+pub record IsSoundPart (buffers : List Buffer) (p : Part) : Type 0 where
+  pub head : Head
+  pub found : head_of buffers p.flow ≡ Some head
+  pub some : 0 < p.out
+  pub few : p.out < length (frame head)
+
+abbrev pub PartIsSound : List Buffer → Option Part → Type 0
+PartIsSound buffers None = Unit {0}
+PartIsSound buffers (Some p) = IsSoundPart buffers p
+
+abbrev pub flow_numbers : List (NameBytes × OpenFlow) → List ℕ
+flow_numbers flows = map (λ e. e.1.number) flows
+
+pub record Sound (life : ℕ) (rates : List Rate) (l : Live) : Type 0 where
+  pub events : l.counts.events ≤ life
+  pub accepted : l.counts.accepted ≤ l.counts.events
+  pub written : l.counts.written ≤ l.counts.events
+  pub sent : l.counts.sent ≤ l.counts.events * 1502
+  pub next_ticket : l.graph.next_ticket ≤ l.counts.events + 1
+  pub next_flow : l.graph.next_flow ≤ l.counts.events + 1
+  -- flows are numbered in order of opening
+  pub numbered : Rises l.graph.next_flow (flow_numbers l.graph.flows)
+  -- each open flow has a buffer and a book, and is active where its buffer holds a packet
+  pub buffered : map (λ (b : Buffer). b.flow) l.buffers ≡ flow_numbers l.graph.flows
+  pub booked : map (λ (b : Book). b.flow) l.books ≡ flow_numbers l.graph.flows
+  pub active : map (λ (e : NameBytes × OpenFlow). e.1.active) l.graph.flows ≡ map (λ (b : Buffer). is_some_packet b.packets) l.buffers
+  pub buffers : Each (IsSoundBuffer l.counts.events) l.buffers
+  pub books : Each (IsSoundBook l.counts.events rates) l.books
+  pub part : PartIsSound l.buffers l.part
+  pub broken : l.broken ≡ true → l.part ≡ None
+
+-- the same of a whole state: the counts are those of its history, and no packet is torn while the link is whole
+pub record SoundState (life : ℕ) (rates : List Rate) (s : State) : Type 0 where
+  pub live : Sound life rates s.live
+  pub done : length s.done ≡ s.live.counts.written
+  pub sent : length (out s) ≡ s.live.counts.sent
+  pub torn : s.live.broken ≡ false → s.torn ≡ None

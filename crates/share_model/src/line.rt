@@ -1,0 +1,16 @@
+//! The lines of a script.
+
+use share_base::{Body, Command, Name};
+
+/// A line of a script.
+#[derive(Drop)]
+pub enum Line {
+    /// A change of the funding or of the flows.
+    Change(Command),
+    /// A packet of this payload for the flow of this name.
+    Send { flow: Name, body: Body },
+    /// A turn of the link, in which the writer is offered at most this many bytes.
+    Turn(u64),
+    /// The writer is declared failed.
+    Torn,
+}

@@ -1,0 +1,62 @@
+//! Readers that tell which bytes they gave.
+ghost use Rattle.std.specs.Prelude.{◌≡◌, ◌<◌, ◌≤◌, ℕ, List, Option, length};
+ghost use Rattle.share_model.specs.Given.{Gives};
+
+use std::io::{ErrorKind, Read};
+
+/// What one read call answered.
+#[derive(Clone, Copy, Debug, PartialEq, Eq)]
+pub enum Got {
+    /// This many bytes, at least 1, stand at the front of the buffer.
+    Bytes(usize),
+    /// There are no more bytes.
+    End,
+    /// Nothing was read, and the call may be made again.
+    Interrupted,
+    /// Nothing was read, and nothing will be.
+    Failed,
+}
+
+/// A reader that fills a buffer in one call. What is `left` is what contracts know of the bytes to come; where
+/// that is `None`, as for a socket, nothing is known.
+pub trait Source {
+    ghost use Rattle.share_model.specs.declared.reader.Got.{Got};
+
+    ghost left: { Self → Option (List ℕ) };
+
+    /// The reader before a call, the buffer after it, the answer, and the reader after.
+    ghost gives: { Self → List ℕ → Got → Self → Type 0 };
+
+    /// Makes one read call.
+    fn take_bytes(&mut self, buffer: &mut [u8]) -> Got
+        requires { 0 < length buffer.old }
+        ensures { gives self.old buffer.new result self.new };
+
+    ghost tells: { (before : Self) (buffer : List ℕ) (got : Got) (after : Self) → gives before buffer got after → Gives (left before) buffer got (left after) };
+}
+
+/// A reader of std's, of which is known what its own contract tells.
+#[derive(Drop)]
+pub struct PlainReader<R>(pub R);
+
+impl<R: Read> Source for PlainReader<R> {
+    ghost left = { λ reader. R.remaining reader.0 };
+
+    ghost gives = { λ before buffer got after. Gives (R.remaining before.0) buffer got (R.remaining after.0) };
+
+    ghost tells = { λ before buffer got after given. given };
+
+    fn take_bytes(&mut self, buffer: &mut [u8]) -> Got {
+        match self.0.read(buffer) {
+            Ok(0) => Got::End,
+            Ok(count) => Got::Bytes(count),
+            Err(error) => {
+                if error.kind() == ErrorKind::Interrupted {
+                    Got::Interrupted
+                } else {
+                    Got::Failed
+                }
+            }
+        }
+    }
+}

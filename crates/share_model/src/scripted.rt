@@ -1,0 +1,95 @@
+//! A telling writer that answers as it is told to, for tests.
+ghost use Rattle.std.specs.Prelude.{◌≡◌, [], drop};
+ghost use Rattle.share_model.specs.Scripted.{wanted};
+ghost use Rattle.share_model.specs.Told.{Fits};
+
+use crate::tape::Tape;
+use crate::writer::{Answer, Telling};
+use std::alloc::Global;
+use std::marker::Model;
+
+/// A writer over memory that gives a list of answers in turn, one a call, and then accepts all. An accepted
+/// count that is greater than the piece is cut to it; a call that finds no memory fails.
+#[derive(Drop)]
+pub struct Scripted {
+    script: Vec<Answer>,
+    next: usize,
+    tape: Tape,
+}
+
+impl Model for Scripted {
+    ghost use Rattle.std.specs.Prelude.{drop};
+    ghost use Rattle.share_model.specs.Scripted.{ScriptedState};
+
+    ghost Value = { ScriptedState };
+
+    ghost view = { λ s. record { answers = drop s.next s.script.items; told = s.tape } };
+}
+
+impl Scripted {
+    /// A writer with this script, and an empty tape.
+    pub fn new(alloc: Global, script: Vec<Answer>) -> Scripted
+        ensures { result ≡ record { answers = script.items; told = record { bytes = []; counts = [] } } }
+    {
+        Scripted {
+            script,
+            next: 0,
+            tape: Tape::new(alloc),
+        }
+    }
+
+    /// The bytes that it holds.
+    pub fn bytes(&self) -> &[u8]
+        ensures { result.now ≡ self.now.told.bytes }
+    {
+        self.tape.bytes()
+    }
+
+    /// The count of each call that it accepted.
+    pub fn counts(&self) -> &[usize]
+        ensures { result.now ≡ self.now.told.counts }
+    {
+        self.tape.counts()
+    }
+}
+
+// The answer that a script wants for a piece.
+fn wanted(script: &[Answer], at: usize, piece: &[u8]) -> Answer
+    ensures value { result ≡ wanted (drop at script.now) piece.now }
+    ensures fits { Fits piece.now result }
+{
+    match script.get(at) {
+        None => Answer::Accepted(piece.len()),
+        Some(Answer::Accepted(count)) => Answer::Accepted((*count).min(piece.len())),
+        Some(Answer::Interrupted) => Answer::Interrupted,
+        Some(Answer::Failed) => Answer::Failed,
+    }
+}
+
+// The place of the answer after the one at a place.
+fn place_after(script: &[Answer], at: usize) -> usize
+    ensures { drop result script.now ≡ drop 1 (drop at script.now) }
+{
+    if at < script.len() { at + 1 } else { at }
+}
+
+impl Telling for Scripted {
+    ghost use Rattle.std.specs.Prelude.{Some};
+    ghost use Rattle.share_model.specs.Scripted.{ScriptedAnswers, scripted_tells};
+
+    ghost told = { λ s. Some s.told };
+
+    ghost answers = { ScriptedAnswers };
+
+    ghost tells = { scripted_tells };
+
+    fn offer(&mut self, piece: &[u8]) -> Answer {
+        let answer = wanted(self.script.as_slice(), self.next, piece);
+        self.next = place_after(self.script.as_slice(), self.next);
+        match answer {
+            Answer::Accepted(count) => self.tape.offer(&piece[..count]),
+            Answer::Interrupted => Answer::Interrupted,
+            Answer::Failed => Answer::Failed,
+        }
+    }
+}

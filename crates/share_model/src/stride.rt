@@ -1,0 +1,39 @@
+//! The clients of the stride queue, and the part of it that they share.
+
+/// A client of the stride queue: a flow that competes for the link, or one that does not at present.
+#[derive(Clone, Copy, Debug, PartialEq, Eq)]
+pub struct Client {
+    /// Its tickets, the last ones where it does not compete; 0 before it first competes.
+    pub tickets: u32,
+    /// 2^40 divided by its tickets; 0 before it first competes.
+    pub stride: u64,
+    /// By how much its pass was ahead of the global pass when it ceased to compete, with what was charged since.
+    pub remain: i128,
+    /// What it was charged, on the scale of the global pass, while it competes.
+    pub pass: i128,
+    pub competes: bool,
+}
+
+/// Where a client stands.
+#[derive(Clone, Copy, Debug, PartialEq, Eq)]
+pub struct Position {
+    pub competing: bool,
+    /// Its tickets, the last ones where it does not compete.
+    pub tickets: u32,
+    pub stride: u64,
+    /// Its pass while it competes, its remain otherwise.
+    pub place: i128,
+}
+
+/// What all clients of a stride queue share.
+#[derive(Clone, Copy, Debug, PartialEq, Eq)]
+pub struct GlobalPart {
+    /// The tickets of the clients that compete.
+    pub tickets: u64,
+    /// The global pass at the last update.
+    pub pass: u128,
+    /// The clock at the last update.
+    pub last: u64,
+    /// The units that were charged so far.
+    pub clock: u64,
+}

@@ -1,0 +1,61 @@
+//! Writers that tell which bytes they took.
+ghost use Rattle.std.specs.Prelude.{◌≡◌, ℕ, List, Option, None};
+ghost use Rattle.share_model.specs.Told.{Told, WasTold};
+
+use std::io::{ErrorKind, Write};
+
+/// What one write call answered.
+#[derive(Clone, Copy, Debug, PartialEq, Eq)]
+pub enum Answer {
+    /// This many bytes, from the front of the piece, were taken.
+    Accepted(usize),
+    /// Nothing was taken, and the call may be made again.
+    Interrupted,
+    /// Nothing was taken, and nothing will be.
+    Failed,
+}
+
+/// A writer that is offered one piece in one call. What it `told` is what contracts know of its bytes; where
+/// that is `None`, as for a socket, nothing is known.
+pub trait Telling {
+    ghost use Rattle.share_model.specs.declared.writer.Answer.{Answer};
+
+    ghost told: { Self → Option Told };
+
+    /// The writer before a call, the piece, the answer, and the writer after.
+    ghost answers: { Self → List ℕ → Answer → Self → Type 0 };
+
+    /// Makes one write call.
+    fn offer(&mut self, piece: &[u8]) -> Answer
+        ensures { answers self.old piece.now result self.new };
+
+    ghost tells: { (before : Self) (piece : List ℕ) (answer : Answer) (after : Self) → answers before piece answer after → WasTold (told before) piece answer (told after) };
+}
+
+/// A writer of std's, of which is known what its own contract tells: what its bytes are, where that is known, but no
+/// count of a call.
+#[derive(Drop)]
+pub struct PlainWriter<W>(pub W);
+
+impl<W: Write> Telling for PlainWriter<W> {
+    ghost use Rattle.share_model.specs.Told.{PlainAnswers, plain_tells};
+
+    ghost told = { λ _. None };
+
+    ghost answers = { λ before piece answer after. PlainAnswers (W.contents before.0) piece answer (W.contents after.0) };
+
+    ghost tells = { λ before piece answer after did. plain_tells (W.contents before.0) piece answer (W.contents after.0) did };
+
+    fn offer(&mut self, piece: &[u8]) -> Answer {
+        match self.0.write(piece) {
+            Ok(count) => Answer::Accepted(count),
+            Err(error) => {
+                if error.kind() == ErrorKind::Interrupted {
+                    Answer::Interrupted
+                } else {
+                    Answer::Failed
+                }
+            }
+        }
+    }
+}

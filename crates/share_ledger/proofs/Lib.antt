@@ -1,0 +1,4 @@
+pub mod Lays
+pub mod Linked
+pub mod Positions
+pub mod Walks

@@ -1,0 +1,127 @@
+-- The first element that passes a test, and lists that are changed there.
+use Rattle.std.proofs.Common.{◌≡◌, ℕ, ◌+◌, ◌≤◌, ◌<◌, zero, suc, Bool, true, false, not, cond, List, [], ◌∷◌, ◌++◌, map, length, get_or, set, position, nat_lt, nat_eq, Option, None, Some, Result, Ok, Err, IfOk, refl, sym, ap, subst, ◌∙◌, arith, bytes_eq, if◌then◌else◌, remove}
+use Rattle.std.specs.List.{list_any}
+use Rattle.std.specs.List.{position_or_len}
+use Rattle.std.specs.Set.{remove_key}
+use Rattle.std.proofs.lemmas.Bool.Decides.{nat_tests}
+use Rattle.indexmap.specs.IndexMap.{set_value_at}
+use Rattle.share_model.specs.declared.funding.Holder.{Holder}
+use Rattle.share_model.specs.declared.funding.Ticket.{Ticket}
+use Rattle.share_model.specs.declared.funding.OpenFlow.{OpenFlow}
+use Rattle.share_model.specs.Funding.{NameBytes}
+use Rattle.share_model.specs.FundingChanges.{is_numbered, with_holder, is_open_as, without_flow, with_activity}
+use Rattle.share_model.specs.Each.{Each}
+
+-- what is no `Some` is `None`
+pub option_none : {X : Type 0} (o : Option X) → ((x : X) → o ≡ Some x → ⊥) → o ≡ None
+option_none None e = refl
+option_none (Some x) e = absurd (e x refl)
+
+-- what is no `Err` meets what is said of an `Ok`
+pub ok_part : {T E : Type 0} (r : Result T E) (P : Type 0) → ((e : E) → r ≡ Err e → ⊥) → IfOk r (λ _. P) → P
+ok_part (Ok x) P e p = p
+ok_part (Err x) P e p = absurd (e x refl)
+
+-- the first element that passes stands at this place
+abbrev pub IsFirstAt : {X : Type 0} → (X → Bool) → List X → ℕ → Type 0
+IsFirstAt p [] i = ⊥
+IsFirstAt p (x ∷ xs) zero = p x ≡ true
+IsFirstAt p (x ∷ xs) (suc i) = (p x ≡ false) × IsFirstAt p xs i
+
+module _ {X : Type 0} (p : X → Bool) where
+  place-first : (xs : List X) (i : ℕ) → position_or_len p xs ≡ i → i < length xs → IsFirstAt p xs i
+  place-first [] i e h = omega arith
+  place-first (x ∷ xs) i e h = by (p x) refl i e h (place-first xs)
+    where
+      by : (b : Bool) → p x ≡ b → (i : ℕ) → cond (not b) (1 + position_or_len p xs) 0 ≡ i → i < length (x ∷ xs)
+          → ((i : ℕ) → position_or_len p xs ≡ i → i < length xs → IsFirstAt p xs i) → IsFirstAt p (x ∷ xs) i
+      by true q zero e h rest = q
+      by true q (suc i) e h rest = absurd (omega arith)
+      by false q zero e h rest = absurd (omega arith)
+      by false q (suc i) e h rest = (q, rest i (omega arith) (omega arith))
+
+  place-none : (xs : List X) → length xs ≤ position_or_len p xs → Each (λ x. p x ≡ false) xs
+  place-none [] h = tt
+  place-none (x ∷ xs) h = by (p x) refl h (place-none xs)
+    where
+      by : (b : Bool) → p x ≡ b → length (x ∷ xs) ≤ cond (not b) (1 + position_or_len p xs) 0 → (length xs ≤ position_or_len p xs → Each (λ x. p x ≡ false) xs)
+          → (p x ≡ false) × Each (λ x. p x ≡ false) xs
+      by true q h rest = absurd (omega arith)
+      by false q h rest = (q, rest (omega arith))
+
+  pub position-first : (xs : List X) (i : ℕ) → position p xs ≡ Some i → IsFirstAt p xs i
+  position-first xs i e = by (nat_lt (position_or_len p xs) (length xs)) refl e
+    where
+      below : (n m : ℕ) → nat_lt n m ≡ true → n < m
+      below n m e = grind (arith, nat_tests)
+
+      by : (b : Bool) → nat_lt (position_or_len p xs) (length xs) ≡ b → cond b (Some (position_or_len p xs)) None ≡ Some i → IsFirstAt p xs i
+      by true lt e = let same : position_or_len p xs ≡ i = cc in place-first xs i same (subst (λ k. k < length xs) same (below (position_or_len p xs) (length xs) lt))
+      by false lt e = absurd cc
+
+  pub position-none : (xs : List X) → position p xs ≡ None → Each (λ x. p x ≡ false) xs
+  position-none xs e = by (nat_lt (position_or_len p xs) (length xs)) refl e
+    where
+      above : (n m : ℕ) → nat_lt n m ≡ false → m ≤ n
+      above n m e = grind (arith, nat_tests)
+
+      by : (b : Bool) → nat_lt (position_or_len p xs) (length xs) ≡ b → cond b (Some (position_or_len p xs)) None ≡ None → Each (λ x. p x ≡ false) xs
+      by true lt e = absurd cc
+      by false lt e = place-none xs (above (position_or_len p xs) (length xs) lt)
+
+  -- what stands at the first place that passes is taken out
+  pub remove-first : (xs : List X) (i : ℕ) → IsFirstAt p xs i → remove xs i ≡ remove_key p xs
+  remove-first [] i h = absurd h
+  remove-first (x ∷ xs) zero h = sym (ap (λ b. cond b xs (x ∷ remove_key p xs)) h)
+  remove-first (x ∷ xs) (suc i) h = ap (λ l. x ∷ l) (remove-first xs i h.1) ∙ sym (ap (λ b. cond b xs (x ∷ remove_key p xs)) h.0)
+
+  pub remove-none : (xs : List X) → Each (λ x. p x ≡ false) xs → remove_key p xs ≡ xs
+  remove-none [] none = refl
+  remove-none (x ∷ xs) none = ap (λ b. cond b xs (x ∷ remove_key p xs)) none.0 ∙ ap (λ l. x ∷ l) (remove-none xs none.1)
+
+-- the first ticket of a number gets a holder
+pub holder-first : (n : ℕ) (h : Holder) (ts : List Ticket) (i : ℕ) (x : Ticket) → IsFirstAt (is_numbered n) ts i → x ≡ get_or ts i x → set ts i (record x { holder = h }) ≡ with_holder n h ts
+unfolding with_holder
+holder-first n h [] i x first e = absurd first
+holder-first n h (t ∷ ts) zero x first e =
+    ap (λ (y : Ticket). record y { holder = h } ∷ ts) e ∙ sym (ap (λ b. cond b (record t { holder = h } ∷ ts) (t ∷ with_holder n h ts)) first)
+holder-first n h (t ∷ ts) (suc i) x first e =
+    ap (λ l. t ∷ l) (holder-first n h ts i x first.1 e) ∙ sym (ap (λ b. cond b (record t { holder = h } ∷ ts) (t ∷ with_holder n h ts)) first.0)
+
+pub holder-none : (n : ℕ) (h : Holder) (ts : List Ticket) → Each (λ (t : Ticket). is_numbered n t ≡ false) ts → with_holder n h ts ≡ ts
+unfolding with_holder
+holder-none n h [] none = refl
+holder-none n h (t ∷ ts) none = ap (λ b. cond b (record t { holder = h } ∷ ts) (t ∷ with_holder n h ts)) none.0 ∙ ap (λ l. t ∷ l) (holder-none n h ts none.1)
+
+-- flows, found by their numbers
+pub flow-first : (f : ℕ) (es : List (NameBytes × OpenFlow)) (i : ℕ) → IsFirstAt (λ (o : OpenFlow). nat_eq f o.number) (map (λ (e : NameBytes × OpenFlow). e.1) es) i → IsFirstAt (is_open_as f) es i
+flow-first f [] i h = h
+flow-first f (e ∷ es) zero h = h
+flow-first f (e ∷ es) (suc i) h = (h.0, flow-first f es i h.1)
+
+pub flow-none : (f : ℕ) (es : List (NameBytes × OpenFlow)) → Each (λ (o : OpenFlow). nat_eq f o.number ≡ false) (map (λ (e : NameBytes × OpenFlow). e.1) es) → Each (λ (e : NameBytes × OpenFlow). is_open_as f e ≡ false) es
+flow-none f [] h = tt
+flow-none f (e ∷ es) h = (h.0, flow-none f es h.1)
+
+pub without-is : (f : ℕ) (es : List (NameBytes × OpenFlow)) → without_flow f es ≡ remove_key (is_open_as f) es
+unfolding without_flow
+without-is f [] = refl
+without-is f (e ∷ es) = ap (λ l. cond (is_open_as f e) es (e ∷ l)) (without-is f es)
+
+pub activity-first : (f : ℕ) (b : Bool) (es : List (NameBytes × OpenFlow)) (i : ℕ) (w : OpenFlow) → IsFirstAt (is_open_as f) es i
+    → w ≡ get_or (map (λ (e : NameBytes × OpenFlow). e.1) es) i w → set_value_at es i (record w { active = b }) ≡ with_activity f b es
+unfolding with_activity
+activity-first f b [] i w first e = absurd first
+activity-first f b (x ∷ es) zero w first e =
+    ap (λ (y : OpenFlow). (x.0, record y { active = b }) ∷ es) e ∙ sym (ap (λ t. cond t ((x.0, record x.1 { active = b }) ∷ es) (x ∷ with_activity f b es)) first)
+activity-first f b (x ∷ es) (suc i) w first e =
+    ap (λ l. x ∷ l) (activity-first f b es i w first.1 e) ∙ sym (ap (λ t. cond t ((x.0, record x.1 { active = b }) ∷ es) (x ∷ with_activity f b es)) first.0)
+
+pub activity-none : (f : ℕ) (b : Bool) (es : List (NameBytes × OpenFlow)) → Each (λ (e : NameBytes × OpenFlow). is_open_as f e ≡ false) es → with_activity f b es ≡ es
+unfolding with_activity
+activity-none f b [] none = refl
+activity-none f b (x ∷ es) none = ap (λ t. cond t ((x.0, record x.1 { active = b }) ∷ es) (x ∷ with_activity f b es)) none.0 ∙ ap (λ l. x ∷ l) (activity-none f b es none.1)
+
+-- a name that is not among the keys goes last
+pub insert-new : (c : NameBytes) (cs : List NameBytes) → list_any (bytes_eq c) cs ≡ false → (if list_any (bytes_eq c) cs then cs else cs ++ c ∷ []) ≡ cs ++ c ∷ []
+insert-new c cs e = ap (λ b. cond b cs (cs ++ c ∷ [])) e

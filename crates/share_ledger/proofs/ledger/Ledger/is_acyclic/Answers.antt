@@ -1,0 +1,5 @@
+use Rattle.share_model.proofs.FundingAcyclic.{acyclic}
+use Rattle.share_ledger.proofs.ledger.Ledger.is_acyclic.Goals as goal
+
+pub returns : goal.returns
+returns c = acyclic c.args.self.now c.is_kept.ensures.shallow

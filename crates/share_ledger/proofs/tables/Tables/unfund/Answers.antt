@@ -1,0 +1,5 @@
+use Rattle.share_model.proofs.FundingInvariant.{kept-unfund}
+use Rattle.share_ledger.proofs.tables.Tables.unfund.Goals as goal
+
+pub give-requires : goal.give-requires
+give-requires c = kept-unfund _ c.is_kept.ensures c.args.ticket

@@ -1,0 +1,40 @@
+//! What a holder is.
+ghost use Rattle.std.specs.Prelude.{◌≡◌};
+ghost use Rattle.share_model.specs.Funding.{is_held_by_currency, is_held_by_flow};
+ghost use Rattle.share_model.specs.FundingChanges.{is_held};
+
+use share_base::{FlowNo, Name};
+use share_model::Holder;
+
+/// Whether there is a holder.
+pub(crate) fn is_held(holder: &Holder) -> bool
+    ensures { result ≡ is_held holder.now }
+{
+    match holder {
+        Holder::Nobody => false,
+        Holder::Currency(_) => true,
+        Holder::Flow(_) => true,
+    }
+}
+
+/// Whether the holder is this currency.
+pub(crate) fn is_currency(holder: &Holder, name: Name) -> bool
+    ensures { result ≡ is_held_by_currency name holder.now }
+{
+    match holder {
+        Holder::Nobody => false,
+        Holder::Currency(currency) => name == *currency,
+        Holder::Flow(_) => false,
+    }
+}
+
+/// Whether the holder is this flow.
+pub(crate) fn is_flow(holder: &Holder, flow: FlowNo) -> bool
+    ensures { result ≡ is_held_by_flow flow holder.now }
+{
+    match holder {
+        Holder::Nobody => false,
+        Holder::Currency(_) => false,
+        Holder::Flow(number) => flow == *number,
+    }
+}

@@ -1,0 +1,201 @@
+//! The ledger: the tables, and beside them what each ticket is worth.
+ghost use Rattle.std.specs.Prelude.{◌≡◌, ◌<◌, ◌-◌, ◌^◌, option_map, Some, None, IfOk, IfErr};
+ghost use Rattle.share_base.specs.declared.refusal.Refusal as Refusal;
+ghost use Rattle.share_base.specs.Refusal.{IsRefused};
+ghost use Rattle.share_model.specs.Funding.{empty_graph, tickets};
+ghost use Rattle.share_model.specs.FundingChanges.{flow_named, make_currency_refusal, make_currency, remove_currency_refusal, remove_currency, make_ticket_refusal, make_ticket, remove_ticket_refusal, remove_ticket, fund_currency_refusal, fund_currency, fund_flow_refusal, fund_flow, unfund_refusal, unfund, add_flow_refusal, add_flow, remove_flow, set_active};
+
+use crate::tables::{MAX_AMOUNT, MAX_TICKETS, Tables};
+use share_base::{FlowNo, Name, Refusal, TicketNo};
+use std::alloc::Global;
+use std::marker::Model;
+
+/// The currency ledger. A contract sees it as its graph of currencies, tickets and flows.
+///
+/// A refused call changes nothing and takes no number. Only `new`, `make_currency`, `make_ticket` and
+/// `add_flow` take memory; their refusals may also be `NoMemory`, where none of the others stands and a growth
+/// was refused. Numbers count from 1, tickets and flows apart, and are never used again.
+#[derive(Drop)]
+pub struct Ledger {
+    tables: Tables,
+    worths: Box<[u64; MAX_TICKETS]>,
+}
+
+impl Model for Ledger {
+    ghost use Rattle.std.specs.Prelude.{◌≡◌, length, map, take};
+    ghost use Rattle.share_model.specs.Funding.{Graph, worth};
+
+    ghost Value = { Graph };
+
+    ghost view = { λ l. l.tables };
+
+    ghost invariant = { λ l. take (length l.tables.tickets) l.worths.value ≡ map (worth l.tables 9) l.tables.tickets };
+}
+
+impl Ledger {
+    /// An empty ledger, whose numbers count from 1. `NoMemory` where the room for worths was refused.
+    pub fn new(alloc: Global) -> Result<Ledger, Refusal>
+        ensures made { IfOk result (λ ledger. ledger ≡ empty_graph) }
+        ensures refused { IfErr result (λ e. e ≡ Refusal.NoMemory) }
+    {
+        match Box::new(alloc, [0; MAX_TICKETS]) {
+            Ok(worths) => Ok(Ledger {
+                tables: Tables::new(alloc),
+                worths,
+            }),
+            Err(_) => Err(Refusal::NoMemory),
+        }
+    }
+
+    /// Makes a currency, of which there can be 64 besides `base`.
+    pub fn make_currency(&mut self, name: Name) -> Result<(), Refusal>
+        ensures done { IfOk result
+            (λ _. (make_currency_refusal self.old name ≡ None) × (self.new ≡ make_currency self.old name)) }
+        ensures refused { IfErr result
+            (λ e. IsRefused (make_currency_refusal self.old name) e × (self.new ≡ self.old)) }
+    {
+        let result = self.tables.make_currency(name);
+        self.tables.refresh(&mut self.worths);
+        result
+    }
+
+    /// Removes a currency in which no ticket is denominated and that none funds.
+    pub fn remove_currency(&mut self, name: Name) -> Result<(), Refusal>
+        ensures done { IfOk result
+            (λ _. (remove_currency_refusal self.old name ≡ None) × (self.new ≡ remove_currency self.old name)) }
+        ensures refused { IfErr result
+            (λ e. (remove_currency_refusal self.old name ≡ Some e) × (self.new ≡ self.old)) }
+    {
+        let result = self.tables.remove_currency(name);
+        self.tables.refresh(&mut self.worths);
+        result
+    }
+
+    /// Issues a ticket of an amount, 1 to 2^20, in a currency. It has no holder.
+    pub fn make_ticket(&mut self, amount: u64, currency: Name) -> Result<TicketNo, Refusal>
+        requires { self.old.next_ticket < 2 ^ 32 - 1 }
+        ensures done { IfOk result
+            (λ n. (make_ticket_refusal self.old amount currency ≡ None) × (n ≡ self.old.next_ticket)
+            × (self.new ≡ make_ticket self.old amount currency)) }
+        ensures refused { IfErr result
+            (λ e. IsRefused (make_ticket_refusal self.old amount currency) e × (self.new ≡ self.old)) }
+    {
+        let result = self.tables.make_ticket(amount, currency);
+        self.tables.refresh(&mut self.worths);
+        result
+    }
+
+    /// Removes a ticket without a holder.
+    pub fn remove_ticket(&mut self, ticket: u64) -> Result<(), Refusal>
+        ensures done { IfOk result
+            (λ _. (remove_ticket_refusal self.old ticket ≡ None) × (self.new ≡ remove_ticket self.old ticket)) }
+        ensures refused { IfErr result
+            (λ e. (remove_ticket_refusal self.old ticket ≡ Some e) × (self.new ≡ self.old)) }
+    {
+        let result = self.tables.remove_ticket(ticket);
+        self.tables.refresh(&mut self.worths);
+        result
+    }
+
+    /// Lets a ticket without a holder fund a currency.
+    pub fn fund_currency(&mut self, ticket: u64, currency: Name) -> Result<(), Refusal>
+        ensures done { IfOk result
+            (λ _. (fund_currency_refusal self.old ticket currency ≡ None)
+            × (self.new ≡ fund_currency self.old ticket currency)) }
+        ensures refused { IfErr result
+            (λ e. (fund_currency_refusal self.old ticket currency ≡ Some e) × (self.new ≡ self.old)) }
+    {
+        let result = self.tables.fund_currency(ticket, currency);
+        self.tables.refresh(&mut self.worths);
+        result
+    }
+
+    /// Lets a ticket without a holder fund an open flow.
+    pub fn fund_flow(&mut self, ticket: u64, flow: Name) -> Result<(), Refusal>
+        ensures done { IfOk result
+            (λ _. (fund_flow_refusal self.old ticket flow ≡ None) × (self.new ≡ fund_flow self.old ticket flow)) }
+        ensures refused { IfErr result
+            (λ e. (fund_flow_refusal self.old ticket flow ≡ Some e) × (self.new ≡ self.old)) }
+    {
+        let result = self.tables.fund_flow(ticket, flow);
+        self.tables.refresh(&mut self.worths);
+        result
+    }
+
+    /// Takes a ticket's holder away.
+    pub fn unfund(&mut self, ticket: u64) -> Result<(), Refusal>
+        ensures done { IfOk result
+            (λ _. (unfund_refusal self.old ticket ≡ None) × (self.new ≡ unfund self.old ticket)) }
+        ensures refused { IfErr result
+            (λ e. (unfund_refusal self.old ticket ≡ Some e) × (self.new ≡ self.old)) }
+    {
+        let result = self.tables.unfund(ticket);
+        self.tables.refresh(&mut self.worths);
+        result
+    }
+
+    /// Opens a flow, which is not active yet. There can be 64.
+    pub fn add_flow(&mut self, name: Name) -> Result<FlowNo, Refusal>
+        requires { self.old.next_flow < 2 ^ 32 - 1 }
+        ensures done { IfOk result
+            (λ n. (add_flow_refusal self.old name ≡ None) × (n ≡ self.old.next_flow) × (self.new ≡ add_flow self.old name)) }
+        ensures refused { IfErr result
+            (λ e. IsRefused (add_flow_refusal self.old name) e × (self.new ≡ self.old)) }
+    {
+        let result = self.tables.add_flow(name);
+        self.tables.refresh(&mut self.worths);
+        result
+    }
+
+    /// Closes a flow. Its tickets lose their holder, and its number is not used again.
+    pub fn remove_flow(&mut self, flow: FlowNo)
+        ensures { self.new ≡ remove_flow self.old flow }
+    {
+        self.tables.remove_flow(flow);
+        self.tables.refresh(&mut self.worths);
+    }
+
+    /// Says whether a flow is active.
+    pub fn set_active(&mut self, flow: FlowNo, active: bool)
+        ensures { self.new ≡ set_active self.old flow active }
+    {
+        self.tables.set_active(flow, active);
+        self.tables.refresh(&mut self.worths);
+    }
+
+    /// The number of the open flow of this name.
+    pub fn flow(&self, name: Name) -> Option<FlowNo>
+        ensures { result ≡ option_map (λ f. f.number) (flow_named self.now name) }
+    {
+        self.tables.flow(name)
+    }
+
+    /// The number that the next ticket gets.
+    pub fn next_ticket(&self) -> u32
+        ensures { result ≡ self.now.next_ticket }
+    {
+        self.tables.next_ticket()
+    }
+
+    /// The number that the next flow gets.
+    pub fn next_flow(&self) -> u32
+        ensures { result ≡ self.now.next_flow }
+    {
+        self.tables.next_flow()
+    }
+
+    /// The tickets of a flow: what the tickets that fund it are worth, at most 2^20, and 0 where it is idle.
+    pub fn tickets(&self, flow: FlowNo) -> u32
+        ensures { result ≡ tickets self.now flow }
+    {
+        self.tables
+            .worth_of_flow(flow, &self.worths)
+            .min(MAX_AMOUNT) as u32
+    }
+
+    pub(crate) fn tables(&self) -> &Tables
+        ensures { result.now ≡ self.now }
+    {
+        &self.tables
+    }
+}

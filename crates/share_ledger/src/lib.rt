@@ -1,0 +1,17 @@
+//! The currency ledger: currencies, the tickets that are denominated in them, and what the tickets fund.
+//!
+//! A `Ledger` is seen as the graph of share_model's `Funding`. Each command changes it as `FundingChanges`
+//! says, or is refused by the table there with nothing changed, and `tickets` gives the tickets of a flow on
+//! the graph as it is. What is active and what it is worth is computed in rounds over the tickets, one round
+//! for each step that a chain may have, and never by a walk over the paths, of which there can be 16^8.
+#![tactic(auto)]
+
+mod holders;
+mod laws;
+mod ledger;
+mod rounds;
+mod tables;
+#[cfg(test)]
+mod tests;
+
+pub use ledger::Ledger;

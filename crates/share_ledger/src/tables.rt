@@ -1,0 +1,160 @@
+//! The tables of the ledger, and what is looked up in them.
+ghost use Rattle.std.specs.Prelude.{◌≡◌, ℕ, ◌+◌, ◌≤◌, length, bytes_eq, nat_eq, map, position, option_map, option_copied};
+ghost use Rattle.share_model.specs.Funding.{base, backing, funding, empty_graph};
+ghost use Rattle.share_model.specs.FundingChanges.{ticket_of, is_currency, flow_named, is_numbered};
+ghost use Rattle.share_model.specs.FundingKept.{IsKept};
+ghost use Rattle.share_model.specs.declared.funding.OpenFlow.{OpenFlow};
+
+mod changes;
+mod links;
+mod refusals;
+mod worths;
+
+use crate::holders;
+use indexmap::{IndexMap, IndexSet};
+use share_base::{FlowNo, Name};
+use share_model::{OpenFlow, Ticket};
+use std::alloc::Global;
+use std::marker::Model;
+
+/// The most currencies besides `base`.
+pub(crate) const MAX_CURRENCIES: usize = 64;
+
+/// The most tickets at once.
+pub(crate) const MAX_TICKETS: usize = 1024;
+
+/// The most open flows.
+pub(crate) const MAX_FLOWS: usize = 64;
+
+/// The most tickets that fund one currency or one flow.
+pub(crate) const MAX_FUNDING: usize = 16;
+
+/// The greatest amount of a ticket.
+pub(crate) const MAX_AMOUNT: u64 = 1 << 20;
+
+/// The currencies besides `base`, the tickets, the open flows, and the numbers that are given next.
+/// A contract sees them as their graph.
+#[derive(Drop)]
+pub(crate) struct Tables {
+    currencies: IndexSet<Name>,
+    tickets: Vec<Ticket>,
+    flows: IndexMap<Name, OpenFlow>,
+    next_ticket: u32,
+    next_flow: u32,
+}
+
+impl Model for Tables {
+    ghost use Rattle.share_model.specs.Funding.{Graph};
+    ghost use Rattle.share_model.specs.FundingKept.{IsKept};
+
+    ghost Value = { Graph };
+
+    ghost view = { λ t. record { currencies = t.currencies.keys; tickets = t.tickets.items; next_ticket = t.next_ticket; flows = t.flows.entries; next_flow = t.next_flow } };
+
+    ghost invariant = { λ t. IsKept (record { currencies = t.currencies.keys; tickets = t.tickets.items; next_ticket = t.next_ticket; flows = t.flows.entries; next_flow = t.next_flow }) };
+}
+
+/// Whether a name is that of the currency that always exists.
+pub(crate) fn is_base(name: Name) -> bool
+    ensures { result ≡ bytes_eq name base }
+{
+    name.as_bytes() == b"base".as_slice()
+}
+
+impl Tables {
+    /// Empty tables, whose numbers count from 1.
+    pub(crate) fn new(alloc: Global) -> Tables
+        ensures { result ≡ empty_graph }
+    {
+        Tables {
+            currencies: IndexSet::new(alloc),
+            tickets: Vec::new(alloc),
+            flows: IndexMap::new(alloc),
+            next_ticket: 1,
+            next_flow: 1,
+        }
+    }
+
+    /// The graph is well formed.
+    pub(crate) fn is_kept(&self)
+        ensures { IsKept self.now }
+    {
+        let _ = &self.next_ticket;
+    }
+
+    /// The number that the next ticket gets.
+    pub(crate) fn next_ticket(&self) -> u32
+        ensures { result ≡ self.now.next_ticket }
+    {
+        self.next_ticket
+    }
+
+    /// The number that the next flow gets.
+    pub(crate) fn next_flow(&self) -> u32
+        ensures { result ≡ self.now.next_flow }
+    {
+        self.next_flow
+    }
+
+    fn is_currency(&self, name: Name) -> bool
+        ensures { result ≡ is_currency self.now name }
+    {
+        is_base(name) || self.currencies.contains(&name)
+    }
+
+    fn ticket(&self, number: u64) -> Option<&Ticket>
+        ensures { option_copied result ≡ ticket_of self.now number }
+    {
+        self.tickets
+            .iter()
+            .find(|ticket| number == u64::from(ticket.number.number()))
+    }
+
+    fn place_of_ticket(&self, number: u64) -> Option<usize>
+        ensures { result ≡ position (is_numbered number) self.now.tickets }
+    {
+        self.tickets
+            .iter()
+            .position(|ticket| number == u64::from(ticket.number.number()))
+    }
+
+    fn flow_named(&self, name: Name) -> Option<OpenFlow>
+        ensures { result ≡ flow_named self.now name }
+    {
+        self.flows.get(&name).copied()
+    }
+
+    /// The number of the open flow of this name.
+    pub(crate) fn flow(&self, name: Name) -> Option<FlowNo>
+        ensures { result ≡ option_map (λ f. f.number) (flow_named self.now name) }
+    {
+        match self.flow_named(name) {
+            Some(flow) => Some(flow.number),
+            None => None,
+        }
+    }
+
+    fn place_of_flow(&self, flow: FlowNo) -> Option<usize>
+        ensures { result ≡ position (λ (o : OpenFlow). nat_eq flow o.number) (map (λ e. e.1) self.now.flows) }
+    {
+        self.flows.values().position(|open| flow == open.number)
+    }
+
+    fn count_backing(&self, name: Name) -> usize
+        ensures { result ≡ length (backing self.now.tickets name) }
+    {
+        self.tickets
+            .iter()
+            .filter(|ticket| holders::is_currency(&ticket.holder, name))
+            .count()
+    }
+
+    fn count_funding(&self, flow: FlowNo) -> usize
+        ensures { result ≡ length (funding self.now.tickets flow) }
+    {
+        self.tickets
+            .iter()
+            .filter(|ticket| holders::is_flow(&ticket.holder, flow))
+            .count()
+    }
+}

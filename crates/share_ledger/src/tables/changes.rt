@@ -1,0 +1,206 @@
+//! The commands: each changes the graph as its rule says, or is refused with nothing changed.
+ghost use Rattle.std.specs.Prelude.{◌≡◌, ◌-◌, ◌^◌, ◌<◌, map, Some, None, IfOk, IfErr};
+ghost use Rattle.share_base.specs.Refusal.{IsRefused};
+ghost use Rattle.share_model.specs.FundingChanges.{with_holder, make_currency_refusal, make_currency, remove_currency_refusal, remove_currency, make_ticket_refusal, make_ticket, remove_ticket_refusal, remove_ticket, fund_currency_refusal, fund_currency, fund_flow_refusal, fund_flow, unfund_refusal, unfund, add_flow_refusal, add_flow, released, remove_flow, set_active};
+ghost use Rattle.share_model.specs.FundingKept.{IsKept};
+
+use super::Tables;
+use crate::holders;
+use share_base::{FlowNo, Name, Refusal, TicketNo};
+use share_model::{Holder, OpenFlow, Ticket};
+
+impl Tables {
+    pub(crate) fn make_currency(&mut self, name: Name) -> Result<(), Refusal>
+        ensures done { IfOk result
+            (λ _. (make_currency_refusal self.old name ≡ None) × (self.new ≡ make_currency self.old name)) }
+        ensures refused { IfErr result
+            (λ e. IsRefused (make_currency_refusal self.old name) e × (self.new ≡ self.old)) }
+    {
+        self.is_kept();
+        if let Some(refusal) = self.make_currency_refusal(name) {
+            return Err(refusal);
+        }
+        if let Err(_) = self.currencies.insert(name) {
+            return Err(Refusal::NoMemory);
+        }
+        Ok(())
+    }
+
+    pub(crate) fn remove_currency(&mut self, name: Name) -> Result<(), Refusal>
+        ensures done { IfOk result
+            (λ _. (remove_currency_refusal self.old name ≡ None) × (self.new ≡ remove_currency self.old name)) }
+        ensures refused { IfErr result
+            (λ e. (remove_currency_refusal self.old name ≡ Some e) × (self.new ≡ self.old)) }
+    {
+        self.is_kept();
+        if let Some(refusal) = self.remove_currency_refusal(name) {
+            return Err(refusal);
+        }
+        self.currencies.shift_remove(&name);
+        Ok(())
+    }
+
+    pub(crate) fn make_ticket(&mut self, amount: u64, currency: Name) -> Result<TicketNo, Refusal>
+        requires { self.old.next_ticket < 2 ^ 32 - 1 }
+        ensures done { IfOk result
+            (λ n. (make_ticket_refusal self.old amount currency ≡ None) × (n ≡ self.old.next_ticket)
+            × (self.new ≡ make_ticket self.old amount currency)) }
+        ensures refused { IfErr result
+            (λ e. IsRefused (make_ticket_refusal self.old amount currency) e × (self.new ≡ self.old)) }
+    {
+        self.is_kept();
+        if let Some(refusal) = self.make_ticket_refusal(amount, currency) {
+            return Err(refusal);
+        }
+        let number = TicketNo(self.next_ticket);
+        let ticket = Ticket {
+            number,
+            amount: amount as u32,
+            denomination: currency,
+            holder: Holder::Nobody,
+        };
+        if let Err(_) = self.tickets.push(ticket) {
+            return Err(Refusal::NoMemory);
+        }
+        self.next_ticket += 1;
+        Ok(number)
+    }
+
+    pub(crate) fn remove_ticket(&mut self, number: u64) -> Result<(), Refusal>
+        ensures done { IfOk result
+            (λ _. (remove_ticket_refusal self.old number ≡ None) × (self.new ≡ remove_ticket self.old number)) }
+        ensures refused { IfErr result
+            (λ e. (remove_ticket_refusal self.old number ≡ Some e) × (self.new ≡ self.old)) }
+    {
+        self.is_kept();
+        if let Some(refusal) = self.remove_ticket_refusal(number) {
+            return Err(refusal);
+        }
+        if let Some(place) = self.place_of_ticket(number) {
+            self.tickets.remove(place);
+        }
+        Ok(())
+    }
+
+    // The first ticket of this number gets this holder.
+    fn give(&mut self, number: u64, holder: &Holder)
+        requires { IsKept (record self.old { tickets = with_holder number holder.now self.old.tickets }) }
+        ensures { self.new ≡ record self.old { tickets = with_holder number holder.now self.old.tickets } }
+    {
+        if let Some(place) = self.place_of_ticket(number) {
+            self.tickets[place].holder = *holder;
+        }
+    }
+
+    pub(crate) fn fund_currency(&mut self, ticket: u64, currency: Name) -> Result<(), Refusal>
+        ensures done { IfOk result
+            (λ _. (fund_currency_refusal self.old ticket currency ≡ None)
+            × (self.new ≡ fund_currency self.old ticket currency)) }
+        ensures refused { IfErr result
+            (λ e. (fund_currency_refusal self.old ticket currency ≡ Some e) × (self.new ≡ self.old)) }
+    {
+        self.is_kept();
+        if let Some(refusal) = self.fund_currency_refusal(ticket, currency) {
+            return Err(refusal);
+        }
+        self.give(ticket, &Holder::Currency(currency));
+        Ok(())
+    }
+
+    pub(crate) fn fund_flow(&mut self, ticket: u64, flow: Name) -> Result<(), Refusal>
+        ensures done { IfOk result
+            (λ _. (fund_flow_refusal self.old ticket flow ≡ None) × (self.new ≡ fund_flow self.old ticket flow)) }
+        ensures refused { IfErr result
+            (λ e. (fund_flow_refusal self.old ticket flow ≡ Some e) × (self.new ≡ self.old)) }
+    {
+        self.is_kept();
+        if let Some(refusal) = self.fund_flow_refusal(ticket, flow) {
+            return Err(refusal);
+        }
+        if let Some(open) = self.flow_named(flow) {
+            self.give(ticket, &Holder::Flow(open.number));
+        }
+        Ok(())
+    }
+
+    pub(crate) fn unfund(&mut self, ticket: u64) -> Result<(), Refusal>
+        ensures done { IfOk result
+            (λ _. (unfund_refusal self.old ticket ≡ None) × (self.new ≡ unfund self.old ticket)) }
+        ensures refused { IfErr result
+            (λ e. (unfund_refusal self.old ticket ≡ Some e) × (self.new ≡ self.old)) }
+    {
+        self.is_kept();
+        if let Some(refusal) = self.unfund_refusal(ticket) {
+            return Err(refusal);
+        }
+        self.give(ticket, &Holder::Nobody);
+        Ok(())
+    }
+
+    pub(crate) fn add_flow(&mut self, name: Name) -> Result<FlowNo, Refusal>
+        requires { self.old.next_flow < 2 ^ 32 - 1 }
+        ensures done { IfOk result
+            (λ n. (add_flow_refusal self.old name ≡ None) × (n ≡ self.old.next_flow) × (self.new ≡ add_flow self.old name)) }
+        ensures refused { IfErr result
+            (λ e. IsRefused (add_flow_refusal self.old name) e × (self.new ≡ self.old)) }
+    {
+        self.is_kept();
+        if let Some(refusal) = self.add_flow_refusal(name) {
+            return Err(refusal);
+        }
+        let number = FlowNo(self.next_flow);
+        let open = OpenFlow {
+            number,
+            active: false,
+        };
+        if let Err(_) = self.flows.insert(name, open) {
+            return Err(Refusal::NoMemory);
+        }
+        self.next_flow += 1;
+        Ok(number)
+    }
+
+    pub(crate) fn remove_flow(&mut self, flow: FlowNo)
+        ensures { self.new ≡ remove_flow self.old flow }
+    {
+        self.is_kept();
+        let place = self.place_of_flow(flow);
+        release(&mut self.tickets, flow);
+        if let Some(place) = place {
+            self.flows.shift_remove_index(place);
+        }
+    }
+
+    pub(crate) fn set_active(&mut self, flow: FlowNo, active: bool)
+        ensures { self.new ≡ set_active self.old flow active }
+    {
+        self.is_kept();
+        if let Some(place) = self.place_of_flow(flow) {
+            if let Some(open) = self.flows.get_index_mut(place) {
+                open.active = active;
+            }
+        }
+    }
+}
+
+// The ticket without its holder, where that is this flow.
+fn released(ticket: Ticket, flow: FlowNo) -> Ticket
+    ensures { result ≡ released flow ticket }
+{
+    if holders::is_flow(&ticket.holder, flow) {
+        return Ticket {
+            holder: Holder::Nobody,
+            ..ticket
+        };
+    }
+    ticket
+}
+
+// The tickets that fund a flow lose their holder.
+fn release(tickets: &mut [Ticket], flow: FlowNo)
+    ensures { tickets.new ≡ map (released flow) tickets.old }
+{
+    for ticket in tickets.iter_mut() {
+        *ticket = released(*ticket, flow);
+    }
+}

@@ -1,0 +1,140 @@
+//! When each command is refused, want of memory aside.
+ghost use Rattle.std.specs.Prelude.{◌≡◌, Some};
+ghost use Rattle.share_model.specs.FundingChanges.{ticket_of, found_denomination, uses, make_currency_refusal, remove_currency_refusal, make_ticket_refusal, remove_ticket_refusal, fund_currency_refusal, fund_flow_refusal, unfund_refusal, add_flow_refusal};
+ghost use Rattle.std.specs.List.{list_any};
+
+use super::{MAX_AMOUNT, MAX_CURRENCIES, MAX_FLOWS, MAX_FUNDING, MAX_TICKETS, Tables, is_base};
+use crate::holders;
+use share_base::{Name, Refusal};
+
+impl Tables {
+    pub(crate) fn make_currency_refusal(&self, name: Name) -> Option<Refusal>
+        ensures { result ≡ make_currency_refusal self.now name }
+    {
+        if self.is_currency(name) {
+            return Some(Refusal::Taken);
+        }
+        if self.currencies.len() >= MAX_CURRENCIES {
+            return Some(Refusal::TableFull);
+        }
+        None
+    }
+
+    // Whether some ticket is denominated in the currency, or funds it.
+    fn is_used(&self, name: Name) -> bool
+        ensures { result ≡ list_any (uses name) self.now.tickets }
+    {
+        self.tickets.iter().any(|ticket| {
+            name == ticket.denomination || holders::is_currency(&ticket.holder, name)
+        })
+    }
+
+    pub(crate) fn remove_currency_refusal(&self, name: Name) -> Option<Refusal>
+        ensures { result ≡ remove_currency_refusal self.now name }
+    {
+        if !self.is_currency(name) {
+            return Some(Refusal::NoCurrency);
+        }
+        if is_base(name) {
+            return Some(Refusal::Base);
+        }
+        if self.is_used(name) {
+            return Some(Refusal::InUse);
+        }
+        None
+    }
+
+    pub(crate) fn make_ticket_refusal(&self, amount: u64, currency: Name) -> Option<Refusal>
+        ensures { result ≡ make_ticket_refusal self.now amount currency }
+    {
+        if amount < 1 || amount > MAX_AMOUNT {
+            return Some(Refusal::Range);
+        }
+        if !self.is_currency(currency) {
+            return Some(Refusal::NoCurrency);
+        }
+        if self.tickets.len() >= MAX_TICKETS {
+            return Some(Refusal::TableFull);
+        }
+        None
+    }
+
+    pub(crate) fn remove_ticket_refusal(&self, number: u64) -> Option<Refusal>
+        ensures { result ≡ remove_ticket_refusal self.now number }
+    {
+        match self.ticket(number) {
+            None => Some(Refusal::NoTicket),
+            Some(ticket) => {
+                if holders::is_held(&ticket.holder) {
+                    return Some(Refusal::Funding);
+                }
+                None
+            }
+        }
+    }
+
+    pub(crate) fn fund_currency_refusal(&self, number: u64, currency: Name) -> Option<Refusal>
+        ensures { result ≡ fund_currency_refusal self.now number currency }
+    {
+        let Some(ticket) = self.ticket(number) else {
+            return Some(Refusal::NoTicket);
+        };
+        if !self.is_currency(currency) {
+            return Some(Refusal::NoCurrency);
+        }
+        if is_base(currency) {
+            return Some(Refusal::Base);
+        }
+        if holders::is_held(&ticket.holder) {
+            return Some(Refusal::Funding);
+        }
+        if self.count_backing(currency) >= MAX_FUNDING {
+            return Some(Refusal::Crowded);
+        }
+        self.chain_refusal(number, currency)
+    }
+
+    pub(crate) fn fund_flow_refusal(&self, number: u64, flow: Name) -> Option<Refusal>
+        ensures { result ≡ fund_flow_refusal self.now number flow }
+    {
+        let Some(ticket) = self.ticket(number) else {
+            return Some(Refusal::NoTicket);
+        };
+        let Some(open) = self.flow_named(flow) else {
+            return Some(Refusal::NoFlow);
+        };
+        if holders::is_held(&ticket.holder) {
+            return Some(Refusal::Funding);
+        }
+        if self.count_funding(open.number) >= MAX_FUNDING {
+            return Some(Refusal::Crowded);
+        }
+        None
+    }
+
+    pub(crate) fn unfund_refusal(&self, number: u64) -> Option<Refusal>
+        ensures { result ≡ unfund_refusal self.now number }
+    {
+        match self.ticket(number) {
+            None => Some(Refusal::NoTicket),
+            Some(ticket) => {
+                if !holders::is_held(&ticket.holder) {
+                    return Some(Refusal::Unfunded);
+                }
+                None
+            }
+        }
+    }
+
+    pub(crate) fn add_flow_refusal(&self, name: Name) -> Option<Refusal>
+        ensures { result ≡ add_flow_refusal self.now name }
+    {
+        if self.flow_named(name).is_some() {
+            return Some(Refusal::Taken);
+        }
+        if self.flows.len() >= MAX_FLOWS {
+            return Some(Refusal::TableFull);
+        }
+        None
+    }
+}

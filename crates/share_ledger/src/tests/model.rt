@@ -1,0 +1,466 @@
+//! A plain model of the ledger: lists, and values by one pass over the currencies in an order in which each
+//! stands behind those that back it.
+
+use super::Change;
+use share_base::{FlowNo, Name, Refusal, Reply, TicketNo};
+use std::alloc::{AllocError, Global};
+
+/// Whom a ticket of the model funds, by places in the lists.
+#[derive(Clone, Copy)]
+enum Funds {
+    Nothing,
+    Currency(Name),
+    Flow(u32),
+}
+
+#[derive(Clone, Copy)]
+struct Issued {
+    number: u32,
+    amount: u64,
+    currency: Name,
+    funds: Funds,
+}
+
+#[derive(Clone, Copy)]
+struct Opened {
+    name: Name,
+    number: u32,
+    active: bool,
+}
+
+/// A currency with what is computed of it: the longest chain that ends at it, and sums.
+#[derive(Clone, Copy)]
+struct Account {
+    name: Name,
+    rank: u64,
+    active: u64,
+    value: u64,
+}
+
+#[derive(Drop)]
+pub(crate) struct Model {
+    accounts: Vec<Account>,
+    issued: Vec<Issued>,
+    opened: Vec<Opened>,
+    next_ticket: u32,
+    next_flow: u32,
+}
+
+fn is_held(funds: Funds) -> bool {
+    match funds {
+        Funds::Nothing => false,
+        Funds::Currency(_) => true,
+        Funds::Flow(_) => true,
+    }
+}
+
+fn funds_currency(ticket: &Issued, name: Name) -> bool {
+    let funds = ticket.funds;
+    match funds {
+        Funds::Currency(currency) => currency == name,
+        _ => false,
+    }
+}
+
+fn funds_flow(ticket: &Issued, flow: u32) -> bool {
+    let funds = ticket.funds;
+    match funds {
+        Funds::Flow(number) => number == flow,
+        _ => false,
+    }
+}
+
+impl Model {
+    /// A model with `base` alone, which is the first account.
+    pub(crate) fn new(alloc: Global, base: Name) -> Result<Model, AllocError> {
+        let mut accounts = Vec::new(alloc);
+        accounts.push(Account {
+            name: base,
+            rank: 0,
+            active: 0,
+            value: 0,
+        })?;
+        Ok(Model {
+            accounts,
+            issued: Vec::new(alloc),
+            opened: Vec::new(alloc),
+            next_ticket: 1,
+            next_flow: 1,
+        })
+    }
+
+    fn has_currency(&self, name: Name) -> bool {
+        self.accounts.iter().any(|account| account.name == name)
+    }
+
+    fn is_base(&self, name: Name) -> bool {
+        match self.accounts.first() {
+            Some(account) => account.name == name,
+            None => false,
+        }
+    }
+
+    /// The number of an open flow.
+    pub(crate) fn flow(&self, name: Name) -> Option<u32> {
+        for open in &self.opened {
+            if open.name == name {
+                return Some(open.number);
+            }
+        }
+        None
+    }
+
+    fn ticket(&self, number: u64) -> Option<Issued> {
+        for ticket in &self.issued {
+            if u64::from(ticket.number) == number {
+                return Some(*ticket);
+            }
+        }
+        None
+    }
+
+    fn hold(&mut self, number: u64, funds: &Funds) {
+        for ticket in self.issued.iter_mut() {
+            if u64::from(ticket.number) == number {
+                ticket.funds = *funds;
+            }
+        }
+    }
+
+    fn rank_of(&self, name: Name) -> u64 {
+        for account in &self.accounts {
+            if account.name == name {
+                return account.rank;
+            }
+        }
+        0
+    }
+
+    // `base` is worth something before all others.
+    fn step_of(&self, name: Name) -> u64 {
+        if self.is_base(name) {
+            return 0;
+        }
+        self.rank_of(name).saturating_add(1)
+    }
+
+    // The longest chain of currencies that ends at each, `base` not counted. The run has eleven currencies, so a
+    // rank of 12 is met in a cycle alone.
+    fn rank(&mut self) {
+        for account in self.accounts.iter_mut() {
+            account.rank = 0;
+        }
+        for _ in 0..20 {
+            let mut risen = false;
+            for k in 0..self.issued.len() {
+                let Some(ticket) = self.issued.get(k).copied() else {
+                    return;
+                };
+                if self.is_base(ticket.currency) {
+                    continue;
+                }
+                let above = self.rank_of(ticket.currency).saturating_add(1);
+                for account in self.accounts.iter_mut() {
+                    if funds_currency(&ticket, account.name) && account.rank < above {
+                        account.rank = above;
+                        risen = true;
+                    }
+                }
+            }
+            if !risen {
+                return;
+            }
+        }
+    }
+
+    fn greatest_rank(&mut self) -> u64 {
+        self.rank();
+        let mut greatest = 0;
+        for account in &self.accounts {
+            if account.rank > greatest {
+                greatest = account.rank;
+            }
+        }
+        greatest
+    }
+
+    fn is_active_flow(&self, flow: u32) -> bool {
+        self.opened
+            .iter()
+            .any(|open| open.number == flow && open.active)
+    }
+
+    fn is_active(&self, ticket: &Issued) -> bool {
+        let funds = ticket.funds;
+        match funds {
+            Funds::Nothing => false,
+            Funds::Flow(flow) => self.is_active_flow(flow),
+            Funds::Currency(name) => {
+                self.accounts
+                    .iter()
+                    .any(|account| account.name == name && account.active > 0)
+            }
+        }
+    }
+
+    fn add_to_active(&mut self, ticket: &Issued) {
+        if !self.is_active(ticket) {
+            return;
+        }
+        for account in self.accounts.iter_mut() {
+            if account.name == ticket.currency {
+                account.active = account.active.saturating_add(ticket.amount);
+            }
+        }
+    }
+
+    fn worth(&self, ticket: &Issued) -> u64 {
+        if !self.is_active(ticket) {
+            return 0;
+        }
+        if self.is_base(ticket.currency) {
+            return ticket.amount;
+        }
+        for account in &self.accounts {
+            if account.name == ticket.currency {
+                let product = account.value.saturating_mul(ticket.amount);
+                return product.checked_div(account.active).unwrap_or(0);
+            }
+        }
+        0
+    }
+
+    fn add_to_value(&mut self, ticket: &Issued) {
+        let worth = self.worth(ticket);
+        for account in self.accounts.iter_mut() {
+            if funds_currency(ticket, account.name) {
+                account.value = account.value.saturating_add(worth);
+            }
+        }
+    }
+
+    /// Active amounts from the ends of chains backwards, and then values from their beginnings on.
+    pub(crate) fn settle(&mut self) {
+        self.rank();
+        for account in self.accounts.iter_mut() {
+            account.active = 0;
+            account.value = 0;
+        }
+        for step in 0..10_u64 {
+            for k in 0..self.issued.len() {
+                let Some(ticket) = self.issued.get(k).copied() else {
+                    return;
+                };
+                if self.rank_of(ticket.currency) == 9 - step && !self.is_base(ticket.currency) {
+                    self.add_to_active(&ticket);
+                }
+            }
+        }
+        for step in 0..10_u64 {
+            for k in 0..self.issued.len() {
+                let Some(ticket) = self.issued.get(k).copied() else {
+                    return;
+                };
+                if self.step_of(ticket.currency) == step {
+                    self.add_to_value(&ticket);
+                }
+            }
+        }
+    }
+
+    /// The tickets of a flow, as last settled.
+    pub(crate) fn tickets(&self, flow: u32) -> u64 {
+        let mut sum: u64 = 0;
+        for ticket in &self.issued {
+            if funds_flow(ticket, flow) {
+                sum = sum.saturating_add(self.worth(ticket));
+            }
+        }
+        sum.min(1048576)
+    }
+
+    pub(crate) fn set_active(&mut self, flow: u32, active: bool) {
+        for open in self.opened.iter_mut() {
+            if open.number == flow {
+                open.active = active;
+            }
+        }
+    }
+
+    pub(crate) fn close(&mut self, flow: u32) {
+        for ticket in self.issued.iter_mut() {
+            if funds_flow(ticket, flow) {
+                ticket.funds = Funds::Nothing;
+            }
+        }
+        self.opened.retain(|open| open.number != flow);
+    }
+
+    fn fund_currency(&mut self, number: u64, name: Name) -> Option<Refusal> {
+        let Some(ticket) = self.ticket(number) else {
+            return Some(Refusal::NoTicket);
+        };
+        if !self.has_currency(name) {
+            return Some(Refusal::NoCurrency);
+        }
+        if self.is_base(name) {
+            return Some(Refusal::Base);
+        }
+        if is_held(ticket.funds) {
+            return Some(Refusal::Funding);
+        }
+        if self
+            .issued
+            .iter()
+            .filter(|other| funds_currency(other, name))
+            .count()
+            >= 16
+        {
+            return Some(Refusal::Crowded);
+        }
+        self.hold(number, &Funds::Currency(name));
+        let greatest = self.greatest_rank();
+        if greatest < 8 {
+            return None;
+        }
+        self.hold(number, &Funds::Nothing);
+        if greatest >= 12 {
+            return Some(Refusal::Cycle);
+        }
+        Some(Refusal::Deep)
+    }
+
+    fn fund_flow(&mut self, number: u64, name: Name) -> Option<Refusal> {
+        let Some(ticket) = self.ticket(number) else {
+            return Some(Refusal::NoTicket);
+        };
+        let Some(flow) = self.flow(name) else {
+            return Some(Refusal::NoFlow);
+        };
+        if is_held(ticket.funds) {
+            return Some(Refusal::Funding);
+        }
+        if self
+            .issued
+            .iter()
+            .filter(|other| funds_flow(other, flow))
+            .count()
+            >= 16
+        {
+            return Some(Refusal::Crowded);
+        }
+        self.hold(number, &Funds::Flow(flow));
+        None
+    }
+
+    fn make_ticket(&mut self, amount: u64, currency: Name) -> Result<Reply, AllocError> {
+        if amount < 1 || amount > 1048576 {
+            return Ok(Reply::Refused(Refusal::Range));
+        }
+        if !self.has_currency(currency) {
+            return Ok(Reply::Refused(Refusal::NoCurrency));
+        }
+        if self.issued.len() >= 1024 {
+            return Ok(Reply::Refused(Refusal::TableFull));
+        }
+        let number = self.next_ticket;
+        self.issued.push(Issued {
+            number,
+            amount,
+            currency,
+            funds: Funds::Nothing,
+        })?;
+        self.next_ticket = number.saturating_add(1);
+        Ok(Reply::Ticket(TicketNo(number)))
+    }
+
+    fn open(&mut self, name: Name) -> Result<Reply, AllocError> {
+        if self.flow(name).is_some() {
+            return Ok(Reply::Refused(Refusal::Taken));
+        }
+        if self.opened.len() >= 64 {
+            return Ok(Reply::Refused(Refusal::TableFull));
+        }
+        let number = self.next_flow;
+        self.opened.push(Opened {
+            name,
+            number,
+            active: false,
+        })?;
+        self.next_flow = number.saturating_add(1);
+        Ok(Reply::Flow(FlowNo(number)))
+    }
+
+    fn make_currency(&mut self, name: Name) -> Result<Reply, AllocError> {
+        if self.has_currency(name) {
+            return Ok(Reply::Refused(Refusal::Taken));
+        }
+        if self.accounts.len() >= 65 {
+            return Ok(Reply::Refused(Refusal::TableFull));
+        }
+        self.accounts.push(Account {
+            name,
+            rank: 0,
+            active: 0,
+            value: 0,
+        })?;
+        Ok(Reply::Done)
+    }
+
+    fn remove_currency(&mut self, name: Name) -> Option<Refusal> {
+        if !self.has_currency(name) {
+            return Some(Refusal::NoCurrency);
+        }
+        if self.is_base(name) {
+            return Some(Refusal::Base);
+        }
+        if self.issued.iter().any(|ticket| ticket.currency == name
+            || funds_currency(ticket, name))
+        {
+            return Some(Refusal::InUse);
+        }
+        self.accounts.retain(|account| account.name != name);
+        None
+    }
+
+    fn remove_ticket(&mut self, number: u64) -> Option<Refusal> {
+        let Some(ticket) = self.ticket(number) else {
+            return Some(Refusal::NoTicket);
+        };
+        if is_held(ticket.funds) {
+            return Some(Refusal::Funding);
+        }
+        self.issued
+            .retain(|other| u64::from(other.number) != number);
+        None
+    }
+
+    fn unfund(&mut self, number: u64) -> Option<Refusal> {
+        let Some(ticket) = self.ticket(number) else {
+            return Some(Refusal::NoTicket);
+        };
+        if !is_held(ticket.funds) {
+            return Some(Refusal::Unfunded);
+        }
+        self.hold(number, &Funds::Nothing);
+        None
+    }
+
+    /// Makes a change, or answers why not.
+    pub(crate) fn apply(&mut self, change: Change) -> Result<Reply, AllocError> {
+        let refusal = match change {
+            Change::MakeCurrency(name) => return self.make_currency(name),
+            Change::MakeTicket(amount, currency) => return self.make_ticket(amount, currency),
+            Change::Open(name) => return self.open(name),
+            Change::RemoveCurrency(name) => self.remove_currency(name),
+            Change::RemoveTicket(ticket) => self.remove_ticket(ticket),
+            Change::FundCurrency(ticket, currency) => self.fund_currency(ticket, currency),
+            Change::FundFlow(ticket, flow) => self.fund_flow(ticket, flow),
+            Change::Unfund(ticket) => self.unfund(ticket),
+        };
+        match refusal {
+            Some(refusal) => Ok(Reply::Refused(refusal)),
+            None => Ok(Reply::Done),
+        }
+    }
+}

@@ -1,0 +1,149 @@
+//! A long run of changes, drawn by a generator, of a ledger and of the model beside it.
+
+use super::model::Model;
+use super::{Change, apply, empty, name, numbered};
+use share_base::{FlowNo, Name, Refusal, Reply};
+use std::process::Abort;
+use std::test::Fail;
+
+/// The steps of the run.
+const STEPS: u32 = 12000;
+
+// The next number of an xorshift generator.
+fn next(state: &mut u64) -> u64 {
+    let mut x = *state;
+    x ^= x << 13;
+    x ^= x >> 7;
+    x ^= x << 17;
+    *state = x;
+    x >> 16
+}
+
+// `base`, or one of eleven currencies. Every other ticket is denominated by its number, so that long chains come
+// about where such a ticket funds the next currency.
+fn currency(rt: &impl Abort, k: u64) -> Name {
+    if k % 12 == 0 {
+        return name(rt, "base");
+    }
+    numbered(rt, b'c', (k % 12) as usize)
+}
+
+fn flow(rt: &impl Abort, k: u64) -> Name {
+    numbered(rt, b'f', (k % 5) as usize)
+}
+
+// One of the tickets issued last, as often as not.
+fn ticket(state: &mut u64, issued: u32) -> u64 {
+    let back = next(state) % 40;
+    u64::from(issued).saturating_sub(back)
+}
+
+fn drawn(rt: &impl Abort, state: &mut u64, issued: u32) -> Change {
+    let kind = next(state) % 100;
+    let k = next(state);
+    if kind < 6 {
+        return Change::MakeCurrency(currency(rt, k));
+    }
+    if kind < 9 {
+        return Change::RemoveCurrency(currency(rt, k));
+    }
+    if kind < 15 {
+        return Change::MakeTicket(k % 1500, currency(rt, next(state)));
+    }
+    if kind < 24 {
+        return Change::MakeTicket(k % 1500, currency(rt, u64::from(issued)));
+    }
+    if kind < 40 {
+        return Change::RemoveTicket(ticket(state, issued));
+    }
+    if kind < 50 {
+        return Change::FundCurrency(ticket(state, issued), currency(rt, k));
+    }
+    if kind < 65 {
+        let row = ticket(state, issued);
+        return Change::FundCurrency(row, currency(rt, row.saturating_add(1)));
+    }
+    if kind < 80 {
+        return Change::FundFlow(ticket(state, issued), flow(rt, k));
+    }
+    if kind < 92 {
+        return Change::Unfund(ticket(state, issued));
+    }
+    Change::Open(flow(rt, k))
+}
+
+fn bit_of(refusal: &Refusal) -> u64 {
+    1_u64.wrapping_shl(refusal.number())
+}
+
+#[test]
+fn long_run_beside_a_plain_model(rt: HostRuntime) -> Result<(), Fail> {
+    let base = name(&rt, "base");
+    let mut ledger = empty(&rt, rt.alloc());
+    let mut model = Model::new(rt.alloc(), base)?;
+    let mut state = 88172645463325252;
+    let mut met: u64 = 0;
+    for step in 0..STEPS {
+        let k = next(&mut state);
+        let name = flow(&rt, k);
+        let number = model.flow(name);
+        assert_eq!(rt;
+            ledger.flow(name).map(|flow| flow.number()),
+            number,
+            "flow, step {step}"
+        );
+        match number {
+            Some(number) if k % 64 < 30 => {
+                ledger.set_active(FlowNo(number), k % 3 > 0);
+                model.set_active(number, k % 3 > 0);
+            }
+            Some(number) if k % 64 == 30 => {
+                ledger.remove_flow(FlowNo(number));
+                model.close(number);
+            }
+            _ => {
+                let change = drawn(&rt, &mut state, ledger.next_ticket());
+                let wanted = model.apply(change)?;
+                if let Reply::Refused(refusal) = wanted {
+                    met |= bit_of(&refusal);
+                }
+                assert_eq!(rt;
+                    apply(&mut ledger, change),
+                    wanted,
+                    "{change:?}, step {step}"
+                );
+            }
+        }
+        model.settle();
+        for k in 0..5 {
+            if let Some(number) = model.flow(flow(&rt, k)) {
+                let wanted = model.tickets(number);
+                assert_eq!(rt;
+                    u64::from(ledger.tickets(FlowNo(number))),
+                    wanted,
+                    "tickets, step {step}"
+                );
+            }
+        }
+    }
+    for refusal in [
+        Refusal::Range,
+        Refusal::NoCurrency,
+        Refusal::NoTicket,
+        Refusal::NoFlow,
+        Refusal::Taken,
+        Refusal::Base,
+        Refusal::InUse,
+        Refusal::Funding,
+        Refusal::Unfunded,
+        Refusal::Crowded,
+        Refusal::Cycle,
+        Refusal::Deep,
+    ] {
+        assert!(rt;
+            met & bit_of(&refusal) != 0,
+            "the run never met {refusal:?}"
+        );
+    }
+    Ok(())
+}

@@ -1,0 +1,5 @@
+use Rattle.share_model.specs.StrideLaws.{moves_commute}
+use Rattle.share_stride.proofs.laws.moves_commute.Goals as goal
+
+pub returns : goal.returns
+returns c = moves_commute

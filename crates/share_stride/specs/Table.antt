@@ -1,0 +1,56 @@
+-- The slots of a table: each holds a client with its flow number, or nothing.
+use Rattle.std.specs.Prelude.{◌≡◌, ◌≢◌, ℕ, ◌≤◌, ◌<ℤ◌, List, [], ◌∷◌, Option, None, Some, slice_index_or, IsTrue, ◌⊎◌}
+use Rattle.std.specs.Ordering.{nat_cmp}
+use Rattle.std.specs.FinMap.{FinMap, empty, insert}
+use Rattle.share_model.specs.declared.stride.Client.{Client}
+use Rattle.share_model.specs.Stride.{Precedes}
+use Rattle.share_stride.specs.declared.table.Slot.{Slot}
+
+abbrev pub Slots : Type 0
+Slots = List (Option Slot)
+
+-- the clients by their flow numbers
+abbrev pub client_map : Slots → FinMap nat_cmp Client
+client_map [] = empty
+client_map (None ∷ rest) = client_map rest
+client_map (Some slot ∷ rest) = insert (client_map rest) slot.flow slot.client
+
+-- the slot under a key
+abbrev pub slot_at : Slots → ℕ → Option Slot
+slot_at slots key = slice_index_or slots key None
+
+-- no flow has two slots
+pub record AreDistinct (slots : Slots) : Type 0 where
+  pub same_key : (i j : ℕ) (a b : Slot) → slot_at slots i ≡ Some a → slot_at slots j ≡ Some b → a.flow ≡ b.flow → i ≡ j
+
+-- the slot under this key has this flow
+pub record HoldsFlow (slots : Slots) (flow key : ℕ) : Type 0 where
+  pub slot : Slot
+  pub found : slot_at slots key ≡ Some slot
+  pub has : slot.flow ≡ flow
+
+-- no slot has this flow
+pub record LacksFlow (slots : Slots) (flow : ℕ) : Type 0 where
+  pub none : (key : ℕ) (slot : Slot) → slot_at slots key ≡ Some slot → slot.flow ≢ flow
+
+-- a slot precedes the first one so far, if there is one
+abbrev pub ComesBefore : Slot → Option Slot → Type 0
+ComesBefore slot None = Unit {0}
+ComesBefore slot (Some first) = Precedes slot.client.pass slot.flow first.client.pass first.flow
+
+-- the slot takes the place of the first one so far exactly where it competes and precedes that
+abbrev pub IsEarlier : Option Slot → Slot → Option Slot → Type 0
+IsEarlier first slot result =
+    ((IsTrue slot.client.competes × ComesBefore slot first) × (result ≡ Some slot))
+    ⊎ (¬ (IsTrue slot.client.competes × ComesBefore slot first) × (result ≡ first))
+
+-- the first one so far is this slot, or precedes it
+abbrev pub IsNoLater : Slot → Slot → Type 0
+IsNoLater first slot = (first.client.pass <ℤ slot.client.pass) ⊎ ((first.client.pass ≡ slot.client.pass) × (first.flow ≤ slot.flow))
+
+abbrev pub IsFirstSlot : Slots → Option Slot → Type 0
+IsFirstSlot slots None = (key : ℕ) (slot : Slot) → slot_at slots key ≡ Some slot → IsTrue slot.client.competes → ⊥
+IsFirstSlot slots (Some first) =
+    ((key : ℕ) × (slot_at slots key ≡ Some first))
+    × IsTrue first.client.competes
+    × ((key : ℕ) (slot : Slot) → slot_at slots key ≡ Some slot → IsTrue slot.client.competes → IsNoLater first slot)

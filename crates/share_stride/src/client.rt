@@ -1,0 +1,123 @@
+//! How a move changes one client.
+ghost use Rattle.std.specs.Prelude.{◌≡◌, ◌*◌, ◌/◌, ◌^◌, ◌<◌, ◌≤◌, pos, ◌-ℤ◌};
+ghost use Rattle.share_model.specs.Stride.{stride_of, new_client as model_new_client, rescaled as model_rescaled, joined as model_joined, left as model_left, charged as model_charged, position as model_position};
+ghost use Rattle.share_stride.specs.Fits.{IsWithin};
+
+use share_model::{Client, Position};
+
+/// The scale of strides.
+const STRIDE_SCALE: u64 = 1 << 40;
+
+/// How many units a client is charged per stride.
+const QUANTUM: u128 = 1024;
+
+/// A client that never competed.
+pub(crate) fn new_client() -> Client
+    ensures { result ≡ model_new_client }
+{
+    Client {
+        tickets: 0,
+        stride: 0,
+        remain: 0,
+        pass: 0,
+        competes: false,
+    }
+}
+
+/// The stride of so many tickets, 0 of none.
+pub(crate) fn stride_of(tickets: u64) -> u64
+    ensures { result ≡ stride_of tickets }
+{
+    if tickets == 0 {
+        0
+    } else {
+        STRIDE_SCALE / tickets
+    }
+}
+
+/// What a charge adds to a pass.
+pub(crate) fn share(stride: u64, units: u64) -> u128
+    ensures { result ≡ stride * units / 1024 }
+{
+    u128::from(stride) * u128::from(units) / QUANTUM
+}
+
+// The remain on a new stride, rounded down; the stride itself where there was none before.
+fn rescaled(new_stride: u64, old_stride: u64, remain: i128) -> i128
+    requires new { new_stride ≤ 2 ^ 40 }
+    requires old { old_stride ≤ 2 ^ 40 }
+    requires remain { IsWithin remain (old_stride * 2 ^ 41) }
+    ensures near { IsWithin result (new_stride * 2 ^ 41) }
+    ensures value { result ≡ model_rescaled new_stride old_stride remain }
+{
+    if old_stride == 0 {
+        i128::from(new_stride)
+    } else {
+        (remain * i128::from(new_stride)).div_euclid(i128::from(old_stride))
+    }
+}
+
+/// The client after it joins with so many tickets.
+pub(crate) fn joined(global_pass: u128, client: &Client, tickets: u32) -> Client
+    requires some { 0 < tickets }
+    requires pass { global_pass ≤ 2 ^ 80 }
+    requires stride { client.now.stride ≤ 2 ^ 40 }
+    requires remain { IsWithin client.now.remain (client.now.stride * 2 ^ 41) }
+    ensures { result ≡ model_joined global_pass client.now tickets }
+{
+    let stride = stride_of(u64::from(tickets));
+    let remain = rescaled(stride, client.stride, client.remain);
+    Client {
+        tickets,
+        stride,
+        remain,
+        pass: global_pass as i128 + remain,
+        competes: true,
+    }
+}
+
+/// The client after it leaves.
+pub(crate) fn left(global_pass: u128, client: &Client) -> Client
+    requires pass { global_pass ≤ 2 ^ 80 }
+    requires distance { IsWithin (client.now.pass -ℤ pos global_pass) (2 ^ 81) }
+    ensures { result ≡ model_left global_pass client.now }
+{
+    Client {
+        remain: client.pass - global_pass as i128,
+        competes: false,
+        ..*client
+    }
+}
+
+/// The client after a charge.
+pub(crate) fn charged(client: &Client, units: u64) -> Client
+    requires units { units ≤ 2 ^ 40 }
+    requires stride { client.now.stride ≤ 2 ^ 40 }
+    requires place { IsWithin (model_position client.now).place (2 ^ 83) }
+    ensures { result ≡ model_charged client.now units }
+{
+    let share = share(client.stride, units) as i128;
+    let mut charged = *client;
+    if client.competes {
+        charged.pass += share;
+    } else {
+        charged.remain += share;
+    }
+    charged
+}
+
+/// Where a client stands.
+pub(crate) fn position(client: &Client) -> Position
+    ensures { result ≡ model_position client.now }
+{
+    Position {
+        competing: client.competes,
+        tickets: client.tickets,
+        stride: client.stride,
+        place: if client.competes {
+            client.pass
+        } else {
+            client.remain
+        },
+    }
+}

@@ -1,0 +1,362 @@
+//! Worked figures on a queue, and a long run of moves beside a plain model.
+mod plain;
+
+use crate::Queue;
+use plain::Plain;
+use share_base::{FlowNo, Refusal};
+use share_model::Position;
+use std::test::Fail;
+
+const STRIDE_OF_ONE: i128 = 1_099_511_627_776;
+
+// The calls, each made only where it may be, and whether it was.
+fn add(queue: &mut Queue, flow: u32) -> bool {
+    let ready = !queue.contains(FlowNo(flow));
+    ready && queue.add(FlowNo(flow)).is_ok()
+}
+
+fn join(queue: &mut Queue, flow: u32, tickets: u32) -> bool {
+    let flow = FlowNo(flow);
+    let ready = queue.contains(flow)
+        && !queue.position(flow).competing
+        && tickets > 0
+        && tickets <= 1_048_576;
+    if ready {
+        queue.join(flow, tickets);
+    }
+    ready
+}
+
+fn leave(queue: &mut Queue, flow: u32) -> bool {
+    let flow = FlowNo(flow);
+    let ready = queue.contains(flow) && queue.position(flow).competing;
+    if ready {
+        queue.leave(flow);
+    }
+    ready
+}
+
+fn modify(queue: &mut Queue, flow: u32, tickets: u32) -> bool {
+    let flow = FlowNo(flow);
+    let ready = queue.contains(flow)
+        && queue.position(flow).competing
+        && tickets > 0
+        && tickets <= 1_048_576;
+    if ready {
+        queue.modify(flow, tickets);
+    }
+    ready
+}
+
+fn charge(queue: &mut Queue, flow: u32, units: u64) -> bool {
+    let flow = FlowNo(flow);
+    let clock = queue.global().clock;
+    let ready = queue.contains(flow) && units <= 1_099_511_627_776 - clock;
+    if ready {
+        queue.charge(flow, units);
+    }
+    ready
+}
+
+fn remove(queue: &mut Queue, flow: u32) -> bool {
+    let flow = FlowNo(flow);
+    let ready = queue.contains(flow) && !queue.position(flow).competing;
+    if ready {
+        queue.remove(flow);
+    }
+    ready
+}
+
+// A client that is not there stands nowhere.
+fn position(queue: &Queue, flow: u32) -> Position {
+    let flow = FlowNo(flow);
+    if queue.contains(flow) {
+        queue.position(flow)
+    } else {
+        Position {
+            competing: false,
+            tickets: 0,
+            stride: 0,
+            place: 0,
+        }
+    }
+}
+
+fn least(queue: &Queue) -> u32 {
+    match queue.least() {
+        None => 0,
+        Some(flow) => flow.number(),
+    }
+}
+
+fn stands(competing: bool, tickets: u32, stride: u64, place: i128) -> Position {
+    Position {
+        competing,
+        tickets,
+        stride,
+        place,
+    }
+}
+
+// Six frames of 1024 units, of flows with 3, 2 and 1 tickets, each of which leaves after its last frame.
+#[test]
+fn shares_by_tickets(rt: HostRuntime) -> Result<(), Fail> {
+    let mut queue = Queue::new(rt.alloc())?;
+    for (flow, tickets) in [(1, 3), (2, 2), (3, 1)] {
+        assert!(rt; add(&mut queue, flow) && join(&mut queue, flow, tickets));
+    }
+    assert_eq!(rt; position(&queue, 1).stride, 366_503_875_925);
+    assert_eq!(rt; position(&queue, 2).stride, 549_755_813_888);
+    assert_eq!(rt; position(&queue, 3).stride, 1_099_511_627_776);
+    for (turn, flow, last) in [
+        (1, 1, false),
+        (2, 2, false),
+        (3, 1, false),
+        (4, 1, true),
+        (5, 2, true),
+        (6, 3, true),
+    ] {
+        if turn == 4 {
+            assert_eq!(rt; position(&queue, 1).place, 1_099_511_627_775);
+            assert_eq!(rt; position(&queue, 2).place, STRIDE_OF_ONE);
+            assert_eq!(rt; position(&queue, 3).place, STRIDE_OF_ONE);
+        }
+        assert_eq!(rt; least(&queue), flow, "at turn {turn}");
+        assert!(rt; charge(&mut queue, flow, 1024));
+        if last {
+            assert!(rt; leave(&mut queue, flow));
+        }
+    }
+    assert_eq!(rt; least(&queue), 0);
+    let global = queue.global();
+    assert_eq!(rt;
+        (global.tickets, global.pass, global.last, global.clock),
+        (0, 2_199_023_255_549, 6144, 6144)
+    );
+    for (flow, tickets, stride, remain) in [
+        (1, 3, 366_503_875_925, 733_007_751_852),
+        (2, 2, 549_755_813_888, 549_755_813_891),
+        (3, 1, 1_099_511_627_776, 3),
+    ] {
+        assert_eq!(rt;
+            position(&queue, flow),
+            stands(false, tickets, stride, remain)
+        );
+    }
+    Ok(())
+}
+
+// A remain goes over to other tickets by the strides, and not by the tickets.
+#[test]
+fn rescaled_by_strides(rt: HostRuntime) -> Result<(), Fail> {
+    let mut queue = Queue::new(rt.alloc())?;
+    assert!(rt; add(&mut queue, 1) && add(&mut queue, 2));
+    assert!(rt; join(&mut queue, 1, 1000));
+    assert!(rt; modify(&mut queue, 1, 333) && join(&mut queue, 2, 666));
+    assert_eq!(rt;
+        position(&queue, 1),
+        stands(true, 333, 3_301_836_720, 3_301_836_720)
+    );
+    assert_eq!(rt;
+        position(&queue, 2),
+        stands(true, 666, 1_650_918_360, 1_650_918_360)
+    );
+    assert_eq!(rt; least(&queue), 2);
+    assert!(rt; charge(&mut queue, 2, 13) && leave(&mut queue, 2) && modify(&mut queue, 1, 1000));
+    assert_eq!(rt; queue.global().pass, 13_972_616);
+    assert_eq!(rt;
+        position(&queue, 2),
+        stands(false, 666, 1_650_918_360, 1_657_904_668)
+    );
+    assert_eq!(rt; position(&queue, 1).place, 1_108_831_361);
+    Ok(())
+}
+
+// A flow leaves behind the global pass, and returns with other tickets.
+#[test]
+fn returns_behind(rt: HostRuntime) -> Result<(), Fail> {
+    let mut queue = Queue::new(rt.alloc())?;
+    assert!(rt;
+        add(&mut queue, 1) && add(&mut queue, 2) && join(&mut queue, 1, 1) && join(&mut queue, 2, 1)
+    );
+    assert_eq!(rt; least(&queue), 1);
+    assert!(rt; charge(&mut queue, 1, 3072) && leave(&mut queue, 2));
+    assert_eq!(rt; queue.global().pass, 1_649_267_441_664);
+    assert_eq!(rt;
+        position(&queue, 2),
+        stands(false, 1, 1_099_511_627_776, -549_755_813_888)
+    );
+    assert!(rt; join(&mut queue, 2, 3));
+    assert_eq!(rt;
+        position(&queue, 2),
+        stands(true, 3, 366_503_875_925, 1_466_015_503_701)
+    );
+    assert_eq!(rt; least(&queue), 2);
+    Ok(())
+}
+
+// A flow that joins late begins at the global pass, and one that is charged after it left keeps the charge.
+#[test]
+fn charged_late(rt: HostRuntime) -> Result<(), Fail> {
+    let mut queue = Queue::new(rt.alloc())?;
+    assert!(rt;
+        add(&mut queue, 1) && add(&mut queue, 2) && join(&mut queue, 1, 1) && join(&mut queue, 2, 1)
+    );
+    assert_eq!(rt; position(&queue, 2).place, STRIDE_OF_ONE);
+    assert!(rt; charge(&mut queue, 1, 1024));
+    assert_eq!(rt; position(&queue, 1).place, 2_199_023_255_552);
+    assert_eq!(rt; least(&queue), 2);
+
+    let mut queue = Queue::new(rt.alloc())?;
+    assert!(rt;
+        add(&mut queue, 1)
+            && join(&mut queue, 1, 1)
+            && leave(&mut queue, 1)
+            && charge(&mut queue, 1, 1024)
+    );
+    assert_eq!(rt;
+        position(&queue, 1),
+        stands(false, 1, 1_099_511_627_776, 2_199_023_255_552)
+    );
+    assert_eq!(rt; least(&queue), 0);
+    assert!(rt; join(&mut queue, 1, 1));
+    assert_eq!(rt; queue.global().pass, 0);
+    assert_eq!(rt; position(&queue, 1).place, 2_199_023_255_552);
+    assert_eq!(rt; least(&queue), 1);
+    Ok(())
+}
+
+// Sixty-four flows join from the last to the first: a tie goes to the least number.
+#[test]
+fn ties_by_number(rt: HostRuntime) -> Result<(), Fail> {
+    let mut queue = Queue::new(rt.alloc())?;
+    for flow in 1..=64 {
+        assert!(rt; add(&mut queue, flow));
+    }
+    let missing = !queue.contains(FlowNo(65));
+    assert!(rt; missing);
+    assert_eq!(rt; queue.add(FlowNo(65)), Err(Refusal::TableFull));
+    for flow in (1..=64).rev() {
+        assert!(rt; join(&mut queue, flow, 1));
+    }
+    for flow in 1..=64 {
+        assert_eq!(rt; position(&queue, flow).place, STRIDE_OF_ONE);
+    }
+    assert_eq!(rt; least(&queue), 1);
+    assert!(rt; charge(&mut queue, 1, 1024));
+    assert_eq!(rt; least(&queue), 2);
+    assert!(rt; leave(&mut queue, 2));
+    assert_eq!(rt; queue.global().pass, 17_179_869_184);
+    assert_eq!(rt; position(&queue, 2).place, 1_082_331_758_592);
+    assert_eq!(rt; least(&queue), 3);
+    assert!(rt; join(&mut queue, 2, 1));
+    assert_eq!(rt; position(&queue, 2).place, STRIDE_OF_ONE);
+    assert_eq!(rt; least(&queue), 2);
+    assert!(rt; leave(&mut queue, 3) && remove(&mut queue, 3) && add(&mut queue, 65));
+    Ok(())
+}
+
+// Makes one move on both where it may be made, and says whether each made it.
+fn step(
+    queue: &mut Queue,
+    plain: &mut Plain,
+    kind: u32,
+    flow: u32,
+    tickets: u32,
+    units: u64,
+) -> (bool, bool) {
+    let row = plain.row(flow);
+    let there = row.flow == flow;
+    let amount = i128::from(tickets);
+    match kind {
+        0 => {
+            if !there {
+                plain.add(flow);
+            }
+            (add(queue, flow), !there)
+        }
+        1 | 2 => {
+            let ready = there && !row.competes;
+            if ready {
+                plain.join(flow, amount);
+            }
+            (join(queue, flow, tickets), ready)
+        }
+        3 => {
+            let ready = there && row.competes;
+            if ready {
+                plain.leave(flow);
+            }
+            (leave(queue, flow), ready)
+        }
+        4 => {
+            let ready = there && row.competes;
+            if ready {
+                plain.leave(flow);
+                plain.join(flow, amount);
+            }
+            (modify(queue, flow, tickets), ready)
+        }
+        5 => {
+            let ready = there && !row.competes;
+            if ready {
+                plain.remove(flow);
+            }
+            (remove(queue, flow), ready)
+        }
+        _ => {
+            if there {
+                plain.charge(flow, i128::from(units));
+            }
+            (charge(queue, flow, units), there)
+        }
+    }
+}
+
+// Whether both show the same figures for every flow, and the same next flow.
+fn agrees(queue: &Queue, plain: &Plain) -> bool {
+    let global = queue.global();
+    let mut same = global.pass as i128 == plain.pass
+        && i128::from(global.tickets) == plain.tickets()
+        && i128::from(global.last) == plain.last
+        && i128::from(global.clock) == plain.clock
+        && least(queue) == plain.least();
+    for flow in 1..=8 {
+        let row = plain.row(flow);
+        let position = position(queue, flow);
+        same = same
+            && queue.contains(FlowNo(flow)) == (row.flow == flow)
+            && position.competing == row.competes
+            && i128::from(position.tickets) == row.tickets
+            && i128::from(position.stride) == plain::stride(row.tickets)
+            && position.place == row.place;
+    }
+    same
+}
+
+// Twenty thousand moves of all kinds, in an order that is drawn from a sequence of numbers.
+#[test]
+fn beside_a_plain_model(rt: HostRuntime) -> Result<(), Fail> {
+    let mut queue = Queue::new(rt.alloc())?;
+    let mut plain = Plain::new();
+    let mut drawn = 1u64;
+    let mut made = 0u32;
+    for count in 0..20_000u32 {
+        drawn = drawn
+            .wrapping_mul(6_364_136_223_846_793_005)
+            .wrapping_add(1_442_695_040_888_963_407);
+        let kind = (drawn >> 33) as u32 % 12;
+        let flow = (drawn >> 40) as u32 % 8 + 1;
+        let most = if (drawn >> 62) & 1 == 0 { 8 } else { 1_048_576 };
+        let tickets = (drawn >> 42) as u32 % most + 1;
+        let units = (drawn >> 20) % 4096;
+        let (ours, theirs) = step(&mut queue, &mut plain, kind, flow, tickets, units);
+        assert_eq!(rt; ours, theirs, "at move {count}");
+        assert!(rt; agrees(&queue, &plain), "at move {count}");
+        if ours {
+            made = made.wrapping_add(1);
+        }
+    }
+    assert!(rt; made > 10_000);
+    Ok(())
+}

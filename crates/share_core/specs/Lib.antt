@@ -1,0 +1,7 @@
+pub mod Based
+pub mod Framed
+pub mod Held
+pub mod Kept
+pub mod Life
+pub mod Place
+pub mod Shelf

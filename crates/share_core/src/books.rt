@@ -1,0 +1,103 @@
+//! The books of the open flows: their tariffs and accounts.
+ghost use Rattle.std.specs.Prelude.{◌≡◌, ◌<◌, ◌≤◌, ◌^◌, ◌+◌, ℕ, [], ◌∷◌, ◌++◌, length, position, find, IfOk, None, Some, IsSome, IsTrue, is_some, option_copied};
+ghost use Rattle.share_model.specs.Tariff.{rate_at};
+ghost use Rattle.share_model.specs.Link.{is_book_of, new_book, charged, posted};
+ghost use Rattle.share_core.specs.Held.{IfFound};
+
+use crate::MAX_FLOWS;
+use share_base::FlowNo;
+use share_model::{Book, Rates};
+use std::alloc::{AllocError, Global};
+use std::marker::Model;
+
+/// A book for each open flow, in order of opening.
+#[derive(Drop)]
+pub struct Books {
+    books: Vec<Book>,
+}
+
+impl Model for Books {
+    ghost use Rattle.std.specs.Prelude.{List, ◌≤◌, vec_capacity};
+    ghost use Rattle.share_model.specs.declared.link.Book.{Book};
+
+    ghost Value = { List Book };
+
+    ghost view = { λ b. b.books.items };
+
+    ghost invariant = { λ b. 1 ≤ vec_capacity b.books };
+}
+
+impl Books {
+    /// No book, and room for as many as there may be.
+    pub fn new(alloc: Global) -> Result<Books, AllocError>
+        ensures { IfOk result (λ b. b ≡ []) }
+    {
+        let books = Vec::with_capacity(alloc, MAX_FLOWS)?;
+        Ok(Books { books })
+    }
+
+    /// The book of a flow.
+    pub fn book(&self, flow: FlowNo) -> Option<&Book>
+        ensures { option_copied result ≡ find (is_book_of flow) self.now }
+    {
+        self.books.iter().find(|book| is_of(book, flow))
+    }
+
+    /// Opens the book of a flow. It takes no memory.
+    pub fn open(&mut self, flow: FlowNo, tariff: u64)
+        requires { length self.old < MAX_FLOWS }
+        ensures { self.new ≡ self.old ++ new_book flow tariff ∷ [] }
+    {
+        self.books.push_reserved(Book {
+            flow,
+            tariff,
+            account: 0,
+        });
+    }
+
+    // The place of a flow's book.
+    fn place(&self, flow: FlowNo) -> usize
+        requires { IsSome (find (is_book_of flow) self.now) }
+        ensures { position (is_book_of flow) self.now ≡ Some result }
+    {
+        place_of(self.books.as_slice(), flow).unwrap()
+    }
+
+    /// Charges and posts a flow for `count` bytes of a frame.
+    pub fn post<S: Rates>(&mut self, shelf: &S, flow: FlowNo, count: u32)
+        requires there { IsSome (find (is_book_of flow) self.old) }
+        requires known { IfFound (find (is_book_of flow) self.old) (λ b. IsTrue (is_some (rate_at (S.rates shelf.now) b.tariff))) }
+        requires account { IfFound (find (is_book_of flow) self.old) (λ b. b.account ≤ 2 ^ 62) }
+        requires few { count ≤ 1502 }
+        ensures { self.new ≡ posted (S.rates shelf.now) self.old flow count }
+    {
+        let place = self.place(flow);
+        let book = &mut self.books[place];
+        charge(book, shelf, count);
+    }
+}
+
+// Charges and posts a book for `count` bytes of a frame.
+fn charge<S: Rates>(book: &mut Book, shelf: &S, count: u32)
+    requires known { IsTrue (is_some (rate_at (S.rates shelf.now) book.old.tariff)) }
+    requires account { book.old.account ≤ 2 ^ 62 }
+    requires few { count ≤ 1502 }
+    ensures { book.new ≡ charged (S.rates shelf.now) count book.old }
+{
+    let units = shelf.units(book.tariff, count);
+    book.account = shelf.post(book.tariff, book.account, units);
+}
+
+fn is_of(book: &Book, flow: FlowNo) -> bool
+    ensures { result ≡ is_book_of flow book.now }
+{
+    let own = book.flow;
+    flow.number() == own.number()
+}
+
+// The place of a flow's book, if there is one.
+fn place_of(books: &[Book], flow: FlowNo) -> Option<usize>
+    ensures { result ≡ position (is_book_of flow) books.now }
+{
+    books.iter().position(|book| is_of(book, flow))
+}

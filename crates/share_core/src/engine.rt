@@ -1,0 +1,231 @@
+//! The engine of a link: a link and the writer of its frames.
+ghost use Rattle.std.specs.Prelude.{◌≡◌, ◌≤◌, find, length, take, drop, vec_capacity, IfOk, IfErr, IfSome, None, option_map, false};
+ghost use Rattle.share_base.specs.Refusal.{IsRefused};
+ghost use Rattle.share_model.specs.Did.{is_spent, Steps, CommandDid, Offered, TurnDid, TearDid};
+ghost use Rattle.share_model.specs.Funding.{tickets};
+ghost use Rattle.share_model.specs.FundingChanges.{flow_named};
+ghost use Rattle.share_model.specs.Link.{empty_link, is_book_of, arrive_step, sending};
+ghost use Rattle.share_model.specs.Seen.{Seen};
+ghost use Rattle.share_model.specs.Sound.{Sound};
+ghost use Rattle.share_model.specs.Tariff.{AreInRange};
+ghost use Rattle.share_model.specs.Frame.{frame};
+ghost use Rattle.share_model.specs.Told.{Fits};
+ghost use Rattle.share_core.specs.Framed.{IsFrameOf};
+ghost use Rattle.share_core.specs.Place.{IsPlaceOf};
+ghost use Rattle.share_core.specs.Life.{life_refusal};
+
+use crate::link::Link;
+use crate::place::Place;
+use share_base::{Body, Command, FlowNo, Name, Refusal, Reply, Turn};
+use share_model::{Answer, Rates, Telling};
+use std::alloc::Global;
+use std::marker::Model;
+
+/// The longest frame, in bytes.
+const MAX_FRAME: usize = 1502;
+
+/// A link: commands, arrivals and turns, one event a call. It owns the shelf of its tariffs and its writer.
+///
+/// A contract sees its life and its tariffs, what it holds, and the writer. Whatever was called, what it holds is
+/// sound, as `events` says.
+#[derive(Drop)]
+pub struct Engine<W, S: Rates> {
+    link: Link<S>,
+    // The bytes of the frame in part, where there is one.
+    frame: Vec<u8>,
+    writer: W,
+}
+
+impl<W, S: Rates> Model for Engine<W, S> {
+    ghost use Rattle.std.specs.Prelude.{◌≤◌, vec_capacity};
+    ghost use Rattle.share_model.specs.Seen.{Seen};
+    ghost use Rattle.share_core.specs.Framed.{IsFrameOf};
+
+    ghost Value = { Seen W };
+
+    ghost view = { λ e. record { life = e.link.life; rates = e.link.rates; live = e.link.live; writer = e.writer } };
+
+    ghost invariant = { λ e. (1502 ≤ vec_capacity e.frame) × IsFrameOf e.link.live.buffers e.link.live.part e.frame.items };
+}
+
+impl<W: Drop, S: Rates + Drop> Engine<W, S> {
+    /// A new link over this writer, with a life of 1 to 2^24 events. `Range` where the life is none of these,
+    /// `NoMemory` where a growth was refused; the shelf and the writer are dropped then.
+    pub fn new(alloc: Global, shelf: S, life: u64, writer: W) -> Result<Engine<W, S>, Refusal>
+        ensures ok { IfOk result (λ e. (e ≡ record { life = life; rates = S.rates shelf; live = empty_link; writer = writer }) × (life_refusal life ≡ None)) }
+        ensures refused { IfErr result (IsRefused (life_refusal life)) }
+    {
+        let link = Link::new(alloc, shelf, life)?;
+        match Vec::with_capacity(alloc, MAX_FRAME) {
+            Ok(frame) => Ok(Engine {
+                link,
+                frame,
+                writer,
+            }),
+            Err(_) => Err(Refusal::NoMemory),
+        }
+    }
+}
+
+impl<W, S: Rates> Engine<W, S> {
+    /// How many events were made. A link is sound after whatever events.
+    pub fn events(&self) -> u64
+        ensures events { result ≡ self.now.live.counts.events }
+        ensures sound { Sound self.now.life self.now.rates self.now.live }
+        ensures range { AreInRange self.now.rates }
+    {
+        self.link.events()
+    }
+
+    /// Whether as many events were made as the life allows.
+    pub fn spent(&self) -> bool
+        ensures { result ≡ is_spent self.now }
+    {
+        self.link.spent()
+    }
+
+    /// The account of an open flow.
+    pub fn account(&self, flow: FlowNo) -> Option<u64>
+        ensures { result ≡ option_map (λ b. b.account) (find (is_book_of flow) self.now.live.books) }
+    {
+        self.link.account(flow)
+    }
+
+    /// The number of the open flow of a name.
+    pub fn flow(&self, name: Name) -> Option<FlowNo>
+        ensures { result ≡ option_map (λ f. f.number) (flow_named self.now.live.graph name) }
+    {
+        self.link.flow(&name)
+    }
+
+    /// The tickets of an open flow: what funds it while it is active, at most 2^20, and 0 while it is idle.
+    pub fn tickets(&self, flow: FlowNo) -> Option<u32>
+        ensures { result ≡ option_map (λ _. tickets self.now.live.graph flow) (find (is_book_of flow) self.now.live.books) }
+    {
+        self.link.tickets(flow)
+    }
+
+    /// The writer.
+    pub fn writer(&self) -> &W
+        ensures { result.now ≡ self.now.writer }
+    {
+        &self.writer
+    }
+
+    /// Makes a command: one event, unless the life is spent or memory was refused, which changes nothing. Only
+    /// `OpenFlow` and `MakeTicket` take memory.
+    pub fn command(&mut self, command: Command) -> Reply
+        ensures { CommandDid self.old command result self.new }
+    {
+        if self.link.spent() {
+            return Reply::Refused(Refusal::Spent);
+        }
+        self.link.command(command)
+    }
+
+    /// A packet comes for the flow of a name: one event, unless the life is spent. It takes no memory, and a refused
+    /// payload is dropped.
+    pub fn arrive(&mut self, flow: Name, body: Body) -> Reply
+        ensures { Steps (λ _ l. arrive_step l flow body) self.old result self.new }
+    {
+        if self.link.spent() {
+            return Reply::Refused(Refusal::Spent);
+        }
+        self.link.arrive(&flow, body)
+    }
+
+    /// Offers the writer the next bytes of the frame that is sent, at most `most` of them, in one write call, and its
+    /// answer decides: so many bytes accepted, nothing at all where it was interrupted, or else a fault, which
+    /// breaks the link for good. Nothing is offered where the life is spent, where the link is broken, and where
+    /// there is nothing to send. It takes no memory.
+    pub fn turn(&mut self, most: u32) -> Turn
+    where
+        W: Telling,
+        requires { 1 ≤ most }
+        ensures { TurnDid W.answers self.old most result self.new }
+    {
+        if self.link.spent() {
+            return Turn::Spent;
+        }
+        if self.link.broken() {
+            return Turn::Broken;
+        }
+        match self.link.sending() {
+            None => Turn::Idle,
+            Some(place) => self.send(place, most),
+        }
+    }
+
+    // Offers the writer the next bytes of the frame that is sent.
+    fn send(&mut self, place: Place, most: u32) -> Turn
+    where
+        W: Telling,
+        requires some { 1 ≤ most }
+        requires living { is_spent self.old ≡ false }
+        requires unbroken { self.old.live.broken ≡ false }
+        requires sends { IsPlaceOf (sending self.old.live) place }
+        ensures { IfSome (sending self.old.live) (λ s. Offered W.answers self.old most s result self.new) }
+    {
+        let out = place.out;
+        load(&self.link, &place, &mut self.frame);
+        match offer(&mut self.writer, self.frame.as_slice(), out, most) {
+            Answer::Accepted(0) => self.link.fail(place),
+            Answer::Accepted(count) => self.link.wrote(place, count as u32),
+            Answer::Interrupted => Turn::Again,
+            Answer::Failed => self.link.fail(place),
+        }
+    }
+
+    /// The caller declares that the writer failed, and the writer is not called: one event where there is a frame to
+    /// send, unless the life is spent or the link is broken. It takes no memory.
+    pub fn tear(&mut self) -> Turn
+        ensures { TearDid self.old result self.new }
+    {
+        if self.link.spent() {
+            return Turn::Spent;
+        }
+        if self.link.broken() {
+            return Turn::Broken;
+        }
+        match self.link.sending() {
+            None => Turn::Idle,
+            Some(place) => self.link.fail(place),
+        }
+    }
+}
+
+impl<W, S: Rates + Drop> Engine<W, S> {
+    /// The writer; the rest is dropped.
+    pub fn into_writer(self) -> W
+        ensures { result ≡ self.writer }
+    {
+        let Engine { writer, .. } = self;
+        writer
+    }
+}
+
+// Sees to it that the buffer holds the frame that is sent: it does where that is in part.
+fn load<S: Rates>(link: &Link<S>, place: &Place, buffer: &mut Vec<u8>)
+    requires sends { IsPlaceOf (sending link.now.live) place.now }
+    requires kept { IsFrameOf link.now.live.buffers link.now.live.part buffer.old.items }
+    requires room { 1502 ≤ vec_capacity buffer.old }
+    ensures sound { Sound link.now.life link.now.rates link.now.live }
+    ensures frame { IfSome (sending link.now.live) (λ s. buffer.new.items ≡ frame s.head) }
+    ensures room { 1502 ≤ vec_capacity buffer.new }
+{
+    let _ = link.spent();
+    if place.out == 0 {
+        link.fill(place.flow, buffer);
+    }
+}
+
+// Offers a writer the next bytes of a frame of which `out` are out, at most `most` of them, in one call.
+fn offer<W: Telling>(writer: &mut W, frame: &[u8], out: u32, most: u32) -> Answer
+    requires { out ≤ length frame.now }
+    ensures answered { W.answers writer.old (take most (drop out frame.now)) result writer.new }
+    ensures fits { Fits (take most (drop out frame.now)) result }
+{
+    let rest = &frame[out as usize..];
+    let count = rest.len().min(most as usize);
+    writer.offer(&rest[..count])
+}

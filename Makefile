@@ -1,0 +1,25 @@
+# stridelink: 'make run' builds the program and runs an example, 'make test' passes the gate.
+# The toolchain's command rt has to be on the PATH.
+
+SOURCES := crates.txt $(shell find crates -name '*.rt' -o -name '*.antt' | grep -v /out/)
+
+.PHONY: run build test bench
+
+run: bin/stridelink
+	bin/stridelink run < examples/one-packet.script
+
+build: bin/stridelink
+
+bin/stridelink: $(SOURCES)
+	@echo 'proving and building stridelink: some minutes where nothing is built yet' >&2
+	mkdir -p bin
+	cd crates/stridelink && rt run -- --help > ../../bin/build.log 2>&1 || { cat ../../bin/build.log >&2; exit 1; }
+	cp crates/stridelink/out/stridelink bin/stridelink
+
+test: bin/stridelink
+	examples/compare.sh
+	@echo 'the gate: every proof from nothing, the edits that must fail, the tests and the program' >&2
+	rt ci
+
+bench: bin/stridelink
+	python3 bench/bench.py

@@ -1,0 +1,9 @@
+mod AnswerLemmas
+mod DigitLemmas
+mod HexLemmas
+mod NumberLemmas
+mod PrintLemmas
+mod ReadingLemmas
+mod ScriptLemmas
+pub mod TextLemmas
+mod WordLemmas

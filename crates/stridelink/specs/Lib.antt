@@ -1,0 +1,4 @@
+pub mod Digits
+pub mod Printing
+pub mod Script
+pub mod Words

@@ -1,0 +1,103 @@
+//! The line of a link's bytes, printed in hexadecimal.
+ghost use Rattle.std.specs.Prelude.{◌≡◌, ◌<◌, ◌≤◌, ◌*◌, ◌++◌, codes, length, take, MatchResult, IfErr};
+ghost use Rattle.std.specs.Io.KnownBytes.{Appends};
+ghost use Rattle.share_model.specs.Lines.{hex, hex_digit};
+ghost use Rattle.stridelink.specs.Printing.{bytes_told, AppendsPart, SomeRefusal, digits_or_hyphen, out_line};
+
+use crate::replies::{NotWritten, put};
+use share_model::Telling;
+
+/// How many bytes are spelled in one piece.
+const PIECE: usize = 2048;
+
+/// Prints the line of a link's bytes: `out `, their digits or a hyphen where there are none, and a line feed. On an
+/// error a beginning of the line is written.
+pub fn print_bytes<O: Telling>(output: &mut O, bytes: &[u8]) -> Result<(), NotWritten>
+    ensures bytes { MatchResult result
+        (λ _. Appends (bytes_told (O.told output.old)) (bytes_told (O.told output.new)) (out_line bytes.now))
+        (λ _. AppendsPart (bytes_told (O.told output.old)) (bytes_told (O.told output.new)) (out_line bytes.now)) }
+    ensures asked { IfErr result (λ _. SomeRefusal O.answers) }
+{
+    match put(output, b"out ") {
+        Err(fault) => Err(fault),
+        Ok(()) => finish_line(output, bytes),
+    }
+}
+
+// The digits of the line, and its line feed.
+fn finish_line<O: Telling>(output: &mut O, bytes: &[u8]) -> Result<(), NotWritten>
+    ensures bytes { MatchResult result
+        (λ _. Appends (bytes_told (O.told output.old)) (bytes_told (O.told output.new)) (digits_or_hyphen bytes.now ++ codes "\n"))
+        (λ _. AppendsPart (bytes_told (O.told output.old)) (bytes_told (O.told output.new)) (digits_or_hyphen bytes.now ++ codes "\n")) }
+    ensures asked { IfErr result (λ _. SomeRefusal O.answers) }
+{
+    match put_digits(output, bytes) {
+        Err(fault) => Err(fault),
+        Ok(()) => put(output, b"\n"),
+    }
+}
+
+fn put_digits<O: Telling>(output: &mut O, bytes: &[u8]) -> Result<(), NotWritten>
+    ensures bytes { MatchResult result
+        (λ _. Appends (bytes_told (O.told output.old)) (bytes_told (O.told output.new)) (digits_or_hyphen bytes.now))
+        (λ _. AppendsPart (bytes_told (O.told output.old)) (bytes_told (O.told output.new)) (digits_or_hyphen bytes.now)) }
+    ensures asked { IfErr result (λ _. SomeRefusal O.answers) }
+{
+    if bytes.is_empty() {
+        return put(output, b"-");
+    }
+    put_hex(output, bytes)
+}
+
+// Prints each byte as two lower-case digits.
+fn put_hex<O: Telling>(output: &mut O, bytes: &[u8]) -> Result<(), NotWritten>
+    ensures bytes { MatchResult result
+        (λ _. Appends (bytes_told (O.told output.old)) (bytes_told (O.told output.new)) (hex bytes.now))
+        (λ _. AppendsPart (bytes_told (O.told output.old)) (bytes_told (O.told output.new)) (hex bytes.now)) }
+    ensures asked { IfErr result (λ _. SomeRefusal O.answers) }
+{
+    let mut at = 0;
+    while at < bytes.len() {
+        let count = (bytes.len() - at).min(PIECE);
+        match put_piece(output, &bytes[at..at + count]) {
+            Err(fault) => return Err(fault),
+            Ok(()) => at += count,
+        }
+    }
+    Ok(())
+}
+
+fn put_piece<O: Telling>(output: &mut O, piece: &[u8]) -> Result<(), NotWritten>
+    requires { length piece.now ≤ 2048 }
+    ensures bytes { MatchResult result
+        (λ _. Appends (bytes_told (O.told output.old)) (bytes_told (O.told output.new)) (hex piece.now))
+        (λ _. AppendsPart (bytes_told (O.told output.old)) (bytes_told (O.told output.new)) (hex piece.now)) }
+    ensures asked { IfErr result (λ _. SomeRefusal O.answers) }
+{
+    let mut text = [0u8; 2 * PIECE];
+    spell(piece, &mut text);
+    put(output, &text[..2 * piece.len()])
+}
+
+// Writes the two digits of each byte to the front of a buffer.
+fn spell(bytes: &[u8], text: &mut [u8])
+    requires { 2 * length bytes.now ≤ length text.old }
+    ensures { take (2 * length bytes.now) text.new ≡ hex bytes.now }
+{
+    for place in 0..bytes.len() {
+        let byte = bytes[place];
+        text[2 * place] = digit(byte / 16);
+        text[2 * place + 1] = digit(byte % 16);
+    }
+}
+
+fn digit(value: u8) -> u8
+    requires { value < 16 }
+    ensures { result ≡ hex_digit value }
+{
+    if value < 10 {
+        b'0' + value
+    } else {
+        b'a' - 10 + value
+    }
+}

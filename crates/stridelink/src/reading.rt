@@ -1,0 +1,190 @@
+//! Lines of a script, read from their bytes.
+ghost use Rattle.std.specs.Prelude.{◌≡◌, IfOk, IfErr};
+ghost use Rattle.share_model.specs.Lines.{Reads, IsReading, IsUnread, is_in_range, payload_of, open_of, mktkt_of, fund_of, send_of, turn_of, torn_of, ranged, line_by};
+ghost use Rattle.stridelink.specs.Words.{ReadsRanged, short_line_by, sent_by};
+
+use crate::payload::{decode, is_payload};
+use crate::words::Words;
+use share_base::{Body, Command, Name, Refusal};
+use share_model::Line;
+use std::alloc::Global;
+
+/// The longest line, in bytes before its line feed.
+const MAX_LINE: usize = 20480;
+
+/// The longest payload, in bytes.
+const MAX_PAYLOAD: usize = 1490;
+
+/// The line that these bytes, without a line feed, spell. `Syntax` where they spell none, `Range` where the payload
+/// of a packet has more than 1490 bytes or the number of a turn is not 1 to 65535, `NoMemory` where the copy of a
+/// payload found none.
+pub fn read_line(alloc: Global, bytes: &[u8]) -> Result<Line, Refusal>
+    ensures reads { Reads bytes.now result }
+    ensures spelled { IfOk result (λ line. IsReading bytes.now line) }
+    ensures refused { IfErr result (λ refusal. IsUnread bytes.now refusal) }
+{
+    read_bytes(alloc, bytes)
+}
+
+fn read_bytes(alloc: Global, bytes: &[u8]) -> Result<Line, Refusal>
+    ensures { Reads bytes.now result }
+{
+    if bytes.len() > MAX_LINE {
+        return Err(Refusal::Syntax);
+    }
+    let mut words = Words::of(bytes);
+    match words.next() {
+        None => Err(Refusal::Syntax),
+        Some(keyword) => read_words(alloc, keyword, &mut words),
+    }
+}
+
+// The line of a keyword and the words after it.
+fn read_words(alloc: Global, keyword: &[u8], words: &mut Words<'_>) -> Result<Line, Refusal>
+    ensures { ReadsRanged (line_by keyword.now words.old) result }
+{
+    if keyword == b"send".as_slice() {
+        return send(alloc, words);
+    }
+    ranged(short_line(keyword, words))
+}
+
+fn short_line(keyword: &[u8], words: &mut Words<'_>) -> Option<Line>
+    ensures { result ≡ short_line_by keyword.now words.old }
+{
+    if keyword == b"turn".as_slice() {
+        turn(words)
+    } else if keyword == b"open".as_slice() {
+        open(words)
+    } else if keyword == b"mktkt".as_slice() {
+        make_ticket(words)
+    } else if keyword == b"fund".as_slice() {
+        fund(words)
+    } else if keyword == b"torn".as_slice() {
+        torn(words)
+    } else {
+        None
+    }
+}
+
+fn ranged(line: Option<Line>) -> Result<Line, Refusal>
+    ensures { result ≡ ranged line }
+{
+    match line {
+        None => Err(Refusal::Syntax),
+        Some(line) => {
+            if is_in_range(&line) {
+                Ok(line)
+            } else {
+                Err(Refusal::Range)
+            }
+        }
+    }
+}
+
+fn is_in_range(line: &Line) -> bool
+    ensures { result ≡ is_in_range line.now }
+{
+    match line {
+        Line::Change(_) => true,
+        Line::Send { flow: _, body } => body.as_slice().len() <= MAX_PAYLOAD,
+        Line::Turn(most) => 1 <= *most && *most <= 65535,
+        Line::Torn => true,
+    }
+}
+
+fn turn(words: &mut Words<'_>) -> Option<Line>
+    ensures { result ≡ turn_of words.old }
+{
+    let most = words.number()?;
+    if !words.is_end() {
+        return None;
+    }
+    Some(Line::Turn(most))
+}
+
+fn torn(words: &mut Words<'_>) -> Option<Line>
+    ensures { result ≡ torn_of words.old }
+{
+    if !words.is_end() {
+        return None;
+    }
+    Some(Line::Torn)
+}
+
+fn open(words: &mut Words<'_>) -> Option<Line>
+    ensures { result ≡ open_of words.old }
+{
+    let name = words.name()?;
+    let limit = words.number()?;
+    let tariff = words.number()?;
+    if !words.is_end() {
+        return None;
+    }
+    Some(Line::Change(Command::OpenFlow {
+        name,
+        limit,
+        tariff,
+    }))
+}
+
+fn make_ticket(words: &mut Words<'_>) -> Option<Line>
+    ensures { result ≡ mktkt_of words.old }
+{
+    let amount = words.number()?;
+    let currency = words.name()?;
+    if !words.is_end() {
+        return None;
+    }
+    Some(Line::Change(Command::MakeTicket { amount, currency }))
+}
+
+fn fund(words: &mut Words<'_>) -> Option<Line>
+    ensures { result ≡ fund_of words.old }
+{
+    let ticket = words.number()?;
+    words.flow_keyword()?;
+    let flow = words.name()?;
+    if !words.is_end() {
+        return None;
+    }
+    Some(Line::Change(Command::FundFlow { ticket, flow }))
+}
+
+fn send(alloc: Global, words: &mut Words<'_>) -> Result<Line, Refusal>
+    ensures { ReadsRanged (send_of words.old) result }
+{
+    let flow = match words.name() {
+        None => return Err(Refusal::Syntax),
+        Some(flow) => flow,
+    };
+    let digits = match words.next() {
+        None => return Err(Refusal::Syntax),
+        Some(digits) => digits,
+    };
+    if !words.is_end() {
+        return Err(Refusal::Syntax);
+    }
+    sent(alloc, flow, digits)
+}
+
+// The packet whose payload these digits spell.
+fn sent(alloc: Global, flow: Name, digits: &[u8]) -> Result<Line, Refusal>
+    ensures { ReadsRanged (sent_by flow (payload_of digits.now)) result }
+{
+    if digits.len() > 2 * MAX_PAYLOAD {
+        return Err(if is_payload(digits) {
+            Refusal::Range
+        } else {
+            Refusal::Syntax
+        });
+    }
+    let mut bytes = [0; MAX_PAYLOAD];
+    match decode(digits, &mut bytes) {
+        None => Err(Refusal::Syntax),
+        Some(count) => match Body::new(alloc, &bytes[..count]) {
+            Ok(body) => Ok(Line::Send { flow, body }),
+            Err(refusal) => Err(refusal),
+        },
+    }
+}

@@ -16,10 +16,12 @@ bin/stridelink: $(SOURCES)
 	cd crates/stridelink && rt run -- --help > ../../bin/build.log 2>&1 || { cat ../../bin/build.log >&2; exit 1; }
 	cp crates/stridelink/out/stridelink bin/stridelink
 
-test: bin/stridelink
-	examples/compare.sh
-	@echo 'the gate: every proof from nothing, the edits that must fail, the tests and the program' >&2
+test:
+	@echo 'the gate: every proof from nothing, the edits that must fail, the tests and the program; most of an hour' >&2
 	rt ci
+	mkdir -p bin
+	cp crates/stridelink/out/stridelink bin/stridelink
+	examples/compare.sh
 
 bench: bin/stridelink
 	python3 bench/bench.py

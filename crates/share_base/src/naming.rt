@@ -32,7 +32,10 @@ impl Model for Name {
 
     ghost view = { λ name. take name.len name.bytes };
 
-    ghost invariant = { λ name. (length (take name.len name.bytes) ≡ name.len) × (padded (take name.len name.bytes) ≡ name.bytes) × (is_name (take name.len name.bytes) ≡ true) };
+    ghost invariant = { λ name.
+        (length (take name.len name.bytes) ≡ name.len)
+        × (padded (take name.len name.bytes) ≡ name.bytes)
+        × (is_name (take name.len name.bytes) ≡ true) };
 
     ghost inverse = { λ bs. record { bytes = padded bs; len = length bs } };
 

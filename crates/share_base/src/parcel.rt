@@ -72,7 +72,8 @@ impl Model for Parcel {
 impl Parcel {
     /// Two copies of these bytes. `Range` where they are not 1 to 1490, `NoMemory` where a growth was refused.
     pub fn new(alloc: Global, bytes: &[u8]) -> Result<Parcel, Refusal>
-        ensures ok { IfOk result (λ parcel. (parcel ≡ bytes.now) × (payload_refusal bytes.now ≡ None)) }
+        ensures ok { IfOk result
+            (λ parcel. (parcel ≡ bytes.now) × (payload_refusal bytes.now ≡ None)) }
         ensures refused { IfErr result (IsRefused (payload_refusal bytes.now)) }
     {
         let sending = Body::new(alloc, bytes)?;

@@ -101,101 +101,103 @@ fn payloads_are_1_to_1490_bytes(rt: HostRuntime) {
     }
 }
 
+// Each refusal, its number, its name and its text.
+const REFUSALS: [(Refusal, u32, &str, &str); 20] = [
+    (Refusal::NoMemory, 1, "NoMemory", "memory was refused"),
+    (
+        Refusal::Spent,
+        2,
+        "Spent",
+        "the link has made as many events as its life allows",
+    ),
+    (
+        Refusal::Syntax,
+        3,
+        "Syntax",
+        "the line is not one that can be read",
+    ),
+    (
+        Refusal::Range,
+        4,
+        "Range",
+        "a number or a payload is out of its range",
+    ),
+    (
+        Refusal::NoCurrency,
+        5,
+        "NoCurrency",
+        "no currency has this name",
+    ),
+    (
+        Refusal::NoTicket,
+        6,
+        "NoTicket",
+        "no ticket has this number",
+    ),
+    (Refusal::NoFlow, 7, "NoFlow", "no open flow has this name"),
+    (
+        Refusal::NoTariff,
+        8,
+        "NoTariff",
+        "no tariff has this number",
+    ),
+    (Refusal::Taken, 9, "Taken", "the name is taken"),
+    (
+        Refusal::Base,
+        10,
+        "Base",
+        "the base currency can be neither removed nor funded",
+    ),
+    (
+        Refusal::InUse,
+        11,
+        "InUse",
+        "a ticket is denominated in the currency, or funds it",
+    ),
+    (Refusal::Funding, 12, "Funding", "the ticket has a holder"),
+    (
+        Refusal::Unfunded,
+        13,
+        "Unfunded",
+        "the ticket has no holder",
+    ),
+    (
+        Refusal::Crowded,
+        14,
+        "Crowded",
+        "the holder is funded by as many tickets as it may be",
+    ),
+    (
+        Refusal::Cycle,
+        15,
+        "Cycle",
+        "the currency would back itself",
+    ),
+    (
+        Refusal::Deep,
+        16,
+        "Deep",
+        "the chain of currencies would be too long",
+    ),
+    (Refusal::TableFull, 17, "TableFull", "the table is full"),
+    (
+        Refusal::Sending,
+        18,
+        "Sending",
+        "a frame of the flow is in part",
+    ),
+    (
+        Refusal::BufferFull,
+        19,
+        "BufferFull",
+        "the buffer of the flow is full",
+    ),
+    (Refusal::Broken, 20, "Broken", "the link is broken"),
+];
+
 #[test]
 fn refusals_have_numbers_names_and_texts(rt: HostRuntime) -> Result<(), Fail> {
-    let rows = [
-        (Refusal::NoMemory, 1, "NoMemory", "memory was refused"),
-        (
-            Refusal::Spent,
-            2,
-            "Spent",
-            "the link has made as many events as its life allows",
-        ),
-        (
-            Refusal::Syntax,
-            3,
-            "Syntax",
-            "the line is not one that can be read",
-        ),
-        (
-            Refusal::Range,
-            4,
-            "Range",
-            "a number or a payload is out of its range",
-        ),
-        (
-            Refusal::NoCurrency,
-            5,
-            "NoCurrency",
-            "no currency has this name",
-        ),
-        (
-            Refusal::NoTicket,
-            6,
-            "NoTicket",
-            "no ticket has this number",
-        ),
-        (Refusal::NoFlow, 7, "NoFlow", "no open flow has this name"),
-        (
-            Refusal::NoTariff,
-            8,
-            "NoTariff",
-            "no tariff has this number",
-        ),
-        (Refusal::Taken, 9, "Taken", "the name is taken"),
-        (
-            Refusal::Base,
-            10,
-            "Base",
-            "the base currency can be neither removed nor funded",
-        ),
-        (
-            Refusal::InUse,
-            11,
-            "InUse",
-            "a ticket is denominated in the currency, or funds it",
-        ),
-        (Refusal::Funding, 12, "Funding", "the ticket has a holder"),
-        (
-            Refusal::Unfunded,
-            13,
-            "Unfunded",
-            "the ticket has no holder",
-        ),
-        (
-            Refusal::Crowded,
-            14,
-            "Crowded",
-            "the holder is funded by as many tickets as it may be",
-        ),
-        (
-            Refusal::Cycle,
-            15,
-            "Cycle",
-            "the currency would back itself",
-        ),
-        (
-            Refusal::Deep,
-            16,
-            "Deep",
-            "the chain of currencies would be too long",
-        ),
-        (Refusal::TableFull, 17, "TableFull", "the table is full"),
-        (
-            Refusal::Sending,
-            18,
-            "Sending",
-            "a frame of the flow is in part",
-        ),
-        (
-            Refusal::BufferFull,
-            19,
-            "BufferFull",
-            "the buffer of the flow is full",
-        ),
-        (Refusal::Broken, 20, "Broken", "the link is broken"),
-    ];
-    for (refusal, number, name, text) in rows {
+    for (refusal, number, name, text) in REFUSALS {
         assert_eq!(rt; refusal.number(), number, "{refusal:?}");
         assert_eq!(rt; refusal.name().as_bytes(), name.as_bytes(), "{refusal:?}");
         assert_eq!(rt; refusal.same(), refusal);

@@ -66,7 +66,8 @@ impl Books {
     /// Charges and posts a flow for `count` bytes of a frame.
     pub fn post<S: Rates>(&mut self, shelf: &S, flow: FlowNo, count: u32)
         requires there { IsSome (find (is_book_of flow) self.old) }
-        requires known { IfFound (find (is_book_of flow) self.old) (λ b. IsTrue (is_some (rate_at (S.rates shelf.now) b.tariff))) }
+        requires known { IfFound (find (is_book_of flow) self.old)
+            (λ b. IsTrue (is_some (rate_at (S.rates shelf.now) b.tariff))) }
         requires account { IfFound (find (is_book_of flow) self.old) (λ b. b.account ≤ 2 ^ 62) }
         requires few { count ≤ 1502 }
         ensures { self.new ≡ posted (S.rates shelf.now) self.old flow count }

@@ -43,16 +43,21 @@ impl<W, S: Rates> Model for Engine<W, S> {
 
     ghost Value = { Seen W };
 
-    ghost view = { λ e. record { life = e.link.life; rates = e.link.rates; live = e.link.live; writer = e.writer } };
+    ghost view = { λ e.
+        record { life = e.link.life; rates = e.link.rates; live = e.link.live; writer = e.writer } };
 
-    ghost invariant = { λ e. (1502 ≤ vec_capacity e.frame) × IsFrameOf e.link.live.buffers e.link.live.part e.frame.items };
+    ghost invariant = { λ e.
+        (1502 ≤ vec_capacity e.frame)
+        × IsFrameOf e.link.live.buffers e.link.live.part e.frame.items };
 }
 
 impl<W: Drop, S: Rates + Drop> Engine<W, S> {
     /// A new link over this writer, with a life of 1 to 2^24 events. `Range` where the life is none of these,
     /// `NoMemory` where a growth was refused; the shelf and the writer are dropped then.
     pub fn new(alloc: Global, shelf: S, life: u64, writer: W) -> Result<Engine<W, S>, Refusal>
-        ensures ok { IfOk result (λ e. (e ≡ record { life = life; rates = S.rates shelf; live = empty_link; writer = writer }) × (life_refusal life ≡ None)) }
+        ensures ok { IfOk result (λ e.
+            (e ≡ record { life = life; rates = S.rates shelf; live = empty_link; writer = writer })
+            × (life_refusal life ≡ None)) }
         ensures refused { IfErr result (IsRefused (life_refusal life)) }
     {
         let link = Link::new(alloc, shelf, life)?;
@@ -100,7 +105,9 @@ impl<W, S: Rates> Engine<W, S> {
 
     /// The tickets of an open flow: what funds it while it is active, at most 2^20, and 0 while it is idle.
     pub fn tickets(&self, flow: FlowNo) -> Option<u32>
-        ensures { result ≡ option_map (λ _. tickets self.now.live.graph flow) (find (is_book_of flow) self.now.live.books) }
+        ensures { result
+            ≡ option_map (λ _. tickets self.now.live.graph flow)
+            (find (is_book_of flow) self.now.live.books) }
     {
         self.link.tickets(flow)
     }
@@ -164,7 +171,8 @@ impl<W, S: Rates> Engine<W, S> {
         requires living { is_spent self.old ≡ false }
         requires unbroken { self.old.live.broken ≡ false }
         requires sends { IsPlaceOf (sending self.old.live) place }
-        ensures { IfSome (sending self.old.live) (λ s. Offered W.answers self.old most s result self.new) }
+        ensures { IfSome (sending self.old.live)
+            (λ s. Offered W.answers self.old most s result self.new) }
     {
         let out = place.out;
         load(&self.link, &place, &mut self.frame);

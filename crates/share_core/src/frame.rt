@@ -24,7 +24,8 @@ fn header(flow: u32, seq: u32, len: u16) -> [u8; 12]
 pub fn fill(buffer: &mut Vec<u8>, flow: FlowNo, seq: u32, payload: &[u8])
     requires short { length payload.now ≤ 1490 }
     requires room { 1502 ≤ vec_capacity buffer.old }
-    ensures frame { buffer.new.items ≡ frame (record { flow = flow; seq = seq; payload = payload.now }) }
+    ensures frame { buffer.new.items
+        ≡ frame (record { flow = flow; seq = seq; payload = payload.now }) }
     ensures room { 1502 ≤ vec_capacity buffer.new }
 {
     let head = header(flow.number(), seq, payload.len() as u16);

@@ -41,7 +41,13 @@ impl Model for Funding {
 
     ghost Value = { Graph };
 
-    ghost view = { λ f. record { currencies = []; tickets = f.tickets.items; next_ticket = f.next_ticket; flows = f.flows.items; next_flow = f.next_flow } };
+    ghost view = { λ f. record {
+      currencies = [];
+      tickets = f.tickets.items;
+      next_ticket = f.next_ticket;
+      flows = f.flows.items;
+      next_flow = f.next_flow;
+    } };
 
     ghost invariant = { λ f. IsBased (f.tickets.items) × (1 ≤ vec_capacity f.flows) };
 }
@@ -123,8 +129,13 @@ impl Funding {
     /// Makes a ticket of this amount in a currency, without a holder.
     pub fn make_ticket(&mut self, amount: u64, currency: &Name) -> Result<TicketNo, Refusal>
         requires { self.old.next_ticket < 2 ^ 32 - 1 }
-        ensures done { IfOk result (λ t. (make_ticket_refusal self.old amount currency.now ≡ None) × (t ≡ self.old.next_ticket) × (self.new ≡ make_ticket self.old amount currency.now)) }
-        ensures refused { IfErr result (λ e. IsRefused (make_ticket_refusal self.old amount currency.now) e × (self.new ≡ self.old)) }
+        ensures done { IfOk result (λ t.
+            (make_ticket_refusal self.old amount currency.now ≡ None)
+            × (t ≡ self.old.next_ticket)
+            × (self.new ≡ make_ticket self.old amount currency.now)) }
+        ensures refused { IfErr result (λ e.
+            IsRefused (make_ticket_refusal self.old amount currency.now) e
+            × (self.new ≡ self.old)) }
     {
         match self.make_ticket_refusal(amount, currency) {
             Some(refusal) => return Err(refusal),
@@ -165,8 +176,11 @@ impl Funding {
 
     /// Lets a ticket without a holder fund an open flow.
     pub fn fund_flow(&mut self, number: u64, flow: &Name) -> Result<(), Refusal>
-        ensures done { IfOk result (λ _. (fund_flow_refusal self.old number flow.now ≡ None) × (self.new ≡ fund_flow self.old number flow.now)) }
-        ensures refused { IfErr result (λ e. (fund_flow_refusal self.old number flow.now ≡ Some e) × (self.new ≡ self.old)) }
+        ensures done { IfOk result (λ _.
+            (fund_flow_refusal self.old number flow.now ≡ None)
+            × (self.new ≡ fund_flow self.old number flow.now)) }
+        ensures refused { IfErr result
+            (λ e. (fund_flow_refusal self.old number flow.now ≡ Some e) × (self.new ≡ self.old)) }
     {
         match self.fund_flow_refusal(number, flow) {
             Some(refusal) => Err(refusal),
@@ -181,7 +195,8 @@ impl Funding {
     // A flow becomes the holder of a ticket.
     fn give(&mut self, number: u64, flow: FlowNo)
         requires { IsSome (ticket_of self.old number) }
-        ensures { self.new ≡ record self.old { tickets = with_holder number (Flow flow) self.old.tickets } }
+        ensures { self.new
+            ≡ record self.old { tickets = with_holder number (Flow flow) self.old.tickets } }
     {
         let place = place_of(self.tickets.as_slice(), number).unwrap();
         let ticket = &mut self.tickets[place];
@@ -349,7 +364,8 @@ fn is_active_as(entry: &(Name, OpenFlow), flow: FlowNo) -> bool
 
 // Whether an open flow of this number is active.
 fn is_active_in(flows: &[(Name, OpenFlow)], flow: FlowNo) -> bool
-    ensures { result ≡ list_any (λ (e : List ℕ × OpenFlow). nat_eq flow e.1.number && e.1.active) flows.now }
+    ensures { result
+        ≡ list_any (λ (e : List ℕ × OpenFlow). nat_eq flow e.1.number && e.1.active) flows.now }
 {
     flows.iter().any(|entry| is_active_as(entry, flow))
 }

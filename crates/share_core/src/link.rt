@@ -90,7 +90,9 @@ impl<S: Rates + Drop> Link<S> {
     /// A new link with a life of 1 to 2^24 events. `Range` where the life is none of these, `NoMemory` where a
     /// growth was refused; the shelf is dropped then.
     pub fn new(alloc: Global, shelf: S, life: u64) -> Result<Link<S>, Refusal>
-        ensures ok { IfOk result (λ e. (e ≡ record { life = life; rates = S.rates shelf; live = empty_link }) × (life_refusal life ≡ None)) }
+        ensures ok { IfOk result (λ e.
+            (e ≡ record { life = life; rates = S.rates shelf; live = empty_link })
+            × (life_refusal life ≡ None)) }
         ensures refused { IfErr result (IsRefused (life_refusal life)) }
     {
         if life < 1 || life > MAX_LIFE {
@@ -165,7 +167,9 @@ impl<S: Rates> Link<S> {
 
     /// The tickets of an open flow.
     pub fn tickets(&self, flow: FlowNo) -> Option<u32>
-        ensures { result ≡ option_map (λ _. tickets self.now.live.graph flow) (find (is_book_of flow) self.now.live.books) }
+        ensures { result
+            ≡ option_map (λ _. tickets self.now.live.graph flow)
+            (find (is_book_of flow) self.now.live.books) }
     {
         match self.books.book(flow) {
             None => None,
@@ -198,7 +202,8 @@ impl<S: Rates> Link<S> {
 
     fn fund_flow(&mut self, ticket: u64, flow: Name) -> Reply
         requires { is_over self.old ≡ false }
-        ensures { Made (command_step self.old.rates self.old.live (FundFlow ticket flow)) self.old result self.new }
+        ensures { Made (command_step self.old.rates self.old.live (FundFlow ticket flow))
+            self.old result self.new }
     {
         match self.funding.fund_flow(ticket, &flow) {
             Err(refusal) => self.refuse(refusal),
@@ -267,7 +272,8 @@ impl<S: Rates> Link<S> {
     fn accept(&mut self, flow: FlowNo, body: Body) -> Reply
         requires living { is_over self.old ≡ false }
         requires there { IsSome (buffer_of self.old.live.buffers flow) }
-        ensures { Made (arrive_in self.old.live flow body (buffer_of self.old.live.buffers flow)) self.old result self.new }
+        ensures { Made (arrive_in self.old.live flow body (buffer_of self.old.live.buffers flow))
+            self.old result self.new }
     {
         match self.buffers.ring(flow) {
             None => unreachable!(),
@@ -297,7 +303,8 @@ impl<S: Rates> Link<S> {
 
     // The place at the head packet of a flow.
     fn place(&self, flow: FlowNo, out: u32) -> Option<Place>
-        ensures { result ≡ option_map (λ h. place_of (sending_at out h)) (head_of self.now.live.buffers flow) }
+        ensures { result
+            ≡ option_map (λ h. place_of (sending_at out h)) (head_of self.now.live.buffers flow) }
     {
         let (seq, body) = self.buffers.ring(flow)?.head()?;
         Some(Place {
@@ -326,7 +333,9 @@ impl<S: Rates> Link<S> {
         requires living { is_over self.old ≡ false }
         requires place { IsPlaceOf (sending self.old.live) place }
         requires within { IsWithin (sending self.old.live) k }
-        ensures { IfSome (sending self.old.live) (λ s. Made (whole self.old.rates self.old.live s k, wrote_turn s k true) self.old result self.new) }
+        ensures { IfSome (sending self.old.live) (λ s.
+            Made (whole self.old.rates self.old.live s k, wrote_turn s k true)
+            self.old result self.new) }
     {
         self.books.post(&self.shelf, place.flow, place.length);
         self.buffers.pop(place.flow);
@@ -351,7 +360,8 @@ impl<S: Rates> Link<S> {
         requires place { IsPlaceOf (sending self.old.live) place }
         requires within { IsWithin (sending self.old.live) k }
         requires part { place.out + k < place.length }
-        ensures { IfSome (sending self.old.live) (λ s. Made (in_part self.old.live s k, wrote_turn s k false) self.old result self.new) }
+        ensures { IfSome (sending self.old.live)
+            (λ s. Made (in_part self.old.live s k, wrote_turn s k false) self.old result self.new) }
     {
         self.part = Some(Part {
             flow: place.flow,
@@ -373,7 +383,8 @@ impl<S: Rates> Link<S> {
         requires unbroken { self.old.live.broken ≡ false }
         requires place { IsPlaceOf (sending self.old.live) place }
         requires within { IsWithin (sending self.old.live) k }
-        ensures { IfSome (sending self.old.live) (λ s. Made (write_step self.old.rates self.old.live s k) self.old result self.new) }
+        ensures { IfSome (sending self.old.live)
+            (λ s. Made (write_step self.old.rates self.old.live s k) self.old result self.new) }
     {
         if place.out + k == place.length {
             self.finish(place, k)
@@ -386,7 +397,8 @@ impl<S: Rates> Link<S> {
     pub fn fail(&mut self, place: Place) -> Turn
         requires living { is_over self.old ≡ false }
         requires place { IsPlaceOf (sending self.old.live) place }
-        ensures { IfSome (sending self.old.live) (λ s. Made (fault_step self.old.rates self.old.live s) self.old result self.new) }
+        ensures { IfSome (sending self.old.live)
+            (λ s. Made (fault_step self.old.rates self.old.live s) self.old result self.new) }
     {
         self.books.post(&self.shelf, place.flow, place.out);
         self.part = None;
@@ -404,7 +416,8 @@ impl<S: Rates> Link<S> {
     pub fn fill(&self, flow: FlowNo, buffer: &mut Vec<u8>)
         requires there { IsSome (head_of self.now.live.buffers flow) }
         requires room { 1502 ≤ vec_capacity buffer.old }
-        ensures frame { IfSome (head_of self.now.live.buffers flow) (λ h. buffer.new.items ≡ frame h) }
+        ensures frame { IfSome (head_of self.now.live.buffers flow)
+            (λ h. buffer.new.items ≡ frame h) }
         ensures room { 1502 ≤ vec_capacity buffer.new }
     {
         match self.buffers.ring(flow) {

@@ -23,9 +23,13 @@ impl Model for Ring {
 
     ghost Value = { Buffer };
 
-    ghost view = { λ r. record { flow = r.flow; limit = r.limit; next = r.next; packets = r.packets.items } };
+    ghost view = { λ r.
+        record { flow = r.flow; limit = r.limit; next = r.next; packets = r.packets.items } };
 
-    ghost invariant = { λ r. (r.limit ≤ deque_capacity r.packets) × (deque_len r.packets ≤ r.limit) × (deque_len r.packets < r.next) };
+    ghost invariant = { λ r.
+        (r.limit ≤ deque_capacity r.packets)
+        × (deque_len r.packets ≤ r.limit)
+        × (deque_len r.packets < r.next) };
 }
 
 impl Ring {
@@ -85,7 +89,9 @@ impl Ring {
 
     /// The sequence number of the head packet, and its payload.
     pub fn head(&self) -> Option<(u32, &Body)>
-        ensures { MatchOption result (head_of_buffer self.now ≡ None) (λ h. head_of_buffer self.now ≡ Some (record { flow = self.now.flow; seq = h.0; payload = h.1.now })) }
+        ensures { MatchOption result (head_of_buffer self.now ≡ None) (λ h.
+            head_of_buffer self.now
+            ≡ Some (record { flow = self.now.flow; seq = h.0; payload = h.1.now })) }
     {
         let next = self.next;
         let body = self.packets.front()?;

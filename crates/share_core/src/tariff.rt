@@ -19,7 +19,9 @@ impl Tariff {
 
     /// The tariff of these numbers. `Range` where one of them is out of its range.
     pub fn new(cell: u64, overhead: u64, price: u64) -> Result<Tariff, Refusal>
-        ensures ok { IfOk result (λ t. (rate_in t ≡ record { cell = cell; overhead = overhead; price = price }) × (is_rate cell overhead price ≡ true)) }
+        ensures ok { IfOk result (λ t.
+            (rate_in t ≡ record { cell = cell; overhead = overhead; price = price })
+            × (is_rate cell overhead price ≡ true)) }
         ensures refused { IfErr result (λ e. (e ≡ Range) × (is_rate cell overhead price ≡ false)) }
     {
         if !is_rate(cell, overhead, price) {
@@ -55,8 +57,11 @@ impl Shelf {
 
     /// The shelf of these tariffs. `Range` unless they are 1 to 8. It takes no memory.
     pub fn new(tariffs: Vec<Tariff>) -> Result<Shelf, Refusal>
-        ensures ok { IfOk result (λ s. (rates_of s ≡ map rate_in tariffs.items) × (is_shelf_length (length tariffs.items) ≡ true)) }
-        ensures refused { IfErr result (λ e. (e ≡ Range) × (is_shelf_length (length tariffs.items) ≡ false)) }
+        ensures ok { IfOk result (λ s.
+            (rates_of s ≡ map rate_in tariffs.items)
+            × (is_shelf_length (length tariffs.items) ≡ true)) }
+        ensures refused { IfErr result
+            (λ e. (e ≡ Range) × (is_shelf_length (length tariffs.items) ≡ false)) }
     {
         if tariffs.is_empty() || tariffs.len() > 8 {
             return Err(Refusal::Range);

@@ -29,7 +29,8 @@ impl Model for Ledger {
 
     ghost view = { λ l. l.tables };
 
-    ghost invariant = { λ l. take (length l.tables.tickets) l.worths.value ≡ map (worth l.tables 9) l.tables.tickets };
+    ghost invariant = { λ l.
+        take (length l.tables.tickets) l.worths.value ≡ map (worth l.tables 9) l.tables.tickets };
 }
 
 impl Ledger {

@@ -49,9 +49,21 @@ impl Model for Tables {
 
     ghost Value = { Graph };
 
-    ghost view = { λ t. record { currencies = t.currencies.keys; tickets = t.tickets.items; next_ticket = t.next_ticket; flows = t.flows.entries; next_flow = t.next_flow } };
+    ghost view = { λ t. record {
+      currencies = t.currencies.keys;
+      tickets = t.tickets.items;
+      next_ticket = t.next_ticket;
+      flows = t.flows.entries;
+      next_flow = t.next_flow;
+    } };
 
-    ghost invariant = { λ t. IsKept (record { currencies = t.currencies.keys; tickets = t.tickets.items; next_ticket = t.next_ticket; flows = t.flows.entries; next_flow = t.next_flow }) };
+    ghost invariant = { λ t. IsKept (record {
+      currencies = t.currencies.keys;
+      tickets = t.tickets.items;
+      next_ticket = t.next_ticket;
+      flows = t.flows.entries;
+      next_flow = t.next_flow;
+    }) };
 }
 
 /// Whether a name is that of the currency that always exists.
@@ -135,7 +147,8 @@ impl Tables {
     }
 
     fn place_of_flow(&self, flow: FlowNo) -> Option<usize>
-        ensures { result ≡ position (λ (o : OpenFlow). nat_eq flow o.number) (map (λ e. e.1) self.now.flows) }
+        ensures { result
+            ≡ position (λ (o : OpenFlow). nat_eq flow o.number) (map (λ e. e.1) self.now.flows) }
     {
         self.flows.values().position(|open| flow == open.number)
     }

@@ -197,8 +197,21 @@ fn idle_currency_comes_alive(rt: HostRuntime) {
     assert_eq!(rt; ledger.tickets(FlowNo(1)), 10);
 }
 
+// Nine currencies c1 to c9, a ticket of each with its number, of which the first seven fund the next currency.
+fn chain_of_eight(rt: &impl Abort, ledger: &mut Ledger) {
+    for k in 1..10 {
+        let currency = numbered(rt, b'c', k);
+        made(rt, ledger, &[Change::MakeCurrency(currency)]);
+        made(rt, ledger, &[Change::MakeTicket(1, currency)]);
+    }
+    for k in 1..8 {
+        let next = numbered(rt, b'c', k + 1);
+        made(rt, ledger, &[Change::FundCurrency(k as u64, next)]);
+    }
+}
+
 #[test]
-fn no_cycle_and_no_long_chain(rt: HostRuntime) {
+fn no_cycle(rt: HostRuntime) {
     let (x, y) = (name(&rt, "x"), name(&rt, "y"));
     let mut ledger = empty(&rt, rt.alloc());
     made(
@@ -220,23 +233,12 @@ fn no_cycle_and_no_long_chain(rt: HostRuntime) {
             (Change::FundCurrency(2, y), Refusal::Cycle),
         ],
     );
+}
 
+#[test]
+fn no_long_chain(rt: HostRuntime) {
     let mut ledger = empty(&rt, rt.alloc());
-    for k in 1..10 {
-        made(
-            &rt,
-            &mut ledger,
-            &[Change::MakeCurrency(numbered(&rt, b'c', k))],
-        );
-    }
-    for k in 1..9 {
-        let from = numbered(&rt, b'c', k);
-        made(&rt, &mut ledger, &[Change::MakeTicket(1, from)]);
-    }
-    for k in 1..8 {
-        let to = numbered(&rt, b'c', k + 1);
-        made(&rt, &mut ledger, &[Change::FundCurrency(k as u64, to)]);
-    }
+    chain_of_eight(&rt, &mut ledger);
     let last = numbered(&rt, b'c', 9);
     refused(
         &rt,
@@ -306,23 +308,29 @@ fn tickets_of_a_flow_have_a_cap(rt: HostRuntime) {
     assert_eq!(rt; ledger.tickets(FlowNo(1)), 1048576);
 }
 
-#[test]
-fn tables_are_full(rt: HostRuntime) {
-    let base = name(&rt, "base");
-    let mut ledger = empty(&rt, rt.alloc());
+// 64 currencies, 64 flows of the same names, and 1024 tickets.
+fn full(rt: &impl Abort, alloc: Global) -> Ledger {
+    let base = name(rt, "base");
+    let mut ledger = empty(rt, alloc);
     for k in 0..64 {
-        let currency = numbered(&rt, b'c', k);
+        let both = numbered(rt, b'c', k);
         made(
-            &rt,
+            rt,
             &mut ledger,
-            &[Change::MakeCurrency(currency), Change::Open(currency)],
+            &[Change::MakeCurrency(both), Change::Open(both)],
         );
     }
     for _ in 0..1024 {
-        made(&rt, &mut ledger, &[Change::MakeTicket(1, base)]);
+        made(rt, &mut ledger, &[Change::MakeTicket(1, base)]);
     }
-    let fresh = name(&rt, "fresh");
+    ledger
+}
+
+#[test]
+fn tables_are_full(rt: HostRuntime) {
+    let (base, fresh) = (name(&rt, "base"), name(&rt, "fresh"));
     let taken = numbered(&rt, b'c', 7);
+    let mut ledger = full(&rt, rt.alloc());
     refused(
         &rt,
         &mut ledger,
@@ -337,6 +345,13 @@ fn tables_are_full(rt: HostRuntime) {
             (Change::MakeTicket(1, fresh), Refusal::NoCurrency),
         ],
     );
+}
+
+#[test]
+fn full_tables_have_room_after_removals(rt: HostRuntime) {
+    let fresh = name(&rt, "fresh");
+    let taken = numbered(&rt, b'c', 7);
+    let mut ledger = full(&rt, rt.alloc());
     ledger.remove_flow(FlowNo(8));
     assert_eq!(rt; ledger.flow(taken), None);
     assert_eq!(rt;
@@ -358,7 +373,7 @@ fn tables_are_full(rt: HostRuntime) {
 
 #[test]
 fn refusals_of_a_fresh_ledger(rt: HostRuntime) {
-    let (base, x, nope) = (name(&rt, "base"), name(&rt, "x"), name(&rt, "nope"));
+    let (base, nope) = (name(&rt, "base"), name(&rt, "nope"));
     let mut ledger = empty(&rt, rt.alloc());
     refused(
         &rt,
@@ -378,7 +393,11 @@ fn refusals_of_a_fresh_ledger(rt: HostRuntime) {
     );
     made(&rt, &mut ledger, &[Change::MakeTicket(1, base)]);
     refused(&rt, &mut ledger, &[(Change::Unfund(1), Refusal::Unfunded)]);
+}
 
+#[test]
+fn refusals_of_a_backed_currency(rt: HostRuntime) {
+    let (base, x) = (name(&rt, "base"), name(&rt, "x"));
     let mut ledger = empty(&rt, rt.alloc());
     made(
         &rt,
@@ -407,28 +426,8 @@ fn refusals_of_a_fresh_ledger(rt: HostRuntime) {
 fn refusals_stand_in_order(rt: HostRuntime) {
     let (base, nope, a) = (name(&rt, "base"), name(&rt, "nope"), name(&rt, "a"));
     let mut ledger = empty(&rt, rt.alloc());
-    for k in 1..10 {
-        made(
-            &rt,
-            &mut ledger,
-            &[Change::MakeCurrency(numbered(&rt, b'c', k))],
-        );
-    }
-    for k in 1..10 {
-        made(
-            &rt,
-            &mut ledger,
-            &[Change::MakeTicket(1, numbered(&rt, b'c', k))],
-        );
-    }
     let (first, last) = (numbered(&rt, b'c', 1), numbered(&rt, b'c', 9));
-    for k in 1..8 {
-        made(
-            &rt,
-            &mut ledger,
-            &[Change::FundCurrency(k as u64, numbered(&rt, b'c', k + 1))],
-        );
-    }
+    chain_of_eight(&rt, &mut ledger);
     for k in 10..26_u64 {
         made(
             &rt,
@@ -523,29 +522,27 @@ fn names_of_flows_and_currencies_are_apart(rt: HostRuntime) {
     assert_eq!(rt; ledger.flow(base), Some(FlowNo(3)));
 }
 
-// Eight currencies, each backed by the one before it through sixteen tickets, have 16^8 paths. Each call answers
-// at once all the same.
-#[test]
-fn deep_graph_answers_at_once(rt: HostRuntime) {
-    let base = name(&rt, "base");
-    let mut ledger = empty(&rt, rt.alloc());
+// Eight currencies, each backed by the one before it through sixteen tickets: 16^8 paths.
+fn deep_chain(rt: &impl Abort, alloc: Global) -> Ledger {
+    let base = name(rt, "base");
+    let mut ledger = empty(rt, alloc);
     for k in 1..=8 {
         made(
-            &rt,
+            rt,
             &mut ledger,
-            &[Change::MakeCurrency(numbered(&rt, b'c', k))],
+            &[Change::MakeCurrency(numbered(rt, b'c', k))],
         );
     }
     for k in 0..8_u64 {
         let from = if k == 0 {
             base
         } else {
-            numbered(&rt, b'c', k as usize)
+            numbered(rt, b'c', k as usize)
         };
-        let to = numbered(&rt, b'c', k as usize + 1);
+        let to = numbered(rt, b'c', k as usize + 1);
         for j in 1..=16_u64 {
             made(
-                &rt,
+                rt,
                 &mut ledger,
                 &[
                     Change::MakeTicket(65536, from),
@@ -554,18 +551,32 @@ fn deep_graph_answers_at_once(rt: HostRuntime) {
             );
         }
     }
-    let last = numbered(&rt, b'c', 8);
+    ledger
+}
+
+// The deep chain, and 64 flows that are funded by fourteen tickets each of the last currency: 1024 tickets in all.
+fn deep_graph(rt: &impl Abort, alloc: Global) -> Ledger {
+    let last = numbered(rt, b'c', 8);
+    let mut ledger = deep_chain(rt, alloc);
     for k in 0..64 {
-        made(&rt, &mut ledger, &[Change::Open(numbered(&rt, b'f', k))]);
+        made(rt, &mut ledger, &[Change::Open(numbered(rt, b'f', k))]);
     }
     for k in 0..896_u64 {
-        let flow = numbered(&rt, b'f', (k / 14) as usize);
+        let flow = numbered(rt, b'f', (k / 14) as usize);
         made(
-            &rt,
+            rt,
             &mut ledger,
             &[Change::MakeTicket(1, last), Change::FundFlow(k + 129, flow)],
         );
     }
+    ledger
+}
+
+// Each call answers at once, whatever the number of paths.
+#[test]
+fn deep_graph_answers_at_once(rt: HostRuntime) {
+    let (base, last) = (name(&rt, "base"), numbered(&rt, b'c', 8));
+    let mut ledger = deep_graph(&rt, rt.alloc());
     refused(
         &rt,
         &mut ledger,

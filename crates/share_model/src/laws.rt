@@ -14,40 +14,65 @@ ghost use Rattle.share_model.specs.History.{AreFramesOf, sent_heads, sent_number
 
 /// Events that a link may make one after another leave it sound.
 pub fn events_keep_sound()
-    ensures { (life : ℕ) (rates : List Rate) (events : List Event) → AreInRange rates → MayFollow life rates empty_state events → SoundState life rates (run rates events) }
+    ensures { (life : ℕ) (rates : List Rate) (events : List Event) → AreInRange rates
+        → MayFollow life rates empty_state events → SoundState life rates (run rates events) }
 {}
 
 /// Each event adds to the bytes of a run those of the frame that it writes, and no others.
 pub fn events_add_bytes()
-    ensures { (life : ℕ) (rates : List Rate) (events : List Event) (event : Event) → AreInRange rates → MayFollow life rates empty_state (events ++ event ∷ []) → out (run rates (events ++ event ∷ [])) ≡ out (run rates events) ++ event_bytes (run rates events).live event }
+    ensures { (life : ℕ) (rates : List Rate) (events : List Event) (event : Event)
+        → AreInRange rates → MayFollow life rates empty_state (events ++ event ∷ [])
+        → out (run rates (events ++ event ∷ []))
+        ≡ out (run rates events) ++ event_bytes (run rates events).live event }
 {}
 
 /// Each event is counted and has one outcome.
 pub fn events_are_counted()
-    ensures count { (life : ℕ) (rates : List Rate) (events : List Event) → MayFollow life rates empty_state events → (run rates events).live.counts.events ≡ length events }
-    ensures outcome { (rates : List Rate) (events : List Event) → length (outcomes rates empty_state events) ≡ length events }
+    ensures count { (life : ℕ) (rates : List Rate) (events : List Event)
+        → MayFollow life rates empty_state events
+        → (run rates events).live.counts.events ≡ length events }
+    ensures outcome { (rates : List Rate) (events : List Event)
+        → length (outcomes rates empty_state events) ≡ length events }
 {}
 
 /// The bytes of a run are the frames of the packets that it wrote whole, and the beginning of one more; and bytes
 /// are so of one list of packets only.
 pub fn bytes_tell_packets()
-    ensures frames { (life : ℕ) (rates : List Rate) (events : List Event) → life < 2 ^ 32 → AreInRange rates → MayFollow life rates empty_state events → AreFramesOf (sent_heads (run rates events).done) (out (run rates events)) }
-    ensures unique { (bytes : List ℕ) (heads others : List Head) → AreFramesOf heads bytes → AreFramesOf others bytes → heads ≡ others }
+    ensures frames { (life : ℕ) (rates : List Rate) (events : List Event) → life < 2 ^ 32
+        → AreInRange rates → MayFollow life rates empty_state events
+        → AreFramesOf (sent_heads (run rates events).done) (out (run rates events)) }
+    ensures unique { (bytes : List ℕ) (heads others : List Head) → AreFramesOf heads bytes
+        → AreFramesOf others bytes → heads ≡ others }
 {}
 
 /// The account of a flow is what its packets cost: those written whole, and the bytes of a torn one that are out.
 pub fn accounts_are_bills()
-    ensures { (life : ℕ) (rates : List Rate) (events : List Event) → AreInRange rates → MayFollow life rates empty_state events → (flow : ℕ) (book : Book) → find (is_book_of flow) (run rates events).live.books ≡ Some book → book.account ≡ bill rates (run rates events) flow }
+    ensures { (life : ℕ) (rates : List Rate) (events : List Event) → AreInRange rates
+        → MayFollow life rates empty_state events → (flow : ℕ) (book : Book)
+        → find (is_book_of flow) (run rates events).live.books ≡ Some book
+        → book.account ≡ bill rates (run rates events) flow }
 {}
 
 /// The numbers of the packets that a flow sent rise, and none is sent twice.
 pub fn numbers_rise()
-    ensures rise { (life : ℕ) (rates : List Rate) (events : List Event) → AreInRange rates → MayFollow life rates empty_state events → (flow : ℕ) → (limit : ℕ) × Rises limit (sent_numbers flow (run rates events).done) }
-    ensures once { (life : ℕ) (rates : List Rate) (events : List Event) → AreInRange rates → MayFollow life rates empty_state events → (flow seq : ℕ) → length (filter (nat_eq seq) (sent_numbers flow (run rates events).done)) ≤ 1 }
+    ensures rise { (life : ℕ) (rates : List Rate) (events : List Event) → AreInRange rates
+        → MayFollow life rates empty_state events → (flow : ℕ)
+        → (limit : ℕ) × Rises limit (sent_numbers flow (run rates events).done) }
+    ensures once { (life : ℕ) (rates : List Rate) (events : List Event) → AreInRange rates
+        → MayFollow life rates empty_state events → (flow seq : ℕ)
+        → length (filter (nat_eq seq) (sent_numbers flow (run rates events).done)) ≤ 1 }
 {}
 
 /// Each accepted packet was written whole, is the torn one, or waits; the torn one stays at the head of its buffer.
 pub fn packets_are_kept()
-    ensures accepted { (life : ℕ) (rates : List Rate) (events : List Event) → AreInRange rates → MayFollow life rates empty_state events → (run rates events).live.counts.accepted ≡ (run rates events).live.counts.written + torn_packets (run rates events).live.torn + waiting (run rates events).live }
-    ensures torn { (life : ℕ) (rates : List Rate) (events : List Event) → AreInRange rates → MayFollow life rates empty_state events → (frame : TornFrame) → (run rates events).torn ≡ Some frame → (head_of (run rates events).live.buffers frame.head.flow ≡ Some frame.head) × ((run rates events).live.torn ≡ Some frame.head.flow) }
+    ensures accepted { (life : ℕ) (rates : List Rate) (events : List Event) → AreInRange rates
+        → MayFollow life rates empty_state events
+        → (run rates events).live.counts.accepted
+        ≡ (run rates events).live.counts.written
+        + torn_packets (run rates events).live.torn + waiting (run rates events).live }
+    ensures torn { (life : ℕ) (rates : List Rate) (events : List Event) → AreInRange rates
+        → MayFollow life rates empty_state events → (frame : TornFrame)
+        → (run rates events).torn ≡ Some frame
+        → (head_of (run rates events).live.buffers frame.head.flow ≡ Some frame.head)
+        × ((run rates events).live.torn ≡ Some frame.head.flow) }
 {}

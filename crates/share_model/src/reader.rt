@@ -32,7 +32,8 @@ pub trait Source {
         requires { 0 < length buffer.old }
         ensures { gives self.old buffer.new result self.new };
 
-    ghost tells: { (before : Self) (buffer : List ℕ) (got : Got) (after : Self) → gives before buffer got after → Gives (left before) buffer got (left after) };
+    ghost tells: { (before : Self) (buffer : List ℕ) (got : Got) (after : Self)
+        → gives before buffer got after → Gives (left before) buffer got (left after) };
 }
 
 /// A reader of std's, of which is known what its own contract tells.

@@ -29,7 +29,8 @@ impl Model for Scripted {
 impl Scripted {
     /// A writer with this script, and an empty tape.
     pub fn new(alloc: Global, script: Vec<Answer>) -> Scripted
-        ensures { result ≡ record { answers = script.items; told = record { bytes = []; counts = [] } } }
+        ensures { result
+            ≡ record { answers = script.items; told = record { bytes = []; counts = [] } } }
     {
         Scripted {
             script,

@@ -29,7 +29,8 @@ pub trait Telling {
     fn offer(&mut self, piece: &[u8]) -> Answer
         ensures { answers self.old piece.now result self.new };
 
-    ghost tells: { (before : Self) (piece : List ℕ) (answer : Answer) (after : Self) → answers before piece answer after → WasTold (told before) piece answer (told after) };
+    ghost tells: { (before : Self) (piece : List ℕ) (answer : Answer) (after : Self)
+        → answers before piece answer after → WasTold (told before) piece answer (told after) };
 }
 
 /// A writer of std's, of which is known what its own contract tells: what its bytes are, where that is known, but no
@@ -42,9 +43,11 @@ impl<W: Write> Telling for PlainWriter<W> {
 
     ghost told = { λ _. None };
 
-    ghost answers = { λ before piece answer after. PlainAnswers (W.contents before.0) piece answer (W.contents after.0) };
+    ghost answers = { λ before piece answer after.
+        PlainAnswers (W.contents before.0) piece answer (W.contents after.0) };
 
-    ghost tells = { λ before piece answer after did. plain_tells (W.contents before.0) piece answer (W.contents after.0) did };
+    ghost tells = { λ before piece answer after did.
+        plain_tells (W.contents before.0) piece answer (W.contents after.0) did };
 
     fn offer(&mut self, piece: &[u8]) -> Answer {
         match self.0.write(piece) {

@@ -9,7 +9,7 @@ use Rattle.std.specs.Ordering.{nat_cmp}
 use Rattle.std.specs.FinMap.{FinMap, get, insert, remove, len, get-empty, len-empty}
 use Rattle.share_model.specs.declared.stride.Client.{Client}
 use Rattle.share_model.specs.MapLaws.{get-insert_same, get-insert_other, get-remove_same, get-remove_other, len-insert_new, len-insert_found, len-remove_le}
-use Rattle.share_model.specs.Stride.{Stride, start, stride_of, total, competing_tickets, global_stride, update, joined, left, charged, new_client, with_client, client, position}
+use Rattle.share_model.specs.Stride.{Stride, start, stride_of, total, competing_tickets, global_stride, update, joined, left, charged, charge, new_client, with_client, client, position}
 use Rattle.share_model.specs.StrideLaws.{client-with_client_same, total-empty, total-insert_found, total-insert_new, total-remove, total_le}
 use Rattle.share_model.specs.StrideBound.{IsBounded, IsSound, IsNearGlobalPass, distance}
 use Rattle.share_stride.specs.Fits.{IsWithin}
@@ -185,6 +185,13 @@ IsKept-charged tickets s f c units kept found fits = record {
   total = kept.total ∙ sym (total-charged s.clients f c units (sym found));
   sound = IsSound-charge s f c units kept.sound (sym found) fits;
 }
+
+pub IsKept-charge : (tickets : ℕ) (s : Stride) (f units : ℕ) → IsKept tickets s → IsSome (get s.clients f) → s.clock + units ≤ 2 ^ 40 → IsKept tickets (charge s f units)
+IsKept-charge tickets s f units kept there fits =
+    elim (get s.clients f) as (λ o. get s.clients f ≡ o → IsSome o → IsKept tickets (record s { clients = insert s.clients f (charged (unwrap_or o new_client) units); clock = s.clock + units })) [
+      | None ↦ λ _ none. cc
+      | Some c ↦ λ found _. IsKept-charged tickets s f c units kept (sym found) fits
+    ] refl there
 
 pub IsKept-added : (tickets : ℕ) (s : Stride) (f : ℕ) → IsKept tickets s → get s.clients f ≡ None → len s.clients < 64 → IsKept tickets (with_client s f new_client)
 IsKept-added tickets s f kept absent room = record {

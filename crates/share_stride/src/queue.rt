@@ -42,7 +42,12 @@ impl Model for Queue {
       clock = queue.clock;
     } };
 
-    ghost invariant = { λ queue. IsKept queue.tickets (record { clients = queue.clients; pass = queue.pass; last = queue.last; clock = queue.clock }) };
+    ghost invariant = { λ queue. IsKept queue.tickets (record {
+      clients = queue.clients;
+      pass = queue.pass;
+      last = queue.last;
+      clock = queue.clock;
+    }) };
 }
 
 impl Queue {
@@ -67,8 +72,10 @@ impl Queue {
     /// was refused; the queue is unchanged then.
     pub fn add(&mut self, flow: FlowNo) -> Result<(), Refusal>
         requires { map.get self.old.clients flow ≡ None }
-        ensures ok { OnOk result ((self.new ≡ model_add self.old flow) × (add_refusal self.old ≡ None)) }
-        ensures refused { IfErr result (λ e. (self.new ≡ self.old) × IsRefused (add_refusal self.old) e) }
+        ensures ok { OnOk result
+            ((self.new ≡ model_add self.old flow) × (add_refusal self.old ≡ None)) }
+        ensures refused { IfErr result
+            (λ e. (self.new ≡ self.old) × IsRefused (add_refusal self.old) e) }
     {
         if self.clients.len() >= MAX_CLIENTS {
             return Err(Refusal::TableFull);
@@ -140,13 +147,8 @@ impl Queue {
         requires clock { self.old.clock + units ≤ 2 ^ 40 }
         ensures { self.new ≡ model_charge self.old flow units }
     {
-        match self.clients.get(flow) {
-            None => {}
-            Some(client) => {
-                self.clients.set(flow, client::charged(&client, units));
-                self.clock += units;
-            }
-        }
+        self.clients.charge(flow, units);
+        self.clock += units;
     }
 
     /// Removes a client that does not compete.

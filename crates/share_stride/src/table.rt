@@ -1,9 +1,12 @@
 //! The clients of a queue by their flow numbers, in a slab.
-ghost use Rattle.std.specs.Prelude.{◌≡◌, ◌↔◌, IsTrue, IsSome, IfSome, IfNone, IfOk, OnOk, OnErr};
+ghost use Rattle.std.specs.Prelude.{◌≡◌, ◌≤◌, ◌^◌, ◌↔◌, IsTrue, IsSome, IfSome, IfNone, IfOk, OnOk, OnErr, option_copied, unwrap_or};
 ghost use Rattle.std.specs.FinMap as map;
-ghost use Rattle.share_model.specs.Stride.{IsNext};
+ghost use Rattle.std.specs.Option.{ForSome};
+ghost use Rattle.share_model.specs.Stride.{IsNext, new_client, charged, position};
+ghost use Rattle.share_stride.specs.Fits.{IsWithin};
 ghost use Rattle.share_stride.specs.Table.{HoldsFlow, LacksFlow, ComesBefore, IsEarlier, IsFirstSlot};
 
+use crate::client;
 use share_base::FlowNo;
 use share_model::Client;
 use slab::Slab;
@@ -87,6 +90,25 @@ impl Table {
         }
     }
 
+    /// Charges the client of a flow so many units.
+    pub(crate) fn charge(&mut self, flow: FlowNo, units: u64)
+        requires there { IsSome (map.get self.old flow) }
+        requires units { units ≤ 2 ^ 40 }
+        requires stride { ForSome (map.get self.old flow) (λ c. c.stride ≤ 2 ^ 40) }
+        requires place { ForSome (map.get self.old flow)
+            (λ c. IsWithin (position c).place (2 ^ 83)) }
+        ensures { self.new
+            ≡ map.insert self.old flow (charged (unwrap_or (map.get self.old flow) new_client) units) }
+    {
+        match key_of(&self.slots, flow) {
+            None => {}
+            Some(key) => match self.slots.get_mut(key) {
+                None => {}
+                Some(slot) => slot.client = client::charged(&slot.client, units),
+            },
+        }
+    }
+
     /// Adds the client of a flow that has none.
     pub(crate) fn add(&mut self, flow: FlowNo, client: Client) -> Result<(), AllocError>
         requires { map.get self.old flow ≡ None }
@@ -135,10 +157,10 @@ fn key_of(slots: &Slab<Slot>, flow: FlowNo) -> Option<usize>
 }
 
 // The competing slot that comes first.
-fn least_slot(slots: &Slab<Slot>) -> Option<Slot>
-    ensures { IsFirstSlot slots.now.slots result }
+fn least_slot(slots: &Slab<Slot>) -> Option<&Slot>
+    ensures { IsFirstSlot slots.now.slots (option_copied result) }
 {
-    let mut first: Option<Slot> = None;
+    let mut first: Option<&Slot> = None;
     for (_, slot) in slots.iter() {
         first = earlier(first, slot);
     }
@@ -146,18 +168,18 @@ fn least_slot(slots: &Slab<Slot>) -> Option<Slot>
 }
 
 // The slot, where it competes and comes before the first one so far; else that one.
-fn earlier(first: Option<Slot>, slot: &Slot) -> Option<Slot>
-    ensures { IsEarlier first slot.now result }
+fn earlier<'a>(first: Option<&'a Slot>, slot: &'a Slot) -> Option<&'a Slot>
+    ensures { IsEarlier (option_copied first.entry) slot.now (option_copied result) }
 {
-    if slot.client.competes && comes_before(slot, &first) {
-        Some(*slot)
+    if slot.client.competes && comes_before(slot, first) {
+        Some(slot)
     } else {
         first
     }
 }
 
-fn comes_before(slot: &Slot, first: &Option<Slot>) -> bool
-    ensures { IsTrue result ↔ ComesBefore slot.now first.now }
+fn comes_before(slot: &Slot, first: Option<&Slot>) -> bool
+    ensures { IsTrue result ↔ ComesBefore slot.now (option_copied first.entry) }
 {
     match first {
         None => true,

@@ -5,6 +5,8 @@ use crate::Queue;
 use plain::Plain;
 use share_base::{FlowNo, Refusal};
 use share_model::Position;
+use std::alloc::Global;
+use std::process::Abort;
 use std::test::Fail;
 
 const STRIDE_OF_ONE: i128 = 1_099_511_627_776;
@@ -98,34 +100,58 @@ fn stands(competing: bool, tickets: u32, stride: u64, place: i128) -> Position {
     }
 }
 
-// Six frames of 1024 units, of flows with 3, 2 and 1 tickets, each of which leaves after its last frame.
-#[test]
-fn shares_by_tickets(rt: HostRuntime) -> Result<(), Fail> {
-    let mut queue = Queue::new(rt.alloc())?;
+/// Six picks: the flow that is picked, and whether it leaves after its frame.
+const PICKS: [(u32, bool); 6] = [
+    (1, false),
+    (2, false),
+    (1, false),
+    (1, true),
+    (2, true),
+    (3, true),
+];
+
+// Three flows with 3, 2 and 1 tickets that compete.
+fn three(rt: &impl Abort, alloc: Global) -> Result<Queue, Refusal> {
+    let mut queue = Queue::new(alloc)?;
     for (flow, tickets) in [(1, 3), (2, 2), (3, 1)] {
         assert!(rt; add(&mut queue, flow) && join(&mut queue, flow, tickets));
     }
-    assert_eq!(rt; position(&queue, 1).stride, 366_503_875_925);
-    assert_eq!(rt; position(&queue, 2).stride, 549_755_813_888);
-    assert_eq!(rt; position(&queue, 3).stride, 1_099_511_627_776);
-    for (turn, flow, last) in [
-        (1, 1, false),
-        (2, 2, false),
-        (3, 1, false),
-        (4, 1, true),
-        (5, 2, true),
-        (6, 3, true),
+    Ok(queue)
+}
+
+// Picks a flow, which is charged a frame of 1024 units.
+fn pick(rt: &impl Abort, queue: &mut Queue, flow: u32, leaves: bool) {
+    assert_eq!(rt; least(queue), flow);
+    assert!(rt; charge(queue, flow, 1024));
+    if leaves {
+        assert!(rt; leave(queue, flow));
+    }
+}
+
+#[test]
+fn strides_by_tickets(rt: HostRuntime) -> Result<(), Fail> {
+    let mut queue = three(&rt, rt.alloc())?;
+    for (flow, stride) in [
+        (1, 366_503_875_925),
+        (2, 549_755_813_888),
+        (3, 1_099_511_627_776),
     ] {
-        if turn == 4 {
-            assert_eq!(rt; position(&queue, 1).place, 1_099_511_627_775);
-            assert_eq!(rt; position(&queue, 2).place, STRIDE_OF_ONE);
-            assert_eq!(rt; position(&queue, 3).place, STRIDE_OF_ONE);
-        }
-        assert_eq!(rt; least(&queue), flow, "at turn {turn}");
-        assert!(rt; charge(&mut queue, flow, 1024));
-        if last {
-            assert!(rt; leave(&mut queue, flow));
-        }
+        assert_eq!(rt; position(&queue, flow).stride, stride);
+    }
+    for (flow, leaves) in &PICKS[..3] {
+        pick(&rt, &mut queue, *flow, *leaves);
+    }
+    assert_eq!(rt; position(&queue, 1).place, 1_099_511_627_775);
+    assert_eq!(rt; position(&queue, 2).place, STRIDE_OF_ONE);
+    assert_eq!(rt; position(&queue, 3).place, STRIDE_OF_ONE);
+    Ok(())
+}
+
+#[test]
+fn shares_by_tickets(rt: HostRuntime) -> Result<(), Fail> {
+    let mut queue = three(&rt, rt.alloc())?;
+    for (flow, leaves) in PICKS {
+        pick(&rt, &mut queue, flow, leaves);
     }
     assert_eq!(rt; least(&queue), 0);
     let global = queue.global();
@@ -256,60 +282,44 @@ fn ties_by_number(rt: HostRuntime) -> Result<(), Fail> {
     Ok(())
 }
 
-// Makes one move on both where it may be made, and says whether each made it.
-fn step(
-    queue: &mut Queue,
-    plain: &mut Plain,
-    kind: u32,
-    flow: u32,
-    tickets: u32,
-    units: u64,
-) -> (bool, bool) {
-    let row = plain.row(flow);
-    let there = row.flow == flow;
-    let amount = i128::from(tickets);
-    match kind {
-        0 => {
-            if !there {
-                plain.add(flow);
-            }
-            (add(queue, flow), !there)
-        }
-        1 | 2 => {
-            let ready = there && !row.competes;
-            if ready {
-                plain.join(flow, amount);
-            }
-            (join(queue, flow, tickets), ready)
-        }
-        3 => {
-            let ready = there && row.competes;
-            if ready {
-                plain.leave(flow);
-            }
-            (leave(queue, flow), ready)
-        }
-        4 => {
-            let ready = there && row.competes;
-            if ready {
-                plain.leave(flow);
-                plain.join(flow, amount);
-            }
-            (modify(queue, flow, tickets), ready)
-        }
-        5 => {
-            let ready = there && !row.competes;
-            if ready {
-                plain.remove(flow);
-            }
-            (remove(queue, flow), ready)
-        }
-        _ => {
-            if there {
-                plain.charge(flow, i128::from(units));
-            }
-            (charge(queue, flow, units), there)
-        }
+/// A move of one flow.
+#[derive(Clone, Copy, Debug)]
+pub(crate) enum Move {
+    Add,
+    Join(u32),
+    Leave,
+    Modify(u32),
+    Charge(u64),
+    Remove,
+}
+
+// Makes a move where it may be made, and says whether it was.
+fn make(queue: &mut Queue, flow: u32, step: Move) -> bool {
+    match step {
+        Move::Add => add(queue, flow),
+        Move::Join(tickets) => join(queue, flow, tickets),
+        Move::Leave => leave(queue, flow),
+        Move::Modify(tickets) => modify(queue, flow, tickets),
+        Move::Charge(units) => charge(queue, flow, units),
+        Move::Remove => remove(queue, flow),
+    }
+}
+
+// A move that a number draws.
+fn drawn(number: u64) -> Move {
+    let most = if (number >> 62) & 1 == 0 {
+        8
+    } else {
+        1_048_576
+    };
+    let tickets = (number >> 42) as u32 % most + 1;
+    match (number >> 33) as u32 % 12 {
+        0 => Move::Add,
+        1 | 2 => Move::Join(tickets),
+        3 => Move::Leave,
+        4 => Move::Modify(tickets),
+        5 => Move::Remove,
+        _ => Move::Charge((number >> 20) % 4096),
     }
 }
 
@@ -339,19 +349,16 @@ fn agrees(queue: &Queue, plain: &Plain) -> bool {
 fn beside_a_plain_model(rt: HostRuntime) -> Result<(), Fail> {
     let mut queue = Queue::new(rt.alloc())?;
     let mut plain = Plain::new();
-    let mut drawn = 1u64;
+    let mut number = 1u64;
     let mut made = 0u32;
     for count in 0..20_000u32 {
-        drawn = drawn
+        number = number
             .wrapping_mul(6_364_136_223_846_793_005)
             .wrapping_add(1_442_695_040_888_963_407);
-        let kind = (drawn >> 33) as u32 % 12;
-        let flow = (drawn >> 40) as u32 % 8 + 1;
-        let most = if (drawn >> 62) & 1 == 0 { 8 } else { 1_048_576 };
-        let tickets = (drawn >> 42) as u32 % most + 1;
-        let units = (drawn >> 20) % 4096;
-        let (ours, theirs) = step(&mut queue, &mut plain, kind, flow, tickets, units);
-        assert_eq!(rt; ours, theirs, "at move {count}");
+        let flow = (number >> 40) as u32 % 8 + 1;
+        let step = drawn(number);
+        let ours = make(&mut queue, flow, step);
+        assert_eq!(rt; ours, plain.make(flow, step), "at move {count}");
         assert!(rt; agrees(&queue, &plain), "at move {count}");
         if ours {
             made = made.wrapping_add(1);

@@ -14,8 +14,10 @@ const PIECE: usize = 2048;
 /// error a beginning of the line is written.
 pub fn print_bytes<O: Telling>(output: &mut O, bytes: &[u8]) -> Result<(), NotWritten>
     ensures bytes { MatchResult result
-        (λ _. Appends (bytes_told (O.told output.old)) (bytes_told (O.told output.new)) (out_line bytes.now))
-        (λ _. AppendsPart (bytes_told (O.told output.old)) (bytes_told (O.told output.new)) (out_line bytes.now)) }
+        (λ _. Appends (bytes_told (O.told output.old)) (bytes_told (O.told output.new))
+        (out_line bytes.now))
+        (λ _. AppendsPart (bytes_told (O.told output.old)) (bytes_told (O.told output.new))
+        (out_line bytes.now)) }
     ensures asked { IfErr result (λ _. SomeRefusal O.answers) }
 {
     match put(output, b"out ") {
@@ -27,8 +29,10 @@ pub fn print_bytes<O: Telling>(output: &mut O, bytes: &[u8]) -> Result<(), NotWr
 // The digits of the line, and its line feed.
 fn finish_line<O: Telling>(output: &mut O, bytes: &[u8]) -> Result<(), NotWritten>
     ensures bytes { MatchResult result
-        (λ _. Appends (bytes_told (O.told output.old)) (bytes_told (O.told output.new)) (digits_or_hyphen bytes.now ++ codes "\n"))
-        (λ _. AppendsPart (bytes_told (O.told output.old)) (bytes_told (O.told output.new)) (digits_or_hyphen bytes.now ++ codes "\n")) }
+        (λ _. Appends (bytes_told (O.told output.old)) (bytes_told (O.told output.new))
+        (digits_or_hyphen bytes.now ++ codes "\n"))
+        (λ _. AppendsPart (bytes_told (O.told output.old)) (bytes_told (O.told output.new))
+        (digits_or_hyphen bytes.now ++ codes "\n")) }
     ensures asked { IfErr result (λ _. SomeRefusal O.answers) }
 {
     match put_digits(output, bytes) {
@@ -39,8 +43,10 @@ fn finish_line<O: Telling>(output: &mut O, bytes: &[u8]) -> Result<(), NotWritte
 
 fn put_digits<O: Telling>(output: &mut O, bytes: &[u8]) -> Result<(), NotWritten>
     ensures bytes { MatchResult result
-        (λ _. Appends (bytes_told (O.told output.old)) (bytes_told (O.told output.new)) (digits_or_hyphen bytes.now))
-        (λ _. AppendsPart (bytes_told (O.told output.old)) (bytes_told (O.told output.new)) (digits_or_hyphen bytes.now)) }
+        (λ _. Appends (bytes_told (O.told output.old)) (bytes_told (O.told output.new))
+        (digits_or_hyphen bytes.now))
+        (λ _. AppendsPart (bytes_told (O.told output.old)) (bytes_told (O.told output.new))
+        (digits_or_hyphen bytes.now)) }
     ensures asked { IfErr result (λ _. SomeRefusal O.answers) }
 {
     if bytes.is_empty() {
@@ -52,8 +58,10 @@ fn put_digits<O: Telling>(output: &mut O, bytes: &[u8]) -> Result<(), NotWritten
 // Prints each byte as two lower-case digits.
 fn put_hex<O: Telling>(output: &mut O, bytes: &[u8]) -> Result<(), NotWritten>
     ensures bytes { MatchResult result
-        (λ _. Appends (bytes_told (O.told output.old)) (bytes_told (O.told output.new)) (hex bytes.now))
-        (λ _. AppendsPart (bytes_told (O.told output.old)) (bytes_told (O.told output.new)) (hex bytes.now)) }
+        (λ _. Appends (bytes_told (O.told output.old)) (bytes_told (O.told output.new))
+        (hex bytes.now))
+        (λ _. AppendsPart (bytes_told (O.told output.old)) (bytes_told (O.told output.new))
+        (hex bytes.now)) }
     ensures asked { IfErr result (λ _. SomeRefusal O.answers) }
 {
     let mut at = 0;
@@ -70,8 +78,10 @@ fn put_hex<O: Telling>(output: &mut O, bytes: &[u8]) -> Result<(), NotWritten>
 fn put_piece<O: Telling>(output: &mut O, piece: &[u8]) -> Result<(), NotWritten>
     requires { length piece.now ≤ 2048 }
     ensures bytes { MatchResult result
-        (λ _. Appends (bytes_told (O.told output.old)) (bytes_told (O.told output.new)) (hex piece.now))
-        (λ _. AppendsPart (bytes_told (O.told output.old)) (bytes_told (O.told output.new)) (hex piece.now)) }
+        (λ _. Appends (bytes_told (O.told output.old)) (bytes_told (O.told output.new))
+        (hex piece.now))
+        (λ _. AppendsPart (bytes_told (O.told output.old)) (bytes_told (O.told output.new))
+        (hex piece.now)) }
     ensures asked { IfErr result (λ _. SomeRefusal O.answers) }
 {
     let mut text = [0u8; 2 * PIECE];

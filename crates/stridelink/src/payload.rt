@@ -33,7 +33,8 @@ fn digit(byte: u8) -> u8
 /// `None` where the word spells none.
 pub fn decode(word: &[u8], bytes: &mut [u8]) -> Option<usize>
     requires { length word.now ≤ 2 * length bytes.old }
-    ensures payload { MatchOption result (payload_of word.now ≡ None) (λ count. payload_of word.now ≡ Some (take count bytes.new)) }
+    ensures payload { MatchOption result (payload_of word.now ≡ None)
+        (λ count. payload_of word.now ≡ Some (take count bytes.new)) }
     ensures half { IfSome result (λ count. 2 * count ≡ length word.now) }
 {
     if !has_pairs(word) {

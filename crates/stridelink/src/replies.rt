@@ -19,7 +19,8 @@ pub struct NotWritten;
 pub fn put<O: Telling>(output: &mut O, bytes: &[u8]) -> Result<(), NotWritten>
     ensures bytes { MatchResult result
         (λ _. Appends (bytes_told (O.told output.old)) (bytes_told (O.told output.new)) bytes.now)
-        (λ _. AppendsPart (bytes_told (O.told output.old)) (bytes_told (O.told output.new)) bytes.now) }
+        (λ _. AppendsPart (bytes_told (O.told output.old)) (bytes_told (O.told output.new))
+        bytes.now) }
     ensures asked { IfErr result (λ _. SomeRefusal O.answers) }
 {
     let mut at = 0;
@@ -42,8 +43,10 @@ pub fn put<O: Telling>(output: &mut O, bytes: &[u8]) -> Result<(), NotWritten>
 /// of it is written.
 pub fn write_outcome<O: Telling>(output: &mut O, outcome: &Outcome) -> Result<(), NotWritten>
     ensures bytes { MatchResult result
-        (λ _. Appends (bytes_told (O.told output.old)) (bytes_told (O.told output.new)) (line_text outcome.now))
-        (λ _. AppendsPart (bytes_told (O.told output.old)) (bytes_told (O.told output.new)) (line_text outcome.now)) }
+        (λ _. Appends (bytes_told (O.told output.old)) (bytes_told (O.told output.new))
+        (line_text outcome.now))
+        (λ _. AppendsPart (bytes_told (O.told output.old)) (bytes_told (O.told output.new))
+        (line_text outcome.now)) }
     ensures asked { IfErr result (λ _. SomeRefusal O.answers) }
 {
     let mut text = ArrayString::<128>::new();

@@ -48,8 +48,10 @@ pub fn run_script<S: Rates + Drop, I: Source, O: Telling>(
     requires fresh { engine.live ≡ empty_link }
     requires empty { engine.writer ≡ record { bytes = []; counts = [] } }
     ensures printed { IfSome (I.left input.old) (λ script. MatchResult result
-        (λ done. Printed (bytes_told (O.told output.old)) (bytes_told (O.told output.new)) engine script done)
-        (λ _. PrintedPart (bytes_told (O.told output.old)) (bytes_told (O.told output.new)) engine script)) }
+        (λ done. Printed (bytes_told (O.told output.old)) (bytes_told (O.told output.new))
+        engine script done)
+        (λ _. PrintedPart (bytes_told (O.told output.old)) (bytes_told (O.told output.new))
+        engine script)) }
     ensures ended { OnOk result (IsAtEnd (I.left input.new)) }
     ensures fault { IfErr result (λ fault. IsFault I.gives input.old O.answers fault) }
 {
@@ -95,8 +97,10 @@ fn read_all<S: Rates + Drop, I: Source, O: Telling>(
     requires room { 0 < length buffer.old }
     requires none { carry.old ≡ [] }
     ensures fed { IfSome (I.left input.old) (λ script. MatchResult result
-        (λ _. Feeds (bytes_told (O.told output.old)) (bytes_told (O.told output.new)) engine.old [] script engine.new carry.new)
-        (λ _. FeedsPart (bytes_told (O.told output.old)) (bytes_told (O.told output.new)) engine.old [] script)) }
+        (λ _. Feeds (bytes_told (O.told output.old)) (bytes_told (O.told output.new))
+        engine.old [] script engine.new carry.new)
+        (λ _. FeedsPart (bytes_told (O.told output.old)) (bytes_told (O.told output.new))
+        engine.old [] script)) }
     ensures ended { OnOk result (IsAtEnd (I.left input.new)) }
     ensures fault { IfErr result (λ fault. IsFault I.gives input.old O.answers fault) }
 {
@@ -123,8 +127,10 @@ fn feed<S: Rates + Drop, O: Telling>(
     chunk: &[u8],
 ) -> Result<(), ScriptFault>
     ensures fed { MatchResult result
-        (λ _. Feeds (bytes_told (O.told output.old)) (bytes_told (O.told output.new)) engine.old carry.old chunk.now engine.new carry.new)
-        (λ _. FeedsPart (bytes_told (O.told output.old)) (bytes_told (O.told output.new)) engine.old carry.old chunk.now) }
+        (λ _. Feeds (bytes_told (O.told output.old)) (bytes_told (O.told output.new))
+        engine.old carry.old chunk.now engine.new carry.new)
+        (λ _. FeedsPart (bytes_told (O.told output.old)) (bytes_told (O.told output.new))
+        engine.old carry.old chunk.now) }
     ensures fault { IfErr result (λ fault. IsOutputFault O.answers fault) }
 {
     let mut at = 0;
@@ -147,8 +153,10 @@ fn end_line<S: Rates + Drop, O: Telling>(
     piece: &[u8],
 ) -> Result<(), ScriptFault>
     ensures spoke { MatchResult result
-        (λ _. Spoke (bytes_told (O.told output.old)) (bytes_told (O.told output.new)) engine.old (carry.old ++ piece.now) engine.new)
-        (λ _. SpokePart (bytes_told (O.told output.old)) (bytes_told (O.told output.new)) engine.old (carry.old ++ piece.now)) }
+        (λ _. Spoke (bytes_told (O.told output.old)) (bytes_told (O.told output.new))
+        engine.old (carry.old ++ piece.now) engine.new)
+        (λ _. SpokePart (bytes_told (O.told output.old)) (bytes_told (O.told output.new))
+        engine.old (carry.old ++ piece.now)) }
     ensures none { OnOk result (carry.new ≡ []) }
     ensures fault { IfErr result (λ fault. IsOutputFault O.answers fault) }
 {
@@ -173,8 +181,10 @@ fn finish<S: Rates + Drop, O: Telling>(
     output: &mut O,
 ) -> Result<(), ScriptFault>
     ensures ends { MatchResult result
-        (λ _. Ends (bytes_told (O.told output.old)) (bytes_told (O.told output.new)) engine.old carry.now engine.new)
-        (λ _. EndsPart (bytes_told (O.told output.old)) (bytes_told (O.told output.new)) engine.old carry.now) }
+        (λ _. Ends (bytes_told (O.told output.old)) (bytes_told (O.told output.new))
+        engine.old carry.now engine.new)
+        (λ _. EndsPart (bytes_told (O.told output.old)) (bytes_told (O.told output.new))
+        engine.old carry.now) }
     ensures fault { IfErr result (λ fault. IsOutputFault O.answers fault) }
 {
     if carry.is_empty() {
@@ -191,8 +201,10 @@ fn speak<S: Rates + Drop, O: Telling>(
     line: &[u8],
 ) -> Result<(), ScriptFault>
     ensures spoke { MatchResult result
-        (λ _. Spoke (bytes_told (O.told output.old)) (bytes_told (O.told output.new)) engine.old line.now engine.new)
-        (λ _. SpokePart (bytes_told (O.told output.old)) (bytes_told (O.told output.new)) engine.old line.now) }
+        (λ _. Spoke (bytes_told (O.told output.old)) (bytes_told (O.told output.new))
+        engine.old line.now engine.new)
+        (λ _. SpokePart (bytes_told (O.told output.old)) (bytes_told (O.told output.new))
+        engine.old line.now) }
     ensures fault { IfErr result (λ fault. IsOutputFault O.answers fault) }
 {
     match answer(alloc, engine, line) {
@@ -209,7 +221,8 @@ fn answer<S: Rates + Drop>(
     engine: &mut Engine<Tape, S>,
     bytes: &[u8],
 ) -> Result<Outcome, ScriptFault>
-    ensures { MatchResult result (λ outcome. Says engine.old bytes.now outcome engine.new) (λ fault. fault ≡ ScriptFault.NoMemory) }
+    ensures { MatchResult result (λ outcome. Says engine.old bytes.now outcome engine.new)
+        (λ fault. fault ≡ ScriptFault.NoMemory) }
 {
     match read_line(alloc, bytes) {
         Ok(line) => answer_line(engine, line),
@@ -241,7 +254,8 @@ fn answer_line<S: Rates + Drop>(
     line: Line,
 ) -> Result<Outcome, ScriptFault>
     requires { is_in_range line ≡ true }
-    ensures { MatchResult result (λ outcome. SaysLine engine.old line outcome engine.new) (λ fault. fault ≡ ScriptFault.NoMemory) }
+    ensures { MatchResult result (λ outcome. SaysLine engine.old line outcome engine.new)
+        (λ fault. fault ≡ ScriptFault.NoMemory) }
 {
     match line {
         Line::Change(command) => change(engine, command),
@@ -255,7 +269,9 @@ fn change<S: Rates + Drop>(
     engine: &mut Engine<Tape, S>,
     command: Command,
 ) -> Result<Outcome, ScriptFault>
-    ensures { MatchResult result (λ outcome. SaysLine engine.old (Change command) outcome engine.new) (λ fault. fault ≡ ScriptFault.NoMemory) }
+    ensures { MatchResult result
+        (λ outcome. SaysLine engine.old (Change command) outcome engine.new)
+        (λ fault. fault ≡ ScriptFault.NoMemory) }
 {
     Ok(Outcome::Replied(engine.command(command)))
 }
@@ -263,7 +279,8 @@ fn change<S: Rates + Drop>(
 // A tape fails only for want of memory.
 fn turn<S: Rates + Drop>(engine: &mut Engine<Tape, S>, most: u32) -> Result<Outcome, ScriptFault>
     requires { 1 ≤ most }
-    ensures { MatchResult result (λ outcome. SaysLine engine.old (TurnLine most) outcome engine.new) (λ fault. fault ≡ ScriptFault.NoMemory) }
+    ensures { MatchResult result (λ outcome. SaysLine engine.old (TurnLine most) outcome engine.new)
+        (λ fault. fault ≡ ScriptFault.NoMemory) }
 {
     let turn = engine.turn(most);
     if is_torn(&turn) {

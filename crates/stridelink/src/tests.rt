@@ -1,7 +1,4 @@
 //! Whole scripts, against the replies and the bytes that the rules give.
-ghost use Rattle.std.specs.Prelude.{None};
-ghost use Rattle.share_model.specs.Given.{Gives};
-
 use crate::script::{ScriptFault, run_script};
 use crate::{run, shelf};
 use share_base::FlowNo;
@@ -83,54 +80,74 @@ fn printed<I: Source>(
     Ok(output.bytes().to_vec(alloc)?)
 }
 
+/// Lives, scripts, and what they print.
+const SCRIPTS: [(u64, &[u8], &[u8]); 8] = [
+    (LIFE, b"", b"out -\n"),
+    // The last line has no line feed.
+    (
+        LIFE,
+        b"open a 4 1\nmktkt 10 base\nfund 1 flow a\nsend a 6869\nturn 65535",
+        b"flow 1\nticket 1\nok\npacket 1 1\nwrote 1 1 14 whole\n\
+        out 4c01000000010000000100026869\n",
+    ),
+    // The frame in fourteen turns of one byte.
+    (
+        LIFE,
+        b"open a 4 1\nmktkt 10 base\nfund 1 flow a\nsend a 6869\n\
+        turn 1\nturn 1\nturn 1\nturn 1\nturn 1\nturn 1\nturn 1\n\
+        turn 1\nturn 1\nturn 1\nturn 1\nturn 1\nturn 1\nturn 1\n",
+        b"flow 1\nticket 1\nok\npacket 1 1\n\
+        wrote 1 1 1 part\nwrote 1 1 1 part\nwrote 1 1 1 part\nwrote 1 1 1 part\n\
+        wrote 1 1 1 part\nwrote 1 1 1 part\nwrote 1 1 1 part\nwrote 1 1 1 part\n\
+        wrote 1 1 1 part\nwrote 1 1 1 part\nwrote 1 1 1 part\nwrote 1 1 1 part\n\
+        wrote 1 1 1 part\nwrote 1 1 1 whole\n\
+        out 4c01000000010000000100026869\n",
+    ),
+    // A flow of one packet at a time.
+    (
+        LIFE,
+        b"open a 1 1\nmktkt 1 base\nfund 1 flow a\n\
+        send a 61\nsend a 62\nturn 5\nsend a 62\nturn 65535\nsend a 62\n",
+        b"flow 1\nticket 1\nok\n\
+        packet 1 1\nno 19 BufferFull\nwrote 1 1 5 part\nno 19 BufferFull\nwrote 1 1 8 whole\npacket 1 2\n\
+        out 4c010000000100000001000161\n",
+    ),
+    // Commands that a new link refuses.
+    (
+        LIFE,
+        b"mktkt 0 nope\nmktkt 1048577 base\nfund 9 flow zz\nopen a 0 9\nopen a 1 9\n\
+        turn 0\nturn 65536\nturn 65535\ntorn\n",
+        b"no 4 Range\nno 4 Range\nno 6 NoTicket\nno 4 Range\nno 8 NoTariff\n\
+        no 4 Range\nno 4 Range\nidle\nidle\nout -\n",
+    ),
+    // Numbers that are spelled amiss, and payloads.
+    (
+        LIFE,
+        b"fund 01 flow a\nturn 00\nturn\nturn 18446744073709551616\nturn 18446744073709551615\n\
+        send a 6\nsend a 6A\nsend a\nsend a 6g\n",
+        b"no 3 Syntax\nno 3 Syntax\nno 3 Syntax\nno 3 Syntax\nno 4 Range\n\
+        no 3 Syntax\nno 3 Syntax\nno 3 Syntax\nno 3 Syntax\nout -\n",
+    ),
+    // Lines that are spelled amiss.
+    (
+        LIFE,
+        b"\n\0\n\xff\ntorn\r\nturn  1\n torn\ntorn \nTORN\ntorn\0\nturn 1\xff\ntorn",
+        b"no 3 Syntax\nno 3 Syntax\nno 3 Syntax\nno 3 Syntax\nno 3 Syntax\n\
+        no 3 Syntax\nno 3 Syntax\nno 3 Syntax\nno 3 Syntax\nno 3 Syntax\nidle\nout -\n",
+    ),
+    // A life of four events.
+    (
+        4,
+        b"open a 4 1\nmktkt 10 base\nfund 1 flow a\nsend a 6869\n\
+        send a 6869\nturn 0\nturn 65535\ntorn\nmktkt 0 base\nturn 01\nsend a 6\n",
+        b"flow 1\nticket 1\nok\npacket 1 1\n\
+        no 2 Spent\nno 2 Spent\nno 2 Spent\nno 2 Spent\nno 2 Spent\nno 3 Syntax\nno 3 Syntax\nout -\n",
+    ),
+];
+
 #[test]
 fn scripts_are_answered(rt: HostRuntime) -> Result<(), Fail> {
-    let rows: [(u64, &[u8], &[u8]); 8] = [
-        (LIFE, b"", b"out -\n"),
-        // The last line has no line feed.
-        (
-            LIFE,
-            b"open a 4 1\nmktkt 10 base\nfund 1 flow a\nsend a 6869\nturn 65535",
-            b"flow 1\nticket 1\nok\npacket 1 1\nwrote 1 1 14 whole\nout 4c01000000010000000100026869\n",
-        ),
-        // The frame in fourteen turns of one byte.
-        (
-            LIFE,
-            b"open a 4 1\nmktkt 10 base\nfund 1 flow a\nsend a 6869\nturn 1\nturn 1\nturn 1\nturn 1\nturn 1\nturn 1\nturn 1\nturn 1\nturn 1\nturn 1\nturn 1\nturn 1\nturn 1\nturn 1\n",
-            b"flow 1\nticket 1\nok\npacket 1 1\nwrote 1 1 1 part\nwrote 1 1 1 part\nwrote 1 1 1 part\nwrote 1 1 1 part\nwrote 1 1 1 part\nwrote 1 1 1 part\nwrote 1 1 1 part\nwrote 1 1 1 part\nwrote 1 1 1 part\nwrote 1 1 1 part\nwrote 1 1 1 part\nwrote 1 1 1 part\nwrote 1 1 1 part\nwrote 1 1 1 whole\nout 4c01000000010000000100026869\n",
-        ),
-        // A flow of one packet at a time.
-        (
-            LIFE,
-            b"open a 1 1\nmktkt 1 base\nfund 1 flow a\nsend a 61\nsend a 62\nturn 5\nsend a 62\nturn 65535\nsend a 62\n",
-            b"flow 1\nticket 1\nok\npacket 1 1\nno 19 BufferFull\nwrote 1 1 5 part\nno 19 BufferFull\nwrote 1 1 8 whole\npacket 1 2\nout 4c010000000100000001000161\n",
-        ),
-        // Commands that a new link refuses.
-        (
-            LIFE,
-            b"mktkt 0 nope\nmktkt 1048577 base\nfund 9 flow zz\nopen a 0 9\nopen a 1 9\nturn 0\nturn 65536\nturn 65535\ntorn\n",
-            b"no 4 Range\nno 4 Range\nno 6 NoTicket\nno 4 Range\nno 8 NoTariff\nno 4 Range\nno 4 Range\nidle\nidle\nout -\n",
-        ),
-        // Numbers that are spelled amiss, and payloads.
-        (
-            LIFE,
-            b"fund 01 flow a\nturn 00\nturn\nturn 18446744073709551616\nturn 18446744073709551615\nsend a 6\nsend a 6A\nsend a\nsend a 6g\n",
-            b"no 3 Syntax\nno 3 Syntax\nno 3 Syntax\nno 3 Syntax\nno 4 Range\nno 3 Syntax\nno 3 Syntax\nno 3 Syntax\nno 3 Syntax\nout -\n",
-        ),
-        // Lines that are spelled amiss.
-        (
-            LIFE,
-            b"\n\0\n\xff\ntorn\r\nturn  1\n torn\ntorn \nTORN\ntorn\0\nturn 1\xff\ntorn",
-            b"no 3 Syntax\nno 3 Syntax\nno 3 Syntax\nno 3 Syntax\nno 3 Syntax\nno 3 Syntax\nno 3 Syntax\nno 3 Syntax\nno 3 Syntax\nno 3 Syntax\nidle\nout -\n",
-        ),
-        // A life of four events.
-        (
-            4,
-            b"open a 4 1\nmktkt 10 base\nfund 1 flow a\nsend a 6869\nsend a 6869\nturn 0\nturn 65535\ntorn\nmktkt 0 base\nturn 01\nsend a 6\n",
-            b"flow 1\nticket 1\nok\npacket 1 1\nno 2 Spent\nno 2 Spent\nno 2 Spent\nno 2 Spent\nno 2 Spent\nno 3 Syntax\nno 3 Syntax\nout -\n",
-        ),
-    ];
-    for (life, script, want) in rows {
+    for (life, script, want) in SCRIPTS {
         let mut whole = PlainReader(script);
         let text = printed(&rt, rt.alloc(), life, &mut whole)?;
         assert_eq!(rt; text.as_slice(), want);

@@ -51,7 +51,8 @@ impl<'a> Words<'a> {
 
     /// Reads a name. Where the next word is none, the words are not to be read on.
     pub fn name(&mut self) -> Option<Name>
-        ensures { MatchOption result (field name_of self.old ≡ None) (λ name. field name_of self.old ≡ Some (name, self.new)) }
+        ensures { MatchOption result (field name_of self.old ≡ None)
+            (λ name. field name_of self.old ≡ Some (name, self.new)) }
     {
         match self.next() {
             None => None,
@@ -61,7 +62,8 @@ impl<'a> Words<'a> {
 
     /// Reads a number. Where the next word is none, the words are not to be read on.
     pub fn number(&mut self) -> Option<u64>
-        ensures { MatchOption result (field number_of self.old ≡ None) (λ n. field number_of self.old ≡ Some (n, self.new)) }
+        ensures { MatchOption result (field number_of self.old ≡ None)
+            (λ n. field number_of self.old ≡ Some (n, self.new)) }
     {
         match self.next() {
             None => None,
@@ -71,7 +73,8 @@ impl<'a> Words<'a> {
 
     /// Reads the word `flow`. Where it is not the next word, the words are not to be read on.
     pub fn flow_keyword(&mut self) -> Option<&'a [u8]>
-        ensures { MatchOption result (field (keyword_of (codes "flow")) self.old ≡ None) (λ w. field (keyword_of (codes "flow")) self.old ≡ Some (w.now, self.new)) }
+        ensures { MatchOption result (field (keyword_of (codes "flow")) self.old ≡ None)
+            (λ w. field (keyword_of (codes "flow")) self.old ≡ Some (w.now, self.new)) }
     {
         match self.next() {
             None => None,
@@ -88,7 +91,8 @@ impl<'a> Words<'a> {
 }
 
 fn flow_in(word: &[u8]) -> Option<&[u8]>
-    ensures { MatchOption result (keyword_of (codes "flow") word.now ≡ None) (λ w. keyword_of (codes "flow") word.now ≡ Some w.now) }
+    ensures { MatchOption result (keyword_of (codes "flow") word.now ≡ None)
+        (λ w. keyword_of (codes "flow") word.now ≡ Some w.now) }
 {
     if word == b"flow".as_slice() {
         Some(word)

@@ -84,8 +84,10 @@ impl Tables {
 
     // The first ticket of this number gets this holder.
     fn give(&mut self, number: u64, holder: &Holder)
-        requires { IsKept (record self.old { tickets = with_holder number holder.now self.old.tickets }) }
-        ensures { self.new ≡ record self.old { tickets = with_holder number holder.now self.old.tickets } }
+        requires { IsKept
+            (record self.old { tickets = with_holder number holder.now self.old.tickets }) }
+        ensures { self.new
+            ≡ record self.old { tickets = with_holder number holder.now self.old.tickets } }
     {
         if let Some(place) = self.place_of_ticket(number) {
             self.tickets[place].holder = *holder;

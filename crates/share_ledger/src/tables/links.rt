@@ -40,7 +40,9 @@ impl Tables {
     }
 
     fn is_active(&self, flow: FlowNo) -> bool
-        ensures { result ≡ list_any (λ (o : OpenFlow). nat_eq flow o.number && o.active) (map (λ e. e.1) self.now.flows) }
+        ensures { result
+            ≡ list_any (λ (o : OpenFlow). nat_eq flow o.number && o.active)
+            (map (λ e. e.1) self.now.flows) }
     {
         self.flows
             .values()
@@ -114,7 +116,8 @@ impl Tables {
 
     /// What each ticket is worth, in the order of the tickets.
     pub(crate) fn refresh(&self, worths: &mut [u64; MAX_TICKETS])
-        ensures { take (length self.now.tickets) worths.new ≡ map (worth self.now 9) self.now.tickets }
+        ensures { take (length self.now.tickets) worths.new
+            ≡ map (worth self.now 9) self.now.tickets }
     {
         self.is_kept();
         let count = self.tickets.len();

@@ -15,7 +15,8 @@ fn counted(funds: bool, worth: u64) -> u64
 impl Tables {
     /// The sum of the worths of the tickets that fund a flow, where `worths` has that of each ticket.
     pub(crate) fn worth_of_flow(&self, flow: FlowNo, worths: &[u64; MAX_TICKETS]) -> u64
-        requires { take (length self.now.tickets) worths.now ≡ map (worth self.now 9) self.now.tickets }
+        requires { take (length self.now.tickets) worths.now
+            ≡ map (worth self.now 9) self.now.tickets }
         ensures { result ≡ sum_by (worth self.now 9) (funding self.now.tickets flow) }
     {
         self.is_kept();

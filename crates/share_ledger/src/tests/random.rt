@@ -2,7 +2,9 @@
 
 use super::model::Model;
 use super::{Change, apply, empty, name, numbered};
+use crate::Ledger;
 use share_base::{FlowNo, Name, Refusal, Reply};
+use std::alloc::AllocError;
 use std::process::Abort;
 use std::test::Fail;
 
@@ -76,6 +78,67 @@ fn bit_of(refusal: &Refusal) -> u64 {
     1_u64.wrapping_shl(refusal.number())
 }
 
+/// The refusals that a long run has to meet.
+const REFUSALS: [Refusal; 12] = [
+    Refusal::Range,
+    Refusal::NoCurrency,
+    Refusal::NoTicket,
+    Refusal::NoFlow,
+    Refusal::Taken,
+    Refusal::Base,
+    Refusal::InUse,
+    Refusal::Funding,
+    Refusal::Unfunded,
+    Refusal::Crowded,
+    Refusal::Cycle,
+    Refusal::Deep,
+];
+
+// Makes one step on both: a flow turns active or idle, or is removed, or a change is asked of both. Gives the refusal of
+// the change, if it was one.
+fn step(
+    rt: &impl Abort,
+    state: &mut u64,
+    ledger: &mut Ledger,
+    model: &mut Model,
+) -> Result<Option<Refusal>, AllocError> {
+    let k = next(state);
+    let name = flow(rt, k);
+    let number = model.flow(name);
+    assert_eq!(rt; ledger.flow(name).map(|flow| flow.number()), number);
+    match number {
+        Some(number) if k % 64 < 30 => {
+            ledger.set_active(FlowNo(number), k % 3 > 0);
+            model.set_active(number, k % 3 > 0);
+        }
+        Some(number) if k % 64 == 30 => {
+            ledger.remove_flow(FlowNo(number));
+            model.close(number);
+        }
+        _ => {
+            let change = drawn(rt, state, ledger.next_ticket());
+            let wanted = model.apply(change)?;
+            assert_eq!(rt; apply(ledger, change), wanted, "{change:?}");
+            if let Reply::Refused(refusal) = wanted {
+                return Ok(Some(refusal));
+            }
+        }
+    }
+    Ok(None)
+}
+
+// Whether both give each open flow the same tickets.
+fn agree(rt: &impl Abort, ledger: &Ledger, model: &Model) -> bool {
+    for k in 0..5 {
+        if let Some(number) = model.flow(flow(rt, k)) {
+            if u64::from(ledger.tickets(FlowNo(number))) != model.tickets(number) {
+                return false;
+            }
+        }
+    }
+    true
+}
+
 #[test]
 fn long_run_beside_a_plain_model(rt: HostRuntime) -> Result<(), Fail> {
     let base = name(&rt, "base");
@@ -83,63 +146,14 @@ fn long_run_beside_a_plain_model(rt: HostRuntime) -> Result<(), Fail> {
     let mut model = Model::new(rt.alloc(), base)?;
     let mut state = 88172645463325252;
     let mut met: u64 = 0;
-    for step in 0..STEPS {
-        let k = next(&mut state);
-        let name = flow(&rt, k);
-        let number = model.flow(name);
-        assert_eq!(rt;
-            ledger.flow(name).map(|flow| flow.number()),
-            number,
-            "flow, step {step}"
-        );
-        match number {
-            Some(number) if k % 64 < 30 => {
-                ledger.set_active(FlowNo(number), k % 3 > 0);
-                model.set_active(number, k % 3 > 0);
-            }
-            Some(number) if k % 64 == 30 => {
-                ledger.remove_flow(FlowNo(number));
-                model.close(number);
-            }
-            _ => {
-                let change = drawn(&rt, &mut state, ledger.next_ticket());
-                let wanted = model.apply(change)?;
-                if let Reply::Refused(refusal) = wanted {
-                    met |= bit_of(&refusal);
-                }
-                assert_eq!(rt;
-                    apply(&mut ledger, change),
-                    wanted,
-                    "{change:?}, step {step}"
-                );
-            }
+    for count in 0..STEPS {
+        if let Some(refusal) = step(&rt, &mut state, &mut ledger, &mut model)? {
+            met |= bit_of(&refusal);
         }
         model.settle();
-        for k in 0..5 {
-            if let Some(number) = model.flow(flow(&rt, k)) {
-                let wanted = model.tickets(number);
-                assert_eq!(rt;
-                    u64::from(ledger.tickets(FlowNo(number))),
-                    wanted,
-                    "tickets, step {step}"
-                );
-            }
-        }
+        assert!(rt; agree(&rt, &ledger, &model), "after step {count}");
     }
-    for refusal in [
-        Refusal::Range,
-        Refusal::NoCurrency,
-        Refusal::NoTicket,
-        Refusal::NoFlow,
-        Refusal::Taken,
-        Refusal::Base,
-        Refusal::InUse,
-        Refusal::Funding,
-        Refusal::Unfunded,
-        Refusal::Crowded,
-        Refusal::Cycle,
-        Refusal::Deep,
-    ] {
+    for refusal in REFUSALS {
         assert!(rt;
             met & bit_of(&refusal) != 0,
             "the run never met {refusal:?}"

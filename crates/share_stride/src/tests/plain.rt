@@ -1,6 +1,8 @@
 //! A plain queue to compare with: its clients in a list, each figure computed anew from the rules. Its sums wrap, so
 //! that nothing is proved of them.
 
+use super::Move;
+
 /// A client. The flow 0 marks a free row.
 #[derive(Clone, Copy, Debug)]
 pub(crate) struct Row {
@@ -83,7 +85,7 @@ impl Plain {
         }
     }
 
-    pub(crate) fn add(&mut self, flow: u32) {
+    fn add(&mut self, flow: u32) {
         let mut free = true;
         for row in self.rows.iter_mut() {
             if free && row.flow == 0 {
@@ -93,7 +95,7 @@ impl Plain {
         }
     }
 
-    pub(crate) fn remove(&mut self, flow: u32) {
+    fn remove(&mut self, flow: u32) {
         self.put(flow, FREE);
     }
 
@@ -103,7 +105,7 @@ impl Plain {
         self.last = self.clock;
     }
 
-    pub(crate) fn join(&mut self, flow: u32, tickets: i128) {
+    fn join(&mut self, flow: u32, tickets: i128) {
         self.update();
         let row = self.row(flow);
         let remain = if row.tickets == 0 {
@@ -123,7 +125,7 @@ impl Plain {
         );
     }
 
-    pub(crate) fn leave(&mut self, flow: u32) {
+    fn leave(&mut self, flow: u32) {
         self.update();
         let row = self.row(flow);
         self.put(
@@ -136,7 +138,7 @@ impl Plain {
         );
     }
 
-    pub(crate) fn charge(&mut self, flow: u32, units: i128) {
+    fn charge(&mut self, flow: u32, units: i128) {
         let row = self.row(flow);
         let share = rounded_down(stride(row.tickets).wrapping_mul(units), 1024);
         self.put(
@@ -147,6 +149,32 @@ impl Plain {
             },
         );
         self.clock = self.clock.wrapping_add(units);
+    }
+
+    /// Makes a move where it may be made, and says whether it was.
+    pub(crate) fn make(&mut self, flow: u32, step: Move) -> bool {
+        let row = self.row(flow);
+        let there = row.flow == flow;
+        let ready = match step {
+            Move::Add => !there,
+            Move::Charge(_) => there,
+            Move::Join(_) | Move::Remove => there && !row.competes,
+            Move::Leave | Move::Modify(_) => there && row.competes,
+        };
+        if ready {
+            match step {
+                Move::Add => self.add(flow),
+                Move::Join(tickets) => self.join(flow, i128::from(tickets)),
+                Move::Leave => self.leave(flow),
+                Move::Modify(tickets) => {
+                    self.leave(flow);
+                    self.join(flow, i128::from(tickets));
+                }
+                Move::Charge(units) => self.charge(flow, i128::from(units)),
+                Move::Remove => self.remove(flow),
+            }
+        }
+        ready
     }
 
     // The competing flow with the least pass, and of these the least number; 0 where none competes.

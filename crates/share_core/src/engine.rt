@@ -1,5 +1,5 @@
 //! The engine of a link: a link and the writer of its frames.
-ghost use Rattle.std.specs.Prelude.{◌≡◌, ◌≤◌, find, length, take, drop, vec_capacity, IfOk, IfErr, IfSome, None, option_map, false};
+ghost use Rattle.std.specs.Prelude.{◌≡◌, ◌<◌, ◌≤◌, ◌^◌, find, length, take, drop, vec_capacity, IfOk, IfErr, IfSome, None, option_map, false};
 ghost use Rattle.share_base.specs.Refusal.{IsRefused};
 ghost use Rattle.share_model.specs.Did.{is_spent, Steps, CommandDid, Offered, TurnDid, TearDid};
 ghost use Rattle.share_model.specs.Funding.{tickets};
@@ -76,6 +76,7 @@ impl<W, S: Rates> Engine<W, S> {
     /// How many events were made. A link is sound after whatever events.
     pub fn events(&self) -> u64
         ensures events { result ≡ self.now.live.counts.events }
+        ensures life { self.now.life ≤ 2 ^ 24 }
         ensures sound { Sound self.now.life self.now.rates self.now.live }
         ensures range { AreInRange self.now.rates }
     {
@@ -89,9 +90,11 @@ impl<W, S: Rates> Engine<W, S> {
         self.link.spent()
     }
 
-    /// The account of an open flow.
+    /// The account of an open flow, below 2^52.
     pub fn account(&self, flow: FlowNo) -> Option<u64>
-        ensures { result ≡ option_map (λ b. b.account) (find (is_book_of flow) self.now.live.books) }
+        ensures account { result
+            ≡ option_map (λ b. b.account) (find (is_book_of flow) self.now.live.books) }
+        ensures small { IfSome result (λ account. account < 2 ^ 52) }
     {
         self.link.account(flow)
     }

@@ -150,7 +150,9 @@ impl<S: Rates> Link<S> {
 
     /// The account of an open flow.
     pub fn account(&self, flow: FlowNo) -> Option<u64>
-        ensures { result ≡ option_map (λ b. b.account) (find (is_book_of flow) self.now.live.books) }
+        ensures account { result
+            ≡ option_map (λ b. b.account) (find (is_book_of flow) self.now.live.books) }
+        ensures small { IfSome result (λ account. account < 2 ^ 52) }
     {
         match self.books.book(flow) {
             None => None,

@@ -55,9 +55,9 @@ impl Ledger {
         ensures refused { IfErr result
             (λ e. IsRefused (make_currency_refusal self.old name) e × (self.new ≡ self.old)) }
     {
-        let result = self.tables.make_currency(name);
+        self.tables.make_currency(name)?;
         self.tables.refresh(&mut self.worths);
-        result
+        Ok(())
     }
 
     /// Removes a currency in which no ticket is denominated and that none funds.
@@ -67,9 +67,9 @@ impl Ledger {
         ensures refused { IfErr result
             (λ e. (remove_currency_refusal self.old name ≡ Some e) × (self.new ≡ self.old)) }
     {
-        let result = self.tables.remove_currency(name);
+        self.tables.remove_currency(name)?;
         self.tables.refresh(&mut self.worths);
-        result
+        Ok(())
     }
 
     /// Issues a ticket of an amount, 1 to 2^20, in a currency. It has no holder.
@@ -81,9 +81,9 @@ impl Ledger {
         ensures refused { IfErr result
             (λ e. IsRefused (make_ticket_refusal self.old amount currency) e × (self.new ≡ self.old)) }
     {
-        let result = self.tables.make_ticket(amount, currency);
+        let ticket = self.tables.make_ticket(amount, currency)?;
         self.tables.refresh(&mut self.worths);
-        result
+        Ok(ticket)
     }
 
     /// Removes a ticket without a holder.
@@ -93,9 +93,9 @@ impl Ledger {
         ensures refused { IfErr result
             (λ e. (remove_ticket_refusal self.old ticket ≡ Some e) × (self.new ≡ self.old)) }
     {
-        let result = self.tables.remove_ticket(ticket);
+        self.tables.remove_ticket(ticket)?;
         self.tables.refresh(&mut self.worths);
-        result
+        Ok(())
     }
 
     /// Lets a ticket without a holder fund a currency.
@@ -106,9 +106,9 @@ impl Ledger {
         ensures refused { IfErr result
             (λ e. (fund_currency_refusal self.old ticket currency ≡ Some e) × (self.new ≡ self.old)) }
     {
-        let result = self.tables.fund_currency(ticket, currency);
+        self.tables.fund_currency(ticket, currency)?;
         self.tables.refresh(&mut self.worths);
-        result
+        Ok(())
     }
 
     /// Lets a ticket without a holder fund an open flow.
@@ -118,9 +118,9 @@ impl Ledger {
         ensures refused { IfErr result
             (λ e. (fund_flow_refusal self.old ticket flow ≡ Some e) × (self.new ≡ self.old)) }
     {
-        let result = self.tables.fund_flow(ticket, flow);
+        self.tables.fund_flow(ticket, flow)?;
         self.tables.refresh(&mut self.worths);
-        result
+        Ok(())
     }
 
     /// Takes a ticket's holder away.
@@ -130,9 +130,9 @@ impl Ledger {
         ensures refused { IfErr result
             (λ e. (unfund_refusal self.old ticket ≡ Some e) × (self.new ≡ self.old)) }
     {
-        let result = self.tables.unfund(ticket);
+        self.tables.unfund(ticket)?;
         self.tables.refresh(&mut self.worths);
-        result
+        Ok(())
     }
 
     /// Opens a flow, which is not active yet. There can be 64.
@@ -143,9 +143,9 @@ impl Ledger {
         ensures refused { IfErr result
             (λ e. IsRefused (add_flow_refusal self.old name) e × (self.new ≡ self.old)) }
     {
-        let result = self.tables.add_flow(name);
+        let flow = self.tables.add_flow(name)?;
         self.tables.refresh(&mut self.worths);
-        result
+        Ok(flow)
     }
 
     /// Closes a flow. Its tickets lose their holder, and its number is not used again.

@@ -1,12 +1,44 @@
--- The history of a run: whose packets were sent, what they cost, and the bytes that tell them.
-use Rattle.std.specs.Prelude.{◌≡◌, ◌<◌, ◌+◌, ◌-◌, ◌*◌, ℕ, List, ◌++◌, length, take, map, flat_map, filter, sum_by, nat_eq, Option, None, Some, if◌then◌else◌}
+-- The history of a run: whose packets were accepted and sent, what they cost, and the bytes that tell them.
+use Rattle.std.specs.Prelude.{◌≡◌, ◌<◌, ◌+◌, ◌-◌, ◌*◌, ℕ, List, [], ◌∷◌, ◌++◌, length, take, map, flat_map, filter, sum_by, nat_eq, Option, None, Some, if◌then◌else◌}
+use Rattle.share_base.specs.declared.command.Reply.TheVariants.{Packet}
+use Rattle.share_base.specs.declared.command.Outcome.{Outcome}
+use Rattle.share_base.specs.declared.command.Outcome.TheVariants.{Replied}
+use Rattle.share_base.specs.declared.command.Event.{Event}
+use Rattle.share_base.specs.declared.command.Event.TheVariants.{Arrived}
 use Rattle.share_model.specs.declared.rates.Rate.{Rate}
 use Rattle.share_model.specs.Tariff.{rate_of, units_of}
 use Rattle.share_model.specs.Frame.{Head, FitsHeader, frame}
-use Rattle.share_model.specs.Buffers.{Buffer}
+use Rattle.share_model.specs.Buffers.{Buffer, buffer_of}
 use Rattle.share_model.specs.Link.{Live}
-use Rattle.share_model.specs.Fold.{Sent, TornFrame, State}
+use Rattle.share_model.specs.Fold.{Sent, TornFrame, State, step, outcome}
 use Rattle.share_model.specs.Each.{Each}
+
+-- the packet that an event accepted, as its outcome tells: the payload that came, under the numbers of the answer
+abbrev pub accepted_by : Event → Outcome → List Head
+accepted_by (Arrived name body) (Replied (Packet flow seq)) = record { flow = flow; seq = seq; payload = body } ∷ []
+accepted_by _ _ = []
+
+-- the packets that a list of events accepted
+unfoldable pub accepted : List Rate → State → List Event → List Head
+accepted rates s [] = []
+accepted rates s (e ∷ es) = accepted_by e (outcome rates s e) ++ accepted rates (step rates s e) es
+
+-- the packets of one flow
+abbrev pub heads_of : ℕ → List Head → List Head
+heads_of f hs = filter (λ (h : Head). nat_eq f h.flow) hs
+
+-- the packets in a buffer, from the head to the back
+abbrev pub held_in : Buffer → List (List ℕ) → List Head
+held_in b [] = []
+held_in b (p ∷ ps) = record { flow = b.flow; seq = b.next - length (p ∷ ps); payload = p } ∷ held_in b ps
+
+abbrev pub held_by : Option Buffer → List Head
+held_by None = []
+held_by (Some b) = held_in b b.packets
+
+-- the packets in the buffer of a flow: none where it is not open
+abbrev pub held_heads : List Buffer → ℕ → List Head
+held_heads bs f = held_by (buffer_of bs f)
 
 -- the packets that were written whole
 abbrev pub sent_heads : List Sent → List Head

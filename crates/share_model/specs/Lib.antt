@@ -1,3 +1,4 @@
+pub mod AcceptedLaws
 pub mod BufferLaws
 pub mod Buffers
 pub mod Did

@@ -58,7 +58,8 @@ pushed_rise b body ns was =
     let same : b.next - length b.packets ≡ (b.next + 1) - length (b.packets ++ body ∷ []) = omega arith in
     record { few = omega (arith, was.few); rise = subst (λ n. Rises n ns) same was.rise }
 
-other_buffer : (change : Buffer → Buffer) → ((b : Buffer) → (change b).flow ≡ b.flow) → (f g : ℕ) → nat_eq f g ≡ false → (b : Buffer) → is_buffer_of g b ≡ true → (is_buffer_of f b ≡ false) × (is_buffer_of f (change b) ≡ false)
+-- a buffer of one flow is not another's, nor is it after a change that keeps its flow
+pub other_buffer : (change : Buffer → Buffer) → ((b : Buffer) → (change b).flow ≡ b.flow) → (f g : ℕ) → nat_eq f g ≡ false → (b : Buffer) → is_buffer_of g b ≡ true → (is_buffer_of f b ≡ false) × (is_buffer_of f (change b) ≡ false)
 other_buffer change keeps f g test b holds =
     let e : nat_eq f b.flow ≡ false = ne_eqb f b.flow (λ same. eqb-false f g test (same ∙ sym (eqb-true g b.flow holds))) in
     (e, ap (nat_eq f) (keeps b) ∙ e)

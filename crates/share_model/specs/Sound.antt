@@ -1,6 +1,6 @@
 -- What holds of every link that events have made: the bounds by which no number leaves its type, and the ties between
 -- the funding, the buffers and the books. Callers learn it from each call; the laws say that each event keeps it.
-use Rattle.std.specs.Prelude.{◌≡◌, ◌<◌, ◌≤◌, ◌+◌, ◌*◌, ◌^◌, ℕ, true, false, List, [], ◌∷◌, map, length, Option, None, Some, IsTrue, is_some}
+use Rattle.std.specs.Prelude.{◌≡◌, ◌<◌, ◌≤◌, ◌+◌, ◌-◌, ◌*◌, ◌^◌, ℕ, true, false, List, [], ◌∷◌, map, length, Option, None, Some, IsTrue, is_some}
 use Rattle.share_model.specs.Each.{Each}
 use Rattle.share_model.specs.declared.link.Book.{Book}
 use Rattle.share_model.specs.declared.link.Part.{Part}
@@ -26,7 +26,7 @@ pub record IsSoundBuffer (events : ℕ) (b : Buffer) : Type 0 where
 -- the tariff is on the shelf, and an event posts less than 2^28
 pub record IsSoundBook (events : ℕ) (rates : List Rate) (b : Book) : Type 0 where
   pub known : IsTrue (is_some (rate_at rates b.tariff))
-  pub account : b.account ≤ events * 2 ^ 28
+  pub account : b.account ≤ events * (2 ^ 28 - 1)
 
 -- the flow of the frame in part has a packet, and some of its frame's bytes are out, but not all
 pub record IsSoundPart (buffers : List Buffer) (p : Part) : Type 0 where

@@ -59,7 +59,7 @@ rate_of-in_range rates zero range = record { some_cell = omega arith; cell = ome
 rate_of-in_range rates (suc n) range = in_range_at rates n range
 
 -- the account grows by less than 2^28
-pub post-few : (rates : List Rate) (events n : ℕ) (b : Book) → AreInRange rates → n ≤ 1502 → b.account ≤ events * 2 ^ 28 → (charged rates n b).account ≤ (events + 1) * 2 ^ 28
+pub post-few : (rates : List Rate) (events n : ℕ) (b : Book) → AreInRange rates → n ≤ 1502 → b.account ≤ events * (2 ^ 28 - 1) → (charged rates n b).account ≤ (events + 1) * (2 ^ 28 - 1)
 post-few rates events n b range few before =
     let r : IsInRange (rate_of rates b.tariff) = rate_of-in_range rates b.tariff range in
     let u : units_of (rate_of rates b.tariff) n ≤ 4026 = units-few (rate_of rates b.tariff) n r few in

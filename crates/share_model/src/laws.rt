@@ -10,7 +10,7 @@ ghost use Rattle.share_model.specs.Link.{is_book_of};
 ghost use Rattle.share_model.specs.Fold.{TornFrame, empty_state, run, outcomes, out};
 ghost use Rattle.share_model.specs.Events.{MayFollow, event_bytes};
 ghost use Rattle.share_model.specs.Sound.{Rises, SoundState};
-ghost use Rattle.share_model.specs.History.{AreFramesOf, sent_heads, sent_numbers, bill, torn_packets, waiting};
+ghost use Rattle.share_model.specs.History.{accepted, heads_of, held_heads, AreFramesOf, sent_heads, sent_numbers, bill, torn_packets, waiting};
 
 /// Events that a link may make one after another leave it sound.
 pub fn events_keep_sound()
@@ -75,4 +75,14 @@ pub fn packets_are_kept()
         → (run rates events).torn ≡ Some frame
         → (head_of (run rates events).live.buffers frame.head.flow ≡ Some frame.head)
         × ((run rates events).live.torn ≡ Some frame.head.flow) }
+{}
+
+/// What a flow accepted is, in order, what was written whole of it and what its buffer holds: each packet that was
+/// written was accepted with that payload.
+pub fn packets_are_sent_as_accepted()
+    ensures { (life : ℕ) (rates : List Rate) (events : List Event) → AreInRange rates
+        → MayFollow life rates empty_state events → (flow : ℕ)
+        → heads_of flow (accepted rates empty_state events)
+        ≡ heads_of flow (sent_heads (run rates events).done)
+        ++ held_heads (run rates events).live.buffers flow }
 {}

@@ -19,7 +19,7 @@ mod writer;
 pub use funding::{Holder, OpenFlow, Ticket};
 pub use laws::{
     accounts_are_bills, bytes_tell_packets, events_add_bytes, events_are_counted,
-    events_keep_sound, numbers_rise, packets_are_kept,
+    events_keep_sound, numbers_rise, packets_are_kept, packets_are_sent_as_accepted,
 };
 pub use line::Line;
 pub use link::{Book, Part};

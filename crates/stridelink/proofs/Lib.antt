@@ -3,6 +3,7 @@ mod DigitLemmas
 mod HexLemmas
 mod NumberLemmas
 mod PrintLemmas
+mod ProgramLemmas
 mod ReadingLemmas
 mod ScriptLemmas
 pub mod TextLemmas

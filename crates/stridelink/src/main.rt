@@ -1,6 +1,13 @@
 //! A link that shares its bandwidth among packet flows by tickets, driven by a script of lines.
 #![tactic(auto)]
 
+ghost use Rattle.std.specs.Prelude.{◌≡◌, IfOk, IfErr, IfSome, OnOk, MatchResult};
+ghost use Rattle.std.specs.Io.KnownBytes.{IsAtEnd};
+ghost use Rattle.share_core.specs.Shelf.{rates_of};
+ghost use Rattle.stridelink.specs.Printing.{bytes_told};
+ghost use Rattle.stridelink.specs.Program.{program_rates, Ran, RanPart};
+ghost use Rattle.stridelink.specs.Script.{IsFault};
+
 mod carry;
 mod hex;
 mod payload;
@@ -26,7 +33,9 @@ use std::process::ExitCode;
 const OUTPUT: usize = 65536;
 
 /// The shelf of the program: tariffs 1 to 4.
-fn shelf(alloc: Global) -> Result<Shelf, Refusal> {
+fn shelf(alloc: Global) -> Result<Shelf, Refusal>
+    ensures { IfOk result (λ shelf. rates_of shelf ≡ program_rates) }
+{
     let tariffs = [
         Tariff::new(1, 0, 1)?,
         Tariff::new(48, 16, 2)?,
@@ -39,30 +48,33 @@ fn shelf(alloc: Global) -> Result<Shelf, Refusal> {
     }
 }
 
-// Runs a script on a new link over this shelf, and prints the bytes of the link in hexadecimal.
+// Runs a script on a new link over this shelf, and prints the bytes of the link in hexadecimal. On a fault a beginning
+// of that text was printed.
 fn run<S: Rates + Drop, I: Source, O: Telling>(
     alloc: Global,
     shelf: S,
     life: u64,
     input: &mut I,
     output: &mut O,
-) -> Result<(), ScriptFault> {
+) -> Result<(), ScriptFault>
+    ensures printed { IfSome (I.left input.old) (λ script. MatchResult result
+        (λ _. Ran (bytes_told (O.told output.old)) (bytes_told (O.told output.new))
+        life (S.rates shelf) script)
+        (λ _. RanPart (bytes_told (O.told output.old)) (bytes_told (O.told output.new))
+        life (S.rates shelf) script)) }
+    ensures ended { OnOk result (IsAtEnd (I.left input.new)) }
+    ensures fault { IfErr result (λ fault. IsFault I.gives input.old O.answers fault) }
+{
     let engine = match Engine::new(alloc, shelf, life, Tape::new(alloc)) {
         Ok(engine) => engine,
         Err(_) => return Err(ScriptFault::NoMemory),
     };
-    let engine = run_script(alloc, engine, input, output)?;
-    match print_bytes(output, engine.writer().bytes()) {
-        Ok(()) => Ok(()),
-        Err(_) => Err(ScriptFault::Output),
-    }
-}
-
-fn text_of(fault: ScriptFault) -> &'static str {
-    match fault {
-        ScriptFault::Input => "stridelink: cannot read the script",
-        ScriptFault::Output => "stridelink: cannot write the output",
-        ScriptFault::NoMemory => "stridelink: out of memory",
+    match run_script(alloc, engine, input, output) {
+        Err(fault) => Err(fault),
+        Ok(engine) => match print_bytes(output, engine.writer().bytes()) {
+            Ok(()) => Ok(()),
+            Err(_) => Err(ScriptFault::Output),
+        },
     }
 }
 
@@ -117,7 +129,7 @@ fn main(rt: HostRuntime) -> anyhow::Result<ExitCode> {
     match run_on_standard(&rt, alloc, life) {
         Ok(()) => Ok(ExitCode::SUCCESS),
         Err(fault) => {
-            eprintln!(rt; "{}", text_of(fault))?;
+            eprintln!(rt; "stridelink: {fault}")?;
             Ok(ExitCode::from(1))
         }
     }

@@ -18,6 +18,7 @@ use share_base::{Command, Outcome, Refusal, Reply, Turn};
 use share_core::Engine;
 use share_model::{Got, Line, Rates, Source, Tape, Telling};
 use std::alloc::{AllocError, Global};
+use thiserror::Error;
 
 /// How many bytes are read in one call, at most.
 const CHUNK: usize = 65536;
@@ -26,13 +27,16 @@ const CHUNK: usize = 65536;
 const MAX_READS: u64 = 1 << 32;
 
 /// Why a script was not run to its end.
-#[derive(Clone, Copy, Debug, PartialEq, Eq)]
+#[derive(Clone, Copy, Debug, PartialEq, Eq, Error)]
 pub enum ScriptFault {
     /// A read failed, or the script takes more than 2^32 reads.
+    #[error("cannot read the script")]
     Input,
     /// An offer of an answer's text was not accepted.
+    #[error("cannot write the output")]
     Output,
     /// Memory was refused: for the buffers, or for the bytes of a frame.
+    #[error("out of memory")]
     NoMemory,
 }
 

@@ -1,0 +1,34 @@
+-- What the program prints: the answers to the lines of its script, and the line of the bytes that were written.
+use Rattle.std.specs.Prelude.{◌≡◌, ℕ, Bool, List, [], ◌∷◌, ◌++◌, Option}
+use Rattle.std.specs.Io.KnownBytes.{Appends}
+use Rattle.share_model.specs.declared.rates.Rate.{Rate}
+use Rattle.share_model.specs.Fold.{empty_state, out}
+use Rattle.share_model.specs.Talk.{talk, after, lines_of}
+use Rattle.stridelink.specs.Printing.{out_line}
+
+-- the tariffs of the program, numbered from 1
+abbrev pub program_rates : List Rate
+program_rates =
+    record { cell = 1; overhead = 0; price = 1 }
+    ∷ record { cell = 48; overhead = 16; price = 2 }
+    ∷ record { cell = 1024; overhead = 0; price = 1 }
+    ∷ record { cell = 2048; overhead = 1024; price = 3 }
+    ∷ []
+
+-- the text of a whole run, where these lines found no memory
+abbrev pub printout : ℕ → List Rate → List Bool → List ℕ → List ℕ
+printout life rates lacks script =
+    talk life rates empty_state lacks (lines_of script) ++ out_line (out (after life rates empty_state lacks (lines_of script)))
+
+-- the whole text was printed
+pub record Ran (before after_it : Option (List ℕ)) (life : ℕ) (rates : List Rate) (script : List ℕ) : Type 0 where
+  pub lacks : List Bool
+  pub printed : Appends before after_it (printout life rates lacks script)
+
+-- a beginning of the text was printed
+pub record RanPart (before after_it : Option (List ℕ)) (life : ℕ) (rates : List Rate) (script : List ℕ) : Type 0 where
+  pub lacks : List Bool
+  pub text : List ℕ
+  pub rest : List ℕ
+  pub printed : Appends before after_it text
+  pub begins : printout life rates lacks script ≡ text ++ rest

@@ -1,12 +1,16 @@
-# stridelink: 'make run' builds the program and runs an example, 'make test' passes the gate.
-# The toolchain's command rt has to be on the PATH.
+# stridelink: 'make try' runs an example unproved, 'make run' proves and builds the program and runs it, and 'make test'
+# passes the gate. The toolchain's command rt has to be on the PATH.
 
 SOURCES := crates.txt $(shell find crates -name '*.rt' -o -name '*.antt' | grep -v /out/)
 
-.PHONY: run build test bench
+.PHONY: run try build test bench
 
 run: bin/stridelink
 	bin/stridelink run < examples/one-packet.script
+
+try:
+	@echo 'running the example, with nothing proved: half a minute to a minute' >&2
+	cd crates/stridelink && rt try -- run < ../../examples/one-packet.script
 
 build: bin/stridelink
 
@@ -22,6 +26,8 @@ test:
 	mkdir -p bin
 	cp crates/stridelink/out/stridelink bin/stridelink
 	examples/compare.sh
+	examples/faults.sh
+	examples/answers.sh
 
 bench: bin/stridelink
 	python3 bench/bench.py

@@ -1,89 +1,170 @@
 #!/usr/bin/env python3
 """Measures bin/stridelink beside a plain Rust program of the same lines, and the crates beside plain loops.
 
-Each figure is the processor time, user and system, of a whole run, the median of ROUNDS rounds in which the programs
-take turns; machines are noisy, so the ratios of one run of this script are what to read. Nothing is written but a
-folder of scripts and outputs in the system's temporary folder, which is removed.
+`bench.py scripts` runs the scripts alone, `bench.py loops` the loops over the ledger and the stride queue, and without
+a word both are run. A time is the processor time, user and system, of a whole run, the median of ROUNDS rounds in which
+the programs take turns, and a ratio is the median of the rounds' ratios; machines are noisy, so the ratios of one run
+are what to read. Nothing is written but a folder of scripts and outputs in the system's temporary folder, which is
+removed.
 """
+import filecmp
 import itertools
 import os
+import resource
 import shutil
 import statistics
 import subprocess
 import sys
 import tempfile
+from dataclasses import dataclass
 
 ROUNDS = int(os.environ.get("ROUNDS", "15"))
 TOP = os.path.dirname(os.path.dirname(os.path.abspath(__file__)))
-PROGRAM = [os.path.join(TOP, "bin", "stridelink"), "run", "--life", "16777216"]
-OPENING = "open a 1000 1\nmktkt 10 base\nfund 1 flow a\n"
+PROGRAM = os.path.join(TOP, "bin", "stridelink")
+LONGEST_LIFE = 1 << 24
+MEBIBYTE = 1 << 20
 
 
-def pair(size):
-    """A send of `size` bytes and a whole turn."""
-    payload = "".join("%02x" % (i * 7 % 256) for i in range(size))
-    return "send a %s\nturn 65535\n" % payload
+def opening(limit):
+    """A flow with this limit of its buffer, and what funds it."""
+    return "open a %d 1\nmktkt 10 base\nfund 1 flow a\n" % limit
 
 
-# A frame of 14 bytes, sent a byte at a time.
-PARTIAL = "send a 6869\n" + "turn 1\n" * 14
+def send(size):
+    """A packet of so many bytes for flow a."""
+    return "send a %s\n" % "".join("%02x" % (i * 7 % 256) for i in range(size))
+
+
+TURN = "turn 65535\n"
+
+
+@dataclass
+class Script:
+    """A script: its beginning, and lines that are repeated so many times; and the life that it is run with."""
+    name: str
+    beginning: str
+    lines: str
+    count: int
+    life: int = LONGEST_LIFE
+
+    def write(self, path, times):
+        """Writes it piece by piece, with `times` as many lines: a process starts with its parent's peak of memory."""
+        with open(path, "w") as sink:
+            sink.write(self.beginning)
+            sink.writelines(itertools.repeat(self.lines, self.count * times))
+
+    def length(self, times):
+        """How many lines there are."""
+        return self.beginning.count("\n") + self.lines.count("\n") * self.count * times
+
+
+SCRIPTS = [
+    Script("pairs of 700 bytes", opening(1000), send(700) + TURN, 100_000),
+    Script("pairs of 2 bytes", opening(1000), send(2) + TURN, 500_000),
+    Script("a byte at a time", opening(1000), send(2) + "turn 1\n" * 14, 200_000),
+    Script("backlog of 1000 packets", opening(1000), send(1000) * 1000 + TURN * 1000, 60),
+    Script("full buffer", opening(1) + send(2), send(2), 1_000_000),
+    Script("no such flow", opening(1), "send b 6869\n", 1_000_000),
+    Script("idle turns", opening(1), TURN, 1_000_000),
+    Script("no such line", opening(1), "frobnicate 1\n", 1_000_000),
+    Script("ticket in use of 1024", opening(1) + "mktkt 1 base\n" * 1023, "fund 1 flow a\n", 1_000_000),
+    Script("spent life", opening(1), TURN, 1_000_000, life=3),
+]
+
+
+@dataclass
+class Run:
+    """The processor seconds of a run, and its peak of memory in bytes."""
+    seconds: float
+    memory: int
 
 
 def run(command, script, output):
-    """Processor seconds and the peak of memory, in KiB, of one run."""
+    """Measures one run."""
     with open(script, "rb") as source, open(output, "wb") as sink:
         child = subprocess.Popen(command, stdin=source, stdout=sink)
         _, status, usage = os.wait4(child.pid, 0)
-    if status != 0:
-        sys.exit("%s failed on %s" % (command[0], script))
-    return usage.ru_utime + usage.ru_stime, usage.ru_maxrss
+    child.returncode = os.waitstatus_to_exitcode(status)
+    if child.returncode != 0:
+        sys.exit("%s failed on %s" % (" ".join(command), script))
+    return Run(usage.ru_utime + usage.ru_stime, usage.ru_maxrss * 1024)
 
 
-def measure(cases):
-    """The median of each case's processor time and its peak of memory: {name: (seconds, KiB)}."""
-    seconds = {name: [] for name, *_ in cases}
-    memory = {name: 0 for name, *_ in cases}
-    for _ in range(ROUNDS):
-        for name, command, script, output in cases:
-            time, peak = run(command, script, output)
-            seconds[name].append(time)
-            memory[name] = max(memory[name], peak)
-    return {name: (statistics.median(seconds[name]), memory[name]) for name in seconds}
-
-
-def scripts(folder):
-    """Writes the scripts piece by piece, and gives their paths: a process starts with its parent's peak of memory."""
-    texts = {
-        "700 x 1": (pair(700), 100_000),
-        "700 x 2": (pair(700), 200_000),
-        "2 x 1": (pair(2), 100_000),
-        "2 x 2": (pair(2), 200_000),
-        "partial x 1": (PARTIAL, 2_000),
-        "partial x 2": (PARTIAL, 4_000),
-    }
-    paths = {}
-    for number, (name, (part, count)) in enumerate(texts.items()):
-        paths[name] = os.path.join(folder, "script%d" % number)
-        with open(paths[name], "w") as sink:
-            sink.write(OPENING)
-            sink.writelines(itertools.repeat(part, count))
-    return paths
-
-
-def plain(folder):
-    """Builds the yardstick, where there is a rustc."""
+def build_plain(folder):
+    """Builds the yardstick."""
     program = os.path.join(folder, "plain")
     source = os.path.join(TOP, "bench", "plain.rs")
-    try:
-        subprocess.run(["rustc", "-O", "-o", program, source], check=True)
-    except (OSError, subprocess.CalledProcessError):
-        print("no rustc: the plain program is left out", file=sys.stderr)
-        return None
-    return [program]
+    subprocess.run(["rustc", "--edition", "2021", "-O", "-o", program, source], check=True)
+    return program
 
 
-def loops(folder):
-    """Builds the loops over the ledger and the stride queue, in a repository of their own beside copies of the crates."""
+def compare(script, plain, folder):
+    """Runs both programs ROUNDS times on a script and on twice its lines: {times: [(ours, plain's)]}, and how many
+    bytes were written of twice the lines. It stops where the outputs differ."""
+    found = {1: [], 2: []}
+    path, *outputs = (os.path.join(folder, name) for name in ("script", "ours.output", "plain.output"))
+    for times, rounds in found.items():
+        script.write(path, times)
+        for number in range(ROUNDS):
+            rounds.append(tuple(run([program, "run", "--life", str(script.life)], path, output)
+                                for program, output in zip((PROGRAM, plain), outputs)))
+            if number == 0 and not filecmp.cmp(*outputs, shallow=False):
+                sys.exit("the two programs print different answers to '%s'" % script.name)
+    return found, written(outputs[0])
+
+
+def written(output):
+    """How many bytes were written on the link, as the last line of an output tells them."""
+    size = os.path.getsize(output)
+    start = 0
+    with open(output, "rb") as source:
+        for at in range(0, size, 1 << 16):
+            place = source.read(1 << 16).rfind(b"\n")
+            if 0 <= place and at + place + 1 < size:
+                start = at + place + 1
+    return (size - start - len("out \n")) // 2
+
+
+def median(values):
+    """The median of some values."""
+    return statistics.median(list(values))
+
+
+HEADINGS = ("script", "lines", "us a line", "plain: us a line", "time beside plain", "of twice the lines",
+            "twice the lines take", "peak, MiB", "written, MiB")
+
+
+def row(script, plain, folder):
+    """What is printed of one script. The peak of memory and the bytes written are those of twice the lines."""
+    found, size = compare(script, plain, folder)
+    seconds = [median(pair[program].seconds for pair in found[1]) for program in (0, 1)]
+    ratios = [median(ours.seconds / theirs.seconds for ours, theirs in found[times]) for times in (1, 2)]
+    growth = median(pair[0].seconds for pair in found[2]) / seconds[0]
+    peak = max(ours.memory for ours, _ in found[2])
+    own = resource.getrusage(resource.RUSAGE_SELF).ru_maxrss * 1024
+    microseconds = 1e6 / script.length(1)
+    return (script.name, str(script.length(1)), "%.3f" % (seconds[0] * microseconds),
+            "%.3f" % (seconds[1] * microseconds), "%.2f" % ratios[0], "%.2f" % ratios[1], "%.2f" % growth,
+            "%s%.1f" % ("at most " if peak <= own else "", peak / MEBIBYTE), "%.1f" % (size / MEBIBYTE))
+
+
+def print_row(cells):
+    """Prints a row of the table, as a line of Markdown."""
+    print("| " + " | ".join(cells) + " |", flush=True)
+
+
+def measure_scripts():
+    """Prints a row for each script."""
+    with tempfile.TemporaryDirectory() as folder:
+        plain = build_plain(folder)
+        print_row(HEADINGS)
+        print_row(["---"] * len(HEADINGS))
+        for script in SCRIPTS:
+            print_row(row(script, plain, folder))
+
+
+def build_loops(folder):
+    """Builds the loops over the ledger and the stride queue, in a repository of their own over copies of the crates."""
     used = ["share_base", "share_model", "share_ledger", "share_stride"]
     for crate in used:
         shutil.copytree(os.path.join(TOP, "crates", crate), os.path.join(folder, "crates", crate))
@@ -106,47 +187,27 @@ def per_round(program, kind, size, few, many):
     """Microseconds of processor time of one round: the median difference of many rounds and few."""
     times = []
     for _ in range(ROUNDS):
-        spent = [run([program, kind, str(size), str(rounds)], os.devnull, os.devnull)[0] for rounds in (few, many)]
+        spent = [run([program, kind, str(size), str(rounds)], os.devnull, os.devnull).seconds for rounds in (few, many)]
         times.append((spent[1] - spent[0]) / (many - few) * 1e6)
-    return statistics.median(times)
+    return median(times)
 
 
 def measure_loops():
     """Prints what a round of each loop costs."""
     with tempfile.TemporaryDirectory() as folder:
-        program = loops(folder)
+        program = build_loops(folder)
         for flows in (8, 64):
             print("least and charge, %2d flows: %.3f us" % (flows, per_round(program, "stride", flows, 1, 2_000_000)))
         print("set_active and all tickets, deep graph: %.1f us" % per_round(program, "ledger", 65, 1, 5_000))
 
 
 def main():
-    measure_loops()
-    with tempfile.TemporaryDirectory() as folder:
-        paths = scripts(folder)
-        yardstick = plain(folder)
-        cases = []
-        for name, path in paths.items():
-            cases.append((name, PROGRAM, path, os.path.join(folder, "ours")))
-            if yardstick:
-                cases.append(("plain " + name, yardstick, path, os.path.join(folder, "theirs")))
-        found = measure(cases)
-        for name, path in paths.items():
-            if yardstick:
-                run(PROGRAM, path, os.path.join(folder, "ours"))
-                run(yardstick, path, os.path.join(folder, "theirs"))
-                with open(os.path.join(folder, "ours"), "rb") as a, open(os.path.join(folder, "theirs"), "rb") as b:
-                    if a.read() != b.read():
-                        sys.exit("the two programs print different answers to %s" % name)
-            lines = sum(1 for _ in open(path))
-            seconds, memory = found[name]
-            line = "%-12s %7d lines %7.3f s %6.3f us a line %7.1f MB/s %7.1f MiB" % (
-                name, lines, seconds, seconds / lines * 1e6, os.path.getsize(path) / seconds / 1e6, memory / 1024)
-            if yardstick:
-                line += "   %.2f of the plain program's time" % (seconds / found["plain " + name][0])
-            print(line)
-        for kind in ("700", "2", "partial"):
-            print("%-12s twice the lines take %.2f of the time" % (kind, found[kind + " x 2"][0] / found[kind + " x 1"][0]))
+    parts = {"scripts": measure_scripts, "loops": measure_loops}
+    words = sys.argv[1:] or list(parts)
+    if not set(words) <= set(parts):
+        sys.exit("the words are scripts and loops")
+    for word in words:
+        parts[word]()
 
 
 if __name__ == "__main__":

@@ -1,12 +1,26 @@
 #!/usr/bin/env bash
-# Runs each script of this folder through the built program, and compares what it prints with the file beside it.
+# Runs each script of this folder through the built program. What it prints has to be the file NAME.output, its status
+# that of the file NAME.status (0 where there is none), and a run with status 0 prints nothing on standard error.
 set -u
 cd "$(dirname "$0")" || exit 1
+folder=$(mktemp -d) || exit 1
+trap 'rm -r "$folder"' EXIT
 failed=0
+
+# Says what is wrong with the run of a script.
+wrong() {
+    echo "examples/$1.script: $2" >&2
+    failed=1
+}
+
 for script in *.script; do
-    if ! diff <(../bin/stridelink run < "$script") "${script%.script}.output" >&2; then
-        echo "examples/$script prints something else" >&2
-        failed=1
-    fi
+    name=${script%.script}
+    wanted=0
+    [[ -f $name.status ]] && wanted=$(< "$name.status")
+    ../bin/stridelink run < "$script" > "$folder/output" 2> "$folder/said"
+    status=$?
+    [[ $status -eq $wanted ]] || wrong "$name" "the status is $status, not $wanted"
+    diff "$folder/output" "$name.output" >&2 || wrong "$name" "prints something else"
+    [[ $status -ne 0 || ! -s $folder/said ]] || wrong "$name" "says '$(< "$folder/said")'"
 done
 exit "$failed"

@@ -1,7 +1,10 @@
 -- The number and the name of each refusal, and refusals as a table of tests.
 use Rattle.std.specs.Prelude.{◌≡◌, ◌⊎◌, ℕ, Bool, List, [], ◌∷◌, Option, None, Some, codes, if◌then◌else◌}
 use Rattle.share_base.specs.declared.refusal.Refusal.{Refusal}
-use Rattle.share_base.specs.declared.refusal.Refusal.TheVariants.{NoMemory, Spent, Syntax, Range, NoCurrency, NoTicket, NoFlow, NoTariff, Taken, Base, InUse, Funding, Unfunded, Crowded, Cycle, Deep, TableFull, Sending, BufferFull, Broken}
+use Rattle.share_base.specs.declared.refusal.Refusal.TheVariants.{NoMemory, Spent, Syntax, Range}
+use Rattle.share_base.specs.declared.refusal.Refusal.TheVariants.{NoCurrency, NoTicket, NoFlow, NoTariff, Taken, Base}
+use Rattle.share_base.specs.declared.refusal.Refusal.TheVariants.{InUse, Funding, Unfunded, Crowded, Cycle, Deep}
+use Rattle.share_base.specs.declared.refusal.Refusal.TheVariants.{TableFull, Sending, BufferFull, Broken}
 
 abbrev pub refusal_number : Refusal → ℕ
 refusal_number NoMemory = 1

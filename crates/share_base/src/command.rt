@@ -86,7 +86,7 @@ pub enum Event {
     /// The writer accepted this many bytes, at least 1, of the frame that is sent.
     Written(u32),
     /// The writer failed on the frame that is sent.
-    Failed,
+    Faulted,
 }
 
 /// The answer to an event of either kind.

@@ -35,10 +35,17 @@ impl Body {
         if bytes.is_empty() || bytes.len() > MAX_PAYLOAD {
             return Err(Refusal::Range);
         }
-        match Vec::from_slice(alloc, bytes) {
-            Ok(bytes) => Ok(Body { bytes }),
-            Err(_) => Err(Refusal::NoMemory),
-        }
+        let bytes = Vec::from_slice(alloc, bytes)?;
+        Ok(Body { bytes })
+    }
+
+    /// These bytes, 1 to 1490 of them, as a payload. It takes no memory.
+    pub fn from_vec(bytes: Vec<u8>) -> Body
+        requires some { 1 ≤ length bytes.items }
+        requires few { length bytes.items ≤ 1490 }
+        ensures { result ≡ bytes.items }
+    {
+        Body { bytes }
     }
 
     /// The bytes.

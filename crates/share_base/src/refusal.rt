@@ -1,7 +1,9 @@
 //! Why a command, an arrival or a turn of the link is refused.
 ghost use Rattle.std.specs.Prelude.{◌≡◌};
 ghost use Rattle.share_base.specs.Refusal.{refusal_number, refusal_name};
+ghost use Rattle.share_base.specs.declared.refusal.Refusal.TheVariants.{NoMemory};
 
+use std::alloc::{AllocError, AllocFailed};
 use thiserror::Error;
 
 /// A refusal. It changes no state, the count of events aside, and takes no number.
@@ -111,5 +113,23 @@ impl Refusal {
         ensures { result ≡ self.now }
     {
         *self
+    }
+}
+
+/// A refused growth is `NoMemory`.
+impl From<AllocError> for Refusal {
+    ghost from_gives = { λ _ refusal. refusal ≡ NoMemory };
+
+    fn from(_error: AllocError) -> Refusal {
+        Refusal::NoMemory
+    }
+}
+
+/// A refused growth is `NoMemory`; the value that was not stored is dropped.
+impl<T: Drop> From<AllocFailed<T>> for Refusal {
+    ghost from_gives = { λ _ refusal. refusal ≡ NoMemory };
+
+    fn from(_error: AllocFailed<T>) -> Refusal {
+        Refusal::NoMemory
     }
 }

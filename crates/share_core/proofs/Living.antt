@@ -1,12 +1,11 @@
 -- A link whose life is not over.
-use Rattle.std.proofs.Common.{◌≡◌, ℕ, ◌<◌, ◌≤◌, ◌==◌, false, sym, subst, arith}
-use Rattle.std.proofs.lemmas.Bool.Decides.{nat_tests}
-use Rattle.share_model.specs.Sound.{Sound}
-use Rattle.share_core.specs.Kept.{Kept, is_over}
+use Rattle.std.proofs.Common.{◌≡◌, ◌<◌, false, sym, subst}
+use Rattle.share_model.specs.link.Did.{is_spent}
+use Rattle.share_model.specs.link.Seen.{Seen}
+use Rattle.share_model.specs.link.TurnLaws.{events-below}
+use Rattle.share_model.specs.run.Sound.{Sound}
 
-more_to_come : (events life : ℕ) → (events == life) ≡ false → events ≤ life → events < life
-more_to_come events life e h = grind (arith, nat_tests)
-
--- a sound link that is not over has made fewer events than its life
-pub living : (s k : Kept) → s ≡ k → is_over k ≡ false → Sound s.life s.rates s.live → s.live.counts.events < s.life
-living s k same over sound = more_to_come s.live.counts.events s.life (subst (λ (k : Kept). is_over k ≡ false) (sym same) over) sound.events
+-- a sound link that is not spent has made fewer events than its life
+pub living : {W : Type 0} (s k : Seen W) → s ≡ k → is_spent k ≡ false → Sound s.life s.rates s.live
+    → s.live.counts.events < s.life
+living s k same over sound = events-below s sound (subst (λ k. is_spent k ≡ false) (sym same) over)

@@ -1,7 +1,6 @@
 pub mod Based
 pub mod Framed
 pub mod Held
-pub mod Kept
 pub mod Life
 pub mod Place
 pub mod Shelf

@@ -1,7 +1,7 @@
 -- Where a write goes on, as the code sees it.
 use Rattle.std.specs.Prelude.{◌≡◌, ◌<◌, ◌≤◌, ℕ, length, Option, None, Some}
-use Rattle.share_model.specs.Frame.{frame}
-use Rattle.share_model.specs.Link.{Sending, rest_of}
+use Rattle.share_model.specs.link.Frame.{frame}
+use Rattle.share_model.specs.link.Live.{Sending, rest_of}
 use Rattle.share_core.specs.declared.place.Place.{Place}
 
 -- the flow and the number of the packet, how many bytes of its frame are out, and the frame's length

@@ -1,7 +1,7 @@
 -- What a contract sees of a shelf of plain numbers.
 use Rattle.std.specs.Prelude.{ℕ, Bool, ◌&&◌, List, [], ◌∷◌, map, nat_le}
 use Rattle.share_model.specs.declared.rates.Rate.{Rate}
-use Rattle.share_model.specs.Tariff.{AreInRange}
+use Rattle.share_model.specs.link.Tariff.{AreInRange}
 use Rattle.share_core.specs.declared.tariff.Tariff.{Tariff}
 use Rattle.share_core.specs.declared.tariff.Shelf.{Shelf}
 

@@ -1,7 +1,8 @@
 //! The books of the open flows: their tariffs and accounts.
-ghost use Rattle.std.specs.Prelude.{◌≡◌, ◌<◌, ◌≤◌, ◌^◌, ◌+◌, ℕ, [], ◌∷◌, ◌++◌, length, position, find, IfOk, None, Some, IsSome, IsTrue, is_some, option_copied};
-ghost use Rattle.share_model.specs.Tariff.{rate_at};
-ghost use Rattle.share_model.specs.Link.{is_book_of, new_book, charged, posted};
+ghost use Rattle.std.specs.Prelude.{◌≡◌, ◌<◌, ◌≤◌, ◌^◌, ◌+◌, ℕ, [], ◌∷◌, ◌++◌, length, position, find, IfOk, None};
+ghost use Rattle.std.specs.Prelude.{Some, IsSome, IsTrue, is_some, option_copied};
+ghost use Rattle.share_model.specs.link.Tariff.{rate_at};
+ghost use Rattle.share_model.specs.link.Live.{is_book_of, new_book, charged, posted};
 ghost use Rattle.share_core.specs.Held.{IfFound};
 
 use crate::MAX_FLOWS;

@@ -1,6 +1,8 @@
 //! The buffers of the open flows.
-ghost use Rattle.std.specs.Prelude.{◌≡◌, ◌≢◌, ◌<◌, ◌≤◌, ◌^◌, ◌-◌, ℕ, [], true, false, not, position, IfOk, IfErr, IsOk, MatchOption, OnErr, None, Some, IsSome, option_copied};
-ghost use Rattle.share_model.specs.Buffers.{Buffer, buffer_of, is_buffer_of, opened, pushed, popped, is_full, head_of, is_busy};
+ghost use Rattle.std.specs.Prelude.{◌≡◌, ◌≢◌, ◌<◌, ◌≤◌, ◌^◌, ◌-◌, ℕ, [], true, false, not, position, IfOk, IfErr, IsOk};
+ghost use Rattle.std.specs.Prelude.{MatchOption, OnErr, None, Some, IsSome, option_copied};
+ghost use Rattle.share_model.specs.link.Buffers.{Buffer, buffer_of, is_buffer_of, opened, pushed, popped, is_full};
+ghost use Rattle.share_model.specs.link.Buffers.{head_of, is_busy};
 ghost use Rattle.share_core.specs.Held.{IfFound};
 
 use crate::ring::Ring;
@@ -16,7 +18,7 @@ pub struct Buffers {
 
 impl Model for Buffers {
     ghost use Rattle.std.specs.Prelude.{List};
-    ghost use Rattle.share_model.specs.Buffers.{Buffer};
+    ghost use Rattle.share_model.specs.link.Buffers.{Buffer};
 
     ghost Value = { List Buffer };
 

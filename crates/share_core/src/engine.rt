@@ -1,19 +1,22 @@
 //! The engine of a link: a link and the writer of its frames.
-ghost use Rattle.std.specs.Prelude.{◌≡◌, ◌<◌, ◌≤◌, ◌^◌, find, length, take, drop, vec_capacity, IfOk, IfErr, IfSome, None, option_map, false};
+ghost use Rattle.std.specs.Prelude.{◌≡◌, ◌<◌, ◌≤◌, ◌^◌, find, length, take, drop, vec_capacity, IfOk, IfErr, IfSome};
+ghost use Rattle.std.specs.Prelude.{None, option_map, false};
 ghost use Rattle.share_base.specs.Refusal.{IsRefused};
-ghost use Rattle.share_model.specs.Did.{is_spent, Steps, CommandDid, Offered, TurnDid, TearDid};
-ghost use Rattle.share_model.specs.Funding.{tickets};
-ghost use Rattle.share_model.specs.FundingChanges.{flow_named};
-ghost use Rattle.share_model.specs.Link.{empty_link, is_book_of, arrive_step, sending};
-ghost use Rattle.share_model.specs.Seen.{Seen};
-ghost use Rattle.share_model.specs.Sound.{Sound};
-ghost use Rattle.share_model.specs.Tariff.{AreInRange};
-ghost use Rattle.share_model.specs.Frame.{frame};
-ghost use Rattle.share_model.specs.Told.{Fits};
+ghost use Rattle.share_model.specs.link.Did.{is_spent, Steps, CommandDid, Offered, TurnDid, TearDid};
+ghost use Rattle.share_model.specs.funding.Graph.{tickets};
+ghost use Rattle.share_model.specs.funding.Changes.{flow_named};
+ghost use Rattle.share_model.specs.link.Live.{empty_link, is_book_of, arrive_step, sending};
+ghost use Rattle.share_model.specs.link.Seen.{Seen};
+ghost use Rattle.share_model.specs.link.Fields.{IsName, IsBody, HasCommandFields};
+ghost use Rattle.share_model.specs.run.Sound.{Sound};
+ghost use Rattle.share_model.specs.link.Tariff.{AreInRange};
+ghost use Rattle.share_model.specs.link.Frame.{frame};
+ghost use Rattle.share_model.specs.io.Told.{Fits};
 ghost use Rattle.share_core.specs.Framed.{IsFrameOf};
 ghost use Rattle.share_core.specs.Place.{IsPlaceOf};
 ghost use Rattle.share_core.specs.Life.{life_refusal};
 
+use crate::fields;
 use crate::link::Link;
 use crate::place::Place;
 use share_base::{Body, Command, FlowNo, Name, Refusal, Reply, Turn};
@@ -38,7 +41,7 @@ pub struct Engine<W, S: Rates> {
 
 impl<W, S: Rates> Model for Engine<W, S> {
     ghost use Rattle.std.specs.Prelude.{◌≤◌, vec_capacity};
-    ghost use Rattle.share_model.specs.Seen.{Seen};
+    ghost use Rattle.share_model.specs.link.Seen.{Seen};
     ghost use Rattle.share_core.specs.Framed.{IsFrameOf};
 
     ghost Value = { Seen W };
@@ -52,8 +55,8 @@ impl<W, S: Rates> Model for Engine<W, S> {
 }
 
 impl<W: Drop, S: Rates + Drop> Engine<W, S> {
-    /// A new link over this writer, with a life of 1 to 2^24 events. `Range` where the life is none of these,
-    /// `NoMemory` where a growth was refused; the shelf and the writer are dropped then.
+    /// A new link over this writer, with a life of 1 to 2^24 events. Refusals, in order: `Range` where the life is
+    /// none of these, `NoMemory` where a growth was refused; the shelf and the writer are dropped then.
     pub fn new(alloc: Global, shelf: S, life: u64, writer: W) -> Result<Engine<W, S>, Refusal>
         ensures ok { IfOk result (λ e.
             (e ≡ record { life = life; rates = S.rates shelf; live = empty_link; writer = writer })
@@ -61,19 +64,17 @@ impl<W: Drop, S: Rates + Drop> Engine<W, S> {
         ensures refused { IfErr result (IsRefused (life_refusal life)) }
     {
         let link = Link::new(alloc, shelf, life)?;
-        match Vec::with_capacity(alloc, MAX_FRAME) {
-            Ok(frame) => Ok(Engine {
-                link,
-                frame,
-                writer,
-            }),
-            Err(_) => Err(Refusal::NoMemory),
-        }
+        let frame = Vec::with_capacity(alloc, MAX_FRAME)?;
+        Ok(Engine {
+            link,
+            frame,
+            writer,
+        })
     }
 }
 
 impl<W, S: Rates> Engine<W, S> {
-    /// How many events were made. A link is sound after whatever events.
+    /// How many events were made, at most the life. A link is sound after whatever events.
     pub fn events(&self) -> u64
         ensures events { result ≡ self.now.live.counts.events }
         ensures life { self.now.life ≤ 2 ^ 24 }
@@ -90,7 +91,8 @@ impl<W, S: Rates> Engine<W, S> {
         self.link.spent()
     }
 
-    /// The account of an open flow, below 2^52.
+    /// The account of an open flow, below 2^52: the price of its tariff for each unit that its frames were charged.
+    /// `None` where no open flow has this number.
     pub fn account(&self, flow: FlowNo) -> Option<u64>
         ensures account { result
             ≡ option_map (λ b. b.account) (find (is_book_of flow) self.now.live.books) }
@@ -99,14 +101,15 @@ impl<W, S: Rates> Engine<W, S> {
         self.link.account(flow)
     }
 
-    /// The number of the open flow of a name.
+    /// The number of the open flow of a name, if there is one.
     pub fn flow(&self, name: Name) -> Option<FlowNo>
         ensures { result ≡ option_map (λ f. f.number) (flow_named self.now.live.graph name) }
     {
         self.link.flow(&name)
     }
 
-    /// The tickets of an open flow: what funds it while it is active, at most 2^20, and 0 while it is idle.
+    /// The tickets of an open flow: what funds it while it is active, at most 2^20, and 0 while it is idle. `None`
+    /// where no open flow has this number.
     pub fn tickets(&self, flow: FlowNo) -> Option<u32>
         ensures { result
             ≡ option_map (λ _. tickets self.now.live.graph flow)
@@ -122,32 +125,43 @@ impl<W, S: Rates> Engine<W, S> {
         &self.writer
     }
 
-    /// Makes a command: one event, unless the life is spent or memory was refused, which changes nothing. Only
-    /// `OpenFlow` and `MakeTicket` take memory.
+    /// Makes a command: one event, unless the life is spent or memory was refused, which changes nothing. A refused
+    /// command is an event that changes nothing else. Refusals, in order, after `Spent`:
+    ///
+    /// - `MakeTicket`: `Range` (an amount of 1 to 2^20), `NoCurrency`, `TableFull` (1024 tickets), `NoMemory`;
+    /// - `FundFlow`, which takes no memory: `NoTicket`, `NoFlow`, `Funding` (it funds another), `Crowded` (16 tickets
+    ///   fund the flow);
+    /// - `OpenFlow`: `Range` (a limit of 1 to 1024 packets), `NoTariff`, `Taken`, `TableFull` (one flow), `NoMemory`.
     pub fn command(&mut self, command: Command) -> Reply
-        ensures { CommandDid self.old command result self.new }
+        ensures did { CommandDid self.old command result self.new }
+        ensures fields { HasCommandFields command }
     {
+        fields::of_command(&command);
         if self.link.spent() {
             return Reply::Refused(Refusal::Spent);
         }
         self.link.command(command)
     }
 
-    /// A packet comes for the flow of a name: one event, unless the life is spent. It takes no memory, and a refused
-    /// payload is dropped.
+    /// A packet comes for the flow of a name, goes to the back of its buffer and takes the next number: one event,
+    /// unless the life is spent. Refusals, in order: `Spent`, `NoFlow`, `BufferFull`. A refused payload is dropped,
+    /// and takes no number. It takes no memory.
     pub fn arrive(&mut self, flow: Name, body: Body) -> Reply
-        ensures { Steps (λ _ l. arrive_step l flow body) self.old result self.new }
+        ensures did { Steps (λ _ l. arrive_step l flow body) self.old result self.new }
+        ensures fields { IsName flow × IsBody body }
     {
+        fields::of_arrival(&flow, &body);
         if self.link.spent() {
             return Reply::Refused(Refusal::Spent);
         }
         self.link.arrive(&flow, body)
     }
 
-    /// Offers the writer the next bytes of the frame that is sent, at most `most` of them, in one write call, and its
-    /// answer decides: so many bytes accepted, nothing at all where it was interrupted, or else a fault, which
-    /// breaks the link for good. Nothing is offered where the life is spent, where the link is broken, and where
-    /// there is nothing to send. It takes no memory.
+    /// Offers the writer the next bytes of the frame that is sent, at most `most` bytes, in one write call, and its
+    /// answer decides: `Wrote` where it accepted some, `Again` where it was interrupted, which changes nothing, and
+    /// else `Torn`, a fault that breaks the link for good. Nothing is offered, and the answer is `Spent` where the
+    /// life is spent, `Broken` where the link is broken, and `Idle` where there is nothing to send, in this order. It
+    /// takes no memory.
     pub fn turn(&mut self, most: u32) -> Turn
     where
         W: Telling,
@@ -187,8 +201,8 @@ impl<W, S: Rates> Engine<W, S> {
         }
     }
 
-    /// The caller declares that the writer failed, and the writer is not called: one event where there is a frame to
-    /// send, unless the life is spent or the link is broken. It takes no memory.
+    /// The caller declares that the writer failed, and the writer is not called: `Torn`, one event, where there is a
+    /// frame to send. Else nothing changes: `Spent`, `Broken` or `Idle`, in this order. It takes no memory.
     pub fn tear(&mut self) -> Turn
         ensures { TearDid self.old result self.new }
     {

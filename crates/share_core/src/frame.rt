@@ -1,6 +1,6 @@
 //! The bytes of a frame.
 ghost use Rattle.std.specs.Prelude.{◌≡◌, ◌≤◌, ◌+◌, ◌++◌, length, vec_capacity};
-ghost use Rattle.share_model.specs.Frame.{header, frame};
+ghost use Rattle.share_model.specs.link.Frame.{header, frame};
 
 use share_base::FlowNo;
 

@@ -1,13 +1,17 @@
 //! Tickets of the base currency, and the open flows that they fund.
-ghost use Rattle.std.specs.Prelude.{◌≡◌, ◌<◌, ◌≤◌, ◌^◌, ◌-◌, ◌+◌, ◌*◌, ℕ, [], ◌∷◌, ◌++◌, List, length, position, find, filter, sum_by, IfOk, IfErr, None, Some, IsSome, IsTrue, is_some, option_copied, option_map, bytes_eq, nat_eq, ◌&&◌};
+ghost use Rattle.std.specs.Prelude.{◌≡◌, ◌<◌, ◌≤◌, ◌^◌, ◌-◌, ◌+◌, ◌*◌, ℕ, [], ◌∷◌, ◌++◌, List, length, position, find};
+ghost use Rattle.std.specs.Prelude.{filter, sum_by, IfOk, IfErr, None, Some, IsSome, IsTrue, is_some, option_copied};
+ghost use Rattle.std.specs.Prelude.{option_map, bytes_eq, nat_eq, ◌&&◌};
 ghost use Rattle.std.specs.List.{list_any};
 ghost use Rattle.share_base.specs.Refusal.{IsRefused};
 ghost use Rattle.share_base.specs.Name.{is_name};
-ghost use Rattle.share_model.specs.Funding.{base, empty_graph, tickets, is_held_by_flow, is_active_flow, funding};
-ghost use Rattle.share_model.specs.FundingChanges.{is_numbered, ticket_of, is_currency, is_held, with_holder, flow_named, make_ticket_refusal, make_ticket, fund_flow_refusal, fund_flow, add_flow, is_open_as, set_active};
+ghost use Rattle.share_model.specs.funding.Graph.{base, empty_graph, tickets, is_held_by_flow, is_active_flow, funding};
+ghost use Rattle.share_model.specs.funding.Changes.{is_numbered, ticket_of, is_currency, is_held, with_holder};
+ghost use Rattle.share_model.specs.funding.Changes.{flow_named, make_ticket_refusal, make_ticket, fund_flow_refusal};
+ghost use Rattle.share_model.specs.funding.Changes.{fund_flow, add_flow, is_open_as, set_active};
 ghost use Rattle.share_model.specs.declared.funding.Holder.TheVariants.{Flow};
 ghost use Rattle.share_model.specs.declared.funding.OpenFlow.{OpenFlow};
-ghost use Rattle.share_model.specs.Link.{competes, next_flow};
+ghost use Rattle.share_model.specs.link.Live.{competes, selected_flow};
 ghost use Rattle.share_core.specs.Based.{IsBased};
 
 use crate::MAX_FLOWS;
@@ -36,7 +40,7 @@ pub struct Funding {
 
 impl Model for Funding {
     ghost use Rattle.std.specs.Prelude.{[], ◌≤◌, vec_capacity};
-    ghost use Rattle.share_model.specs.Funding.{Graph};
+    ghost use Rattle.share_model.specs.funding.Graph.{Graph};
     ghost use Rattle.share_core.specs.Based.{IsBased};
 
     ghost Value = { Graph };
@@ -91,13 +95,9 @@ impl Funding {
     pub fn flow(&self, name: &Name) -> Option<FlowNo>
         ensures { result ≡ option_map (λ f. f.number) (flow_named self.now name.now) }
     {
-        match entry_named(self.flows.as_slice(), name) {
-            None => None,
-            Some(entry) => {
-                let flow = entry.1;
-                Some(flow.number)
-            }
-        }
+        let entry = entry_named(self.flows.as_slice(), name)?;
+        let flow = entry.1;
+        Some(flow.number)
     }
 
     // The ticket of a number.
@@ -139,7 +139,7 @@ impl Funding {
     {
         match self.make_ticket_refusal(amount, currency) {
             Some(refusal) => return Err(refusal),
-            None => {}
+            None => (),
         }
         let number = TicketNo(self.next_ticket);
         let ticket = Ticket {
@@ -148,9 +148,7 @@ impl Funding {
             denomination: *currency,
             holder: Holder::Nobody,
         };
-        if self.tickets.push(ticket).is_err() {
-            return Err(Refusal::NoMemory);
-        }
+        self.tickets.push(ticket)?;
         self.next_ticket += 1;
         Ok(number)
     }
@@ -182,14 +180,12 @@ impl Funding {
         ensures refused { IfErr result
             (λ e. (fund_flow_refusal self.old number flow.now ≡ Some e) × (self.new ≡ self.old)) }
     {
-        match self.fund_flow_refusal(number, flow) {
-            Some(refusal) => Err(refusal),
-            None => {
-                let holder = self.flow(flow).unwrap();
-                self.give(number, holder);
-                Ok(())
-            }
+        if let Some(refusal) = self.fund_flow_refusal(number, flow) {
+            return Err(refusal);
         }
+        let holder = self.flow(flow).unwrap();
+        self.give(number, holder);
+        Ok(())
     }
 
     // A flow becomes the holder of a ticket.
@@ -263,7 +259,7 @@ impl Funding {
 
     /// The next flow to send: the first, in order of opening, that has tickets.
     pub fn next_to_send(&self) -> Option<FlowNo>
-        ensures { result ≡ next_flow self.now }
+        ensures { result ≡ selected_flow self.now }
     {
         match self.first_competing() {
             None => None,
@@ -332,7 +328,7 @@ fn is_held_by_flow(ticket: &Ticket, flow: FlowNo) -> bool
 }
 
 // How many tickets fund a flow.
-#[tactic(auto, unfolding(share_model::specs::Funding::funding))]
+#[tactic(auto, unfolding(share_model::specs::funding::Graph::funding))]
 fn count_funding(tickets: &[Ticket], flow: FlowNo) -> usize
     ensures { result ≡ length (funding tickets.now flow) }
 {
@@ -371,7 +367,7 @@ fn is_active_in(flows: &[(Name, OpenFlow)], flow: FlowNo) -> bool
 }
 
 // The sum of the amounts that fund a flow.
-#[tactic(auto, unfolding(share_model::specs::Funding::funding))]
+#[tactic(auto, unfolding(share_model::specs::funding::Graph::funding))]
 fn amount_funding(tickets: &[Ticket], flow: FlowNo) -> u64
     requires { length tickets.now ≤ 1024 }
     ensures { result ≡ sum_by (λ t. t.amount) (funding tickets.now flow) }

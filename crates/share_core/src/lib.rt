@@ -4,6 +4,7 @@
 mod books;
 mod buffers;
 mod engine;
+mod fields;
 mod frame;
 mod funding;
 mod link;

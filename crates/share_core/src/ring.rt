@@ -1,6 +1,7 @@
 //! The buffer of one flow.
 ghost use Rattle.std.specs.Prelude.{◌≡◌, ◌<◌, ◌≤◌, ◌^◌, ◌-◌, false, not, length, IfOk, MatchOption, None, Some};
-ghost use Rattle.share_model.specs.Buffers.{Buffer, is_buffer_of, new_buffer, is_full, with_packet, without_head, head_of_buffer, is_some_packet};
+ghost use Rattle.share_model.specs.link.Buffers.{Buffer, is_buffer_of, new_buffer, is_full, with_packet, without_head};
+ghost use Rattle.share_model.specs.link.Buffers.{head_of_buffer, is_some_packet};
 
 use share_base::{Body, FlowNo};
 use std::alloc::{AllocError, Global};
@@ -19,7 +20,7 @@ pub struct Ring {
 impl Model for Ring {
     ghost use Rattle.std.specs.Prelude.{◌≤◌, ◌<◌};
     ghost use Rattle.std.specs.VecDeque.{deque_len, deque_capacity};
-    ghost use Rattle.share_model.specs.Buffers.{Buffer};
+    ghost use Rattle.share_model.specs.link.Buffers.{Buffer};
 
     ghost Value = { Buffer };
 

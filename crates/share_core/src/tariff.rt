@@ -1,6 +1,6 @@
 //! Tariffs of plain numbers, and the shelf on which they stand.
 ghost use Rattle.std.specs.Prelude.{◌≡◌, ◌≤◌, ◌&&◌, IfOk, IfErr, vec_len, if◌then◌else◌, true, false};
-ghost use Rattle.share_model.specs.Tariff.{is_rate, IsInRange, units_of};
+ghost use Rattle.share_model.specs.link.Tariff.{is_rate, IsInRange, units_of};
 ghost use Rattle.share_base.specs.declared.refusal.Refusal.TheVariants.{Range};
 
 use share_base::Refusal;

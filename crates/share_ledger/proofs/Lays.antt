@@ -1,15 +1,17 @@
--- A graph by its parts, and what the tables of refusals say where they answer nothing.
-use Rattle.std.proofs.Common.{◌≡◌, ℕ, Bool, true, false, ◌||◌, List, [], ◌∷◌, ◌++◌, map, length, take, drop, Option, None, Some, bytes_eq, is_some, refl, sym, ap, ◌∙◌, true≢false}
+-- The graph of the tables, and what the tables of refusals say where they answer nothing.
+use Rattle.std.proofs.Common.{◌≡◌, ℕ, Bool, true, false, ◌||◌, List, [], ◌∷◌, ◌++◌, map, length, take, drop, Option}
+use Rattle.std.proofs.Common.{None, Some, bytes_eq, is_some, refl, sym, ap, ◌∙◌, true≢false}
 use Rattle.std.proofs.lemmas.List.{length-map}
 use Rattle.std.specs.List.{list_any}
 use Rattle.std.specs.Map.{lookup}
 use Rattle.share_base.specs.declared.refusal.Refusal.TheVariants.{Taken}
 use Rattle.share_model.specs.declared.funding.Ticket.{Ticket}
 use Rattle.share_model.specs.declared.funding.OpenFlow.{OpenFlow}
-use Rattle.share_model.specs.Funding.{NameBytes, base, Graph}
-use Rattle.share_model.specs.FundingChanges.{is_currency, make_currency_refusal, add_flow_refusal, flow_named}
+use Rattle.share_model.specs.funding.Graph.{NameBytes, base, Graph}
+use Rattle.share_model.specs.funding.Changes.{is_currency, make_currency_refusal, add_flow_refusal, flow_named}
 use Rattle.share_model.proofs.FundingChanged.{not-refused}
 
+-- the graph of the tables by their parts
 abbrev pub lay : List NameBytes → List Ticket → ℕ → List (NameBytes × OpenFlow) → ℕ → Graph
 lay cs ts n es m = record { currencies = cs; tickets = ts; next_ticket = n; flows = es; next_flow = m }
 
@@ -17,8 +19,10 @@ or_right : (x y : Bool) → (x || y) ≡ false → y ≡ false
 or_right true y e = absurd (true≢false e)
 or_right false y e = e
 
-pub fresh-currency : (g : Graph) (c : NameBytes) → make_currency_refusal g c ≡ None → list_any (bytes_eq c) g.currencies ≡ false
-fresh-currency g c none = or_right (bytes_eq c base) (list_any (bytes_eq c) g.currencies) (not-refused (is_currency g c) Taken _ none).0
+pub fresh-currency : (g : Graph) (c : NameBytes) → make_currency_refusal g c ≡ None
+    → list_any (bytes_eq c) g.currencies ≡ false
+fresh-currency g c none =
+    or_right (bytes_eq c base) (list_any (bytes_eq c) g.currencies) (not-refused (is_currency g c) Taken _ none).0
 
 some_none : {X : Type 0} (o : Option X) → is_some o ≡ false → o ≡ None
 some_none None e = refl
@@ -28,7 +32,8 @@ pub fresh-flow : (g : Graph) (f : NameBytes) → add_flow_refusal g f ≡ None �
 fresh-flow g f none = some_none (flow_named g f) (not-refused (is_some (flow_named g f)) Taken _ none).0
 
 -- a list that is written whole through a slice of it
-pub written-whole : {X : Type 0} (f : X → X) (xs ys zs : List X) (n : ℕ) → ys ≡ map f zs → zs ≡ xs → n ≡ length xs → take n (ys ++ drop (length ys) xs) ≡ map f xs
+pub written-whole : {X : Type 0} (f : X → X) (xs ys zs : List X) (n : ℕ) → ys ≡ map f zs → zs ≡ xs → n ≡ length xs
+    → take n (ys ++ drop (length ys) xs) ≡ map f xs
 written-whole {X = X} f xs ys zs n e same len =
     let long : length ys ≡ n = ap length (e ∙ ap (map f) same) ∙ length-map xs f ∙ sym len in
     ap (λ k. take k (ys ++ drop (length ys) xs)) (sym long) ∙ front ys (drop (length ys) xs) ∙ e ∙ ap (map f) same

@@ -1,4 +1,7 @@
 pub mod Lays
-pub mod Linked
+pub mod LinkChains
+pub mod LinkPlaces
+pub mod LinkSteps
+pub mod LinkWorths
 pub mod Positions
 pub mod Walks

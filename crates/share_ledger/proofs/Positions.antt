@@ -1,16 +1,17 @@
 -- The first element that passes a test, and lists that are changed there.
-use Rattle.std.proofs.Common.{◌≡◌, ℕ, ◌+◌, ◌≤◌, ◌<◌, zero, suc, Bool, true, false, not, cond, List, [], ◌∷◌, ◌++◌, map, length, get_or, set, position, nat_lt, nat_eq, Option, None, Some, Result, Ok, Err, IfOk, refl, sym, ap, subst, ◌∙◌, arith, bytes_eq, if◌then◌else◌, remove}
+use Rattle.std.proofs.Common.{◌≡◌, ℕ, ◌+◌, ◌≤◌, ◌<◌, zero, suc, Bool, true, false, not, cond, List, [], ◌∷◌, ◌++◌, map}
+use Rattle.std.proofs.Common.{length, get_or, set, position, nat_lt, nat_eq, Option, None, Some, Result, Ok, Err, IfOk}
+use Rattle.std.proofs.Common.{refl, sym, ap, subst, ◌∙◌, arith, bytes_eq, if◌then◌else◌, remove}
 use Rattle.std.specs.List.{list_any}
 use Rattle.std.specs.List.{position_or_len}
 use Rattle.std.specs.Set.{remove_key}
 use Rattle.std.proofs.lemmas.Bool.Decides.{nat_tests}
 use Rattle.indexmap.specs.IndexMap.{set_value_at}
-use Rattle.share_model.specs.declared.funding.Holder.{Holder}
-use Rattle.share_model.specs.declared.funding.Ticket.{Ticket}
 use Rattle.share_model.specs.declared.funding.OpenFlow.{OpenFlow}
-use Rattle.share_model.specs.Funding.{NameBytes}
-use Rattle.share_model.specs.FundingChanges.{is_numbered, with_holder, is_open_as, without_flow, with_activity}
-use Rattle.share_model.specs.Each.{Each}
+use Rattle.share_model.specs.funding.Graph.{NameBytes}
+use Rattle.share_model.specs.funding.Changes.{is_open_as, active_as, with_activity}
+use Rattle.share_model.specs.lists.Change.{change_first}
+use Rattle.share_model.specs.lists.Each.{Each}
 
 -- what is no `Some` is `None`
 pub option_none : {X : Type 0} (o : Option X) → ((x : X) → o ≡ Some x → ⊥) → o ≡ None
@@ -44,7 +45,8 @@ module _ {X : Type 0} (p : X → Bool) where
   place-none [] h = tt
   place-none (x ∷ xs) h = by (p x) refl h (place-none xs)
     where
-      by : (b : Bool) → p x ≡ b → length (x ∷ xs) ≤ cond (not b) (1 + position_or_len p xs) 0 → (length xs ≤ position_or_len p xs → Each (λ x. p x ≡ false) xs)
+      by : (b : Bool) → p x ≡ b → length (x ∷ xs) ≤ cond (not b) (1 + position_or_len p xs) 0
+          → (length xs ≤ position_or_len p xs → Each (λ x. p x ≡ false) xs)
           → (p x ≡ false) × Each (λ x. p x ≡ false) xs
       by true q h rest = absurd (omega arith)
       by false q h rest = (q, rest (omega arith))
@@ -55,8 +57,11 @@ module _ {X : Type 0} (p : X → Bool) where
       below : (n m : ℕ) → nat_lt n m ≡ true → n < m
       below n m e = grind (arith, nat_tests)
 
-      by : (b : Bool) → nat_lt (position_or_len p xs) (length xs) ≡ b → cond b (Some (position_or_len p xs)) None ≡ Some i → IsFirstAt p xs i
-      by true lt e = let same : position_or_len p xs ≡ i = cc in place-first xs i same (subst (λ k. k < length xs) same (below (position_or_len p xs) (length xs) lt))
+      by : (b : Bool) → nat_lt (position_or_len p xs) (length xs) ≡ b
+          → cond b (Some (position_or_len p xs)) None ≡ Some i → IsFirstAt p xs i
+      by true lt e =
+          let same : position_or_len p xs ≡ i = cc in
+          place-first xs i same (subst (λ k. k < length xs) same (below (position_or_len p xs) (length xs) lt))
       by false lt e = absurd cc
 
   pub position-none : (xs : List X) → position p xs ≡ None → Each (λ x. p x ≡ false) xs
@@ -65,7 +70,8 @@ module _ {X : Type 0} (p : X → Bool) where
       above : (n m : ℕ) → nat_lt n m ≡ false → m ≤ n
       above n m e = grind (arith, nat_tests)
 
-      by : (b : Bool) → nat_lt (position_or_len p xs) (length xs) ≡ b → cond b (Some (position_or_len p xs)) None ≡ None → Each (λ x. p x ≡ false) xs
+      by : (b : Bool) → nat_lt (position_or_len p xs) (length xs) ≡ b → cond b (Some (position_or_len p xs)) None ≡ None
+          → Each (λ x. p x ≡ false) xs
       by true lt e = absurd cc
       by false lt e = place-none xs (above (position_or_len p xs) (length xs) lt)
 
@@ -73,55 +79,59 @@ module _ {X : Type 0} (p : X → Bool) where
   pub remove-first : (xs : List X) (i : ℕ) → IsFirstAt p xs i → remove xs i ≡ remove_key p xs
   remove-first [] i h = absurd h
   remove-first (x ∷ xs) zero h = sym (ap (λ b. cond b xs (x ∷ remove_key p xs)) h)
-  remove-first (x ∷ xs) (suc i) h = ap (λ l. x ∷ l) (remove-first xs i h.1) ∙ sym (ap (λ b. cond b xs (x ∷ remove_key p xs)) h.0)
+  remove-first (x ∷ xs) (suc i) h =
+      ap (λ l. x ∷ l) (remove-first xs i h.1) ∙ sym (ap (λ b. cond b xs (x ∷ remove_key p xs)) h.0)
 
   pub remove-none : (xs : List X) → Each (λ x. p x ≡ false) xs → remove_key p xs ≡ xs
   remove-none [] none = refl
   remove-none (x ∷ xs) none = ap (λ b. cond b xs (x ∷ remove_key p xs)) none.0 ∙ ap (λ l. x ∷ l) (remove-none xs none.1)
 
--- the first ticket of a number gets a holder
-pub holder-first : (n : ℕ) (h : Holder) (ts : List Ticket) (i : ℕ) (x : Ticket) → IsFirstAt (is_numbered n) ts i → x ≡ get_or ts i x → set ts i (record x { holder = h }) ≡ with_holder n h ts
-unfolding with_holder
-holder-first n h [] i x first e = absurd first
-holder-first n h (t ∷ ts) zero x first e =
-    ap (λ (y : Ticket). record y { holder = h } ∷ ts) e ∙ sym (ap (λ b. cond b (record t { holder = h } ∷ ts) (t ∷ with_holder n h ts)) first)
-holder-first n h (t ∷ ts) (suc i) x first e =
-    ap (λ l. t ∷ l) (holder-first n h ts i x first.1 e) ∙ sym (ap (λ b. cond b (record t { holder = h } ∷ ts) (t ∷ with_holder n h ts)) first.0)
+-- what stands at the first place that passes is changed
+pub changed-first : {X : Type 0} (p : X → Bool) (change : X → X) (xs : List X) (i : ℕ) (x : X)
+    → IsFirstAt p xs i → x ≡ get_or xs i x → set xs i (change x) ≡ change_first p change xs
+unfolding change_first
+changed-first p change [] i x first e = absurd first
+changed-first p change (y ∷ ys) zero x first e =
+    ap (λ z. change z ∷ ys) e ∙ sym (ap (λ b. cond b (change y ∷ ys) (y ∷ change_first p change ys)) first)
+changed-first p change (y ∷ ys) (suc i) x first e =
+    ap (λ l. y ∷ l) (changed-first p change ys i x first.1 e)
+    ∙ sym (ap (λ b. cond b (change y ∷ ys) (y ∷ change_first p change ys)) first.0)
 
-pub holder-none : (n : ℕ) (h : Holder) (ts : List Ticket) → Each (λ (t : Ticket). is_numbered n t ≡ false) ts → with_holder n h ts ≡ ts
-unfolding with_holder
-holder-none n h [] none = refl
-holder-none n h (t ∷ ts) none = ap (λ b. cond b (record t { holder = h } ∷ ts) (t ∷ with_holder n h ts)) none.0 ∙ ap (λ l. t ∷ l) (holder-none n h ts none.1)
+pub changed-none : {X : Type 0} (p : X → Bool) (change : X → X) (xs : List X)
+    → Each (λ x. p x ≡ false) xs → change_first p change xs ≡ xs
+unfolding change_first
+changed-none p change [] none = refl
+changed-none p change (y ∷ ys) none =
+    ap (λ b. cond b (change y ∷ ys) (y ∷ change_first p change ys)) none.0
+    ∙ ap (λ l. y ∷ l) (changed-none p change ys none.1)
 
 -- flows, found by their numbers
-pub flow-first : (f : ℕ) (es : List (NameBytes × OpenFlow)) (i : ℕ) → IsFirstAt (λ (o : OpenFlow). nat_eq f o.number) (map (λ (e : NameBytes × OpenFlow). e.1) es) i → IsFirstAt (is_open_as f) es i
+pub flow-first : (f : ℕ) (es : List (NameBytes × OpenFlow)) (i : ℕ)
+    → IsFirstAt (λ (o : OpenFlow). nat_eq f o.number) (map (λ (e : NameBytes × OpenFlow). e.1) es) i
+    → IsFirstAt (is_open_as f) es i
 flow-first f [] i h = h
 flow-first f (e ∷ es) zero h = h
 flow-first f (e ∷ es) (suc i) h = (h.0, flow-first f es i h.1)
 
-pub flow-none : (f : ℕ) (es : List (NameBytes × OpenFlow)) → Each (λ (o : OpenFlow). nat_eq f o.number ≡ false) (map (λ (e : NameBytes × OpenFlow). e.1) es) → Each (λ (e : NameBytes × OpenFlow). is_open_as f e ≡ false) es
+pub flow-none : (f : ℕ) (es : List (NameBytes × OpenFlow))
+    → Each (λ (o : OpenFlow). nat_eq f o.number ≡ false) (map (λ (e : NameBytes × OpenFlow). e.1) es)
+    → Each (λ (e : NameBytes × OpenFlow). is_open_as f e ≡ false) es
 flow-none f [] h = tt
 flow-none f (e ∷ es) h = (h.0, flow-none f es h.1)
 
-pub without-is : (f : ℕ) (es : List (NameBytes × OpenFlow)) → without_flow f es ≡ remove_key (is_open_as f) es
-unfolding without_flow
-without-is f [] = refl
-without-is f (e ∷ es) = ap (λ l. cond (is_open_as f e) es (e ∷ l)) (without-is f es)
-
-pub activity-first : (f : ℕ) (b : Bool) (es : List (NameBytes × OpenFlow)) (i : ℕ) (w : OpenFlow) → IsFirstAt (is_open_as f) es i
-    → w ≡ get_or (map (λ (e : NameBytes × OpenFlow). e.1) es) i w → set_value_at es i (record w { active = b }) ≡ with_activity f b es
-unfolding with_activity
+pub activity-first : (f : ℕ) (b : Bool) (es : List (NameBytes × OpenFlow)) (i : ℕ) (w : OpenFlow)
+    → IsFirstAt (is_open_as f) es i → w ≡ get_or (map (λ (e : NameBytes × OpenFlow). e.1) es) i w
+    → set_value_at es i (record w { active = b }) ≡ with_activity f b es
+unfolding change_first
 activity-first f b [] i w first e = absurd first
 activity-first f b (x ∷ es) zero w first e =
-    ap (λ (y : OpenFlow). (x.0, record y { active = b }) ∷ es) e ∙ sym (ap (λ t. cond t ((x.0, record x.1 { active = b }) ∷ es) (x ∷ with_activity f b es)) first)
+    ap (λ (y : OpenFlow). (x.0, record y { active = b }) ∷ es) e
+    ∙ sym (ap (λ t. cond t (active_as b x ∷ es) (x ∷ with_activity f b es)) first)
 activity-first f b (x ∷ es) (suc i) w first e =
-    ap (λ l. x ∷ l) (activity-first f b es i w first.1 e) ∙ sym (ap (λ t. cond t ((x.0, record x.1 { active = b }) ∷ es) (x ∷ with_activity f b es)) first.0)
-
-pub activity-none : (f : ℕ) (b : Bool) (es : List (NameBytes × OpenFlow)) → Each (λ (e : NameBytes × OpenFlow). is_open_as f e ≡ false) es → with_activity f b es ≡ es
-unfolding with_activity
-activity-none f b [] none = refl
-activity-none f b (x ∷ es) none = ap (λ t. cond t ((x.0, record x.1 { active = b }) ∷ es) (x ∷ with_activity f b es)) none.0 ∙ ap (λ l. x ∷ l) (activity-none f b es none.1)
+    ap (λ l. x ∷ l) (activity-first f b es i w first.1 e)
+    ∙ sym (ap (λ t. cond t (active_as b x ∷ es) (x ∷ with_activity f b es)) first.0)
 
 -- a name that is not among the keys goes last
-pub insert-new : (c : NameBytes) (cs : List NameBytes) → list_any (bytes_eq c) cs ≡ false → (if list_any (bytes_eq c) cs then cs else cs ++ c ∷ []) ≡ cs ++ c ∷ []
+pub insert-new : (c : NameBytes) (cs : List NameBytes) → list_any (bytes_eq c) cs ≡ false
+    → (if list_any (bytes_eq c) cs then cs else cs ++ c ∷ []) ≡ cs ++ c ∷ []
 insert-new c cs e = ap (λ b. cond b cs (cs ++ c ∷ [])) e

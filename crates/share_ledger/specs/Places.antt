@@ -6,8 +6,8 @@ use Rattle.share_ledger.specs.declared.rounds.Link.{Link}
 use Rattle.share_model.specs.declared.funding.Holder.{Holder}
 use Rattle.share_model.specs.declared.funding.Holder.TheVariants.{Nobody, Currency, Flow}
 use Rattle.share_model.specs.declared.funding.Ticket.{Ticket}
-use Rattle.share_model.specs.Funding.{NameBytes, Graph, is_active_flow}
-use Rattle.share_model.specs.FundingKept.{names_of}
+use Rattle.share_model.specs.funding.Graph.{NameBytes, Graph, is_active_flow}
+use Rattle.share_model.specs.funding.Kept.{names_of}
 
 -- where a name stands in a list of names, or the length of the list
 unfoldable pub place : List NameBytes → NameBytes → ℕ

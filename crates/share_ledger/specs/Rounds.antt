@@ -1,5 +1,6 @@
 -- Rounds over links. A link is what one ticket does between places: a place stands for a currency.
-use Rattle.std.specs.Prelude.{◌≤◌, ◌<◌, ℕ, ◌*◌, ◌/◌, ◌^◌, zero, suc, Bool, true, false, not, ◌&&◌, ◌||◌, List, sum_by, nat_eq, slice_index_or, if◌then◌else◌}
+use Rattle.std.specs.Prelude.{◌≤◌, ◌<◌, ℕ, ◌*◌, ◌/◌, ◌^◌, zero, suc, Bool, true, false, not, ◌&&◌, ◌||◌, List, sum_by}
+use Rattle.std.specs.Prelude.{nat_eq, slice_index_or, if◌then◌else◌}
 use Rattle.std.specs.List.{list_any}
 use Rattle.share_ledger.specs.declared.rounds.Target.{Target}
 use Rattle.share_ledger.specs.declared.rounds.Target.TheVariants.{Asleep, Awake, Behind}

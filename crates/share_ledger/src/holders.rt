@@ -1,7 +1,7 @@
 //! What a holder is.
 ghost use Rattle.std.specs.Prelude.{◌≡◌};
-ghost use Rattle.share_model.specs.Funding.{is_held_by_currency, is_held_by_flow};
-ghost use Rattle.share_model.specs.FundingChanges.{is_held};
+ghost use Rattle.share_model.specs.funding.Graph.{is_held_by_currency, is_held_by_flow};
+ghost use Rattle.share_model.specs.funding.Changes.{is_held};
 
 use share_base::{FlowNo, Name};
 use share_model::Holder;

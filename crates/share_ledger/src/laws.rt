@@ -1,20 +1,24 @@
 //! Laws that hold of every ledger, each as the contract of a call that does nothing.
-ghost use Rattle.share_model.specs.FundingKept.{IsKept};
-ghost use Rattle.share_model.specs.FundingLaws.{SharesAreWithin, IsAcyclic, IsSettled, CachedIsAsDefined};
+ghost use Rattle.share_model.specs.funding.Kept.{IsKept};
+ghost use Rattle.share_model.specs.funding.Laws.{SharesAreWithin, IsAcyclic, IsSettled, CachedIsAsDefined, DeepIsNine};
+ghost use Rattle.share_model.specs.funding.Laws.{CycleIsBacking};
 
 use crate::ledger::Ledger;
 
 impl Ledger {
-    /// The graph is well formed: names and numbers are distinct, tickets are denominated in currencies that
-    /// are there and fund what is there, `base` has no backing, no nine other currencies stand in a chain, and
-    /// the tables are within their limits.
+    /// The graph is well formed. No two currencies have one name, nor have two open flows; the numbers of
+    /// tickets rise in the order of making and those of flows in the order of opening, each below the next
+    /// number; tickets are denominated in currencies that are there and fund what is there, at most 16 the same
+    /// currency or flow; `base` has no backing, and no nine other currencies stand in a chain; the tables are
+    /// within their limits.
     pub fn is_kept(&self)
         ensures { IsKept self.now }
     {
         self.tables().is_kept();
     }
 
-    /// The tickets of all flows together are at most the active amount of `base`.
+    /// What all flows are funded with is worth at most the active amount of `base`, before each flow's sum is
+    /// cut to 2^20 and after it. While that amount is at most 2^20 no sum is cut.
     pub fn shares_are_within(&self)
         ensures { SharesAreWithin self.now }
     {
@@ -39,6 +43,22 @@ impl Ledger {
     /// definitions, and so are the tickets of flows that are computed by them.
     pub fn cached_is_as_defined(&self)
         ensures { CachedIsAsDefined self.now }
+    {
+        self.is_kept();
+    }
+
+    /// Funding a currency is `Deep` exactly where nine currencies besides `base` would then stand in a chain,
+    /// each backing the next.
+    pub fn deep_is_nine(&self)
+        ensures { DeepIsNine self.now }
+    {
+        self.is_kept();
+    }
+
+    /// Funding a currency is a `Cycle` exactly where it backs the ticket's denomination already, by however
+    /// many steps.
+    pub fn cycle_is_backing(&self)
+        ensures { CycleIsBacking self.now }
     {
         self.is_kept();
     }

@@ -2,8 +2,13 @@
 ghost use Rattle.std.specs.Prelude.{◌≡◌, ◌<◌, ◌-◌, ◌^◌, option_map, Some, None, IfOk, IfErr};
 ghost use Rattle.share_base.specs.declared.refusal.Refusal as Refusal;
 ghost use Rattle.share_base.specs.Refusal.{IsRefused};
-ghost use Rattle.share_model.specs.Funding.{empty_graph, tickets};
-ghost use Rattle.share_model.specs.FundingChanges.{flow_named, make_currency_refusal, make_currency, remove_currency_refusal, remove_currency, make_ticket_refusal, make_ticket, remove_ticket_refusal, remove_ticket, fund_currency_refusal, fund_currency, fund_flow_refusal, fund_flow, unfund_refusal, unfund, add_flow_refusal, add_flow, remove_flow, set_active};
+ghost use Rattle.share_model.specs.funding.Graph.{empty_graph, tickets};
+ghost use Rattle.share_model.specs.funding.Changes.{flow_named, make_currency_refusal, make_currency};
+ghost use Rattle.share_model.specs.funding.Changes.{remove_currency_refusal, remove_currency, make_ticket_refusal};
+ghost use Rattle.share_model.specs.funding.Changes.{make_ticket, remove_ticket_refusal, remove_ticket};
+ghost use Rattle.share_model.specs.funding.Changes.{fund_currency_refusal, fund_currency, fund_flow_refusal, fund_flow};
+ghost use Rattle.share_model.specs.funding.Changes.{unfund_refusal, unfund, add_flow_refusal, add_flow, remove_flow};
+ghost use Rattle.share_model.specs.funding.Changes.{set_active};
 
 use crate::tables::{MAX_AMOUNT, MAX_TICKETS, Tables};
 use share_base::{FlowNo, Name, Refusal, TicketNo};
@@ -12,9 +17,10 @@ use std::marker::Model;
 
 /// The currency ledger. A contract sees it as its graph of currencies, tickets and flows.
 ///
-/// A refused call changes nothing and takes no number. Only `new`, `make_currency`, `make_ticket` and
-/// `add_flow` take memory; their refusals may also be `NoMemory`, where none of the others stands and a growth
-/// was refused. Numbers count from 1, tickets and flows apart, and are never used again.
+/// A refused call changes nothing and takes no number; where several refusals stand, it answers the one that its
+/// text names first. Only `new`, `make_currency`, `make_ticket` and `add_flow` take memory. Numbers count from 1,
+/// tickets and flows apart, and are never used again. Amounts are in units of the ticket's currency, worths in
+/// units of `base`.
 #[derive(Drop)]
 pub struct Ledger {
     tables: Tables,
@@ -23,7 +29,7 @@ pub struct Ledger {
 
 impl Model for Ledger {
     ghost use Rattle.std.specs.Prelude.{◌≡◌, length, map, take};
-    ghost use Rattle.share_model.specs.Funding.{Graph, worth};
+    ghost use Rattle.share_model.specs.funding.Graph.{Graph, worth};
 
     ghost Value = { Graph };
 
@@ -39,16 +45,15 @@ impl Ledger {
         ensures made { IfOk result (λ ledger. ledger ≡ empty_graph) }
         ensures refused { IfErr result (λ e. e ≡ Refusal.NoMemory) }
     {
-        match Box::new(alloc, [0; MAX_TICKETS]) {
-            Ok(worths) => Ok(Ledger {
-                tables: Tables::new(alloc),
-                worths,
-            }),
-            Err(_) => Err(Refusal::NoMemory),
-        }
+        let worths = Box::new(alloc, [0; MAX_TICKETS])?;
+        Ok(Ledger {
+            tables: Tables::new(alloc),
+            worths,
+        })
     }
 
-    /// Makes a currency, of which there can be 64 besides `base`.
+    /// Makes a currency. `Taken` where there is one of this name, `TableFull` where there are 64 besides `base`,
+    /// `NoMemory` where a growth was refused.
     pub fn make_currency(&mut self, name: Name) -> Result<(), Refusal>
         ensures done { IfOk result
             (λ _. (make_currency_refusal self.old name ≡ None) × (self.new ≡ make_currency self.old name)) }
@@ -60,7 +65,8 @@ impl Ledger {
         Ok(())
     }
 
-    /// Removes a currency in which no ticket is denominated and that none funds.
+    /// Removes a currency. `NoCurrency` where none has this name, `Base` where it is `base`, `InUse` where a
+    /// ticket is denominated in it or funds it.
     pub fn remove_currency(&mut self, name: Name) -> Result<(), Refusal>
         ensures done { IfOk result
             (λ _. (remove_currency_refusal self.old name ≡ None) × (self.new ≡ remove_currency self.old name)) }
@@ -72,7 +78,9 @@ impl Ledger {
         Ok(())
     }
 
-    /// Issues a ticket of an amount, 1 to 2^20, in a currency. It has no holder.
+    /// Issues a ticket of 1 to 2^20 units of a currency, without a holder, and answers its number. `Range` where
+    /// the amount is none of these, `NoCurrency` where none has this name, `TableFull` where there are 1024
+    /// tickets, `NoMemory` where a growth was refused.
     pub fn make_ticket(&mut self, amount: u64, currency: Name) -> Result<TicketNo, Refusal>
         requires { self.old.next_ticket < 2 ^ 32 - 1 }
         ensures done { IfOk result
@@ -86,7 +94,7 @@ impl Ledger {
         Ok(ticket)
     }
 
-    /// Removes a ticket without a holder.
+    /// Removes a ticket. `NoTicket` where none has this number, `Funding` where it has a holder.
     pub fn remove_ticket(&mut self, ticket: u64) -> Result<(), Refusal>
         ensures done { IfOk result
             (λ _. (remove_ticket_refusal self.old ticket ≡ None) × (self.new ≡ remove_ticket self.old ticket)) }
@@ -98,7 +106,10 @@ impl Ledger {
         Ok(())
     }
 
-    /// Lets a ticket without a holder fund a currency.
+    /// Lets a ticket fund a currency. `NoTicket` where none has this number, `NoCurrency` where none has this
+    /// name, `Base` where it is `base`, `Funding` where the ticket has a holder, `Crowded` where 16 tickets fund
+    /// the currency, `Cycle` where the currency is the ticket's denomination or backs it, by however many steps,
+    /// `Deep` where nine currencies besides `base` would stand in a chain.
     pub fn fund_currency(&mut self, ticket: u64, currency: Name) -> Result<(), Refusal>
         ensures done { IfOk result
             (λ _. (fund_currency_refusal self.old ticket currency ≡ None)
@@ -111,7 +122,8 @@ impl Ledger {
         Ok(())
     }
 
-    /// Lets a ticket without a holder fund an open flow.
+    /// Lets a ticket fund a flow. `NoTicket` where none has this number, `NoFlow` where no open flow has this
+    /// name, `Funding` where the ticket has a holder, `Crowded` where 16 tickets fund the flow.
     pub fn fund_flow(&mut self, ticket: u64, flow: Name) -> Result<(), Refusal>
         ensures done { IfOk result
             (λ _. (fund_flow_refusal self.old ticket flow ≡ None) × (self.new ≡ fund_flow self.old ticket flow)) }
@@ -123,7 +135,7 @@ impl Ledger {
         Ok(())
     }
 
-    /// Takes a ticket's holder away.
+    /// Takes a ticket's holder away. `NoTicket` where none has this number, `Unfunded` where it has no holder.
     pub fn unfund(&mut self, ticket: u64) -> Result<(), Refusal>
         ensures done { IfOk result
             (λ _. (unfund_refusal self.old ticket ≡ None) × (self.new ≡ unfund self.old ticket)) }
@@ -135,11 +147,13 @@ impl Ledger {
         Ok(())
     }
 
-    /// Opens a flow, which is not active yet. There can be 64.
+    /// Opens a flow, which is not active yet, and answers its number. `Taken` where an open flow has this name,
+    /// `TableFull` where 64 are open, `NoMemory` where a growth was refused.
     pub fn add_flow(&mut self, name: Name) -> Result<FlowNo, Refusal>
         requires { self.old.next_flow < 2 ^ 32 - 1 }
         ensures done { IfOk result
-            (λ n. (add_flow_refusal self.old name ≡ None) × (n ≡ self.old.next_flow) × (self.new ≡ add_flow self.old name)) }
+            (λ n. (add_flow_refusal self.old name ≡ None) × (n ≡ self.old.next_flow)
+            × (self.new ≡ add_flow self.old name)) }
         ensures refused { IfErr result
             (λ e. IsRefused (add_flow_refusal self.old name) e × (self.new ≡ self.old)) }
     {
@@ -148,7 +162,7 @@ impl Ledger {
         Ok(flow)
     }
 
-    /// Closes a flow. Its tickets lose their holder, and its number is not used again.
+    /// Closes a flow, if one of this number is open. Its tickets lose their holder.
     pub fn remove_flow(&mut self, flow: FlowNo)
         ensures { self.new ≡ remove_flow self.old flow }
     {
@@ -156,7 +170,7 @@ impl Ledger {
         self.tables.refresh(&mut self.worths);
     }
 
-    /// Says whether a flow is active.
+    /// Makes a flow active or idle, if one of this number is open.
     pub fn set_active(&mut self, flow: FlowNo, active: bool)
         ensures { self.new ≡ set_active self.old flow active }
     {
@@ -185,7 +199,8 @@ impl Ledger {
         self.tables.next_flow()
     }
 
-    /// The tickets of a flow: what the tickets that fund it are worth, at most 2^20, and 0 where it is idle.
+    /// The tickets of a flow, in units of `base`: what those that fund it are worth together, at most 2^20, and 0
+    /// where it is idle or not open.
     pub fn tickets(&self, flow: FlowNo) -> u32
         ensures { result ≡ tickets self.now flow }
     {

@@ -1,8 +1,10 @@
 //! Rounds over links, one link for each ticket: what is active, where chains lead, and what places are worth.
 //! A round reads each link once, so n rounds stand for all the paths of n steps.
-ghost use Rattle.std.specs.Prelude.{◌≡◌, ℕ, ◌*◌, ◌/◌, ◌+◌, ◌^◌, ◌<◌, ◌≤◌, length, map, true, false, nat_eq, if◌then◌else◌};
-ghost use Rattle.share_ledger.specs.Rounds.{IsTargetWithin, IsLinkWithin, flags_of, numbers_of, leads, stepped, walked, meets, is_long, hushed, total, weight, is_behind, poured, valued};
-ghost use Rattle.share_model.specs.Each.{Each};
+ghost use Rattle.std.specs.Prelude.{◌≡◌, ℕ, ◌*◌, ◌/◌, ◌+◌, ◌^◌, ◌<◌, ◌≤◌, length, map, true, false, nat_eq};
+ghost use Rattle.std.specs.Prelude.{if◌then◌else◌};
+ghost use Rattle.share_ledger.specs.Rounds.{IsTargetWithin, IsLinkWithin, flags_of, numbers_of, leads, stepped, walked};
+ghost use Rattle.share_ledger.specs.Rounds.{meets, is_long, hushed, total, weight, is_behind, poured, valued};
+ghost use Rattle.share_model.specs.lists.Each.{Each};
 
 /// The places of currencies: that of `base`, and 64 more.
 pub(crate) const PLACES: usize = 65;

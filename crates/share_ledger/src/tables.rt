@@ -1,8 +1,9 @@
 //! The tables of the ledger, and what is looked up in them.
-ghost use Rattle.std.specs.Prelude.{◌≡◌, ℕ, ◌+◌, ◌≤◌, length, bytes_eq, nat_eq, map, position, option_map, option_copied};
-ghost use Rattle.share_model.specs.Funding.{base, backing, funding, empty_graph};
-ghost use Rattle.share_model.specs.FundingChanges.{ticket_of, is_currency, flow_named, is_numbered};
-ghost use Rattle.share_model.specs.FundingKept.{IsKept};
+ghost use Rattle.std.specs.Prelude.{◌≡◌, ℕ, ◌+◌, ◌≤◌, length, bytes_eq, nat_eq, map, position, option_map};
+ghost use Rattle.std.specs.Prelude.{option_copied};
+ghost use Rattle.share_model.specs.funding.Graph.{base, backing, funding, empty_graph};
+ghost use Rattle.share_model.specs.funding.Changes.{ticket_of, is_currency, flow_named, is_numbered};
+ghost use Rattle.share_model.specs.funding.Kept.{IsKept};
 ghost use Rattle.share_model.specs.declared.funding.OpenFlow.{OpenFlow};
 
 mod changes;
@@ -44,8 +45,8 @@ pub(crate) struct Tables {
 }
 
 impl Model for Tables {
-    ghost use Rattle.share_model.specs.Funding.{Graph};
-    ghost use Rattle.share_model.specs.FundingKept.{IsKept};
+    ghost use Rattle.share_model.specs.funding.Graph.{Graph};
+    ghost use Rattle.share_model.specs.funding.Kept.{IsKept};
 
     ghost Value = { Graph };
 

@@ -3,6 +3,7 @@
 //! that tell what they gave and took.
 #![tactic(auto)]
 
+mod counts;
 mod funding;
 mod laws;
 mod line;
@@ -20,6 +21,7 @@ pub use funding::{Holder, OpenFlow, Ticket};
 pub use laws::{
     accounts_are_bills, bytes_tell_packets, events_add_bytes, events_are_counted,
     events_keep_sound, numbers_rise, packets_are_kept, packets_are_sent_as_accepted,
+    scripts_are_runs,
 };
 pub use line::Line;
 pub use link::{Book, Part};

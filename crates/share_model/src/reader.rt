@@ -1,8 +1,9 @@
 //! Readers that tell which bytes they gave.
-ghost use Rattle.std.specs.Prelude.{◌≡◌, ◌<◌, ◌≤◌, ℕ, List, Option, length};
-ghost use Rattle.share_model.specs.Given.{Gives};
+ghost use Rattle.std.specs.Prelude.{◌≡◌, ◌≢◌, ◌<◌, ◌≤◌, ℕ, List, Option, length};
+ghost use Rattle.std.specs.IoError.{error_kind};
+ghost use Rattle.share_model.specs.io.Given.{Gives};
 
-use std::io::{ErrorKind, Read};
+use std::io::{Error, ErrorKind, Read};
 
 /// What one read call answered.
 #[derive(Clone, Copy, Debug, PartialEq, Eq)]
@@ -27,7 +28,7 @@ pub trait Source {
     /// The reader before a call, the buffer after it, the answer, and the reader after.
     ghost gives: { Self → List ℕ → Got → Self → Type 0 };
 
-    /// Makes one read call.
+    /// Makes one read call into a buffer that is not empty, and answers what came of it.
     fn take_bytes(&mut self, buffer: &mut [u8]) -> Got
         requires { 0 < length buffer.old }
         ensures { gives self.old buffer.new result self.new };
@@ -36,9 +37,23 @@ pub trait Source {
         → gives before buffer got after → Gives (left before) buffer got (left after) };
 }
 
-/// A reader of std's, of which is known what its own contract tells.
+/// A reader of std's, of which is known what its own contract tells. Bytes are taken by one call of `read` into the
+/// whole buffer, and an error of that call is told as an interruption where it is of the kind `Interrupted`, and else
+/// as a failure.
 #[derive(Drop)]
 pub struct PlainReader<R>(pub R);
+
+// What a failed read call is told as.
+fn refused(error: &Error) -> Got
+    ensures interrupted { error_kind error.now ≡ ErrorKind.Interrupted → result ≡ Got.Interrupted }
+    ensures failed { error_kind error.now ≢ ErrorKind.Interrupted → result ≡ Got.Failed }
+{
+    if error.kind() == ErrorKind::Interrupted {
+        Got::Interrupted
+    } else {
+        Got::Failed
+    }
+}
 
 impl<R: Read> Source for PlainReader<R> {
     ghost left = { λ reader. R.remaining reader.0 };
@@ -51,13 +66,7 @@ impl<R: Read> Source for PlainReader<R> {
         match self.0.read(buffer) {
             Ok(0) => Got::End,
             Ok(count) => Got::Bytes(count),
-            Err(error) => {
-                if error.kind() == ErrorKind::Interrupted {
-                    Got::Interrupted
-                } else {
-                    Got::Failed
-                }
-            }
+            Err(error) => refused(&error),
         }
     }
 }

@@ -1,11 +1,11 @@
 //! A telling writer that answers as it is told to, for tests.
-ghost use Rattle.std.specs.Prelude.{◌≡◌, [], drop};
-ghost use Rattle.share_model.specs.Scripted.{wanted};
-ghost use Rattle.share_model.specs.Told.{Fits};
+ghost use Rattle.std.specs.Prelude.{◌≡◌, [], drop, IfOk};
+ghost use Rattle.share_model.specs.io.Scripted.{wanted};
+ghost use Rattle.share_model.specs.io.Told.{Fits};
 
 use crate::tape::Tape;
 use crate::writer::{Answer, Telling};
-use std::alloc::Global;
+use std::alloc::{AllocError, Global};
 use std::marker::Model;
 
 /// A writer over memory that gives a list of answers in turn, one a call, and then accepts all. An accepted
@@ -19,7 +19,7 @@ pub struct Scripted {
 
 impl Model for Scripted {
     ghost use Rattle.std.specs.Prelude.{drop};
-    ghost use Rattle.share_model.specs.Scripted.{ScriptedState};
+    ghost use Rattle.share_model.specs.io.Scripted.{ScriptedState};
 
     ghost Value = { ScriptedState };
 
@@ -46,11 +46,11 @@ impl Scripted {
         self.tape.bytes()
     }
 
-    /// The count of each call that it accepted.
-    pub fn counts(&self) -> &[usize]
-        ensures { result.now ≡ self.now.told.counts }
+    /// The count of each call that it accepted, or an error where memory is refused.
+    pub fn counts(&self, alloc: Global) -> Result<Vec<usize>, AllocError>
+        ensures { IfOk result (λ counts. counts.items ≡ self.now.told.counts) }
     {
-        self.tape.counts()
+        self.tape.counts(alloc)
     }
 }
 
@@ -76,7 +76,8 @@ fn place_after(script: &[Answer], at: usize) -> usize
 
 impl Telling for Scripted {
     ghost use Rattle.std.specs.Prelude.{Some};
-    ghost use Rattle.share_model.specs.Scripted.{ScriptedAnswers, scripted_tells};
+    ghost use Rattle.share_model.specs.io.Scripted.{ScriptedAnswers};
+    ghost use Rattle.share_model.specs.io.ToldLaws.{scripted_tells};
 
     ghost told = { λ s. Some s.told };
 

@@ -1,25 +1,28 @@
 //! A telling writer over memory.
-ghost use Rattle.std.specs.Prelude.{◌≡◌, [], Some};
-ghost use Rattle.share_model.specs.Told.{Told, TapeAnswers};
+ghost use Rattle.std.specs.Prelude.{◌≡◌, [], Some, IfOk};
+ghost use Rattle.share_model.specs.io.Told.{Told, TapeAnswers};
 
+use crate::counts::Counts;
 use crate::writer::{Answer, Telling};
-use std::alloc::Global;
+use std::alloc::{AllocError, Global};
 use std::marker::Model;
 
 /// A writer over memory: it accepts the whole piece, or fails and stays as it was where memory was refused.
-/// A contract sees it as the bytes that it holds and the count of each call.
+/// A contract sees it as the bytes that it holds and the count of each call. Beside the n bytes of a call it keeps
+/// n / 255 + 1 bytes for their count, so at most twice the bytes written, also where each write is one byte; an empty
+/// piece takes one byte. Where its room is full, it doubles.
 #[derive(Drop)]
 pub struct Tape {
     bytes: Vec<u8>,
-    counts: Vec<usize>,
+    counts: Counts,
 }
 
 impl Model for Tape {
-    ghost use Rattle.share_model.specs.Told.{Told};
+    ghost use Rattle.share_model.specs.io.Told.{Told};
 
     ghost Value = { Told };
 
-    ghost view = { λ tape. record { bytes = tape.bytes.items; counts = tape.counts.items } };
+    ghost view = { λ tape. record { bytes = tape.bytes.items; counts = tape.counts } };
 }
 
 impl Tape {
@@ -29,7 +32,7 @@ impl Tape {
     {
         Tape {
             bytes: Vec::new(alloc),
-            counts: Vec::new(alloc),
+            counts: Counts::new(alloc),
         }
     }
 
@@ -40,18 +43,18 @@ impl Tape {
         self.bytes.as_slice()
     }
 
-    /// The count of each call that it accepted.
-    pub fn counts(&self) -> &[usize]
-        ensures { result.now ≡ self.now.counts }
+    /// The count of each call that it accepted, or an error where memory is refused.
+    pub fn counts(&self, alloc: Global) -> Result<Vec<usize>, AllocError>
+        ensures { IfOk result (λ counts. counts.items ≡ self.now.counts) }
     {
-        self.counts.as_slice()
+        self.counts.to_vec(alloc)
     }
 }
 
 impl Telling for Tape {
     ghost use Rattle.std.specs.Prelude.{Some, refl, ◌∷◌};
-    ghost use Rattle.share_model.specs.Told.{TapeAnswers};
-    ghost use Rattle.share_model.specs.ToldLaws.{tape_tells};
+    ghost use Rattle.share_model.specs.io.Told.{TapeAnswers};
+    ghost use Rattle.share_model.specs.io.ToldLaws.{tape_tells};
 
     ghost told = { Some };
 
@@ -60,13 +63,14 @@ impl Telling for Tape {
     ghost tells = { tape_tells };
 
     fn offer(&mut self, piece: &[u8]) -> Answer {
-        if self.counts.reserve(1).is_err() {
-            return Answer::Failed;
-        }
+        let held = self.bytes.len();
         if self.bytes.extend_from_slice(piece).is_err() {
             return Answer::Failed;
         }
-        self.counts.push_reserved(piece.len());
+        if self.counts.push(piece.len()).is_err() {
+            self.bytes.truncate(held);
+            return Answer::Failed;
+        }
         Answer::Accepted(piece.len())
     }
 }

@@ -1,18 +1,35 @@
 //! Readers and writers in use: what a tape holds, a script that is followed, and std's answers told on.
+
+mod plain;
+
 use crate::{Answer, Got, PlainReader, PlainWriter, Scripted, Source, Tape, Telling};
 use std::io;
 use std::io::{ErrorKind, Read, Write};
 use std::test::Fail;
 
 #[test]
-fn a_tape_holds_each_piece(rt: HostRuntime) {
+fn a_tape_holds_each_piece(rt: HostRuntime) -> Result<(), Fail> {
     let mut tape = Tape::new(rt.alloc());
     assert_eq!(rt; tape.bytes(), b"".as_slice());
     for piece in [b"ab".as_slice(), b"".as_slice(), b"cde".as_slice()] {
         assert_eq!(rt; tape.offer(piece), Answer::Accepted(piece.len()));
     }
     assert_eq!(rt; tape.bytes(), b"abcde".as_slice());
-    assert_eq!(rt; tape.counts(), [2, 0, 3].as_slice());
+    assert_eq!(rt; tape.counts(rt.alloc())?.as_slice(), [2, 0, 3].as_slice());
+    Ok(())
+}
+
+#[test]
+fn a_tape_tells_the_count_of_each_call(rt: HostRuntime) -> Result<(), Fail> {
+    let bytes = [b'x'; 2000];
+    let lengths = [0, 1, 254, 255, 256, 0, 509, 510, 511, 1502, 2000, 1];
+    let mut tape = Tape::new(rt.alloc());
+    for length in lengths {
+        assert_eq!(rt; tape.offer(&bytes[..length]), Answer::Accepted(length));
+    }
+    assert_eq!(rt; tape.bytes().len(), 5799);
+    assert_eq!(rt; tape.counts(rt.alloc())?.as_slice(), lengths.as_slice());
+    Ok(())
 }
 
 #[test]
@@ -38,7 +55,10 @@ fn a_script_is_followed_and_then_all_is_accepted(rt: HostRuntime) -> Result<(), 
         assert_eq!(rt; writer.offer(b"abc"), answer);
     }
     assert_eq!(rt; writer.bytes(), b"ababcabcabc".as_slice());
-    assert_eq!(rt; writer.counts(), [2, 3, 0, 3, 3].as_slice());
+    assert_eq!(rt;
+        writer.counts(rt.alloc())?.as_slice(),
+        [2, 3, 0, 3, 3].as_slice()
+    );
     Ok(())
 }
 

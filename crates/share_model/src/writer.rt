@@ -1,8 +1,9 @@
 //! Writers that tell which bytes they took.
-ghost use Rattle.std.specs.Prelude.{◌≡◌, ℕ, List, Option, None};
-ghost use Rattle.share_model.specs.Told.{Told, WasTold};
+ghost use Rattle.std.specs.Prelude.{◌≡◌, ◌≢◌, ℕ, List, Option, None};
+ghost use Rattle.std.specs.IoError.{error_kind};
+ghost use Rattle.share_model.specs.io.Told.{Told, WasTold};
 
-use std::io::{ErrorKind, Write};
+use std::io::{Error, ErrorKind, Write};
 
 /// What one write call answered.
 #[derive(Clone, Copy, Debug, PartialEq, Eq)]
@@ -25,7 +26,7 @@ pub trait Telling {
     /// The writer before a call, the piece, the answer, and the writer after.
     ghost answers: { Self → List ℕ → Answer → Self → Type 0 };
 
-    /// Makes one write call.
+    /// Makes one write call with this piece, and answers what came of it.
     fn offer(&mut self, piece: &[u8]) -> Answer
         ensures { answers self.old piece.now result self.new };
 
@@ -34,12 +35,26 @@ pub trait Telling {
 }
 
 /// A writer of std's, of which is known what its own contract tells: what its bytes are, where that is known, but no
-/// count of a call.
+/// count of a call. An offer is one call of `write` with the whole piece, and an error of that call is told as an
+/// interruption where it is of the kind `Interrupted`, and else as a failure.
 #[derive(Drop)]
 pub struct PlainWriter<W>(pub W);
 
+// What a failed write call is told as.
+fn refused(error: &Error) -> Answer
+    ensures interrupted { error_kind error.now ≡ ErrorKind.Interrupted → result ≡ Answer.Interrupted }
+    ensures failed { error_kind error.now ≢ ErrorKind.Interrupted → result ≡ Answer.Failed }
+{
+    if error.kind() == ErrorKind::Interrupted {
+        Answer::Interrupted
+    } else {
+        Answer::Failed
+    }
+}
+
 impl<W: Write> Telling for PlainWriter<W> {
-    ghost use Rattle.share_model.specs.Told.{PlainAnswers, plain_tells};
+    ghost use Rattle.share_model.specs.io.Told.{PlainAnswers};
+    ghost use Rattle.share_model.specs.io.ToldLaws.{plain_tells};
 
     ghost told = { λ _. None };
 
@@ -52,13 +67,7 @@ impl<W: Write> Telling for PlainWriter<W> {
     fn offer(&mut self, piece: &[u8]) -> Answer {
         match self.0.write(piece) {
             Ok(count) => Answer::Accepted(count),
-            Err(error) => {
-                if error.kind() == ErrorKind::Interrupted {
-                    Answer::Interrupted
-                } else {
-                    Answer::Failed
-                }
-            }
+            Err(error) => refused(&error),
         }
     }
 }

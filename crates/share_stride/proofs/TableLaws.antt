@@ -1,5 +1,6 @@
 -- What the map of a table's slots answers, before and after a change of one slot.
-use Rattle.std.proofs.Common.{◌≡◌, ◌≢◌, ℕ, zero, suc, ◌<◌, [], ◌∷◌, set, length, IsSome, Option, None, Some, is_some, count_by, cond, inl, inr, refl, sym, ap, subst, ◌∙◌, arith}
+use Rattle.std.proofs.Common.{◌≡◌, ◌≢◌, ℕ, zero, suc, ◌<◌, [], ◌∷◌, set, length, IsSome, Option, None, Some, is_some}
+use Rattle.std.proofs.Common.{count_by, cond, inl, inr, refl, sym, ap, subst, ◌∙◌, arith}
 use Rattle.std.proofs.lemmas.Bool.{cases_eq}
 use Rattle.std.proofs.lemmas.List.{get_or-set_same, get_or-set_other, get_or_past}
 use Rattle.std.proofs.lemmas.List.Sums.{sum_by-cons}
@@ -7,7 +8,8 @@ use Rattle.std.specs.Ordering.{nat_cmp}
 use Rattle.std.specs.Cmp.{nat_cmp_total}
 use Rattle.std.specs.FinMap.{FinMap, get, insert, remove, len, get-empty, len-empty, same_map, nat_cmp-IsAntisymmetric}
 use Rattle.share_model.specs.declared.stride.Client.{Client}
-use Rattle.share_model.specs.MapLaws.{get-insert_same, get-insert_other, get-remove_same, get-remove_other, len-insert_new}
+use Rattle.share_model.specs.stride.MapLaws.{get-insert_same, get-insert_other, get-remove_same, get-remove_other}
+use Rattle.share_model.specs.stride.MapLaws.{len-insert_new}
 use Rattle.share_stride.specs.declared.table.Slot.{Slot}
 use Rattle.share_stride.specs.Table.{Slots, client_map, slot_at, AreDistinct, HoldsFlow, LacksFlow}
 
@@ -17,15 +19,19 @@ AreDistinct-rest head rest distinct = record {
 }
 
 -- the client in a slot is the one that the map has for its flow
-pub client_of_slot : (slots : Slots) → AreDistinct slots → (key : ℕ) (slot : Slot) → slot_at slots key ≡ Some slot → get (client_map slots) slot.flow ≡ Some slot.client
+pub client_of_slot : (slots : Slots) → AreDistinct slots → (key : ℕ) (slot : Slot) → slot_at slots key ≡ Some slot
+    → get (client_map slots) slot.flow ≡ Some slot.client
 client_of_slot [] distinct key slot at = absurd (cc)
 client_of_slot (None ∷ rest) distinct zero slot at = absurd (cc)
-client_of_slot (None ∷ rest) distinct (suc key) slot at = client_of_slot rest (AreDistinct-rest None rest distinct) key slot at
+client_of_slot (None ∷ rest) distinct (suc key) slot at =
+    client_of_slot rest (AreDistinct-rest None rest distinct) key slot at
 client_of_slot (Some a ∷ rest) distinct zero slot at =
     let same : a ≡ slot = cc in
-    subst (λ (s : Slot). get (insert (client_map rest) a.flow a.client) s.flow ≡ Some s.client) same (get-insert_same (client_map rest) a.flow a.client)
+    subst (λ (s : Slot). get (insert (client_map rest) a.flow a.client) s.flow ≡ Some s.client) same
+    (get-insert_same (client_map rest) a.flow a.client)
 client_of_slot (Some a ∷ rest) distinct (suc key) slot at =
-    get-insert_other (client_map rest) a.flow a.client slot.flow (λ e. let zero_is = distinct.same_key (suc key) 0 slot a at refl e in omega arith)
+    get-insert_other (client_map rest) a.flow a.client slot.flow
+    (λ e. let zero_is = distinct.same_key (suc key) 0 slot a at refl e in omega arith)
     ∙ client_of_slot rest (AreDistinct-rest (Some a) rest distinct) key slot at
 
 -- a slot has this client under this flow
@@ -36,12 +42,16 @@ pub record SlotFor (slots : Slots) (flow : ℕ) (client : Client) : Type 0 where
   pub flow_is : slot.flow ≡ flow
   pub client_is : slot.client ≡ client
 
-SlotFor-cons : (head : Option Slot) (rest : Slots) (flow : ℕ) (client : Client) → SlotFor rest flow client → SlotFor (head ∷ rest) flow client
-SlotFor-cons head rest flow client s = record { key = suc s.key; slot = s.slot; found = s.found; flow_is = s.flow_is; client_is = s.client_is }
+SlotFor-cons : (head : Option Slot) (rest : Slots) (flow : ℕ) (client : Client) → SlotFor rest flow client
+    → SlotFor (head ∷ rest) flow client
+SlotFor-cons head rest flow client s =
+    record { key = suc s.key; slot = s.slot; found = s.found; flow_is = s.flow_is; client_is = s.client_is }
 
-pub slot_of_client : (slots : Slots) (flow : ℕ) (client : Client) → get (client_map slots) flow ≡ Some client → SlotFor slots flow client
+pub slot_of_client : (slots : Slots) (flow : ℕ) (client : Client) → get (client_map slots) flow ≡ Some client
+    → SlotFor slots flow client
 slot_of_client [] flow client found = let absent = get-empty {X = Client} nat_cmp flow in absurd (cc)
-slot_of_client (None ∷ rest) flow client found = SlotFor-cons None rest flow client (slot_of_client rest flow client found)
+slot_of_client (None ∷ rest) flow client found =
+    SlotFor-cons None rest flow client (slot_of_client rest flow client found)
 slot_of_client (Some a ∷ rest) flow client found =
     elim (cases_eq flow a.flow) [
       | inl same ↦
@@ -49,7 +59,9 @@ slot_of_client (Some a ∷ rest) flow client found =
           let there = ap (get (insert (client_map rest) a.flow a.client)) same in
           record { key = 0; slot = a; found = refl; flow_is = sym same; client_is = cc }
       | inr apart ↦
-          SlotFor-cons (Some a) rest flow client (slot_of_client rest flow client (sym (get-insert_other (client_map rest) a.flow a.client flow apart) ∙ found))
+          SlotFor-cons (Some a) rest flow client
+          (slot_of_client rest flow client
+          (sym (get-insert_other (client_map rest) a.flow a.client flow apart) ∙ found))
     ]
 
 -- a flow that no slot has is not in the map
@@ -57,21 +69,28 @@ pub absent_of_lack : (slots : Slots) (flow : ℕ) → LacksFlow slots flow → g
 absent_of_lack slots flow lacks =
     elim (get (client_map slots) flow) as (λ o. get (client_map slots) flow ≡ o → o ≡ None) [
       | None ↦ λ _. refl
-      | Some c ↦ λ found. let s = slot_of_client slots flow c found in absurd (lacks.none s.key s.slot s.found s.flow_is)
+      | Some c ↦ λ found. let s = slot_of_client slots flow c found in
+          absurd (lacks.none s.key s.slot s.found s.flow_is)
     ] refl
 
 -- and one that the map does not have has no slot
-pub lack_of_absent : (slots : Slots) (flow : ℕ) → AreDistinct slots → get (client_map slots) flow ≡ None → LacksFlow slots flow
+pub lack_of_absent : (slots : Slots) (flow : ℕ) → AreDistinct slots → get (client_map slots) flow ≡ None
+    → LacksFlow slots flow
 lack_of_absent slots flow distinct absent = record {
-  none = λ key slot found same. let there = client_of_slot slots distinct key slot found in let here = ap (get (client_map slots)) same in absurd (cc);
+  none = λ key slot found same. let there = client_of_slot slots distinct key slot found in
+      let here = ap (get (client_map slots)) same in absurd (cc);
 }
 
 -- slots that agree on a flow give it one client
-agree : (xs ys : Slots) (flow : ℕ) → AreDistinct xs → AreDistinct ys → ((key : ℕ) (slot : Slot) → slot_at xs key ≡ Some slot → slot.flow ≡ flow → slot_at ys key ≡ Some slot) → ((key : ℕ) (slot : Slot) → slot_at ys key ≡ Some slot → slot.flow ≡ flow → slot_at xs key ≡ Some slot) → get (client_map xs) flow ≡ get (client_map ys) flow
+agree : (xs ys : Slots) (flow : ℕ) → AreDistinct xs → AreDistinct ys
+    → ((key : ℕ) (slot : Slot) → slot_at xs key ≡ Some slot → slot.flow ≡ flow → slot_at ys key ≡ Some slot)
+    → ((key : ℕ) (slot : Slot) → slot_at ys key ≡ Some slot → slot.flow ≡ flow → slot_at xs key ≡ Some slot)
+    → get (client_map xs) flow ≡ get (client_map ys) flow
 agree xs ys flow distinct_xs distinct_ys to back =
     elim (get (client_map xs) flow) as (λ o. get (client_map xs) flow ≡ o → o ≡ get (client_map ys) flow) [
       | None ↦ λ absent. sym (absent_of_lack ys flow (record {
-        none = λ key slot found same. (lack_of_absent xs flow distinct_xs absent).none key slot (back key slot found same) same;
+        none = λ key slot found same. (lack_of_absent xs flow distinct_xs absent).none key slot
+            (back key slot found same) same;
       }))
       | Some c ↦ λ found.
           let s = slot_of_client xs flow c found in
@@ -90,7 +109,8 @@ pub record ChangesSlot (old new : Slots) (key : ℕ) (slot : Option Slot) : Type
 pub record IsOnlyAt (slots : Slots) (flow key : ℕ) : Type 0 where
   pub only : (k : ℕ) (slot : Slot) → slot_at slots k ≡ Some slot → slot.flow ≡ flow → k ≡ key
 
-pub only_where_held : (slots : Slots) (flow key : ℕ) → AreDistinct slots → HoldsFlow slots flow key → IsOnlyAt slots flow key
+pub only_where_held : (slots : Slots) (flow key : ℕ) → AreDistinct slots → HoldsFlow slots flow key
+    → IsOnlyAt slots flow key
 only_where_held slots flow key distinct holds = record {
   only = λ k slot found same. distinct.same_key k key slot holds.slot found holds.found (same ∙ sym holds.has);
 }
@@ -99,7 +119,8 @@ pub only_where_lacking : (slots : Slots) (flow key : ℕ) → LacksFlow slots fl
 only_where_lacking slots flow key lacks = record { only = λ k slot found same. absurd (lacks.none k slot found same) }
 
 -- a flow that is written where it stood, or anew, still has one slot
-pub AreDistinct-write : (old new : Slots) (key : ℕ) (slot : Slot) → AreDistinct old → IsOnlyAt old slot.flow key → ChangesSlot old new key (Some slot) → AreDistinct new
+pub AreDistinct-write : (old new : Slots) (key : ℕ) (slot : Slot) → AreDistinct old → IsOnlyAt old slot.flow key
+    → ChangesSlot old new key (Some slot) → AreDistinct new
 AreDistinct-write old new key slot distinct only changes = record {
   same_key = λ i j a b at_i at_j same.
       elim (cases_eq i key) [
@@ -137,7 +158,9 @@ AreDistinct-removal old new key distinct changes = record {
         ]
 
 -- to write a client is to insert it in the map
-pub client_map-write : (old new : Slots) (key : ℕ) (slot : Slot) → AreDistinct old → IsOnlyAt old slot.flow key → ((was : Slot) → slot_at old key ≡ Some was → was.flow ≡ slot.flow) → ChangesSlot old new key (Some slot) → client_map new ≡ insert (client_map old) slot.flow slot.client
+pub client_map-write : (old new : Slots) (key : ℕ) (slot : Slot) → AreDistinct old → IsOnlyAt old slot.flow key
+    → ((was : Slot) → slot_at old key ≡ Some was → was.flow ≡ slot.flow) → ChangesSlot old new key (Some slot)
+    → client_map new ≡ insert (client_map old) slot.flow slot.client
 client_map-write old new key slot distinct only stood changes =
     let distinct_new = AreDistinct-write old new key slot distinct only changes in
     same_map nat_cmp_total nat_cmp-IsAntisymmetric _ _ (λ flow.
@@ -152,7 +175,8 @@ client_map-write old new key slot distinct only stood changes =
           ∙ sym (get-insert_other (client_map old) slot.flow slot.client flow apart)
     ])
   where
-    to : (flow : ℕ) → flow ≢ slot.flow → (k : ℕ) (s : Slot) → slot_at new k ≡ Some s → s.flow ≡ flow → slot_at old k ≡ Some s
+    to : (flow : ℕ) → flow ≢ slot.flow → (k : ℕ) (s : Slot) → slot_at new k ≡ Some s → s.flow ≡ flow
+        → slot_at old k ≡ Some s
     to flow apart k s at same =
         elim (cases_eq k key) [
           | inl is ↦
@@ -162,7 +186,8 @@ client_map-write old new key slot distinct only stood changes =
           | inr differs ↦ sym (changes.others k differs) ∙ at
         ]
 
-    back : (flow : ℕ) → flow ≢ slot.flow → (k : ℕ) (s : Slot) → slot_at old k ≡ Some s → s.flow ≡ flow → slot_at new k ≡ Some s
+    back : (flow : ℕ) → flow ≢ slot.flow → (k : ℕ) (s : Slot) → slot_at old k ≡ Some s → s.flow ≡ flow
+        → slot_at new k ≡ Some s
     back flow apart k s at same =
         elim (cases_eq k key) [
           | inl is ↦ absurd (apart (sym same ∙ stood s (sym (ap (slot_at old) is) ∙ at)))
@@ -170,7 +195,8 @@ client_map-write old new key slot distinct only stood changes =
         ]
 
 -- to remove a slot is to remove its flow from the map
-pub client_map-removal : (old new : Slots) (flow key : ℕ) → AreDistinct old → HoldsFlow old flow key → ChangesSlot old new key None → client_map new ≡ remove (client_map old) flow
+pub client_map-removal : (old new : Slots) (flow key : ℕ) → AreDistinct old → HoldsFlow old flow key
+    → ChangesSlot old new key None → client_map new ≡ remove (client_map old) flow
 client_map-removal old new flow key distinct holds changes =
     let distinct_new = AreDistinct-removal old new key distinct changes in
     same_map nat_cmp_total nat_cmp-IsAntisymmetric _ _ (λ q.
@@ -192,7 +218,11 @@ client_map-removal old new flow key distinct holds changes =
     kept k s at = sym (changes.others k (not_there k s at)) ∙ at
 
     lacking : LacksFlow new flow
-    lacking = record { none = λ k s at same. not_there k s at ((only_where_held old flow key distinct holds).only k s (kept k s at) same) }
+    lacking =
+        record {
+          none = λ k s at same. not_there k s at
+              ((only_where_held old flow key distinct holds).only k s (kept k s at) same);
+        }
 
     back : (q : ℕ) → q ≢ flow → (k : ℕ) (s : Slot) → slot_at old k ≡ Some s → s.flow ≡ q → slot_at new k ≡ Some s
     back q apart k s at same =
@@ -211,54 +241,84 @@ len-client_map [] distinct = len-empty nat_cmp Client
 len-client_map (None ∷ rest) distinct =
     len-client_map rest (AreDistinct-rest None rest distinct)
 len-client_map (Some a ∷ rest) distinct =
-    let absent = absent_of_lack rest a.flow (record { none = λ k s at same. let e = distinct.same_key (suc k) 0 s a at refl same in omega arith }) in
-    omega (arith, len-insert_new (client_map rest) a.flow a.client absent, len-client_map rest (AreDistinct-rest (Some a) rest distinct), sum_by-cons (λ o. cond (is_some o) 1 0) (Some a) rest)
+    let absent = absent_of_lack rest a.flow
+    (record { none = λ k s at same. let e = distinct.same_key (suc k) 0 s a at refl same in omega arith }) in
+    omega (
+      arith,
+      len-insert_new (client_map rest) a.flow a.client absent,
+      len-client_map rest (AreDistinct-rest (Some a) rest distinct),
+      sum_by-cons (λ o. cond (is_some o) 1 0) (Some a) rest,
+    )
 
 -- ---- The same, for a table whose view is a map m
 
-ChangesSlot-set : (slots : Slots) (key : ℕ) (was : Slot) (slot : Option Slot) → slot_at slots key ≡ Some was → ChangesSlot slots (set slots key slot) key slot
+ChangesSlot-set : (slots : Slots) (key : ℕ) (was : Slot) (slot : Option Slot) → slot_at slots key ≡ Some was
+    → ChangesSlot slots (set slots key slot) key slot
 ChangesSlot-set slots key was slot at =
     let within : key < length slots = grind (arith, get_or_past) in
-    record { changed = get_or-set_same slots key slot None within; others = λ other differs. get_or-set_other slots key other slot None differs }
+    record {
+      changed = get_or-set_same slots key slot None within;
+      others = λ other differs. get_or-set_other slots key other slot None differs;
+    }
 
-pub lacking_in_view : (slots : Slots) (m : FinMap nat_cmp Client) (flow : ℕ) → client_map slots ≡ m → LacksFlow slots flow → get m flow ≡ None
+pub lacking_in_view : (slots : Slots) (m : FinMap nat_cmp Client) (flow : ℕ) → client_map slots ≡ m
+    → LacksFlow slots flow → get m flow ≡ None
 lacking_in_view slots m flow view lacks = ap (λ n. get n flow) (sym view) ∙ absent_of_lack slots flow lacks
 
-pub lacking_never : (slots : Slots) (m : FinMap nat_cmp Client) (flow : ℕ) → client_map slots ≡ m → LacksFlow slots flow → IsSome (get m flow) → ⊥
+pub lacking_never : (slots : Slots) (m : FinMap nat_cmp Client) (flow : ℕ) → client_map slots ≡ m → LacksFlow slots flow
+    → IsSome (get m flow) → ⊥
 lacking_never slots m flow view lacks there =
-    let none : IsSome {T = Client} None = subst (λ (o : Option Client). IsSome o) (lacking_in_view slots m flow view lacks) there in
+    let none : IsSome {T = Client} None =
+    subst (λ (o : Option Client). IsSome o) (lacking_in_view slots m flow view lacks) there in
     cc
 
-pub found_in_view : (slots : Slots) (m : FinMap nat_cmp Client) (flow key : ℕ) (slot : Slot) → AreDistinct slots → client_map slots ≡ m → HoldsFlow slots flow key → Some slot ≡ slot_at slots key → Some slot.client ≡ get m flow
+pub found_in_view : (slots : Slots) (m : FinMap nat_cmp Client) (flow key : ℕ) (slot : Slot) → AreDistinct slots
+    → client_map slots ≡ m → HoldsFlow slots flow key → Some slot ≡ slot_at slots key → Some slot.client ≡ get m flow
 found_in_view slots m flow key slot distinct view holds at =
     let is : Some slot ≡ Some holds.slot = at ∙ holds.found in
     let flow_is : slot.flow ≡ holds.slot.flow = cc in
-    sym (client_of_slot slots distinct key slot (sym at)) ∙ ap (get (client_map slots)) (flow_is ∙ holds.has) ∙ ap (λ n. get n flow) view
+    sym (client_of_slot slots distinct key slot (sym at)) ∙ ap (get (client_map slots)) (flow_is ∙ holds.has)
+    ∙ ap (λ n. get n flow) view
 
-same_flow : (slots : Slots) (flow key : ℕ) (was : Slot) → HoldsFlow slots flow key → slot_at slots key ≡ Some was → was.flow ≡ flow
+same_flow : (slots : Slots) (flow key : ℕ) (was : Slot) → HoldsFlow slots flow key → slot_at slots key ≡ Some was
+    → was.flow ≡ flow
 same_flow slots flow key was holds at =
     let is : Some was ≡ Some holds.slot = sym at ∙ holds.found in
     let flow_is : was.flow ≡ holds.slot.flow = cc in
     flow_is ∙ holds.has
 
-pub AreDistinct-set : (slots : Slots) (flow key : ℕ) (was : Slot) (client : Client) → AreDistinct slots → HoldsFlow slots flow key → slot_at slots key ≡ Some was → AreDistinct (set slots key (Some (record { flow = was.flow; client = client })))
+pub AreDistinct-set : (slots : Slots) (flow key : ℕ) (was : Slot) (client : Client) → AreDistinct slots
+    → HoldsFlow slots flow key → slot_at slots key ≡ Some was
+    → AreDistinct (set slots key (Some (record { flow = was.flow; client = client })))
 AreDistinct-set slots flow key was client distinct holds at =
     let is = same_flow slots flow key was holds at in
-    AreDistinct-write slots _ key (record { flow = was.flow; client = client }) distinct (rw is (only_where_held slots flow key distinct holds)) (ChangesSlot-set slots key was _ at)
+    AreDistinct-write slots _ key (record { flow = was.flow; client = client }) distinct
+    (rw is (only_where_held slots flow key distinct holds)) (ChangesSlot-set slots key was _ at)
 
-pub client_map-set : (slots : Slots) (m : FinMap nat_cmp Client) (flow key : ℕ) (was : Slot) (client : Client) → AreDistinct slots → client_map slots ≡ m → HoldsFlow slots flow key → slot_at slots key ≡ Some was → client_map (set slots key (Some (record { flow = was.flow; client = client }))) ≡ insert m flow client
+pub client_map-set : (slots : Slots) (m : FinMap nat_cmp Client) (flow key : ℕ) (was : Slot) (client : Client)
+    → AreDistinct slots → client_map slots ≡ m → HoldsFlow slots flow key → slot_at slots key ≡ Some was
+    → client_map (set slots key (Some (record { flow = was.flow; client = client }))) ≡ insert m flow client
 client_map-set slots m flow key was client distinct view holds at =
     let is = same_flow slots flow key was holds at in
-    client_map-write slots _ key (record { flow = was.flow; client = client }) distinct (rw is (only_where_held slots flow key distinct holds)) (λ s s_at. same_flow slots flow key s holds s_at ∙ sym is) (ChangesSlot-set slots key was _ at)
+    client_map-write slots _ key (record { flow = was.flow; client = client }) distinct
+    (rw is (only_where_held slots flow key distinct holds)) (λ s s_at. same_flow slots flow key s holds s_at ∙ sym is)
+    (ChangesSlot-set slots key was _ at)
     ∙ ap (λ f. insert (client_map slots) f client) is
     ∙ ap (λ n. insert n flow client) view
 
 -- a slot is filled that was empty, by a flow that the map does not have
-pub AreDistinct-add : (old new : Slots) (m : FinMap nat_cmp Client) (key : ℕ) (slot : Slot) → AreDistinct old → client_map old ≡ m → get m slot.flow ≡ None → ChangesSlot old new key (Some slot) → AreDistinct new
+pub AreDistinct-add : (old new : Slots) (m : FinMap nat_cmp Client) (key : ℕ) (slot : Slot) → AreDistinct old
+    → client_map old ≡ m → get m slot.flow ≡ None → ChangesSlot old new key (Some slot) → AreDistinct new
 AreDistinct-add old new m key slot distinct view absent changes =
-    AreDistinct-write old new key slot distinct (only_where_lacking old slot.flow key (lack_of_absent old slot.flow distinct (ap (λ n. get n slot.flow) view ∙ absent))) changes
+    AreDistinct-write old new key slot distinct
+    (only_where_lacking old slot.flow key
+    (lack_of_absent old slot.flow distinct (ap (λ n. get n slot.flow) view ∙ absent))) changes
 
-pub client_map-add : (old new : Slots) (m : FinMap nat_cmp Client) (key : ℕ) (slot : Slot) → AreDistinct old → client_map old ≡ m → get m slot.flow ≡ None → slot_at old key ≡ None → ChangesSlot old new key (Some slot) → client_map new ≡ insert m slot.flow slot.client
+pub client_map-add : (old new : Slots) (m : FinMap nat_cmp Client) (key : ℕ) (slot : Slot) → AreDistinct old
+    → client_map old ≡ m → get m slot.flow ≡ None → slot_at old key ≡ None → ChangesSlot old new key (Some slot)
+    → client_map new ≡ insert m slot.flow slot.client
 client_map-add old new m key slot distinct view absent vacant changes =
-    client_map-write old new key slot distinct (only_where_lacking old slot.flow key (lack_of_absent old slot.flow distinct (ap (λ n. get n slot.flow) view ∙ absent))) (λ was at. absurd (cc)) changes
+    client_map-write old new key slot distinct
+    (only_where_lacking old slot.flow key
+    (lack_of_absent old slot.flow distinct (ap (λ n. get n slot.flow) view ∙ absent))) (λ was at. absurd (cc)) changes
     ∙ ap (λ n. insert n slot.flow slot.client) view

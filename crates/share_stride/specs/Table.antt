@@ -1,9 +1,11 @@
 -- The slots of a table: each holds a client with its flow number, or nothing.
-use Rattle.std.specs.Prelude.{◌≡◌, ◌≢◌, ℕ, ◌≤◌, ◌<ℤ◌, List, [], ◌∷◌, Option, None, Some, slice_index_or, IsTrue, ◌⊎◌}
+use Rattle.std.specs.Prelude.{◌≡◌, ◌≢◌, ℕ, ◌≤◌, ◌<ℤ◌, List, [], ◌∷◌, Option, None, Some, slice_index_or, unwrap_or}
+use Rattle.std.specs.Prelude.{IsTrue, ◌⊎◌}
 use Rattle.std.specs.Ordering.{nat_cmp}
-use Rattle.std.specs.FinMap.{FinMap, empty, insert}
+use Rattle.std.specs.FinMap.{FinMap, empty, get, insert}
+use Rattle.slab.specs.Slab.{Slab}
 use Rattle.share_model.specs.declared.stride.Client.{Client}
-use Rattle.share_model.specs.Stride.{Precedes}
+use Rattle.share_model.specs.stride.Moves.{Precedes, new_client}
 use Rattle.share_stride.specs.declared.table.Slot.{Slot}
 
 abbrev pub Slots : Type 0
@@ -15,6 +17,10 @@ client_map [] = empty
 client_map (None ∷ rest) = client_map rest
 client_map (Some slot ∷ rest) = insert (client_map rest) slot.flow slot.client
 
+-- the client of a flow, or one that never competed
+abbrev pub client_of : FinMap nat_cmp Client → ℕ → Client
+client_of clients flow = unwrap_or (get clients flow) new_client
+
 -- the slot under a key
 abbrev pub slot_at : Slots → ℕ → Option Slot
 slot_at slots key = slice_index_or slots key None
@@ -22,6 +28,11 @@ slot_at slots key = slice_index_or slots key None
 -- no flow has two slots
 pub record AreDistinct (slots : Slots) : Type 0 where
   pub same_key : (i j : ℕ) (a b : Slot) → slot_at slots i ≡ Some a → slot_at slots j ≡ Some b → a.flow ≡ b.flow → i ≡ j
+
+-- no flow has two slots, and 64 clients fit with no more memory
+pub record IsWellFormed (slab : Slab Slot) : Type 0 where
+  pub distinct : AreDistinct slab.slots
+  pub room : 64 ≤ slab.capacity
 
 -- the slot under this key has this flow
 pub record HoldsFlow (slots : Slots) (flow key : ℕ) : Type 0 where
@@ -46,7 +57,8 @@ IsEarlier first slot result =
 
 -- the first one so far is this slot, or precedes it
 abbrev pub IsNoLater : Slot → Slot → Type 0
-IsNoLater first slot = (first.client.pass <ℤ slot.client.pass) ⊎ ((first.client.pass ≡ slot.client.pass) × (first.flow ≤ slot.flow))
+IsNoLater first slot =
+    (first.client.pass <ℤ slot.client.pass) ⊎ ((first.client.pass ≡ slot.client.pass) × (first.flow ≤ slot.flow))
 
 abbrev pub IsFirstSlot : Slots → Option Slot → Type 0
 IsFirstSlot slots None = (key : ℕ) (slot : Slot) → slot_at slots key ≡ Some slot → IsTrue slot.client.competes → ⊥

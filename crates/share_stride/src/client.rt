@@ -1,6 +1,8 @@
 //! How a move changes one client.
 ghost use Rattle.std.specs.Prelude.{◌≡◌, ◌*◌, ◌/◌, ◌^◌, ◌<◌, ◌≤◌, pos, ◌-ℤ◌};
-ghost use Rattle.share_model.specs.Stride.{stride_of, new_client as model_new_client, rescaled as model_rescaled, joined as model_joined, left as model_left, charged as model_charged, position as model_position};
+ghost use Rattle.share_model.specs.stride.Moves.{stride_of, new_client as model_new_client, rescaled as model_rescaled};
+ghost use Rattle.share_model.specs.stride.Moves.{joined as model_joined, left as model_left, charged as model_charged};
+ghost use Rattle.share_model.specs.stride.Moves.{position as model_position};
 ghost use Rattle.share_stride.specs.Fits.{IsWithin};
 
 use share_model::{Client, Position};

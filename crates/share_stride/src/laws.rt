@@ -1,7 +1,7 @@
 //! Laws of the queue's definitions. Each is the contract of a function that does nothing.
-ghost use Rattle.share_model.specs.StrideLaws.{MovesCommute, NextIsUnique};
-ghost use Rattle.share_model.specs.StrideRuns.{RunsStayClose};
-ghost use Rattle.share_model.specs.StrideShares.{SharesStayClose};
+ghost use Rattle.share_model.specs.stride.Moves.{MovesCommute, NextIsUnique};
+ghost use Rattle.share_model.specs.stride.Runs.{RunsStayClose};
+ghost use Rattle.share_model.specs.stride.Shares.{SharesStayClose};
 
 /// Moves of two flows between which no time passes give one state in either order.
 pub fn moves_commute()

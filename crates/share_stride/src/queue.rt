@@ -1,22 +1,28 @@
 //! The queue of all clients.
 ghost use Rattle.std.specs.Prelude.{◌≡◌, ◌+◌, ◌^◌, ◌<◌, ◌≤◌, ◌↔◌, false, IsTrue, IsSome, IfOk, IfErr, OnOk};
 ghost use Rattle.std.specs.FinMap as map;
-ghost use Rattle.share_base.specs.Refusal.{IsRefused};
-ghost use Rattle.share_model.specs.Stride.{start, add_refusal, add as model_add, client as model_client, update as model_update, join as model_join, leave as model_leave, modify as model_modify, charge as model_charge, remove as model_remove, position as model_position, global_part, next, IsNext};
-ghost use Rattle.share_model.specs.StrideBound.{IsSound, IsNearGlobalPass};
+ghost use Rattle.share_model.specs.stride.Moves.{start, add_refusal, global_part, next, IsNext};
+ghost use Rattle.share_model.specs.stride.Moves.{client as model_client, position as model_position};
+ghost use Rattle.share_model.specs.stride.Moves.{add as model_add, remove as model_remove, update as model_update};
+ghost use Rattle.share_model.specs.stride.Moves.{join as model_join, leave as model_leave, modify as model_modify};
+ghost use Rattle.share_model.specs.stride.Moves.{charge as model_charge};
+ghost use Rattle.share_model.specs.stride.Bound.{IsSound, IsNearGlobalPass};
 
 use crate::client;
-use crate::table::Table;
+use crate::table::{MAX_CLIENTS, Table};
 use share_base::{FlowNo, Refusal};
 use share_model::{GlobalPart, Position};
 use std::alloc::Global;
 use std::marker::Model;
 
-/// How many clients a queue holds at most.
-const MAX_CLIENTS: usize = 64;
-
 /// The clients of a link, of which those that compete are served in proportion to their tickets. A contract sees
 /// the clients by their flow numbers, the global pass and the clock.
+///
+/// A client has 1 to 2^20 tickets, and a stride of 2^40 divided by them, rounded down. Passes and remains are on one
+/// scale, where 1024 units are worth a stride: a charge of `u` units adds `stride * u / 1024`, rounded down, to a
+/// client's pass while it competes, and to its remain while it does not. The remain is by how much the pass was ahead
+/// of the global pass when the client left. The global pass is that of a client that had all tickets of those that
+/// compete. The clock counts the units that all clients were charged.
 #[derive(Drop)]
 pub struct Queue {
     clients: Table,
@@ -28,7 +34,7 @@ pub struct Queue {
 }
 
 impl Model for Queue {
-    ghost use Rattle.share_model.specs.Stride.{Stride, coded_stride};
+    ghost use Rattle.share_model.specs.stride.Moves.{Stride, coded_stride};
     ghost use Rattle.share_stride.specs.Queue.{IsKept};
 
     ghost Value = { Stride };
@@ -51,39 +57,35 @@ impl Model for Queue {
 }
 
 impl Queue {
-    /// An empty queue. `NoMemory` where its first room was refused.
+    /// An empty queue with room for 64 clients, its clock at 0. Refused as `NoMemory` where the memory for that room is
+    /// not given. No later call takes memory.
     pub fn new(alloc: Global) -> Result<Queue, Refusal>
         ensures ok { IfOk result (λ queue. queue ≡ start) }
-        ensures refused { IfErr result (IsRefused None) }
+        ensures refused { IfErr result (λ e. e ≡ Refusal.NoMemory) }
     {
-        match Table::new(alloc) {
-            Err(_) => Err(Refusal::NoMemory),
-            Ok(clients) => Ok(Queue {
-                clients,
-                tickets: 0,
-                pass: 0,
-                last: 0,
-                clock: 0,
-            }),
-        }
+        Ok(Queue {
+            clients: Table::new(alloc)?,
+            tickets: 0,
+            pass: 0,
+            last: 0,
+            clock: 0,
+        })
     }
 
-    /// Adds the client of a flow, which does not compete yet. `TableFull` where there are 64, `NoMemory` where a growth
-    /// was refused; the queue is unchanged then.
+    /// Adds the client of a flow that has none. It has no tickets and does not compete. Refused as `TableFull` where
+    /// there are 64 clients, and then nothing changes.
     pub fn add(&mut self, flow: FlowNo) -> Result<(), Refusal>
         requires { map.get self.old.clients flow ≡ None }
         ensures ok { OnOk result
             ((self.new ≡ model_add self.old flow) × (add_refusal self.old ≡ None)) }
         ensures refused { IfErr result
-            (λ e. (self.new ≡ self.old) × IsRefused (add_refusal self.old) e) }
+            (λ e. (self.new ≡ self.old) × (add_refusal self.old ≡ Some e)) }
     {
         if self.clients.len() >= MAX_CLIENTS {
             return Err(Refusal::TableFull);
         }
-        match self.clients.add(flow, client::new_client()) {
-            Err(_) => Err(Refusal::NoMemory),
-            Ok(()) => Ok(()),
-        }
+        self.clients.add(flow, client::new_client());
+        Ok(())
     }
 
     // Moves the global pass on by what was charged since the last update.
@@ -94,7 +96,9 @@ impl Queue {
         self.last = self.clock;
     }
 
-    /// Lets a client that does not compete join with 1 to 2^20 tickets.
+    /// Lets a client that does not compete join with 1 to 2^20 tickets. Its pass begins at the global pass plus its
+    /// remain, which is multiplied by the new stride and divided by the old one, rounded down; the first remain of a
+    /// client is its stride. It refuses nothing.
     pub fn join(&mut self, flow: FlowNo, tickets: u32)
         requires there { IsSome (map.get self.old.clients flow) }
         requires idle { (model_client self.old flow).competes ≡ false }
@@ -103,33 +107,22 @@ impl Queue {
         ensures { self.new ≡ model_join self.old flow tickets }
     {
         self.update();
-        match self.clients.get(flow) {
-            None => {}
-            Some(client) => {
-                self.tickets += u64::from(tickets);
-                self.clients
-                    .set(flow, client::joined(self.pass, &client, tickets));
-            }
-        }
+        self.clients.join(flow, self.pass, tickets);
+        self.tickets += u64::from(tickets);
     }
 
-    /// Lets a client that competes leave. It keeps its tickets and its stride.
+    /// Lets a client that competes leave. It keeps its tickets, its stride, and as its remain by how much its pass is
+    /// ahead of the global pass, below zero where it is behind. It refuses nothing.
     pub fn leave(&mut self, flow: FlowNo)
         requires there { IsSome (map.get self.old.clients flow) }
         requires competes { IsTrue (model_client self.old flow).competes }
         ensures { self.new ≡ model_leave self.old flow }
     {
         self.update();
-        match self.clients.get(flow) {
-            None => {}
-            Some(client) => {
-                self.tickets -= u64::from(client.tickets);
-                self.clients.set(flow, client::left(self.pass, &client));
-            }
-        }
+        self.tickets -= u64::from(self.clients.leave(flow, self.pass));
     }
 
-    /// Gives a client that competes other tickets, 1 to 2^20: it leaves, and joins with them.
+    /// Gives a client that competes other tickets, 1 to 2^20: it leaves, and joins with them. It refuses nothing.
     pub fn modify(&mut self, flow: FlowNo, tickets: u32)
         requires there { IsSome (map.get self.old.clients flow) }
         requires competes { IsTrue (model_client self.old flow).competes }
@@ -137,11 +130,13 @@ impl Queue {
         requires few { tickets ≤ 2 ^ 20 }
         ensures { self.new ≡ model_modify self.old flow tickets }
     {
-        self.leave(flow);
-        self.join(flow, tickets);
+        self.update();
+        let before = self.clients.modify(flow, self.pass, tickets);
+        self.tickets = self.tickets - u64::from(before) + u64::from(tickets);
     }
 
-    /// Charges a client so many units, whether it competes or ceased to. The clock moves on by them, to 2^40 at most.
+    /// Charges a client so many units, whether it competes or not, and moves the clock on by as many, to 2^40 at most.
+    /// The client's pass or remain grows by `stride * units / 1024`, rounded down. It refuses nothing.
     pub fn charge(&mut self, flow: FlowNo, units: u64)
         requires there { IsSome (map.get self.old.clients flow) }
         requires clock { self.old.clock + units ≤ 2 ^ 40 }
@@ -151,7 +146,7 @@ impl Queue {
         self.clock += units;
     }
 
-    /// Removes a client that does not compete.
+    /// Removes a client that does not compete. What it was charged stays in the clock. It refuses nothing.
     pub fn remove(&mut self, flow: FlowNo)
         requires there { IsSome (map.get self.old.clients flow) }
         requires idle { (model_client self.old flow).competes ≡ false }
@@ -161,6 +156,7 @@ impl Queue {
     }
 
     /// The next flow: of those that compete, the one with the least pass, and of these the one with the least number.
+    /// `None` where no client competes.
     pub fn least(&self) -> Option<FlowNo>
         ensures next { result ≡ next self.now.clients }
         ensures first { IsNext self.now.clients result }
@@ -168,14 +164,14 @@ impl Queue {
         self.clients.least()
     }
 
-    /// Whether the flow has a client.
+    /// Whether the flow has a client, one that competes or not.
     pub fn contains(&self, flow: FlowNo) -> bool
         ensures { IsTrue result ↔ IsSome (map.get self.now.clients flow) }
     {
         self.clients.get(flow).is_some()
     }
 
-    /// Where the client of a flow stands.
+    /// Where the client of a flow stands: its tickets, its stride, and its pass while it competes, else its remain.
     pub fn position(&self, flow: FlowNo) -> Position
         requires { IsSome (map.get self.now.clients flow) }
         ensures value { result ≡ model_position (model_client self.now flow) }
@@ -189,7 +185,8 @@ impl Queue {
         }
     }
 
-    /// What all clients share.
+    /// What all clients share: the tickets of those that compete, the global pass, the clock at the last update of the
+    /// global pass, and the clock, in units. Each join and each leave updates the global pass.
     pub fn global(&self) -> GlobalPart
         ensures value { result ≡ global_part self.now }
 

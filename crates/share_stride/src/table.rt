@@ -1,10 +1,11 @@
 //! The clients of a queue by their flow numbers, in a slab.
-ghost use Rattle.std.specs.Prelude.{◌≡◌, ◌≤◌, ◌^◌, ◌↔◌, IsTrue, IsSome, IfSome, IfNone, IfOk, OnOk, OnErr, option_copied, unwrap_or};
+ghost use Rattle.std.specs.Prelude.{◌≡◌, ◌<◌, ◌≤◌, ◌*◌, ◌^◌, ◌↔◌, pos, ◌-ℤ◌};
+ghost use Rattle.std.specs.Prelude.{IsTrue, IsSome, IfSome, IfNone, IfOk, option_copied};
 ghost use Rattle.std.specs.FinMap as map;
 ghost use Rattle.std.specs.Option.{ForSome};
-ghost use Rattle.share_model.specs.Stride.{IsNext, new_client, charged, position};
+ghost use Rattle.share_model.specs.stride.Moves.{IsNext, joined, left, charged, position};
 ghost use Rattle.share_stride.specs.Fits.{IsWithin};
-ghost use Rattle.share_stride.specs.Table.{HoldsFlow, LacksFlow, ComesBefore, IsEarlier, IsFirstSlot};
+ghost use Rattle.share_stride.specs.Table.{client_of, HoldsFlow, LacksFlow, ComesBefore, IsEarlier, IsFirstSlot};
 
 use crate::client;
 use share_base::FlowNo;
@@ -13,8 +14,8 @@ use slab::Slab;
 use std::alloc::{AllocError, Global};
 use std::marker::Model;
 
-/// How many clients have room from the start.
-const FIRST_ROOM: usize = 4;
+/// How many clients a table holds at most.
+pub(crate) const MAX_CLIENTS: usize = 64;
 
 #[derive(Clone, Copy, Debug)]
 pub(crate) struct Slot {
@@ -33,26 +34,26 @@ impl Model for Table {
     ghost use Rattle.std.specs.Coded.{coded_ℕ};
     ghost use Rattle.std.specs.FinMap as map;
     ghost use Rattle.share_model.specs.declared.stride.Client.{Client as ClientValue};
-    ghost use Rattle.share_model.specs.Stride.{coded_client};
+    ghost use Rattle.share_model.specs.stride.Moves.{coded_client};
 
     ghost Value = { map.FinMap nat_cmp ClientValue };
 
     ghost coded = { map.code coded_ℕ coded_client };
 
-    ghost use Rattle.share_stride.specs.Table.{client_map, AreDistinct};
+    ghost use Rattle.share_stride.specs.Table.{client_map, IsWellFormed};
 
     ghost view = { λ table. client_map table.slots.slots };
 
-    ghost invariant = { λ table. AreDistinct table.slots.slots };
+    ghost invariant = { λ table. IsWellFormed table.slots };
 }
 
 impl Table {
-    /// An empty table with room for its first clients.
+    /// An empty table with room for all its clients. An error where that memory was refused.
     pub(crate) fn new(alloc: Global) -> Result<Table, AllocError>
         ensures { IfOk result (λ table. table ≡ map.empty) }
     {
         Ok(Table {
-            slots: Slab::with_capacity(alloc, FIRST_ROOM)?,
+            slots: Slab::with_capacity(alloc, MAX_CLIENTS)?,
         })
     }
 
@@ -76,16 +77,70 @@ impl Table {
         }
     }
 
-    /// Puts a client in the place of the one that the flow has.
-    pub(crate) fn set(&mut self, flow: FlowNo, client: Client)
-        requires { IsSome (map.get self.old flow) }
-        ensures { self.new ≡ map.insert self.old flow client }
+    /// Lets the client of a flow join with so many tickets.
+    pub(crate) fn join(&mut self, flow: FlowNo, global_pass: u128, tickets: u32)
+        requires there { IsSome (map.get self.old flow) }
+        requires some { 0 < tickets }
+        requires pass { global_pass ≤ 2 ^ 80 }
+        requires stride { ForSome (map.get self.old flow) (λ c. c.stride ≤ 2 ^ 40) }
+        requires remain { ForSome (map.get self.old flow)
+            (λ c. IsWithin c.remain (c.stride * 2 ^ 41)) }
+        ensures { self.new
+            ≡ map.insert self.old flow (joined global_pass (client_of self.old flow) tickets) }
     {
         match key_of(&self.slots, flow) {
             None => {}
             Some(key) => match self.slots.get_mut(key) {
                 None => {}
-                Some(slot) => slot.client = client,
+                Some(slot) => slot.client = client::joined(global_pass, &slot.client, tickets),
+            },
+        }
+    }
+
+    /// Lets the client of a flow leave, and answers its tickets.
+    pub(crate) fn leave(&mut self, flow: FlowNo, global_pass: u128) -> u32
+        requires there { IsSome (map.get self.old flow) }
+        requires pass { global_pass ≤ 2 ^ 80 }
+        requires distance { ForSome (map.get self.old flow)
+            (λ c. IsWithin (c.pass -ℤ pos global_pass) (2 ^ 81)) }
+        ensures tickets { result ≡ (client_of self.old flow).tickets }
+        ensures left { self.new
+            ≡ map.insert self.old flow (left global_pass (client_of self.old flow)) }
+    {
+        match key_of(&self.slots, flow) {
+            None => 0,
+            Some(key) => match self.slots.get_mut(key) {
+                None => 0,
+                Some(slot) => {
+                    slot.client = client::left(global_pass, &slot.client);
+                    slot.client.tickets
+                }
+            },
+        }
+    }
+
+    /// Gives the client of a flow other tickets: it leaves, and joins with them. Answers those that it had.
+    pub(crate) fn modify(&mut self, flow: FlowNo, global_pass: u128, tickets: u32) -> u32
+        requires there { IsSome (map.get self.old flow) }
+        requires some { 0 < tickets }
+        requires pass { global_pass ≤ 2 ^ 80 }
+        requires stride { ForSome (map.get self.old flow) (λ c. c.stride ≤ 2 ^ 40) }
+        requires distance { ForSome (map.get self.old flow)
+            (λ c. IsWithin (c.pass -ℤ pos global_pass) (c.stride * 2 ^ 41)) }
+        ensures tickets { result ≡ (client_of self.old flow).tickets }
+        ensures modified { self.new ≡ map.insert self.old flow
+            (joined global_pass (left global_pass (client_of self.old flow)) tickets) }
+    {
+        match key_of(&self.slots, flow) {
+            None => 0,
+            Some(key) => match self.slots.get_mut(key) {
+                None => 0,
+                Some(slot) => {
+                    let before = slot.client.tickets;
+                    let client = client::left(global_pass, &slot.client);
+                    slot.client = client::joined(global_pass, &client, tickets);
+                    before
+                }
             },
         }
     }
@@ -97,8 +152,7 @@ impl Table {
         requires stride { ForSome (map.get self.old flow) (λ c. c.stride ≤ 2 ^ 40) }
         requires place { ForSome (map.get self.old flow)
             (λ c. IsWithin (position c).place (2 ^ 83)) }
-        ensures { self.new
-            ≡ map.insert self.old flow (charged (unwrap_or (map.get self.old flow) new_client) units) }
+        ensures { self.new ≡ map.insert self.old flow (charged (client_of self.old flow) units) }
     {
         match key_of(&self.slots, flow) {
             None => {}
@@ -109,14 +163,13 @@ impl Table {
         }
     }
 
-    /// Adds the client of a flow that has none.
-    pub(crate) fn add(&mut self, flow: FlowNo, client: Client) -> Result<(), AllocError>
-        requires { map.get self.old flow ≡ None }
-        ensures ok { OnOk result (self.new ≡ map.insert self.old flow client) }
-        ensures err { OnErr result (self.new ≡ self.old) }
+    /// Adds the client of a flow that has none, where there are fewer than 64.
+    pub(crate) fn add(&mut self, flow: FlowNo, client: Client)
+        requires absent { map.get self.old flow ≡ None }
+        requires room { map.len self.old < 64 }
+        ensures { self.new ≡ map.insert self.old flow client }
     {
-        self.slots.insert(Slot { flow, client })?;
-        Ok(())
+        self.slots.insert_reserved(Slot { flow, client });
     }
 
     /// Removes the client of a flow.

@@ -1,13 +1,14 @@
--- The table of digits holds the value of each.
-use Rattle.std.proofs.Common.{◌≡◌, ◌<◌, ◌≤◌, ◌+◌, ◌*◌, ◌%◌, ◌⊎◌, inl, inr, ℕ, Bool, true, false, cond, nat_eq, nat_le, ◌&&◌, suc, zero, List, [], ◌∷◌, ◌++◌, length, take, drop, set, get_or, None, Some, arith, sym, ◌∙◌, ap, refl}
+-- How digits are decoded, two for each byte.
+use Rattle.std.proofs.Common.{◌≡◌, ◌<◌, ◌≤◌, ◌+◌, ◌*◌, ◌%◌, ◌⊎◌, inl, inr, ℕ, Bool, true, false, cond, nat_eq, nat_le}
+use Rattle.std.proofs.Common.{◌&&◌, suc, zero, List, [], ◌∷◌, ◌++◌, length, take, drop, set, get_or, None, Some}
+use Rattle.std.proofs.Common.{max, arith, sym, ◌∙◌, ap, subst, refl}
 use mathlib.Core.List.{append_assoc}
 use Rattle.std.specs.List.{list_all}
 use Rattle.std.proofs.Math.Seq.{drop-cons}
 use Rattle.std.proofs.lemmas.List.{append-nil, drop_all, take_more_set}
-use Rattle.std.proofs.lemmas.Bool.Decides.{Decides-below_and, Decides-eqb, nat_tests}
-use Rattle.share_model.specs.Lines.{is_hex_digit, hex_value, is_pairs, from_pairs, payload_of}
-use Rattle.stridelink.specs.Digits.{table_value}
-use Rattle.stridelink.specs.declared.payload.TheConstants.{DIGITS}
+use Rattle.std.proofs.lemmas.Bool.Decides.{nat_tests, leb_tells}
+use Rattle.share_model.specs.text.Lines.{is_hex_digit, hex_value, is_pairs, from_pairs, payload_of}
+use Rattle.stridelink.specs.Digits.{value_or_255}
 
 and_false : (b : Bool) → (b && false) ≡ false
 and_false true = refl
@@ -16,13 +17,6 @@ and_false false = refl
 and_assoc : (a b c : Bool) → ((a && b) && c) ≡ (a && (b && c))
 and_assoc true b c = refl
 and_assoc false b c = refl
-
-abbrev holds_below : ℕ → Bool
-holds_below zero = true
-holds_below (suc n) = nat_eq (get_or DIGITS n 0) (table_value n) && holds_below n
-
-pub digits_are : (c : ℕ) → c < 256 → get_or DIGITS c 0 ≡ table_value c
-digits_are c h = (Decides-below_and (λ n. nat_eq (get_or DIGITS n 0) (table_value n)) (λ n. get_or DIGITS n 0 ≡ table_value n) holds_below (λ n. Decides-eqb _ _) refl (λ _. refl) 256).0 refl c h
 
 -- Pairs of digits
 
@@ -73,59 +67,117 @@ pub decoded_none : (w bytes : List ℕ) → DecodedUpTo w bytes 0
 decoded_none w bytes = record { pairs = refl; decoded = refl }
 
 -- the two digits at a place, and those after them
-two_digits : (w : List ℕ) (place : ℕ) → 2 * place + 1 < length w → drop (2 * place) w ≡ get_or w (2 * place) 0 ∷ get_or w (2 * place + 1) 0 ∷ drop (2 * (place + 1)) w
+two_digits : (w : List ℕ) (place : ℕ) → 2 * place + 1 < length w → drop (2 * place) w ≡ get_or w (2 * place) 0
+    ∷ get_or w (2 * place + 1) 0 ∷ drop (2 * (place + 1)) w
 two_digits w place h =
     let a : suc (2 * place) ≡ 2 * place + 1 = omega arith in
     let b : suc (2 * place + 1) ≡ 2 * (place + 1) = omega arith in
     drop-cons w (2 * place) 0 (omega arith)
     ∙ ap (λ n. get_or w (2 * place) 0 ∷ drop n w) a
-    ∙ ap (λ r. get_or w (2 * place) 0 ∷ r) (drop-cons w (2 * place + 1) 0 h ∙ ap (λ n. get_or w (2 * place + 1) 0 ∷ drop n w) b)
+    ∙ ap (λ r. get_or w (2 * place) 0 ∷ r)
+    (drop-cons w (2 * place + 1) 0 h ∙ ap (λ n. get_or w (2 * place + 1) 0 ∷ drop n w) b)
 
-digit_by : (c : ℕ) (b : Bool) → is_hex_digit c ≡ b → cond b (hex_value c) 255 < 16 → (is_hex_digit c ≡ true) × (cond b (hex_value c) 255 ≡ hex_value c)
+digit_by : (c : ℕ) (b : Bool) → is_hex_digit c ≡ b → cond b (hex_value c) 255 < 16 → (is_hex_digit c ≡ true)
+    × (cond b (hex_value c) 255 ≡ hex_value c)
 digit_by c true e h = (e, refl)
 digit_by c false e h = absurd (omega arith)
 
-good_digit : (c v : ℕ) → v ≡ table_value c → v < 16 → (is_hex_digit c ≡ true) × (v ≡ hex_value c)
+good_digit : (c v : ℕ) → v ≡ value_or_255 c → v < 16 → (is_hex_digit c ≡ true) × (v ≡ hex_value c)
 good_digit c v e h = let p = digit_by c _ refl (rw (← e) h) in (p.0, e ∙ p.1)
 
 bad_by : (c : ℕ) (b : Bool) → is_hex_digit c ≡ b → 15 < cond b (hex_value c) 255 → is_hex_digit c ≡ false
 bad_by c true e h = let small : hex_value c < 16 = grind (arith, nat_tests) in absurd (omega arith)
 bad_by c false e h = e
 
-bad_digit : (c v : ℕ) → v ≡ table_value c → 15 < v → is_hex_digit c ≡ false
+bad_digit : (c v : ℕ) → v ≡ value_or_255 c → 15 < v → is_hex_digit c ≡ false
 bad_digit c v e h = bad_by c _ refl (rw (← e) h)
 
-store : (w bytes : List ℕ) (place value : ℕ) → place < length bytes → take place bytes ++ (value ∷ from_pairs w) ≡ take (place + 1) (set bytes place value) ++ from_pairs w
-store w bytes place value room = rw (take_more_set bytes place value room) (sym (append_assoc (take place bytes) (value ∷ []) (from_pairs w)))
+store : (w bytes : List ℕ) (place value : ℕ) → place < length bytes → take place bytes ++ (value ∷ from_pairs w)
+    ≡ take (place + 1) (set bytes place value) ++ from_pairs w
+store w bytes place value room =
+    rw (take_more_set bytes place value room) (sym (append_assoc (take place bytes) (value ∷ []) (from_pairs w)))
 
-pub decoded_more : (w bytes : List ℕ) (place high low : ℕ) → DecodedUpTo w bytes place → 2 * place + 1 < length w → place < length bytes → high ≡ table_value (get_or w (2 * place) 0) → low ≡ table_value (get_or w (2 * place + 1) 0) → high < 16 → low < 16 → DecodedUpTo w (set bytes place (high * 16 + low)) (place + 1)
+pub decoded_more : (w bytes : List ℕ) (place high low : ℕ) → DecodedUpTo w bytes place → 2 * place + 1 < length w
+    → place < length bytes → high ≡ value_or_255 (get_or w (2 * place) 0) → low
+    ≡ value_or_255 (get_or w (2 * place + 1) 0) → high < 16 → low < 16
+    → DecodedUpTo w (set bytes place (high * 16 + low)) (place + 1)
 decoded_more w bytes place high low so h room eh el hh hl =
     let p = good_digit (get_or w (2 * place) 0) high eh hh in
     let q = good_digit (get_or w (2 * place + 1) 0) low el hl in
     let two = two_digits w place h in
-    let value : hex_value (get_or w (2 * place) 0) * 16 + hex_value (get_or w (2 * place + 1) 0) ≡ high * 16 + low = rw (p.1, q.1) refl in
-    let good : is_pairs (get_or w (2 * place) 0 ∷ get_or w (2 * place + 1) 0 ∷ drop (2 * (place + 1)) w) ≡ is_pairs (drop (2 * (place + 1)) w) = rw (p.0, q.0) refl in record {
+    let value : hex_value (get_or w (2 * place) 0) * 16 + hex_value (get_or w (2 * place + 1) 0)
+    ≡ high * 16 + low = rw (p.1, q.1) refl in
+    let good : is_pairs (get_or w (2 * place) 0 ∷ get_or w (2 * place + 1) 0 ∷ drop (2 * (place + 1)) w)
+    ≡ is_pairs (drop (2 * (place + 1)) w) = rw (p.0, q.0) refl in record {
       pairs = so.pairs ∙ ap is_pairs two ∙ good;
-      decoded = so.decoded ∙ ap (λ r. take place bytes ++ from_pairs r) two ∙ ap (λ n. take place bytes ++ (n ∷ from_pairs (drop (2 * (place + 1)) w))) value ∙ store (drop (2 * (place + 1)) w) bytes place (high * 16 + low) room;
+      decoded = so.decoded ∙ ap (λ r. take place bytes ++ from_pairs r) two
+          ∙ ap (λ n. take place bytes ++ (n ∷ from_pairs (drop (2 * (place + 1)) w))) value
+          ∙ store (drop (2 * (place + 1)) w) bytes place (high * 16 + low) room;
     }
 
-pub bad_pair : (w bytes : List ℕ) (place high low : ℕ) → DecodedUpTo w bytes place → 2 * place + 1 < length w → high ≡ table_value (get_or w (2 * place) 0) → low ≡ table_value (get_or w (2 * place + 1) 0) → (15 < high) ⊎ (15 < low) → payload_of w ≡ None
+pub bad_pair : (w bytes : List ℕ) (place high low : ℕ) → DecodedUpTo w bytes place → 2 * place + 1 < length w → high
+    ≡ value_or_255 (get_or w (2 * place) 0) → low ≡ value_or_255 (get_or w (2 * place + 1) 0) → (15 < high) ⊎ (15 < low)
+    → payload_of w ≡ None
 bad_pair w bytes place high low so h eh el (inl bad) =
-    let none : is_pairs w ≡ false = so.pairs ∙ ap is_pairs (two_digits w place h) ∙ rw (bad_digit (get_or w (2 * place) 0) high eh bad) refl in
+    let none : is_pairs w ≡ false = so.pairs ∙ ap is_pairs (two_digits w place h)
+    ∙ rw (bad_digit (get_or w (2 * place) 0) high eh bad) refl in
     rw (none, and_false (nat_le 2 (length w))) refl
 bad_pair w bytes place high low so h eh el (inr bad) =
-    let none : is_pairs w ≡ false = so.pairs ∙ ap is_pairs (two_digits w place h) ∙ rw (bad_digit (get_or w (2 * place + 1) 0) low el bad, and_false (is_hex_digit (get_or w (2 * place) 0))) refl in
+    let none : is_pairs w ≡ false = so.pairs ∙ ap is_pairs (two_digits w place h)
+    ∙ rw (bad_digit (get_or w (2 * place + 1) 0) low el bad, and_false (is_hex_digit (get_or w (2 * place) 0)))
+    refl in
     rw (none, and_false (nat_le 2 (length w))) refl
 
-pub decoded_all : (w bytes : List ℕ) (count : ℕ) → DecodedUpTo w bytes count → 2 ≤ length w → length w ≡ 2 * count → payload_of w ≡ Some (take count bytes)
+-- the digits before a place are decoded, where the greatest of their values is one of a digit; else the word is none
+pub record DecodesUpTo (w bytes : List ℕ) (place greatest : ℕ) : Type 0 where
+  pub good : greatest < 16 → DecodedUpTo w bytes place
+  pub bad : 15 < greatest → payload_of w ≡ None
+
+pub decodes_none : (w bytes : List ℕ) → DecodesUpTo w bytes 0 0
+decodes_none w bytes = record { good = λ h. decoded_none w bytes; bad = λ h. absurd (omega arith) }
+
+bad_by_greatest : (w bytes : List ℕ) (place high low greatest : ℕ) → DecodesUpTo w bytes place greatest
+    → 2 * place + 1 < length w → high ≡ value_or_255 (get_or w (2 * place) 0)
+    → low ≡ value_or_255 (get_or w (2 * place + 1) 0) → 15 < max (max high low) greatest
+    → ((15 < greatest) ⊎ (greatest < 16)) → ((15 < high) ⊎ (high < 16)) → payload_of w ≡ None
+bad_by_greatest w bytes place high low greatest so h eh el above (inl bad) _ = so.bad bad
+bad_by_greatest w bytes place high low greatest so h eh el above (inr small) (inl bad) =
+    bad_pair w bytes place high low (so.good small) h eh el (inl bad)
+bad_by_greatest w bytes place high low greatest so h eh el above (inr small) (inr few) =
+    bad_pair w bytes place high low (so.good small) h eh el (inr (omega arith))
+
+tells_few : (n : ℕ) → (15 < n) ⊎ (n < 16)
+tells_few n = elim (leb_tells n 15) [ inl p ↦ inr (omega (arith, p.1)) | inr p ↦ inl (omega (arith, p.1)) ]
+
+pub decodes_more : (w bytes : List ℕ) (place high low greatest next value : ℕ) → DecodesUpTo w bytes place greatest
+    → 2 * place + 1 < length w → place < length bytes → high ≡ value_or_255 (get_or w (2 * place) 0)
+    → low ≡ value_or_255 (get_or w (2 * place + 1) 0) → next ≡ max (max high low) greatest
+    → value ≡ (high * 16 % 256 + low) % 256 → DecodesUpTo w (set bytes place value) (place + 1) next
+decodes_more w bytes place high low greatest next value so h room eh el is stored = record {
+  good = λ few.
+      let hh : high < 16 = omega arith in
+      let hl : low < 16 = omega arith in
+      let hg : greatest < 16 = omega arith in
+      let same : high * 16 + low ≡ value = omega arith in
+      subst (λ v. DecodedUpTo w (set bytes place v) (place + 1)) same
+      (decoded_more w bytes place high low (so.good hg) h room eh el hh hl);
+  bad = λ above.
+      let more : 15 < max (max high low) greatest = omega arith in
+      bad_by_greatest w bytes place high low greatest so h eh el more (tells_few greatest) (tells_few high);
+}
+
+pub decoded_all : (w bytes : List ℕ) (count : ℕ) → DecodedUpTo w bytes count → 2 ≤ length w → length w ≡ 2 * count
+    → payload_of w ≡ Some (take count bytes)
 decoded_all w bytes count so long whole =
     let none : drop (2 * count) w ≡ [] = drop_all (2 * count) w (omega arith) in
     let t : nat_le 2 (length w) ≡ true = grind (arith, nat_tests) in
     let pairs : is_pairs w ≡ true = so.pairs ∙ ap is_pairs none in
-    let decoded : from_pairs w ≡ take count bytes = so.decoded ∙ ap (λ r. take count bytes ++ from_pairs r) none ∙ append-nil _ in
+    let decoded : from_pairs w ≡ take count bytes = so.decoded ∙ ap (λ r. take count bytes ++ from_pairs r) none
+    ∙ append-nil _ in
     rw (t, pairs, decoded) refl
 
-pub even_payload : (w : List ℕ) (r : Bool) → r ≡ list_all is_hex_digit w → has_pairs w ≡ true → r ≡ (nat_le 2 (length w) && is_pairs w)
+pub even_payload : (w : List ℕ) (r : Bool) → r ≡ list_all is_hex_digit w → has_pairs w ≡ true → r
+    ≡ (nat_le 2 (length w) && is_pairs w)
 even_payload w r e h =
     let p = length_of_pairs w h in
     let t : nat_le 2 (length w) ≡ true = grind (arith, nat_tests) in

@@ -1,20 +1,30 @@
 -- How bytes are spelled in hexadecimal, and printed in parts.
-use Rattle.std.proofs.Common.{◌≡◌, ◌<◌, ◌≤◌, ◌+◌, ◌-◌, ◌*◌, ◌/◌, ◌%◌, ℕ, List, [], ◌∷◌, ◌++◌, length, take, drop, set, get_or, min, Option, Result, Ok, Err, MatchResult, arith, sym, ◌∙◌, ap, subst, refl}
+use Rattle.std.proofs.Common.{◌≡◌, ◌<◌, ◌≤◌, ◌+◌, ◌-◌, ◌*◌, ◌/◌, ◌%◌, ℕ, List, [], ◌∷◌, ◌++◌, length, take, drop, set}
+use Rattle.std.proofs.Common.{get_or, min, Option, Result, Ok, Err, MatchResult, arith, sym, ◌∙◌, ap, subst, refl}
 use mathlib.Core.List.{append_assoc}
 use Rattle.std.specs.Io.KnownBytes.{Appends}
 use Rattle.std.proofs.KnownBytes.{Appends-trans}
 use Rattle.std.proofs.Math.Seq.{take-add, take-append-add}
-use Rattle.std.proofs.lemmas.List.{length-set, take-append-drop, take-append-le, take_all, take_min, take_more, take_more_set}
-use Rattle.share_model.specs.Lines.{hex, hex_digit}
+use Rattle.std.proofs.lemmas.List.{length-set, take-append-drop, take-append-le, take_all, take_min, take_more}
+use Rattle.std.proofs.lemmas.List.{take_more_set}
+use Rattle.share_model.specs.declared.writer.Answer.{Answer}
+use Rattle.share_model.specs.io.Calls.{Offers, OfferRefused}
+use Rattle.share_model.specs.io.CallsLaws.{offers_more, refused_later}
+use Rattle.share_model.specs.text.Lines.{hex, hex_digit}
 use Rattle.stridelink.specs.Printing.{AppendsPart}
+use Rattle.stridelink.proofs.PrintLemmas.{appends_none}
 
 -- Texts printed in parts
 
 -- a beginning of the second text was appended after the whole first
-pub part_after : (a b c : Option (List ℕ)) (xs ys : List ℕ) → Appends a b xs → AppendsPart b c ys → AppendsPart a c (xs ++ ys)
+pub part_after : (a b c : Option (List ℕ)) (xs ys : List ℕ) → Appends a b xs → AppendsPart b c ys
+    → AppendsPart a c (xs ++ ys)
 part_after a b c xs ys h part =
-    let P : List ℕ → Type 0 = λ r. Appends a c r in
-    (length xs + part.0, subst P (sym (take-append-add xs ys part.0)) (Appends-trans a b c xs (take part.0 ys) h part.1))
+    let P : List ℕ → Type 0 = λ r. Appends a c r in (
+      length xs + part.0,
+      subst P (sym (take-append-add xs ys part.0))
+          (Appends-trans a b c xs (take part.0 ys) h part.1),
+    )
 
 -- a beginning of a text is one of any longer text
 pub part_longer : (a b : Option (List ℕ)) (xs ys : List ℕ) → AppendsPart a b xs → AppendsPart a b (xs ++ ys)
@@ -24,9 +34,17 @@ part_longer a b xs ys part =
     let P : List ℕ → Type 0 = λ r. Appends a b r in
     (k, subst P (sym same) part.1)
 
-pub print_then : {X E : Type 0} (r : Result X E) (a b c : Option (List ℕ)) (xs ys : List ℕ) → Appends a b xs → MatchResult r (λ _. Appends b c ys) (λ _. AppendsPart b c ys) → MatchResult r (λ _. Appends a c (xs ++ ys)) (λ _. AppendsPart a c (xs ++ ys))
+pub print_then : {X E : Type 0} (r : Result X E) (a b c : Option (List ℕ)) (xs ys : List ℕ) → Appends a b xs
+    → MatchResult r (λ _. Appends b c ys) (λ _. AppendsPart b c ys)
+    → MatchResult r (λ _. Appends a c (xs ++ ys)) (λ _. AppendsPart a c (xs ++ ys))
 print_then (Ok x) a b c xs ys h rest = Appends-trans a b c xs ys h rest
 print_then (Err e) a b c xs ys h rest = part_after a b c xs ys h rest
+
+pub offer_then : {X E W : Type 0} {answers : W → List ℕ → Answer → W → Type 0} (r : Result X E) (a b c : W)
+    → Offers answers a b → MatchResult r (λ _. Offers answers b c) (λ _. OfferRefused answers b c)
+    → MatchResult r (λ _. Offers answers a c) (λ _. OfferRefused answers a c)
+offer_then (Ok x) a b c first rest = offers_more first rest
+offer_then (Err e) a b c first rest = refused_later first rest
 
 -- Digits
 
@@ -42,23 +60,29 @@ pub record SpelledUpTo (bytes text : List ℕ) (size place : ℕ) : Type 0 where
 pub spelled_none : (bytes text : List ℕ) → SpelledUpTo bytes text (length text) 0
 spelled_none bytes text = record { kept = refl; digits = refl }
 
-pub spelled_more : (bytes text : List ℕ) (size place high low : ℕ) → SpelledUpTo bytes text size place → place < length bytes → 2 * place + 1 < size → high ≡ hex_digit (get_or bytes place 0 / 16) → low ≡ hex_digit (get_or bytes place 0 % 16) → SpelledUpTo bytes (set (set text (2 * place) high) (2 * place + 1) low) size (place + 1)
+pub spelled_more : (bytes text : List ℕ) (size place high low : ℕ) → SpelledUpTo bytes text size place
+    → place < length bytes → 2 * place + 1 < size → high ≡ hex_digit (get_or bytes place 0 / 16) → low
+    ≡ hex_digit (get_or bytes place 0 % 16)
+    → SpelledUpTo bytes (set (set text (2 * place) high) (2 * place + 1) low) size (place + 1)
 spelled_more bytes text size place high low so inside room eh el =
     let kept = so.kept in
     let first = length-set text (2 * place) high in
     let second = length-set (set text (2 * place) high) (2 * place + 1) low in
     let two : 2 * (place + 1) ≡ 2 * place + 1 + 1 = omega arith in
-    let written : take (2 * (place + 1)) (set (set text (2 * place) high) (2 * place + 1) low) ≡ (take (2 * place) text ++ high ∷ []) ++ low ∷ [] =
+    let written : take (2 * (place + 1)) (set (set text (2 * place) high) (2 * place + 1) low)
+    ≡ (take (2 * place) text ++ high ∷ []) ++ low ∷ [] =
     ap (λ n. take n (set (set text (2 * place) high) (2 * place + 1) low)) two
     ∙ take_more_set (set text (2 * place) high) (2 * place + 1) low (omega arith)
     ∙ ap (λ r. r ++ low ∷ []) (take_more_set text (2 * place) high (omega arith)) in
     let spelled : hex (take (place + 1) bytes) ≡ hex (take place bytes) ++ high ∷ low ∷ [] =
-    ap hex (take_more bytes place 0 inside) ∙ hex_append (take place bytes) (get_or bytes place 0 ∷ []) ∙ rw (← eh, ← el) refl in
+    ap hex (take_more bytes place 0 inside) ∙ hex_append (take place bytes) (get_or bytes place 0 ∷ [])
+    ∙ rw (← eh, ← el) refl in
     let joined : (take (2 * place) text ++ high ∷ []) ++ low ∷ [] ≡ hex (take place bytes) ++ high ∷ low ∷ [] =
     append_assoc (take (2 * place) text) (high ∷ []) (low ∷ []) ∙ ap (λ r. r ++ high ∷ low ∷ []) so.digits in
     record { kept = second ∙ first ∙ kept; digits = written ∙ joined ∙ sym spelled }
 
-pub spelled_all : (bytes text : List ℕ) (size : ℕ) → SpelledUpTo bytes text size (length bytes) → take (2 * length bytes) text ≡ hex bytes
+pub spelled_all : (bytes text : List ℕ) (size : ℕ) → SpelledUpTo bytes text size (length bytes)
+    → take (2 * length bytes) text ≡ hex bytes
 spelled_all bytes text size so = so.digits ∙ ap hex (take_all (length bytes) bytes (omega arith))
 
 -- Pieces
@@ -69,14 +93,20 @@ pub record HexUpTo (a now : Option (List ℕ)) (bytes : List ℕ) (at : ℕ) : T
   pub appends : Appends a now (hex (take at bytes))
 
 -- the bytes up to the end of a piece, and those after it
-in_parts : (bytes : List ℕ) (at count : ℕ) → hex bytes ≡ (hex (take at bytes) ++ hex (take count (drop at bytes))) ++ hex (drop (at + count) bytes)
+in_parts : (bytes : List ℕ) (at count : ℕ) → hex bytes ≡ (hex (take at bytes) ++ hex (take count (drop at bytes)))
+    ++ hex (drop (at + count) bytes)
 in_parts bytes at count =
     ap hex (sym (take-append-drop (at + count) bytes))
     ∙ hex_append (take (at + count) bytes) (drop (at + count) bytes)
     ∙ ap (λ r. hex r ++ hex (drop (at + count) bytes)) (take-add at count bytes)
     ∙ ap (λ r. r ++ hex (drop (at + count) bytes)) (hex_append (take at bytes) (take count (drop at bytes)))
 
-pub hex_more : (a before now : Option (List ℕ)) (bytes : List ℕ) (at count : ℕ) → HexUpTo a before bytes at → at + count ≤ length bytes → Appends before now (hex (take (at + count - at) (drop at bytes))) → HexUpTo a now bytes (at + count)
+pub hex_none : (a : Option (List ℕ)) (bytes : List ℕ) → HexUpTo a a bytes 0
+hex_none a bytes = record { few = omega arith; appends = appends_none a (hex (take 0 bytes)) refl }
+
+pub hex_more : (a before now : Option (List ℕ)) (bytes : List ℕ) (at count : ℕ) → HexUpTo a before bytes at
+    → at + count ≤ length bytes → Appends before now (hex (take (at + count - at) (drop at bytes)))
+    → HexUpTo a now bytes (at + count)
 hex_more a before now bytes at count so few h =
     let size : at + count - at ≡ count = omega arith in
     let Q : ℕ → Type 0 = λ n. Appends before now (hex (take n (drop at bytes))) in
@@ -85,14 +115,18 @@ hex_more a before now bytes at count so few h =
     let P : List ℕ → Type 0 = λ r. Appends a now r in
     record { few = few; appends = subst P whole (Appends-trans a before now _ _ so.appends (subst Q size h)) }
 
-pub hex_part : (a before now : Option (List ℕ)) (bytes : List ℕ) (at count : ℕ) → HexUpTo a before bytes at → AppendsPart before now (hex (take (at + count - at) (drop at bytes))) → AppendsPart a now (hex bytes)
+pub hex_part : (a before now : Option (List ℕ)) (bytes : List ℕ) (at count : ℕ) → HexUpTo a before bytes at
+    → AppendsPart before now (hex (take (at + count - at) (drop at bytes))) → AppendsPart a now (hex bytes)
 hex_part a before now bytes at count so part =
     let size : at + count - at ≡ count = omega arith in
     let Q : ℕ → Type 0 = λ n. AppendsPart before now (hex (take n (drop at bytes))) in
     let P : List ℕ → Type 0 = λ r. AppendsPart a now r in
-    subst P (sym (in_parts bytes at count)) (part_longer a now _ (hex (drop (at + count) bytes)) (part_after a before now _ _ so.appends (subst Q size part)))
+    subst P (sym (in_parts bytes at count))
+    (part_longer a now _ (hex (drop (at + count) bytes))
+    (part_after a before now _ _ so.appends (subst Q size part)))
 
-pub hex_all : (a now : Option (List ℕ)) (bytes : List ℕ) (at : ℕ) → HexUpTo a now bytes at → length bytes ≤ at → Appends a now (hex bytes)
+pub hex_all : (a now : Option (List ℕ)) (bytes : List ℕ) (at : ℕ) → HexUpTo a now bytes at → length bytes ≤ at
+    → Appends a now (hex bytes)
 hex_all a now bytes at so end =
     let P : List ℕ → Type 0 = λ r. Appends a now (hex r) in
     subst P (take_all at bytes end) so.appends

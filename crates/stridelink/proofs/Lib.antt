@@ -1,10 +1,17 @@
 mod AnswerLemmas
+mod CallLemmas
+mod ChunkLemmas
 mod DigitLemmas
+mod FeedLemmas
 mod HexLemmas
+mod LineLemmas
 mod NumberLemmas
 mod PrintLemmas
 mod ProgramLemmas
 mod ReadingLemmas
-mod ScriptLemmas
+mod RunLemmas
+mod SpoolLemmas
+mod StopLemmas
 pub mod TextLemmas
+mod WentLemmas
 mod WordLemmas

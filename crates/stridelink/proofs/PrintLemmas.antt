@@ -1,11 +1,12 @@
 -- How printing goes on.
-use Rattle.std.proofs.Common.{◌≡◌, ◌<◌, ◌≤◌, ◌+◌, ℕ, List, [], ◌++◌, length, take, drop, Option, None, Some, option_map, arith, sym, ◌∙◌, ap, subst, refl, ◌-◌}
+use Rattle.std.proofs.Common.{◌≡◌, ◌<◌, ◌≤◌, ◌+◌, ℕ, List, [], ◌++◌, length, take, drop, Option, None, Some}
+use Rattle.std.proofs.Common.{option_map, arith, sym, ◌∙◌, ap, subst, refl, ◌-◌}
 use mathlib.Core.List.{append_assoc}
 use Rattle.std.specs.Io.KnownBytes.{Appends}
 use Rattle.std.proofs.Math.Seq.{take-add}
 use Rattle.std.proofs.lemmas.List.{append-nil, length-drop, length-take, take_all}
 use Rattle.share_model.specs.declared.writer.Answer.TheVariants.{Accepted}
-use Rattle.share_model.specs.Told.{Told, WasTold, with_first}
+use Rattle.share_model.specs.io.Told.{Told, WasTold, with_first}
 use Rattle.stridelink.specs.Printing.{bytes_told, AppendsPart}
 
 pub appends_none : (o : Option (List ℕ)) (bs : List ℕ) → bs ≡ [] → Appends o o bs
@@ -13,12 +14,15 @@ appends_none None bs e = tt
 appends_none (Some xs) bs e = sym (ap (λ r. xs ++ r) e ∙ append-nil xs)
 
 -- what was appended, and k more bytes
-pub appends_told : (a : Option (List ℕ)) (before after : Option Told) (bs : List ℕ) (at k : ℕ) → Appends a (bytes_told before) (take at bs) → after ≡ option_map (λ t. with_first t (drop at bs) k) before → Appends a (bytes_told after) (take (at + k) bs)
+pub appends_told : (a : Option (List ℕ)) (before after : Option Told) (bs : List ℕ) (at k : ℕ)
+    → Appends a (bytes_told before) (take at bs) → after ≡ option_map (λ t. with_first t (drop at bs) k) before
+    → Appends a (bytes_told after) (take (at + k) bs)
 appends_told None before after bs at k h e = tt
 appends_told (Some xs) None after bs at k h e = absurd h
 appends_told (Some xs) (Some t) after bs at k h e =
     let more : t.bytes ++ take k (drop at bs) ≡ xs ++ take (at + k) bs =
-    ap (λ r. r ++ take k (drop at bs)) h ∙ append_assoc xs (take at bs) (take k (drop at bs)) ∙ ap (λ r. xs ++ r) (sym (take-add at k bs)) in
+    ap (λ r. r ++ take k (drop at bs)) h ∙ append_assoc xs (take at bs) (take k (drop at bs))
+    ∙ ap (λ r. xs ++ r) (sym (take-add at k bs)) in
     let P : Option Told → Type 0 = λ o. Appends (Some xs) (bytes_told o) (take (at + k) bs) in
     subst P (sym e) more
 
@@ -29,7 +33,8 @@ pub record PutUpTo (a : Option (List ℕ)) (now : Option Told) (bs : List ℕ) (
 pub put_none : (now : Option Told) (bs : List ℕ) → PutUpTo (bytes_told now) now bs 0
 put_none now bs = record { few = omega arith; appends = appends_none (bytes_told now) (take 0 bs) refl }
 
-pub put_more : (a : Option (List ℕ)) (before after : Option Told) (bs : List ℕ) (at k : ℕ) → PutUpTo a before bs at → WasTold before (take (length bs - at) (drop at bs)) (Accepted k) after → PutUpTo a after bs (at + k)
+pub put_more : (a : Option (List ℕ)) (before after : Option Told) (bs : List ℕ) (at k : ℕ) → PutUpTo a before bs at
+    → WasTold before (take (length bs - at) (drop at bs)) (Accepted k) after → PutUpTo a after bs (at + k)
 put_more a before after bs at k so told =
     let n = length-drop at bs in
     let rest : take (length bs - at) (drop at bs) ≡ drop at bs = take_all (length bs - at) (drop at bs) (omega arith) in
@@ -38,14 +43,19 @@ put_more a before after bs at k so told =
     record { few = few; appends = appends_told a before after bs at k so.appends (rw rest at told.1) }
 
 -- nothing more was appended
-pub put_nothing : (a : Option (List ℕ)) (before after : Option Told) (bs : List ℕ) (at : ℕ) → PutUpTo a before bs at → after ≡ before → AppendsPart a (bytes_told after) bs
-put_nothing a before after bs at so e = (at, let P : Option Told → Type 0 = λ o. Appends a (bytes_told o) (take at bs) in subst P (sym e) so.appends)
+pub put_nothing : (a : Option (List ℕ)) (before after : Option Told) (bs : List ℕ) (at : ℕ) → PutUpTo a before bs at
+    → after ≡ before → AppendsPart a (bytes_told after) bs
+put_nothing a before after bs at so e =
+    (at, let P : Option Told → Type 0 = λ o. Appends a (bytes_told o) (take at bs) in subst P (sym e) so.appends)
 
-pub put_zero : (a : Option (List ℕ)) (before after : Option Told) (bs : List ℕ) (at k : ℕ) → PutUpTo a before bs at → WasTold before (take (length bs - at) (drop at bs)) (Accepted k) after → AppendsPart a (bytes_told after) bs
+pub put_zero : (a : Option (List ℕ)) (before after : Option Told) (bs : List ℕ) (at k : ℕ) → PutUpTo a before bs at
+    → WasTold before (take (length bs - at) (drop at bs)) (Accepted k) after → AppendsPart a (bytes_told after) bs
 put_zero a before after bs at k so told = (at + k, (put_more a before after bs at k so told).appends)
 
-pub put_all : (a : Option (List ℕ)) (now : Option Told) (bs : List ℕ) (at : ℕ) → PutUpTo a now bs at → length bs ≤ at → Appends a (bytes_told now) bs
-put_all a now bs at so end = let P : List ℕ → Type 0 = λ r. Appends a (bytes_told now) r in subst P (take_all at bs end) so.appends
+pub put_all : (a : Option (List ℕ)) (now : Option Told) (bs : List ℕ) (at : ℕ) → PutUpTo a now bs at → length bs ≤ at
+    → Appends a (bytes_told now) bs
+put_all a now bs at so end = let P : List ℕ
+    → Type 0 = λ r. Appends a (bytes_told now) r in subst P (take_all at bs end) so.appends
 
 pub nonempty_rest : (bs : List ℕ) (at : ℕ) → at < length bs → 0 < length (take (length bs - at) (drop at bs))
 nonempty_rest bs at h = omega (arith, length-drop at bs, length-take (length bs - at) (drop at bs))

@@ -4,71 +4,117 @@ use mathlib.Core.List.{append_assoc}
 use Rattle.std.specs.Io.KnownBytes.{Appends}
 use Rattle.std.proofs.lemmas.List.{take-append-drop}
 use Rattle.share_model.specs.declared.rates.Rate.{Rate}
-use Rattle.share_model.specs.Link.{Live}
-use Rattle.share_model.specs.Fold.{empty_state, out}
-use Rattle.share_model.specs.Seen.{Seen}
-use Rattle.share_model.specs.Told.{Told}
-use Rattle.share_model.specs.Talk.{talk, after, lines_of}
+use Rattle.share_model.specs.link.Live.{Live}
+use Rattle.share_model.specs.run.Fold.{out}
+use Rattle.share_model.specs.link.Seen.{Seen}
+use Rattle.share_model.specs.io.Told.{Told}
+use Rattle.share_model.specs.text.Talk.{start, talk, after, lines_of}
 use Rattle.stridelink.specs.Printing.{AppendsPart, out_line}
-use Rattle.stridelink.specs.Script.{Printed, PrintedPart}
+use Rattle.share_model.specs.declared.reader.Got.{Got}
+use Rattle.share_model.specs.declared.writer.Answer.{Answer}
+use Rattle.share_model.specs.io.Calls.{HasRead, OfferRefused}
+use Rattle.stridelink.specs.declared.script.ScriptFault.{ScriptFault}
+use Rattle.stridelink.specs.declared.script.ScriptFault.TheVariants.{Output}
+use Rattle.stridelink.specs.Script.{Printed, PrintedPart, IsFault}
 use Rattle.stridelink.specs.Program.{printout, Ran, RanPart}
 use Rattle.stridelink.proofs.PrintLemmas.{appends_none}
 use Rattle.std.proofs.KnownBytes.{Appends-trans}
 
 -- nothing was printed
-pub ran_nothing : (known a : Option (List ℕ)) (life : ℕ) (rates : List Rate) → IfSome known (λ script. RanPart a a life rates script)
+pub ran_nothing : (known a : Option (List ℕ)) (life : ℕ) (rates : List Rate)
+    → IfSome known (λ script. RanPart a a life rates script)
 ran_nothing None a life rates = tt
-ran_nothing (Some script) a life rates = record { lacks = []; text = []; rest = printout life rates [] script; printed = appends_none a [] refl; begins = refl }
+ran_nothing (Some script) a life rates =
+    record {
+      lacks = [];
+      text = [];
+      rest = printout life rates [] script;
+      printed = appends_none a [] refl;
+      begins =
+          refl;
+    }
 
 -- a link of this life and over these tariffs
 pub record IsOver (life : ℕ) (rates : List Rate) (e : Seen Told) : Type 0 where
   pub life_is : e.life ≡ life
   pub rates_are : e.rates ≡ rates
 
-pub over_new : (life : ℕ) (rates : List Rate) (live : Live) (writer : Told) (e : Seen Told) → e ≡ record { life = life; rates = rates; live = live; writer = writer } → IsOver life rates e
-over_new life rates live writer e is = record { life_is = ap (λ (s : Seen Told). s.life) is; rates_are = ap (λ (s : Seen Told). s.rates) is }
+pub over_new : (life : ℕ) (rates : List Rate) (live : Live) (writer : Told) (e : Seen Told) → e
+    ≡ record { life = life; rates = rates; live = live; writer = writer } → IsOver life rates e
+over_new life rates live writer e is =
+    record { life_is = ap (λ (s : Seen Told). s.life) is; rates_are = ap (λ (s : Seen Told). s.rates) is }
 
 -- the script was not run to its end
-part_of : (a b : Option (List ℕ)) (e : Seen Told) (script : List ℕ) → PrintedPart a b e script → RanPart a b e.life e.rates script
+part_of : (a b : Option (List ℕ)) (e : Seen Told) (script : List ℕ) → PrintedPart a b e script
+    → RanPart a b e.life e.rates script
 part_of a b e script part =
-    let line = out_line (out (after e.life e.rates empty_state part.lacks (lines_of script))) in
-    record { lacks = part.lacks; text = part.text; rest = part.rest ++ line; printed = part.printed; begins = ap (λ t. t ++ line) part.begins ∙ append_assoc part.text part.rest line }
+    let line = out_line (out (after e.life e.rates start part.lacks (lines_of script)).state) in
+    record {
+      lacks = part.lacks;
+      text = part.text;
+      rest = part.rest
+          ++ line;
+      printed = part.printed;
+      begins = ap (λ t. t ++ line) part.begins
+          ∙ append_assoc part.text part.rest line;
+    }
 
-pub ran_part : (known a b : Option (List ℕ)) (life : ℕ) (rates : List Rate) (e : Seen Told) → IsOver life rates e → IfSome known (λ script. PrintedPart a b e script) → IfSome known (λ script. RanPart a b life rates script)
+pub ran_part : (known a b : Option (List ℕ)) (life : ℕ) (rates : List Rate) (e : Seen Told) → IsOver life rates e
+    → IfSome known (λ script. PrintedPart a b e script) → IfSome known (λ script. RanPart a b life rates script)
 ran_part None a b life rates e over part = tt
 ran_part (Some script) a b life rates e over part =
-    subst (λ l. RanPart a b l rates script) over.life_is (subst (λ rs. RanPart a b e.life rs script) over.rates_are (part_of a b e script part))
+    subst (λ l. RanPart a b l rates script) over.life_is
+    (subst (λ rs. RanPart a b e.life rs script) over.rates_are (part_of a b e script part))
 
 -- the script was, and the line of the bytes was not printed whole
-most_of : (a b c : Option (List ℕ)) (e new : Seen Told) (script : List ℕ) → Printed a b e script new → AppendsPart b c (out_line new.writer.bytes) → RanPart a c e.life e.rates script
+most_of : (a b c : Option (List ℕ)) (e new : Seen Told) (script : List ℕ) → Printed a b e script new
+    → AppendsPart b c (out_line new.writer.bytes) → RanPart a c e.life e.rates script
 most_of a b c e new script whole part =
-    let answers = talk e.life e.rates empty_state whole.lacks (lines_of script) in
+    let answers = talk e.life e.rates start whole.lacks (lines_of script) in
     let line = out_line new.writer.bytes in
     record {
       lacks = whole.lacks;
       text = answers ++ take part.0 line;
       rest = drop part.0 line;
       printed = Appends-trans a b c answers (take part.0 line) whole.text part.1;
-      begins = ap (λ bs. answers ++ out_line bs) (sym whole.bytes) ∙ ap (λ l. answers ++ l) (sym (take-append-drop part.0 line)) ∙ sym (append_assoc answers (take part.0 line) (drop part.0 line));
+      begins = ap (λ bs. answers ++ out_line bs) (sym whole.bytes)
+          ∙ ap (λ l. answers ++ l) (sym (take-append-drop part.0 line))
+          ∙ sym (append_assoc answers (take part.0 line) (drop part.0 line));
     }
 
-pub ran_most : (known a b c : Option (List ℕ)) (life : ℕ) (rates : List Rate) (e new : Seen Told) (bytes : List ℕ) → IsOver life rates e → bytes ≡ new.writer.bytes → IfSome known (λ script. Printed a b e script new) → AppendsPart b c (out_line bytes) → IfSome known (λ script. RanPart a c life rates script)
+pub ran_most : (known a b c : Option (List ℕ)) (life : ℕ) (rates : List Rate) (e new : Seen Told) (bytes : List ℕ)
+    → IsOver life rates e → bytes ≡ new.writer.bytes → IfSome known (λ script. Printed a b e script new)
+    → AppendsPart b c (out_line bytes) → IfSome known (λ script. RanPart a c life rates script)
 ran_most None a b c life rates e new bytes over is whole part = tt
 ran_most (Some script) a b c life rates e new bytes over is whole part =
     let here = most_of a b c e new script whole (subst (λ bs. AppendsPart b c (out_line bs)) is part) in
-    subst (λ l. RanPart a c l rates script) over.life_is (subst (λ rs. RanPart a c e.life rs script) over.rates_are here)
+    subst (λ l. RanPart a c l rates script) over.life_is
+    (subst (λ rs. RanPart a c e.life rs script) over.rates_are here)
 
 -- the whole text was printed
-whole_of : (a b c : Option (List ℕ)) (e new : Seen Told) (script : List ℕ) → Printed a b e script new → Appends b c (out_line new.writer.bytes) → Ran a c e.life e.rates script
+whole_of : (a b c : Option (List ℕ)) (e new : Seen Told) (script : List ℕ) → Printed a b e script new
+    → Appends b c (out_line new.writer.bytes) → Ran a c e.life e.rates script
 whole_of a b c e new script whole line =
-    let answers = talk e.life e.rates empty_state whole.lacks (lines_of script) in
+    let answers = talk e.life e.rates start whole.lacks (lines_of script) in
     record {
       lacks = whole.lacks;
-      printed = subst (λ bs. Appends a c (answers ++ out_line bs)) whole.bytes (Appends-trans a b c answers (out_line new.writer.bytes) whole.text line);
+      printed =
+          subst (λ bs. Appends a c (answers ++ out_line bs)) whole.bytes
+          (Appends-trans a b c answers (out_line new.writer.bytes) whole.text line);
     }
 
-pub ran_whole : (known a b c : Option (List ℕ)) (life : ℕ) (rates : List Rate) (e new : Seen Told) (bytes : List ℕ) → IsOver life rates e → bytes ≡ new.writer.bytes → IfSome known (λ script. Printed a b e script new) → Appends b c (out_line bytes) → IfSome known (λ script. Ran a c life rates script)
+pub ran_whole : (known a b c : Option (List ℕ)) (life : ℕ) (rates : List Rate) (e new : Seen Told) (bytes : List ℕ)
+    → IsOver life rates e → bytes ≡ new.writer.bytes → IfSome known (λ script. Printed a b e script new)
+    → Appends b c (out_line bytes) → IfSome known (λ script. Ran a c life rates script)
 ran_whole None a b c life rates e new bytes over is whole line = tt
 ran_whole (Some script) a b c life rates e new bytes over is whole line =
     let here = whole_of a b c e new script whole (subst (λ bs. Appends b c (out_line bs)) is line) in
     subst (λ l. Ran a c l rates script) over.life_is (subst (λ rs. Ran a c e.life rs script) over.rates_are here)
+
+-- the line of the bytes was refused
+pub output_fault : {R W O : Type 0} (gives : R → List ℕ → Got → R → Type 0) (most : ℕ) (i j : R)
+    (answers : W → List ℕ → Answer → W → Type 0) (u : W) (accepts : O → List ℕ → Answer → O → Type 0) (a b : O)
+    {fault : ScriptFault} → fault ≡ Output → HasRead gives most i j → OfferRefused accepts a b
+    → IsFault gives most i j answers u accepts a b fault
+output_fault gives most i j answers u accepts a b is read refused =
+    subst (λ x. IsFault gives most i j answers u accepts a b x) (sym is) (read, refused)

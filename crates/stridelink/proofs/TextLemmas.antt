@@ -2,7 +2,10 @@
 use Rattle.std.proofs.Common.{◌≤◌, length, lit≤}
 use Rattle.share_base.specs.Refusal.{refusal_name}
 use Rattle.share_base.specs.declared.refusal.Refusal.{Refusal}
-use Rattle.share_base.specs.declared.refusal.Refusal.TheVariants.{NoMemory, Spent, Syntax, Range, NoCurrency, NoTicket, NoFlow, NoTariff, Taken, Base, InUse, Funding, Unfunded, Crowded, Cycle, Deep, TableFull, Sending, BufferFull, Broken}
+use Rattle.share_base.specs.declared.refusal.Refusal.TheVariants.{NoMemory, Spent, Syntax, Range, NoCurrency}
+use Rattle.share_base.specs.declared.refusal.Refusal.TheVariants.{NoTicket, NoFlow, NoTariff, Taken, Base, InUse}
+use Rattle.share_base.specs.declared.refusal.Refusal.TheVariants.{Funding, Unfunded, Crowded, Cycle, Deep, TableFull}
+use Rattle.share_base.specs.declared.refusal.Refusal.TheVariants.{Sending, BufferFull, Broken}
 
 pub short_refusal_name : (e : Refusal) → length (refusal_name e) ≤ 10
 short_refusal_name NoMemory = lit≤ tt

@@ -1,7 +1,7 @@
--- The table of the values of hexadecimal digits.
+-- The values of hexadecimal digits.
 use Rattle.std.specs.Prelude.{ℕ, if◌then◌else◌}
-use Rattle.share_model.specs.Lines.{is_hex_digit, hex_value}
+use Rattle.share_model.specs.text.Lines.{is_hex_digit, hex_value}
 
 -- the value of a digit, and 255 for any other byte
-abbrev pub table_value : ℕ → ℕ
-table_value c = if is_hex_digit c then hex_value c else 255
+abbrev pub value_or_255 : ℕ → ℕ
+value_or_255 c = if is_hex_digit c then hex_value c else 255

@@ -1,10 +1,8 @@
--- What was printed on a writer.
-use Rattle.std.specs.Prelude.{◌≡◌, ◌<◌, ℕ, List, [], ◌∷◌, ◌++◌, length, take, codes, Option, option_map, ⊤}
+-- What was printed on a writer, and what waits to be printed.
+use Rattle.std.specs.Prelude.{◌≡◌, ℕ, List, [], ◌∷◌, ◌++◌, take, codes, Option, option_map}
 use Rattle.std.specs.Io.KnownBytes.{Appends}
-use Rattle.share_model.specs.declared.writer.Answer.{Answer}
-use Rattle.share_model.specs.declared.writer.Answer.TheVariants.{Accepted, Interrupted, Failed}
-use Rattle.share_model.specs.Lines.{hex}
-use Rattle.share_model.specs.Told.{Told}
+use Rattle.share_model.specs.text.Lines.{hex}
+use Rattle.share_model.specs.io.Told.{Told}
 
 abbrev pub bytes_told : Option Told → Option (List ℕ)
 bytes_told told = option_map (λ (t : Told). t.bytes) told
@@ -13,21 +11,20 @@ bytes_told told = option_map (λ (t : Told). t.bytes) told
 abbrev pub AppendsPart : Option (List ℕ) → Option (List ℕ) → List ℕ → Type 0
 AppendsPart old new bs = (k : ℕ) × Appends old new (take k bs)
 
--- nothing was accepted
-abbrev pub IsNothing : Answer → Type 0
-IsNothing (Accepted k) = k ≡ 0
-IsNothing Interrupted = ⊤
-IsNothing Failed = ⊤
+-- a text was printed, after what waited before: some of it is out, and the rest waits
+pub record Spooled (before : Option (List ℕ)) (waited : List ℕ) (after : Option (List ℕ)) (waits : List ℕ)
+    (text : List ℕ) : Type 0 where
+  pub out : List ℕ
+  pub appends : Appends before after out
+  pub same : waited ++ text ≡ out ++ waits
 
--- a writer answered so to an offer of some bytes
-pub record SomeRefusal {W : Type 0} (answers : W → List ℕ → Answer → W → Type 0) : Type 0 where
-  pub before : W
-  pub piece : List ℕ
-  pub answer : Answer
-  pub after : W
-  pub answered : answers before piece answer after
-  pub some : 0 < length piece
-  pub nothing : IsNothing answer
+-- no more of a text was printed, after what waited before, than a beginning
+pub record SpooledPart (before : Option (List ℕ)) (waited : List ℕ) (after : Option (List ℕ))
+    (text : List ℕ) : Type 0 where
+  pub out : List ℕ
+  pub rest : List ℕ
+  pub appends : Appends before after out
+  pub same : waited ++ text ≡ out ++ rest
 
 -- the line of a link's bytes: their digits, or a hyphen where there are none
 abbrev pub digits_or_hyphen : List ℕ → List ℕ

@@ -2,8 +2,8 @@
 use Rattle.std.specs.Prelude.{◌≡◌, ℕ, Bool, List, [], ◌∷◌, ◌++◌, Option}
 use Rattle.std.specs.Io.KnownBytes.{Appends}
 use Rattle.share_model.specs.declared.rates.Rate.{Rate}
-use Rattle.share_model.specs.Fold.{empty_state, out}
-use Rattle.share_model.specs.Talk.{talk, after, lines_of}
+use Rattle.share_model.specs.run.Fold.{out}
+use Rattle.share_model.specs.text.Talk.{start, talk, after, lines_of}
 use Rattle.stridelink.specs.Printing.{out_line}
 
 -- the tariffs of the program, numbered from 1
@@ -18,7 +18,8 @@ program_rates =
 -- the text of a whole run, where these lines found no memory
 abbrev pub printout : ℕ → List Rate → List Bool → List ℕ → List ℕ
 printout life rates lacks script =
-    talk life rates empty_state lacks (lines_of script) ++ out_line (out (after life rates empty_state lacks (lines_of script)))
+    talk life rates start lacks (lines_of script)
+    ++ out_line (out (after life rates start lacks (lines_of script)).state)
 
 -- the whole text was printed
 pub record Ran (before after_it : Option (List ℕ)) (life : ℕ) (rates : List Rate) (script : List ℕ) : Type 0 where

@@ -1,11 +1,13 @@
 -- The words of a line that are left, and how a number begins.
-use Rattle.std.specs.Prelude.{◌≡◌, ◌⊎◌, ℕ, ◌==◌, Bool, ◌&&◌, ◌||◌, not, List, [], length, nat_lt, slice_index, Option, None, Some, Result, Err, codes, true, if◌then◌else◌}
+use Rattle.std.specs.Prelude.{◌≡◌, ◌⊎◌, ℕ, ◌==◌, Bool, ◌&&◌, ◌||◌, not, List, [], length, nat_lt, slice_index, Option}
+use Rattle.std.specs.Prelude.{None, Some, Result, Err, codes, true, if◌then◌else◌}
 use Rattle.std.specs.Str.{bytes_eq}
 use Rattle.share_base.specs.declared.refusal.Refusal.{Refusal}
 use Rattle.share_base.specs.declared.refusal.Refusal.TheVariants.{NoMemory}
 use Rattle.share_model.specs.declared.line.Line.{Line}
 use Rattle.share_model.specs.declared.line.Line.TheVariants.{Send}
-use Rattle.share_model.specs.Lines.{words_of, ranged, is_in_range, is_send, open_of, mktkt_of, fund_of, turn_of, torn_of}
+use Rattle.share_model.specs.text.Lines.{words_of, ranged, is_in_range, is_send, open_of, mktkt_of, fund_of, turn_of}
+use Rattle.share_model.specs.text.Lines.{torn_of}
 
 abbrev pub words_left : Option (List ℕ) → List (List ℕ)
 words_left None = []
@@ -32,4 +34,5 @@ sent_by flow (Some payload) = Some (Send flow payload)
 
 -- the line, if it is in range; or memory was refused for a packet that is
 abbrev pub ReadsRanged : Option Line → Result Line Refusal → Type 0
-ReadsRanged o r = (r ≡ ranged o) ⊎ ((r ≡ Err NoMemory) × ((l : Line) × (o ≡ Some l) × (is_in_range l ≡ true) × (is_send l ≡ true)))
+ReadsRanged o r = (r ≡ ranged o)
+    ⊎ ((r ≡ Err NoMemory) × ((l : Line) × (o ≡ Some l) × (is_in_range l ≡ true) × (is_send l ≡ true)))

@@ -1,10 +1,11 @@
 //! The line of a link's bytes, printed in hexadecimal.
-ghost use Rattle.std.specs.Prelude.{◌≡◌, ◌<◌, ◌≤◌, ◌*◌, ◌++◌, codes, length, take, MatchResult, IfErr};
+ghost use Rattle.std.specs.Prelude.{◌≡◌, ◌<◌, ◌≤◌, ◌*◌, ◌++◌, codes, length, take, MatchResult};
 ghost use Rattle.std.specs.Io.KnownBytes.{Appends};
-ghost use Rattle.share_model.specs.Lines.{hex, hex_digit};
-ghost use Rattle.stridelink.specs.Printing.{bytes_told, AppendsPart, SomeRefusal, digits_or_hyphen, out_line};
+ghost use Rattle.share_model.specs.io.Calls.{Offers, OfferRefused};
+ghost use Rattle.share_model.specs.text.Lines.{hex, hex_digit};
+ghost use Rattle.stridelink.specs.Printing.{bytes_told, AppendsPart, digits_or_hyphen, out_line};
 
-use crate::replies::{NotWritten, put};
+use crate::output::{NotWritten, put};
 use share_model::Telling;
 
 /// How many bytes are spelled in one piece.
@@ -18,12 +19,11 @@ pub fn print_bytes<O: Telling>(output: &mut O, bytes: &[u8]) -> Result<(), NotWr
         (out_line bytes.now))
         (λ _. AppendsPart (bytes_told (O.told output.old)) (bytes_told (O.told output.new))
         (out_line bytes.now)) }
-    ensures asked { IfErr result (λ _. SomeRefusal O.answers) }
+    ensures offers { MatchResult result (λ _. Offers O.answers output.old output.new)
+        (λ _. OfferRefused O.answers output.old output.new) }
 {
-    match put(output, b"out ") {
-        Err(fault) => Err(fault),
-        Ok(()) => finish_line(output, bytes),
-    }
+    put(output, b"out ")?;
+    finish_line(output, bytes)
 }
 
 // The digits of the line, and its line feed.
@@ -33,12 +33,11 @@ fn finish_line<O: Telling>(output: &mut O, bytes: &[u8]) -> Result<(), NotWritte
         (digits_or_hyphen bytes.now ++ codes "\n"))
         (λ _. AppendsPart (bytes_told (O.told output.old)) (bytes_told (O.told output.new))
         (digits_or_hyphen bytes.now ++ codes "\n")) }
-    ensures asked { IfErr result (λ _. SomeRefusal O.answers) }
+    ensures offers { MatchResult result (λ _. Offers O.answers output.old output.new)
+        (λ _. OfferRefused O.answers output.old output.new) }
 {
-    match put_digits(output, bytes) {
-        Err(fault) => Err(fault),
-        Ok(()) => put(output, b"\n"),
-    }
+    put_digits(output, bytes)?;
+    put(output, b"\n")
 }
 
 fn put_digits<O: Telling>(output: &mut O, bytes: &[u8]) -> Result<(), NotWritten>
@@ -47,7 +46,8 @@ fn put_digits<O: Telling>(output: &mut O, bytes: &[u8]) -> Result<(), NotWritten
         (digits_or_hyphen bytes.now))
         (λ _. AppendsPart (bytes_told (O.told output.old)) (bytes_told (O.told output.new))
         (digits_or_hyphen bytes.now)) }
-    ensures asked { IfErr result (λ _. SomeRefusal O.answers) }
+    ensures offers { MatchResult result (λ _. Offers O.answers output.old output.new)
+        (λ _. OfferRefused O.answers output.old output.new) }
 {
     if bytes.is_empty() {
         return put(output, b"-");
@@ -62,15 +62,14 @@ fn put_hex<O: Telling>(output: &mut O, bytes: &[u8]) -> Result<(), NotWritten>
         (hex bytes.now))
         (λ _. AppendsPart (bytes_told (O.told output.old)) (bytes_told (O.told output.new))
         (hex bytes.now)) }
-    ensures asked { IfErr result (λ _. SomeRefusal O.answers) }
+    ensures offers { MatchResult result (λ _. Offers O.answers output.old output.new)
+        (λ _. OfferRefused O.answers output.old output.new) }
 {
     let mut at = 0;
     while at < bytes.len() {
         let count = (bytes.len() - at).min(PIECE);
-        match put_piece(output, &bytes[at..at + count]) {
-            Err(fault) => return Err(fault),
-            Ok(()) => at += count,
-        }
+        put_piece(output, &bytes[at..at + count])?;
+        at += count;
     }
     Ok(())
 }
@@ -82,7 +81,8 @@ fn put_piece<O: Telling>(output: &mut O, piece: &[u8]) -> Result<(), NotWritten>
         (hex piece.now))
         (λ _. AppendsPart (bytes_told (O.told output.old)) (bytes_told (O.told output.new))
         (hex piece.now)) }
-    ensures asked { IfErr result (λ _. SomeRefusal O.answers) }
+    ensures offers { MatchResult result (λ _. Offers O.answers output.old output.new)
+        (λ _. OfferRefused O.answers output.old output.new) }
 {
     let mut text = [0u8; 2 * PIECE];
     spell(piece, &mut text);

@@ -1,36 +1,61 @@
 //! A link that shares its bandwidth among packet flows by tickets, driven by a script of lines.
 #![tactic(auto)]
 
-ghost use Rattle.std.specs.Prelude.{◌≡◌, IfOk, IfErr, IfSome, OnOk, MatchResult};
+ghost use Rattle.std.specs.Prelude.{◌≡◌, ◌≢◌, ◌⊎◌, [], IfOk, IfErr, IfSome, OnOk, MatchResult, IsOkAnd};
+ghost use Rattle.std.specs.Process.{exit_status};
+ghost use Rattle.clap.specs.Values.{kind_of};
+ghost use Rattle.stridelink.specs.declared.script.ScriptFault.TheVariants.{Output, NoMemory};
 ghost use Rattle.std.specs.Io.KnownBytes.{IsAtEnd};
 ghost use Rattle.share_core.specs.Shelf.{rates_of};
+ghost use Rattle.share_model.specs.io.Calls.{ReadsToEnd, Offers};
+ghost use Rattle.share_model.specs.io.Told.{TapeAnswers};
 ghost use Rattle.stridelink.specs.Printing.{bytes_told};
 ghost use Rattle.stridelink.specs.Program.{program_rates, Ran, RanPart};
 ghost use Rattle.stridelink.specs.Script.{IsFault};
 
 mod carry;
 mod hex;
+mod output;
 mod payload;
 mod reading;
 mod replies;
 mod script;
+mod spool;
 #[cfg(test)]
 mod tests;
 mod words;
 
 use crate::hex::print_bytes;
-use crate::script::{ScriptFault, run_script};
+use crate::script::{MAX_READS, ScriptFault, run_script};
+use clap::error::ErrorKind;
 use clap::{Arg, ArgAction, Command, value_parser};
 use share_base::Refusal;
 use share_core::{Engine, Shelf, Tariff};
 use share_model::{PlainReader, PlainWriter, Rates, Source, Tape, Telling};
-use std::alloc::Global;
-use std::env;
-use std::io::{self, BufWriter, Write};
+use std::alloc::{AllocError, Global};
 use std::process::ExitCode;
+use std::{env, io};
 
-/// The most bytes of output that are held back.
-const OUTPUT: usize = 65536;
+/// The life of a link where the words give none.
+const LIFE: u64 = 65536;
+
+/// The status of a usage fault.
+const USAGE: u8 = 2;
+
+/// The version of the program.
+const VERSION: &str = "0.1.0";
+
+/// What is wrong with a word that is no UTF-8.
+const NOT_TEXT: &str = "invalid UTF-8 was detected in one or more arguments";
+
+/// What the words of the command line ask for.
+#[derive(Debug, Drop)]
+enum Asked {
+    /// To run the script of standard input on a link with a life of so many events.
+    Run { life: u64 },
+    /// To show a text: help, the version, or what is wrong with the words.
+    Text(clap::Error),
+}
 
 /// The shelf of the program: tariffs 1 to 4.
 fn shelf(alloc: Global) -> Result<Shelf, Refusal>
@@ -42,10 +67,7 @@ fn shelf(alloc: Global) -> Result<Shelf, Refusal>
         Tariff::new(1024, 0, 1)?,
         Tariff::new(2048, 1024, 3)?,
     ];
-    match Vec::from_array(alloc, tariffs) {
-        Ok(tariffs) => Shelf::new(tariffs),
-        Err(_) => Err(Refusal::NoMemory),
-    }
+    Shelf::new(Vec::from_array(alloc, tariffs)?)
 }
 
 // Runs a script on a new link over this shelf, and prints the bytes of the link in hexadecimal. On a fault a beginning
@@ -63,19 +85,17 @@ fn run<S: Rates + Drop, I: Source, O: Telling>(
         (λ _. RanPart (bytes_told (O.told output.old)) (bytes_told (O.told output.new))
         life (S.rates shelf) script)) }
     ensures ended { OnOk result (IsAtEnd (I.left input.new)) }
-    ensures fault { IfErr result (λ fault. IsFault I.gives input.old O.answers fault) }
+    ensures read { OnOk result (ReadsToEnd I.gives MAX_READS input.old input.new) }
+    ensures offers { OnOk result (Offers O.answers output.old output.new) }
+    ensures fault { IfErr result (λ fault. IsFault I.gives MAX_READS input.old input.new
+        TapeAnswers (record { bytes = []; counts = [] }) O.answers output.old output.new fault) }
 {
-    let engine = match Engine::new(alloc, shelf, life, Tape::new(alloc)) {
-        Ok(engine) => engine,
-        Err(_) => return Err(ScriptFault::NoMemory),
+    let Ok(engine) = Engine::new(alloc, shelf, life, Tape::new(alloc)) else {
+        return Err(ScriptFault::NoMemory);
     };
-    match run_script(alloc, engine, input, output) {
-        Err(fault) => Err(fault),
-        Ok(engine) => match print_bytes(output, engine.writer().bytes()) {
-            Ok(()) => Ok(()),
-            Err(_) => Err(ScriptFault::Output),
-        },
-    }
+    let engine = run_script(alloc, engine, input, output)?;
+    print_bytes(output, engine.writer().bytes())?;
+    Ok(())
 }
 
 // Runs the script of standard input; the replies go to standard output.
@@ -84,23 +104,23 @@ fn run_on_standard(rt: &(impl Input + Print), alloc: Global, life: u64) -> Resul
         return Err(ScriptFault::NoMemory);
     };
     let mut input = PlainReader(rt.reader());
-    let Ok(buffered) = BufWriter::with_capacity(alloc, OUTPUT, io::writer(rt)) else {
-        return Err(ScriptFault::NoMemory);
-    };
-    let mut output = PlainWriter(buffered);
-    let ran = run(alloc, shelf, life, &mut input, &mut output);
-    match output.0.flush() {
-        Ok(()) => ran,
-        Err(_) => match ran {
-            Ok(()) => Err(ScriptFault::Output),
-            Err(fault) => Err(fault),
-        },
+    let mut output = PlainWriter(io::writer(rt));
+    run(alloc, shelf, life, &mut input, &mut output)
+}
+
+// The words of the command line, `None` where one of them is no UTF-8.
+fn given_words(rt: &HostRuntime) -> Result<Option<Vec<String>>, ScriptFault>
+    ensures { IfErr result (λ fault. fault ≡ NoMemory) }
+{
+    match env::args(rt) {
+        Ok(words) => Ok(Some(words.collect(rt.alloc())?)),
+        Err(error) if error.kind() == io::ErrorKind::OutOfMemory => Err(ScriptFault::NoMemory),
+        Err(_) => Ok(None),
     }
 }
 
-fn main(rt: HostRuntime) -> anyhow::Result<ExitCode> {
-    let alloc = rt.alloc();
-    let words = env::args(&rt)?.collect::<Vec<String>>(alloc)?;
+// The command line of the program.
+fn command_line<'a>(alloc: Global) -> Result<Command<'a>, AllocError> {
     let life = Arg::new(alloc, "life")
         .long("life")
         .value_name("L")
@@ -111,26 +131,71 @@ fn main(rt: HostRuntime) -> anyhow::Result<ExitCode> {
     let run = Command::new(alloc, "run")
         .about("runs the script of standard input")
         .arg(life)?;
-    let command = Command::new(alloc, "stridelink")
+    Command::new(alloc, "stridelink")
+        .version(VERSION)
         .about("a link that shares its bandwidth among packet flows by tickets")
         .subcommand_required(true)
-        .subcommand(run)?;
-    let matches = match command.try_get_matches_from(words.as_slice()) {
-        Ok(matches) => matches,
-        Err(error) => {
-            error.print(&rt)?;
-            return Ok(ExitCode::from(error.exit_code() as u8));
-        }
+        .subcommand(run)
+}
+
+// What the words ask for.
+fn parse(alloc: Global, words: Option<&[String]>) -> Result<Asked, ScriptFault>
+    ensures memory { IfErr result (λ fault. fault ≡ NoMemory) }
+    ensures text { IfOk result (λ asked. (text : _) → asked ≡ Asked.Text text → kind_of text ≢ ErrorKind.OutOfMemory) }
+{
+    let mut command = command_line(alloc)?;
+    let Some(words) = words else {
+        return Ok(Asked::Text(command.error(ErrorKind::InvalidValue, NOT_TEXT)?));
     };
-    let life = match matches.subcommand() {
-        Some((_, run)) => run.get_one::<u64>("life").unwrap_or(65536),
-        None => 65536,
-    };
-    match run_on_standard(&rt, alloc, life) {
+    match command.try_get_matches_from(words) {
+        Ok(matches) => Ok(Asked::Run {
+            life: match matches.subcommand() {
+                Some((_, run)) => run.get_one::<u64>("life").unwrap_or(LIFE),
+                None => LIFE,
+            },
+        }),
+        Err(error) if error.kind() == ErrorKind::OutOfMemory => Err(ScriptFault::NoMemory),
+        Err(error) => Ok(Asked::Text(error)),
+    }
+}
+
+// Shows a text of `clap`. A wrong word is a usage fault also where standard error does not take the text.
+fn show(rt: &(impl Print + Eprint), text: &clap::Error) -> Result<ExitCode, ScriptFault>
+    ensures usage { kind_of text.now ≢ ErrorKind.DisplayHelp
+        → kind_of text.now ≢ ErrorKind.DisplayVersion
+        → IsOkAnd result (λ status. exit_status status ≡ 2) }
+    ensures shown { (kind_of text.now ≡ ErrorKind.DisplayHelp) ⊎ (kind_of text.now ≡ ErrorKind.DisplayVersion)
+        → MatchResult result (λ status. exit_status status ≡ 0) (λ fault. fault ≡ Output) }
+{
+    let shown = text.print(rt);
+    if text.use_stderr() {
+        return Ok(ExitCode::from(USAGE));
+    }
+    match shown {
         Ok(()) => Ok(ExitCode::SUCCESS),
+        Err(_) => Err(ScriptFault::Output),
+    }
+}
+
+// Does what the words ask for.
+fn obey(rt: &HostRuntime) -> Result<ExitCode, ScriptFault> {
+    let words = given_words(rt)?;
+    match parse(rt.alloc(), words.as_ref().map(|words| words.as_slice()))? {
+        Asked::Text(text) => show(rt, &text),
+        Asked::Run { life } => {
+            run_on_standard(rt, rt.alloc(), life)?;
+            Ok(ExitCode::SUCCESS)
+        }
+    }
+}
+
+fn main(rt: HostRuntime) -> ExitCode {
+    match obey(&rt) {
+        Ok(status) => status,
         Err(fault) => {
-            eprintln!(rt; "stridelink: {fault}")?;
-            Ok(ExitCode::from(1))
+            // The status tells the fault also where standard error takes no text.
+            let _ = eprintln!(rt; "stridelink: {fault}");
+            ExitCode::FAILURE
         }
     }
 }

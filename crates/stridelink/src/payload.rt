@@ -1,32 +1,19 @@
 //! Payloads in hexadecimal, read by a table.
-ghost use Rattle.std.specs.Prelude.{◌≡◌, ◌≤◌, ◌*◌, ◌%◌, ◌==◌, ◌&&◌, None, Some, length, take, nat_le, MatchOption, IfSome};
+ghost use Rattle.std.specs.Prelude.{◌≡◌, ◌≤◌, ◌*◌, ◌%◌, ◌==◌, ◌&&◌, None, Some, length, take, nat_le, MatchOption};
+ghost use Rattle.std.specs.Prelude.{IfSome};
 ghost use Rattle.std.specs.List.{list_all};
-ghost use Rattle.share_model.specs.Lines.{is_hex_digit, is_pairs, payload_of};
-ghost use Rattle.stridelink.specs.Digits.{table_value};
+ghost use Rattle.share_model.specs.text.Lines.{is_hex_digit, is_pairs, payload_of};
+ghost use Rattle.stridelink.specs.Digits.{value_or_255};
 
-// The value of each byte as a digit; 255 where it is none.
-static DIGITS: [u8; 256] = [
-    255, 255, 255, 255, 255, 255, 255, 255, 255, 255, 255, 255, 255, 255, 255, 255, 255, 255, 255,
-    255, 255, 255, 255, 255, 255, 255, 255, 255, 255, 255, 255, 255, 255, 255, 255, 255, 255, 255,
-    255, 255, 255, 255, 255, 255, 255, 255, 255, 255, 0, 1, 2, 3, 4, 5, 6, 7, 8, 9, 255, 255, 255,
-    255, 255, 255, 255, 255, 255, 255, 255, 255, 255, 255, 255, 255, 255, 255, 255, 255, 255, 255,
-    255, 255, 255, 255, 255, 255, 255, 255, 255, 255, 255, 255, 255, 255, 255, 255, 255, 10, 11,
-    12, 13, 14, 15, 255, 255, 255, 255, 255, 255, 255, 255, 255, 255, 255, 255, 255, 255, 255, 255,
-    255, 255, 255, 255, 255, 255, 255, 255, 255, 255, 255, 255, 255, 255, 255, 255, 255, 255, 255,
-    255, 255, 255, 255, 255, 255, 255, 255, 255, 255, 255, 255, 255, 255, 255, 255, 255, 255, 255,
-    255, 255, 255, 255, 255, 255, 255, 255, 255, 255, 255, 255, 255, 255, 255, 255, 255, 255, 255,
-    255, 255, 255, 255, 255, 255, 255, 255, 255, 255, 255, 255, 255, 255, 255, 255, 255, 255, 255,
-    255, 255, 255, 255, 255, 255, 255, 255, 255, 255, 255, 255, 255, 255, 255, 255, 255, 255, 255,
-    255, 255, 255, 255, 255, 255, 255, 255, 255, 255, 255, 255, 255, 255, 255, 255, 255, 255, 255,
-    255, 255, 255, 255, 255, 255, 255, 255, 255, 255, 255, 255, 255, 255, 255, 255, 255, 255, 255,
-    255, 255, 255, 255,
-];
-
+// The value of a byte as a digit; 255 where it is none.
 fn digit(byte: u8) -> u8
-    ensures { result ≡ table_value byte }
+    ensures { result ≡ value_or_255 byte }
 {
-    let table: &[u8; 256] = &DIGITS;
-    table[byte as usize]
+    match byte {
+        b'0'..=b'9' => byte - b'0',
+        b'a'..=b'f' => byte - b'a' + 10,
+        _ => 255,
+    }
 }
 
 /// Writes the bytes that a word spells in hexadecimal to the front of a buffer, and answers how many they are.
@@ -36,20 +23,20 @@ pub fn decode(word: &[u8], bytes: &mut [u8]) -> Option<usize>
     ensures payload { MatchOption result (payload_of word.now ≡ None)
         (λ count. payload_of word.now ≡ Some (take count bytes.new)) }
     ensures half { IfSome result (λ count. 2 * count ≡ length word.now) }
+    ensures some { IfSome result (λ count. 1 ≤ count) }
 {
     if !has_pairs(word) {
         return None;
     }
     let count = word.len() / 2;
+    let mut greatest = 0;
     for place in 0..count {
         let high = digit(word[2 * place]);
         let low = digit(word[2 * place + 1]);
-        if high > 15 || low > 15 {
-            return None;
-        }
-        bytes[place] = high * 16 + low;
+        greatest = high.max(low).max(greatest);
+        bytes[place] = high.wrapping_mul(16).wrapping_add(low);
     }
-    Some(count)
+    if greatest > 15 { None } else { Some(count) }
 }
 
 /// Whether a word spells bytes in hexadecimal.

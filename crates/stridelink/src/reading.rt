@@ -1,13 +1,16 @@
 //! Lines of a script, read from their bytes.
-ghost use Rattle.std.specs.Prelude.{◌≡◌, IfOk, IfErr};
-ghost use Rattle.share_model.specs.Lines.{Reads, IsReading, IsUnread, is_in_range, payload_of, open_of, mktkt_of, fund_of, send_of, turn_of, torn_of, ranged, line_by};
+ghost use Rattle.std.specs.Prelude.{◌≡◌, ◌&&◌, length, nat_le, IfOk, IfErr, if◌then◌else◌};
+ghost use Rattle.share_base.specs.declared.refusal.Refusal.TheVariants.{Syntax};
+ghost use Rattle.share_model.specs.text.Lines.{Reads, IsReading, IsUnread, is_in_range, is_pairs, payload_of};
+ghost use Rattle.share_model.specs.text.Lines.{open_of, mktkt_of, fund_of, send_of, turn_of, torn_of, ranged};
+ghost use Rattle.share_model.specs.text.Lines.{line_by};
 ghost use Rattle.stridelink.specs.Words.{ReadsRanged, short_line_by, sent_by};
 
 use crate::payload::{decode, is_payload};
 use crate::words::Words;
 use share_base::{Body, Command, Name, Refusal};
 use share_model::Line;
-use std::alloc::Global;
+use std::alloc::{AllocError, Global};
 
 /// The longest line, in bytes before its line feed.
 const MAX_LINE: usize = 20480;
@@ -173,18 +176,33 @@ fn sent(alloc: Global, flow: Name, digits: &[u8]) -> Result<Line, Refusal>
     ensures { ReadsRanged (sent_by flow (payload_of digits.now)) result }
 {
     if digits.len() > 2 * MAX_PAYLOAD {
-        return Err(if is_payload(digits) {
-            Refusal::Range
-        } else {
-            Refusal::Syntax
-        });
+        return Err(unread(digits, Refusal::Range));
     }
-    let mut bytes = [0; MAX_PAYLOAD];
-    match decode(digits, &mut bytes) {
+    let Ok(mut bytes) = zeros(alloc, digits.len().div_ceil(2)) else {
+        return Err(unread(digits, Refusal::NoMemory));
+    };
+    match decode(digits, bytes.as_mut_slice()) {
         None => Err(Refusal::Syntax),
-        Some(count) => match Body::new(alloc, &bytes[..count]) {
-            Ok(body) => Ok(Line::Send { flow, body }),
-            Err(refusal) => Err(refusal),
-        },
+        Some(_) => Ok(Line::Send {
+            flow,
+            body: Body::from_vec(bytes),
+        }),
     }
+}
+
+// Why digits are not read: `Syntax` where they spell no payload.
+fn unread(digits: &[u8], otherwise: Refusal) -> Refusal
+    ensures { result ≡ (if nat_le 2 (length digits.now) && is_pairs digits.now then otherwise else Syntax) }
+{
+    if is_payload(digits) {
+        otherwise
+    } else {
+        Refusal::Syntax
+    }
+}
+
+fn zeros(alloc: Global, count: usize) -> Result<Vec<u8>, AllocError>
+    ensures { IfOk result (λ bytes. length bytes.items ≡ count) }
+{
+    vec![in alloc; 0u8; count]
 }

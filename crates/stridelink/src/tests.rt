@@ -39,7 +39,7 @@ impl<'a> Trickle<'a> {
 
 impl<'a> Source for Trickle<'a> {
     ghost use Rattle.std.specs.Prelude.{None};
-    ghost use Rattle.share_model.specs.Given.{Gives};
+    ghost use Rattle.share_model.specs.io.Given.{Gives};
 
     ghost left = { λ _. None };
 
@@ -273,6 +273,7 @@ fn input_that_fails(rt: HostRuntime) -> Result<(), Fail> {
     Ok(())
 }
 
+// The answers to the lines of one read are offered together.
 #[test]
 fn output_that_fails(rt: HostRuntime) -> Result<(), Fail> {
     let alloc = rt.alloc();
@@ -280,9 +281,9 @@ fn output_that_fails(rt: HostRuntime) -> Result<(), Fail> {
     let wants: [&[u8]; 5] = [
         b"",
         b"idl",
-        b"idle\n",
         b"idle\nno 3 Syntax\n",
         b"idle\nno 3 Syntax\nout ",
+        b"idle\nno 3 Syntax\nout -",
     ];
     for fault in faults {
         for (accepted, want) in wants.into_iter().enumerate() {

@@ -2,7 +2,7 @@
 ghost use Rattle.std.specs.Prelude.{◌≡◌, ◌<◌, ◌+◌, ◌*◌, ◌^◌, ◌∷◌, ◌↔◌, [], None, Some, IsTrue, MatchOption, codes};
 ghost use Rattle.std.specs.Option.{SomeIff};
 ghost use Rattle.stridelink.specs.Words.{begins_number};
-ghost use Rattle.share_model.specs.Lines.{name_of, number_of, keyword_of, words_of, field};
+ghost use Rattle.share_model.specs.text.Lines.{name_of, number_of, keyword_of, words_of, field};
 
 use memchr::memchr;
 use share_base::Name;

@@ -1,8 +1,13 @@
 //! The commands: each changes the graph as its rule says, or is refused with nothing changed.
 ghost use Rattle.std.specs.Prelude.{◌≡◌, ◌-◌, ◌^◌, ◌<◌, map, Some, None, IfOk, IfErr};
 ghost use Rattle.share_base.specs.Refusal.{IsRefused};
-ghost use Rattle.share_model.specs.FundingChanges.{with_holder, make_currency_refusal, make_currency, remove_currency_refusal, remove_currency, make_ticket_refusal, make_ticket, remove_ticket_refusal, remove_ticket, fund_currency_refusal, fund_currency, fund_flow_refusal, fund_flow, unfund_refusal, unfund, add_flow_refusal, add_flow, released, remove_flow, set_active};
-ghost use Rattle.share_model.specs.FundingKept.{IsKept};
+ghost use Rattle.share_model.specs.funding.Changes.{with_holder, make_currency_refusal, make_currency};
+ghost use Rattle.share_model.specs.funding.Changes.{remove_currency_refusal, remove_currency, make_ticket_refusal};
+ghost use Rattle.share_model.specs.funding.Changes.{make_ticket, remove_ticket_refusal, remove_ticket};
+ghost use Rattle.share_model.specs.funding.Changes.{fund_currency_refusal, fund_currency, fund_flow_refusal, fund_flow};
+ghost use Rattle.share_model.specs.funding.Changes.{unfund_refusal, unfund, add_flow_refusal, add_flow, released};
+ghost use Rattle.share_model.specs.funding.Changes.{remove_flow, set_active};
+ghost use Rattle.share_model.specs.funding.Kept.{IsKept};
 
 use super::Tables;
 use crate::holders;
@@ -20,9 +25,7 @@ impl Tables {
         if let Some(refusal) = self.make_currency_refusal(name) {
             return Err(refusal);
         }
-        if let Err(_) = self.currencies.insert(name) {
-            return Err(Refusal::NoMemory);
-        }
+        self.currencies.insert(name)?;
         Ok(())
     }
 
@@ -59,9 +62,7 @@ impl Tables {
             denomination: currency,
             holder: Holder::Nobody,
         };
-        if let Err(_) = self.tickets.push(ticket) {
-            return Err(Refusal::NoMemory);
-        }
+        self.tickets.push(ticket)?;
         self.next_ticket += 1;
         Ok(number)
     }
@@ -142,7 +143,8 @@ impl Tables {
     pub(crate) fn add_flow(&mut self, name: Name) -> Result<FlowNo, Refusal>
         requires { self.old.next_flow < 2 ^ 32 - 1 }
         ensures done { IfOk result
-            (λ n. (add_flow_refusal self.old name ≡ None) × (n ≡ self.old.next_flow) × (self.new ≡ add_flow self.old name)) }
+            (λ n. (add_flow_refusal self.old name ≡ None) × (n ≡ self.old.next_flow)
+            × (self.new ≡ add_flow self.old name)) }
         ensures refused { IfErr result
             (λ e. IsRefused (add_flow_refusal self.old name) e × (self.new ≡ self.old)) }
     {
@@ -155,9 +157,7 @@ impl Tables {
             number,
             active: false,
         };
-        if let Err(_) = self.flows.insert(name, open) {
-            return Err(Refusal::NoMemory);
-        }
+        self.flows.insert(name, open)?;
         self.next_flow += 1;
         Ok(number)
     }

@@ -5,9 +5,9 @@ ghost use Rattle.share_base.specs.Refusal.{first_refusal};
 ghost use Rattle.share_model.specs.declared.funding.OpenFlow.{OpenFlow};
 ghost use Rattle.share_base.specs.declared.refusal.Refusal as Refusal;
 ghost use Rattle.share_model.specs.declared.funding.Holder as Holder;
-ghost use Rattle.share_model.specs.Funding.{worth, chain_within, is_deep};
-ghost use Rattle.share_model.specs.FundingChanges.{ticket_of, found_denomination, with_holder, is_currency};
-ghost use Rattle.share_model.specs.FundingKept.{names_of, times, IsHolderKnown};
+ghost use Rattle.share_model.specs.funding.Graph.{worth, chain_within, is_deep};
+ghost use Rattle.share_model.specs.funding.Changes.{ticket_of, found_denomination, with_holder, is_currency};
+ghost use Rattle.share_model.specs.funding.Kept.{names_of, times, IsHolderKnown};
 ghost use Rattle.share_ledger.specs.Places.{place, target_of, link_of};
 
 use super::{MAX_TICKETS, Tables, is_base};

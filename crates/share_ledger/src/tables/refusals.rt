@@ -1,6 +1,9 @@
 //! When each command is refused, want of memory aside.
 ghost use Rattle.std.specs.Prelude.{◌≡◌, Some};
-ghost use Rattle.share_model.specs.FundingChanges.{ticket_of, found_denomination, uses, make_currency_refusal, remove_currency_refusal, make_ticket_refusal, remove_ticket_refusal, fund_currency_refusal, fund_flow_refusal, unfund_refusal, add_flow_refusal};
+ghost use Rattle.share_model.specs.funding.Changes.{ticket_of, found_denomination, uses, make_currency_refusal};
+ghost use Rattle.share_model.specs.funding.Changes.{remove_currency_refusal, make_ticket_refusal};
+ghost use Rattle.share_model.specs.funding.Changes.{remove_ticket_refusal, fund_currency_refusal, fund_flow_refusal};
+ghost use Rattle.share_model.specs.funding.Changes.{unfund_refusal, add_flow_refusal};
 ghost use Rattle.std.specs.List.{list_any};
 
 use super::{MAX_AMOUNT, MAX_CURRENCIES, MAX_FLOWS, MAX_FUNDING, MAX_TICKETS, Tables, is_base};

@@ -1,6 +1,6 @@
 //! What the tickets that fund a flow are worth together.
 ghost use Rattle.std.specs.Prelude.{◌≡◌, ◌≤◌, length, map, take, sum_by, if◌then◌else◌};
-ghost use Rattle.share_model.specs.Funding.{funding, worth};
+ghost use Rattle.share_model.specs.funding.Graph.{funding, worth};
 
 use super::{MAX_TICKETS, Tables};
 use crate::holders;

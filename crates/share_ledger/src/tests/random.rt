@@ -94,8 +94,8 @@ const REFUSALS: [Refusal; 12] = [
     Refusal::Deep,
 ];
 
-// Makes one step on both: a flow turns active or idle, or is removed, or a change is asked of both. Gives the refusal of
-// the change, if it was one.
+// Makes one step on both: a flow turns active or idle, or is removed, or a change is asked of both. Gives the refusal
+// of the change, if it was one.
 fn step(
     rt: &impl Abort,
     state: &mut u64,

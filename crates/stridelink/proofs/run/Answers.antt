@@ -1,19 +1,42 @@
 use Rattle.std.proofs.Common.{ap, ◌∙◌}
-use Rattle.share_model.specs.Told.{Told}
-use Rattle.stridelink.proofs.ProgramLemmas.{over_new, ran_nothing, ran_part, ran_most, ran_whole}
+use Rattle.std.proofs.lemmas.Result.{err_from_is_err_and}
+use Rattle.share_model.specs.io.Told.{Told}
+use Rattle.share_model.specs.io.Calls.{read_to_end}
+use Rattle.share_model.specs.io.CallsLaws.{offers_more, refused_later}
+use Rattle.stridelink.proofs.ProgramLemmas.{over_new, ran_nothing, ran_part, ran_most, ran_whole, output_fault}
 use Rattle.stridelink.proofs.run.Goals as goal
 
-pub returns-in-Err-clause-printed : goal.returns-in-Err-clause-printed
-returns-in-Err-clause-printed g c = ran_nothing _ _ _ _
+pub returns-in_default-clause-printed : goal.returns-in_default-clause-printed
+returns-in_default-clause-printed g c = ran_nothing _ _ _ _
 
-pub returns-in-Err-run_script-clause-printed : goal.returns-in-Err-run_script-clause-printed
-returns-in-Err-run_script-clause-printed g c =
-    ran_part _ _ _ _ _ c.in-Ok.engine (over_new _ _ _ _ c.in-Ok.engine c.in-Ok.ensures.ok.0) c.in-Err-run_script.ensures.printed
+pub returns-in_err-engine-clause-printed : goal.returns-in_err-engine-clause-printed
+returns-in_err-engine-clause-printed g c =
+    let p = err_from_is_err_and c.from_residual.result c.from_residual.ensures.1 in
+    rw p.1 (ran_part _ _ _ _ _ c.in-Ok.engine (over_new _ _ _ _ c.in-Ok.engine c.in-Ok.ensures.ok.0)
+    c.in_err-engine.ensures.printed)
 
-pub returns-in-Ok-print_bytes-clause-printed : goal.returns-in-Ok-print_bytes-clause-printed
-returns-in-Ok-print_bytes-clause-printed g c =
-    ran_whole _ _ _ _ _ _ c.in-Ok.engine c.in-Ok-run_script.engine _ (over_new _ _ _ _ c.in-Ok.engine c.in-Ok.ensures.ok.0) (c.bytes.ensures ∙ ap (λ (t : Told). t.bytes) c.writer.ensures) c.in-Ok-run_script.ensures.printed c.in-Ok-print_bytes.ensures.bytes
+pub returns-in_err-print_bytes-clause-printed : goal.returns-in_err-print_bytes-clause-printed
+returns-in_err-print_bytes-clause-printed g c =
+    let p = err_from_is_err_and c.from_residual-in_err-print_bytes.result
+    c.from_residual-in_err-print_bytes.ensures.1 in
+    rw p.1
+    (ran_most _ _ _ _ _ _ c.in-Ok.engine c.in_ok-engine.engine _ (over_new _ _ _ _ c.in-Ok.engine c.in-Ok.ensures.ok.0)
+    (c.bytes.ensures ∙ ap (λ (t : Told). t.bytes) c.writer.ensures) c.in_ok-engine.ensures.printed
+    c.in_err-print_bytes.ensures.bytes)
+
+pub returns-in_err-print_bytes-clause-fault : goal.returns-in_err-print_bytes-clause-fault
+returns-in_err-print_bytes-clause-fault g c =
+    let p = err_from_is_err_and c.from_residual-in_err-print_bytes.result
+    c.from_residual-in_err-print_bytes.ensures.1 in
+    rw p.1
+    (output_fault _ _ _ _ _ _ _ _ _ p.2 (read_to_end c.in_ok-engine.ensures.read)
+    (refused_later c.in_ok-engine.ensures.offers c.in_err-print_bytes.ensures.offers))
 
 pub returns-clause-printed : goal.returns-clause-printed
 returns-clause-printed g c =
-    ran_most _ _ _ _ _ _ c.in-Ok.engine c.in-Ok-run_script.engine _ (over_new _ _ _ _ c.in-Ok.engine c.in-Ok.ensures.ok.0) (c.bytes.ensures ∙ ap (λ (t : Told). t.bytes) c.writer.ensures) c.in-Ok-run_script.ensures.printed c.in-Err-print_bytes.ensures.bytes
+    ran_whole _ _ _ _ _ _ c.in-Ok.engine c.in_ok-engine.engine _ (over_new _ _ _ _ c.in-Ok.engine c.in-Ok.ensures.ok.0)
+    (c.bytes.ensures ∙ ap (λ (t : Told). t.bytes) c.writer.ensures) c.in_ok-engine.ensures.printed
+    c.in_ok-print_bytes.ensures.bytes
+
+pub returns-clause-offers : goal.returns-clause-offers
+returns-clause-offers g c = offers_more c.in_ok-engine.ensures.offers c.in_ok-print_bytes.ensures.offers

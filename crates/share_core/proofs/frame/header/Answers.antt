@@ -1,5 +1,5 @@
 use Rattle.std.proofs.Common.{refl}
-use Rattle.share_model.specs.Frame.{header}
+use Rattle.share_model.specs.link.Frame.{header}
 use Rattle.share_core.proofs.frame.header.Goals as goal
 
 pub returns : goal.returns

@@ -13,5 +13,6 @@ pub loop-link-preserved : goal.loop-link-preserved
 loop-link-preserved c =
     let inside = subst (λ n. c.loop-link.link-index < n) (sym c.loop-link.auto.links) c.loop-link-test.true in
     ap (set c.loop-link.links c.loop-link.link-index) c.hushed.ensures
-    ∙ map_over_more (hushed (flags_of c.args.flags.now)) c.args.links.now c.loop-link.links c.loop-link.link-index (get_or c.loop-link.links c.loop-link.link-index idle)
+    ∙ map_over_more (hushed (flags_of c.args.flags.now)) c.args.links.now c.loop-link.links c.loop-link.link-index
+    (get_or c.loop-link.links c.loop-link.link-index idle)
     c.loop-link-test.true c.loop-link.invariant (get_or_default c.loop-link.links c.loop-link.link-index idle _ inside)

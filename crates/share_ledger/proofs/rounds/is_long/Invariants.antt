@@ -4,4 +4,6 @@ use Rattle.share_ledger.specs.declared.rounds.Link.{Link}
 use Rattle.share_ledger.proofs.rounds.is_long.Given as goal
 
 abbrev pub invariant-loop-link : goal.invariant-loop-link
-invariant-loop-link l = l.found ≡ list_any (λ (k : Link). not (nat_eq k.from 0) && slice_index_or l.flags k.from false) (take l.link-index l.links)
+invariant-loop-link l =
+    l.found
+    ≡ list_any (λ (k : Link). not (nat_eq k.from 0) && slice_index_or l.flags k.from false) (take l.link-index l.links)

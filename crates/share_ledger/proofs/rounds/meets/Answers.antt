@@ -12,10 +12,14 @@ loop-init c = record {
 
 pub loop-preserved : goal.loop-preserved
 loop-preserved c =
-    let flagged = walked-round false c.args.links.now (λ p. nat_eq p c.args.to) (flags_of c.loop.flags) (flags_of c.round-flags.result) c.loop.counter c.requires.within c.loop.invariant.flagged c.round-flags.ensures in
+    let flagged =
+    walked-round false c.args.links.now (λ p. nat_eq p c.args.to) (flags_of c.loop.flags)
+    (flags_of c.round-flags.result) c.loop.counter c.requires.within c.loop.invariant.flagged c.round-flags.ensures
+    in
     record {
       flagged = flagged;
       met = ap (λ b. b || flags_of c.round-flags.result c.args.from) c.loop.invariant.met
-          ∙ ap (λ b. meets c.args.links.now c.args.from c.args.to c.loop.counter || b) (flagged c.args.from c.requires.from_place)
+          ∙ ap (λ b. meets c.args.links.now c.args.from c.args.to c.loop.counter || b)
+          (flagged c.args.from c.requires.from_place)
           ∙ sym (meets-more c.args.links.now c.args.from c.args.to c.loop.counter);
     }

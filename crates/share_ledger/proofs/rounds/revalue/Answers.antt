@@ -16,4 +16,7 @@ loop-link-init c = record {
 pub returns : goal.returns
 unfolding poured
 returns c = λ p lt. c.loop-link.invariant.poured_so_far p lt
-    ∙ ap (sum_by (λ (k : Link). if is_behind p k.to then weight (numbers_of c.args.values.now) (numbers_of c.args.totals.now) k else 0)) (take_all c.loop-link.link-index c.args.links.now c.loop-link-test.false)
+    ∙ ap
+    (sum_by
+    (λ (k : Link). if is_behind p k.to then weight (numbers_of c.args.values.now)
+    (numbers_of c.args.totals.now) k else 0)) (take_all c.loop-link.link-index c.args.links.now c.loop-link-test.false)

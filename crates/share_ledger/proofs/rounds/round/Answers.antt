@@ -11,4 +11,5 @@ loop-link-init c = record { places = refl; marked = λ p lt. get_or-replicate 65
 pub returns : goal.returns
 unfolding stepped
 returns c = λ p lt. c.loop-link.invariant.marked p lt
-    ∙ ap (list_any (λ (k : Link). nat_eq p k.from && leads c.args.awake (flags_of c.args.flags.now) k.to)) (take_all c.loop-link.link-index c.args.links.now c.loop-link-test.false)
+    ∙ ap (list_any (λ (k : Link). nat_eq p k.from && leads c.args.awake (flags_of c.args.flags.now) k.to))
+    (take_all c.loop-link.link-index c.args.links.now c.loop-link-test.false)

@@ -10,9 +10,12 @@ loop-link-init c = record { places = refl; summed = λ p lt. get_or-replicate 65
 
 pub overflow_add-totals : goal.overflow_add-totals
 overflow_add-totals c =
-    total-fits c.args.links.now c.loop-link.link-index _ (numbers_of c.loop-link.totals) c.from.result c.requires.within c.requires.few c.loop-link-test.true c.loop-link.invariant.summed c.from.ensures
+    total-fits c.args.links.now c.loop-link.link-index _
+    (numbers_of c.loop-link.totals) c.from.result c.requires.within c.requires.few c.loop-link-test.true
+    c.loop-link.invariant.summed c.from.ensures
 
 pub returns : goal.returns
 unfolding total
 returns c = λ p lt. c.loop-link.invariant.summed p lt
-    ∙ ap (sum_by (λ (k : Link). if nat_eq p k.from then k.amount else 0)) (take_all c.loop-link.link-index c.args.links.now c.loop-link-test.false)
+    ∙ ap (sum_by (λ (k : Link). if nat_eq p k.from then k.amount else 0))
+    (take_all c.loop-link.link-index c.args.links.now c.loop-link-test.false)

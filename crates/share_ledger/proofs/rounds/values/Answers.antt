@@ -11,5 +11,6 @@ loop-init c = λ p lt. get_or-replicate 65 p 0 0 lt
 pub loop-preserved : goal.loop-preserved
 loop-preserved c = λ p lt.
     c.revalue-values.ensures p lt
-    ∙ poured-same c.args.links.now (numbers_of c.loop.values) (valued c.args.links.now c.loop.counter) (numbers_of c.args.totals.now) (total c.args.links.now) p c.requires.within c.loop.invariant c.requires.whole
+    ∙ poured-same c.args.links.now (numbers_of c.loop.values) (valued c.args.links.now c.loop.counter)
+    (numbers_of c.args.totals.now) (total c.args.links.now) p c.requires.within c.loop.invariant c.requires.whole
     ∙ sym (valued-more c.args.links.now c.loop.counter p)

@@ -9,4 +9,5 @@ loop-init c = λ p lt. refl
 
 pub loop-preserved : goal.loop-preserved
 loop-preserved c =
-    walked-round c.args.awake c.args.links.now (flags_of c.args.start.now) (flags_of c.loop.flags) (flags_of c.round-flags.result) c.loop.counter c.requires c.loop.invariant c.round-flags.ensures
+    walked-round c.args.awake c.args.links.now (flags_of c.args.start.now) (flags_of c.loop.flags)
+    (flags_of c.round-flags.result) c.loop.counter c.requires c.loop.invariant c.round-flags.ensures

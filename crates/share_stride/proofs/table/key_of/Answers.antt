@@ -37,5 +37,6 @@ returns-then-eq-clause-found c =
 
 pub returns-clause-absent : goal.returns-clause-absent
 returns-clause-absent c = record {
-  none = λ key slot found same. absurd (omega (arith, (rw c.in-None.ensures.steps.0 at (c.loop-key.invariant.2 key slot found same)).1));
+  none = λ key slot found same. absurd
+      (omega (arith, (rw c.in-None.ensures.steps.0 at (c.loop-key.invariant.2 key slot found same)).1));
 }

@@ -8,5 +8,6 @@ abbrev pub invariant-loop-key : goal.invariant-loop-key
 invariant-loop-key l =
     (goal.iterator-loop-key).can_next l.key-iterator
     × (goal.iterator-loop-key).is_finite l.key-iterator
-    × ((key : ℕ) (slot : Slot) → slot_at l.slots.slots key ≡ Some slot → slot.flow ≡ l.flow → Contains l.key-iterator (key, slot))
+    × ((key : ℕ) (slot : Slot) → slot_at l.slots.slots key ≡ Some slot → slot.flow ≡ l.flow
+    → Contains l.key-iterator (key, slot))
     × ((key : ℕ) (slot : Slot) → Contains l.key-iterator (key, slot) → slot_at l.slots.slots key ≡ Some slot)

@@ -14,7 +14,8 @@ loop-slot-init c =
     )
 
 pub loop-slot-preserved : goal.loop-slot-preserved
-loop-slot-preserved c = (tt, tt, IsFirstSoFar-step _ _ _ _ _ _ _ c.in-Some.ensures.steps c.loop-slot.invariant.2 c.earlier-first.ensures)
+loop-slot-preserved c =
+    (tt, tt, IsFirstSoFar-step _ _ _ _ _ _ _ c.in-Some.ensures.steps c.loop-slot.invariant.2 c.earlier-first.ensures)
 
 pub returns : goal.returns
 returns c = IsFirstSlot-done _ _ _ c.in-None.ensures.steps.0 c.loop-slot.invariant.2

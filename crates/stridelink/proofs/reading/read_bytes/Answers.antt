@@ -9,4 +9,5 @@ pub returns-in-None : goal.returns-in-None
 returns-in-None c = inl (no_words c.args.bytes.now (omega arith) (sym c.of-words.ensures ∙ c.in-None.ensures))
 
 pub returns-in-Some : goal.returns-in-Some
-returns-in-Some c = reads c.args.bytes.now _ _ _ (omega arith) (sym c.of-words.ensures ∙ c.in-Some.ensures) c.read_words.ensures
+returns-in-Some c =
+    reads c.args.bytes.now _ _ _ (omega arith) (sym c.of-words.ensures ∙ c.in-Some.ensures) c.read_words.ensures

@@ -1,8 +1,17 @@
+use Rattle.share_model.specs.io.Calls.{no_call}
 use Rattle.stridelink.proofs.AnswerLemmas.{read_ok, answered, unread_said}
 use Rattle.stridelink.proofs.script.answer.Goals as goal
 
-pub returns-in-Ok : goal.returns-in-Ok
-returns-in-Ok g c = answered c.args.engine.now c.answer_line.new.engine c.args.bytes.now c.in-Ok.line c.answer_line.result _ (read_ok c.args.bytes.now c.in-Ok.line c.in-Ok.ensures.reads) c.answer_line.ensures
+pub returns-in-Ok-clause-says : goal.returns-in-Ok-clause-says
+returns-in-Ok-clause-says g c =
+    answered _ c.args.engine.now c.answer_line.new.engine c.args.bytes.now c.in-Ok.line c.answer_line.result
+    (read_ok c.args.bytes.now c.in-Ok.line c.in-Ok.ensures.reads) c.answer_line.ensures.says
 
-pub returns-in-Err : goal.returns-in-Err
-returns-in-Err g c = unread_said c.args.engine.now c.args.bytes.now c.in-Err.refusal c.unread.result c.spent.result c.in-Err.ensures.reads c.spent.ensures c.unread.ensures
+pub returns-in-Err-clause-says : goal.returns-in-Err-clause-says
+returns-in-Err-clause-says g c =
+    unread_said _ c.args.engine.now c.args.bytes.now c.in-Err.refusal c.unread.result c.spent.result
+    c.in-Err.ensures.reads
+    c.spent.ensures c.unread.ensures
+
+pub returns-in-Err-clause-called : goal.returns-in-Err-clause-called
+returns-in-Err-clause-called g c = no_call

@@ -1,16 +1,33 @@
-use Rattle.stridelink.proofs.ScriptLemmas.{up_to_none, up_to_more, up_to_broke, up_to_end}
+use Rattle.std.proofs.lemmas.Result.{err_from_is_err_and}
+use Rattle.stridelink.proofs.FeedLemmas.{up_to_none, up_to_more, up_to_broke, up_to_end}
+use Rattle.stridelink.proofs.StopLemmas.{wrote_none, wrote_more, stop_later}
 use Rattle.stridelink.proofs.script.feed.Goals as goal
 
 pub loop-count-init : goal.loop-count-init
-loop-count-init g c = up_to_none _ c.args.engine.now c.args.carry.now c.args.chunk.now
+loop-count-init g c = (up_to_none _ _ _ c.args.engine.now c.args.carry.now c.args.chunk.now, wrote_none _ _ _ _)
 
 pub loop-count-preserved : goal.loop-count-preserved
-loop-count-preserved g c = up_to_more _ _ _ c.args.engine.now c.loop-count.engine c.end_line.new.engine c.args.carry.now c.loop-count.carry c.end_line.new.carry c.args.chunk.now c.loop-count.at c.in-Some.count
-    c.loop-count.invariant c.in-Some.ensures c.in-Ok.ensures.spoke c.in-Ok.ensures.none
+loop-count-preserved g c = (
+  up_to_more _ _ _ _ _ _ _ c.args.engine.now c.loop-count.engine _ c.args.carry.now c.loop-count.carry _
+      c.args.chunk.now c.loop-count.at c.in-Some.count
+      c.loop-count.invariant.0 c.in-Some.ensures c.in_ok-end_line.ensures.spoke c.in_ok-end_line.ensures.none,
+  wrote_more c.loop-count.invariant.1 c.in_ok-end_line.ensures.calls,
+)
 
-pub returns-in-Err-clause-fed : goal.returns-in-Err-clause-fed
-returns-in-Err-clause-fed g c = up_to_broke _ _ _ c.args.engine.now c.loop-count.engine c.args.carry.now c.loop-count.carry c.args.chunk.now c.loop-count.at c.in-Some.count
-    c.loop-count.invariant c.in-Some.ensures c.in-Err.ensures.spoke
+pub returns-in_err-end_line-clause-fed : goal.returns-in_err-end_line-clause-fed
+returns-in_err-end_line-clause-fed g c =
+    let p = err_from_is_err_and c.from_residual.result c.from_residual.ensures.1 in
+    rw p.1 (up_to_broke _ _ _ _ _ _ c.args.engine.now c.loop-count.engine c.args.carry.now c.loop-count.carry
+    c.args.chunk.now c.loop-count.at c.in-Some.count
+    c.loop-count.invariant.0 c.in-Some.ensures c.in_err-end_line.ensures.spoke)
+
+pub returns-in_err-end_line-clause-calls : goal.returns-in_err-end_line-clause-calls
+returns-in_err-end_line-clause-calls g c =
+    let p = err_from_is_err_and c.from_residual.result c.from_residual.ensures.1 in
+    rw (p.1, p.2) (stop_later _ _ _ _ _ _ _ _ _ c.loop-count.invariant.1 c.in_err-end_line.ensures.calls)
 
 pub returns-clause-fed : goal.returns-clause-fed
-returns-clause-fed g c = up_to_end _ _ c.args.engine.now c.loop-count.engine c.args.carry.now c.loop-count.carry c.add.new.self c.args.chunk.now c.loop-count.at c.loop-count.invariant c.in_default.ensures c.add.ensures
+returns-clause-fed g c =
+    up_to_end _ _ _ _ _ c.args.engine.now c.loop-count.engine c.args.carry.now c.loop-count.carry c.add.new.self
+    c.args.chunk.now c.loop-count.at
+    c.loop-count.invariant.0 c.in_default.ensures c.add.ensures

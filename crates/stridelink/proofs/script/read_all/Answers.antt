@@ -1,39 +1,54 @@
-use Rattle.std.proofs.Common.{◌≡◌, ◌^◌, ℕ, arith, subst}
-use Rattle.stridelink.specs.Script.{Calls, no_calls, one_more, too_many_reads}
-use Rattle.stridelink.proofs.ScriptLemmas.{running_none, running_more, running_kept, running_part, running_broke}
+use Rattle.std.proofs.lemmas.Result.{err_from_is_err_and}
+use Rattle.std.proofs.Common.{arith}
+use Rattle.share_model.specs.io.Calls.{no_reads, one_read, read_failed, reading}
+use Rattle.stridelink.proofs.RunLemmas.{running_none, running_more, running_kept, running_part, running_broke}
+use Rattle.stridelink.proofs.StopLemmas.{wrote_none, wrote_more, stopped}
 use Rattle.stridelink.proofs.script.read_all.Goals as goal
-use Rattle.stridelink.proofs.script.read_all.Goals.{in-Bytes+in-Ok, in-Interrupted}
+use Rattle.stridelink.proofs.script.read_all.Goals.{in-Bytes+in_ok-answer_chunk-in-Bytes, in-Interrupted}
 
 pub loop-reads-init : goal.loop-reads-init
-loop-reads-init g c = record { calls = no_calls; so = running_none _ _ _ _ c.requires.none }
+loop-reads-init g c = (running_none _ _ _ _ _ c.requires.none, no_reads, wrote_none _ _ _ _, c.requires.nothing)
 
-pub returns-in-Err-clause-fed : goal.returns-in-Err-clause-fed
-returns-in-Err-clause-fed g c =
+pub returns-in_err-answer_chunk-in-Bytes-clause-fed : goal.returns-in_err-answer_chunk-in-Bytes-clause-fed
+returns-in_err-answer_chunk-in-Bytes-clause-fed g c =
     let given = g.met.I.Source.tells _ _ _ _ c.in-Bytes.ensures in
-    running_broke _ _ _ _ _ _ c.args.engine.now c.loop-reads.engine c.loop-reads.carry _ c.loop-reads.invariant.so given.2 c.in-Err.ensures.fed
+    let p = err_from_is_err_and c.from_residual.result c.from_residual.ensures.1 in
+    rw p.1 (running_broke _ _ _ _ _ _ _ c.args.engine.now _ _ _ c.loop-reads.invariant.0 given.2
+    c.in_err-answer_chunk-in-Bytes.ensures.fed)
+
+pub returns-in_err-answer_chunk-in-Bytes-clause-calls : goal.returns-in_err-answer_chunk-in-Bytes-clause-calls
+returns-in_err-answer_chunk-in-Bytes-clause-calls g c =
+    let p = err_from_is_err_and c.from_residual.result c.from_residual.ensures.1 in
+    rw (p.1, p.2)
+    (stopped _ _ _ _ _ _ _ _ _ _ _ _ _
+    (reading _ (omega arith) (one_read _ _ _ _ _ c.loop-reads.invariant.1 c.in-Bytes.ensures tt))
+    c.loop-reads.invariant.2 c.in_err-answer_chunk-in-Bytes.ensures.calls)
 
 pub returns-in-Failed-clause-fed : goal.returns-in-Failed-clause-fed
-returns-in-Failed-clause-fed g c = running_part _ _ _ _ c.args.engine.now c.loop-reads.engine c.loop-reads.carry c.loop-reads.invariant.so
+returns-in-Failed-clause-fed g c = running_part _ _ _ _ _ c.args.engine.now _ _ c.loop-reads.invariant.0
+
+pub returns-in-Failed-clause-calls : goal.returns-in-Failed-clause-calls
+returns-in-Failed-clause-calls g c =
+    (read_failed _ _ _ c.loop-reads.invariant.1 (omega arith) c.in-Failed.ensures, c.loop-reads.invariant.2.offers)
 
 pub returns-clause-fed : goal.returns-clause-fed
-returns-clause-fed g c = running_part _ _ _ _ c.args.engine.now c.loop-reads.engine c.loop-reads.carry c.loop-reads.invariant.so
-
-pub returns-clause-fault : goal.returns-clause-fault
-returns-clause-fault g c =
-    let n : c.loop-reads.reads ≡ 2 ^ 32 = omega arith in
-    let P : ℕ → Type 0 = λ k. Calls g.I.Source.gives c.args.input.now k c.loop-reads.input in
-    too_many_reads c.loop-reads.input (subst P n c.loop-reads.invariant.calls)
+returns-clause-fed g c = running_part _ _ _ _ _ c.args.engine.now _ _ c.loop-reads.invariant.0
 
 pub loop-reads-preserved : goal.loop-reads-preserved
 loop-reads-preserved g c = elim c.match-take_bytes.branch [
-  | in-Bytes+in-Ok w ↦ rw (w.engine-is, w.carry-is, w.output-is) (
-      let given = g.met.I.Source.tells _ _ _ _ w.in-Bytes.ensures in record {
-        calls = one_more _ _ _ _ _ c.loop-reads.invariant.calls w.in-Bytes.ensures;
-        so = running_more _ _ _ _ _ _ c.args.engine.now c.loop-reads.engine _ c.loop-reads.carry _ _ c.loop-reads.invariant.so given.2 w.in-Ok.ensures.fed;
-      })
-  | in-Interrupted w ↦ rw (w.engine-is, w.carry-is, w.output-is) (
-      let given = g.met.I.Source.tells _ _ _ _ w.in-Interrupted.ensures in record {
-        calls = one_more _ _ _ _ _ c.loop-reads.invariant.calls w.in-Interrupted.ensures;
-        so = running_kept _ _ _ _ _ c.args.engine.now c.loop-reads.engine c.loop-reads.carry c.loop-reads.invariant.so given;
-      })
+  | in-Bytes+in_ok-answer_chunk-in-Bytes w ↦ rw (w.engine-is, w.carry-is, w.output-is, w.spool-is) (
+      let given = g.met.I.Source.tells _ _ _ _ w.in-Bytes.ensures in (
+        running_more _ _ _ _ _ _ _ c.args.engine.now _ _ _ _ _ c.loop-reads.invariant.0 given.2
+            w.in_ok-answer_chunk-in-Bytes.ensures.fed,
+        one_read _ _ _ _ _ c.loop-reads.invariant.1 w.in-Bytes.ensures tt,
+        wrote_more c.loop-reads.invariant.2 w.in_ok-answer_chunk-in-Bytes.ensures.calls,
+        w.in_ok-answer_chunk-in-Bytes.ensures.nothing,
+      ))
+  | in-Interrupted w ↦ rw (w.engine-is, w.carry-is, w.output-is, w.spool-is) (
+      let given = g.met.I.Source.tells _ _ _ _ w.in-Interrupted.ensures in (
+        running_kept _ _ _ _ _ _ c.args.engine.now _ _ c.loop-reads.invariant.0 given,
+        one_read _ _ _ _ _ c.loop-reads.invariant.1 w.in-Interrupted.ensures tt,
+        c.loop-reads.invariant.2,
+        c.loop-reads.invariant.3,
+      ))
 ]

@@ -1,6 +1,14 @@
+use Rattle.std.proofs.Common.{◌≡◌, []}
+use Rattle.share_model.specs.io.Calls.{Reads}
 use Rattle.stridelink.specs.Printing.{bytes_told}
-use Rattle.stridelink.specs.Script.{Reading}
+use Rattle.stridelink.specs.Script.{Running, Wrote}
 use Rattle.stridelink.proofs.script.read_all.Given as goal
 
 abbrev pub invariant-loop-reads : goal.invariant-loop-reads
-invariant-loop-reads g l = Reading g.I.Source.left g.I.Source.gives l.initial.input l.reads l.input (bytes_told (g.O.Telling.told l.initial.output)) (bytes_told (g.O.Telling.told l.output)) l.initial.engine l.engine l.carry
+invariant-loop-reads g l =
+    Running g.W.Telling.told (g.I.Source.left l.initial.input) (g.I.Source.left l.input)
+    (bytes_told (g.O.Telling.told l.initial.output)) (bytes_told (g.O.Telling.told l.output)) l.initial.engine
+    l.engine l.carry
+    × Reads g.I.Source.gives l.initial.input l.reads l.input
+    × Wrote g.W.Telling.answers g.O.Telling.answers l.initial.engine.writer l.engine.writer l.initial.output l.output
+    × (l.spool ≡ [])

@@ -1,5 +1,7 @@
-use Rattle.stridelink.proofs.ScriptLemmas.{spoke_some}
+use Rattle.stridelink.proofs.FeedLemmas.{spoke_text}
 use Rattle.stridelink.proofs.script.speak.Goals as goal
 
-pub returns-in-Err-write_outcome-clause-spoke : goal.returns-in-Err-write_outcome-clause-spoke
-returns-in-Err-write_outcome-clause-spoke g c = spoke_some _ _ c.args.engine.now c.args.line.now c.in-Ok.outcome c.answer.new.engine _ c.in-Ok.ensures c.in-Err-write_outcome.ensures.bytes.1
+pub returns-clause-spoke : goal.returns-clause-spoke
+returns-clause-spoke g c =
+    spoke_text _ _ _ _ _ _ c.args.engine.now c.args.line.now _ c.answer.new.engine c.in_ok-make_room.ensures.spooled
+    c.push_line.ensures c.in_ok-outcome.ensures.says

@@ -1,8 +1,24 @@
-use Rattle.std.proofs.Common.{sym, ◌∙◌}
-use Rattle.share_model.specs.TalkLaws.{turn-says}
+use Rattle.std.proofs.Common.{sym, ◌∙◌, refl}
+use Rattle.share_model.specs.text.TalkLaws.{turn-says}
 use Rattle.stridelink.proofs.AnswerLemmas.{never_torn}
+use Rattle.stridelink.proofs.CallLemmas.{turn-called, torn-failed}
 use Rattle.stridelink.proofs.script.turn.Goals as goal
 
-pub returns : goal.returns
-returns g c = turn-says c.args.engine.now c.turn-turn.new.self c.args.most c.turn-turn.result c.requires c.turn-turn.ensures
-    (never_torn c.turn-turn.result (sym c.is_torn.ensures ∙ c.if-is_torn.false))
+pub returns-then-is_torn-clause-fault : goal.returns-then-is_torn-clause-fault
+returns-then-is_torn-clause-fault g c = (
+  refl,
+  torn-failed g.W.Telling.told g.W.Telling.answers g.met.W.Telling.tells c.requires.whole c.args.engine.now
+      c.turn-turn.new.self c.args.most c.turn-turn.result
+      c.events-events.ensures.sound c.requires.some (sym c.is_torn.ensures ∙ c.if-is_torn.true) c.turn-turn.ensures,
+)
+
+pub returns-clause-says : goal.returns-clause-says
+returns-clause-says g c =
+    turn-says g.W.Telling.told g.W.Telling.answers g.met.W.Telling.tells c.requires.whole c.args.engine.now
+    c.turn-turn.new.self c.args.most c.turn-turn.result
+    c.requires.some c.turn-turn.ensures (never_torn c.turn-turn.result (sym c.is_torn.ensures ∙ c.if-is_torn.false))
+
+pub returns-clause-called : goal.returns-clause-called
+returns-clause-called g c =
+    turn-called g.W.Telling.answers c.args.engine.now c.turn-turn.new.self c.args.most c.turn-turn.result
+    c.turn-turn.ensures

@@ -1,7 +1,7 @@
 use Rattle.std.proofs.Common.{◌≤◌, ap, ◌∙◌, subst, sym, position, find, Option, IsTrue, is_some}
 use Rattle.share_model.specs.declared.link.Book.{Book}
-use Rattle.share_model.specs.Tariff.{rate_at}
-use Rattle.share_model.specs.Link.{is_book_of, charged, posted}
+use Rattle.share_model.specs.link.Tariff.{rate_at}
+use Rattle.share_model.specs.link.Live.{is_book_of, charged, posted}
 use Rattle.share_core.specs.Held.{IfFound}
 use Rattle.share_core.proofs.Places.{changed, found}
 use Rattle.share_core.proofs.books.Books.post.Goals as goal
@@ -9,17 +9,22 @@ use Rattle.share_core.proofs.books.Books.post.Goals as goal
 pub charge-requires-clause-known : goal.charge-requires-clause-known
 charge-requires-clause-known g c =
     let place = ap (position (is_book_of c.args.flow)) c.self.view_is ∙ c.place-place.ensures in
-    let book = sym (ap (find (is_book_of c.args.flow)) c.self.view_is) ∙ found (is_book_of c.args.flow) _ _ c.index_mut-book.result.now place c.index_mut-book.ensures.value in
-    subst (λ (o : Option Book). IfFound o (λ b. IsTrue (is_some (rate_at (g.S.Rates.rates c.args.shelf.now) b.tariff)))) book c.requires.known
+    let book = sym (ap (find (is_book_of c.args.flow)) c.self.view_is)
+    ∙ found (is_book_of c.args.flow) _ _ c.index_mut-book.result.now place c.index_mut-book.ensures.value in
+    subst (λ (o : Option Book). IfFound o
+    (λ b. IsTrue (is_some (rate_at (g.S.Rates.rates c.args.shelf.now) b.tariff)))) book c.requires.known
 
 pub charge-requires-clause-account : goal.charge-requires-clause-account
 charge-requires-clause-account g c =
     let place = ap (position (is_book_of c.args.flow)) c.self.view_is ∙ c.place-place.ensures in
-    let book = sym (ap (find (is_book_of c.args.flow)) c.self.view_is) ∙ found (is_book_of c.args.flow) _ _ c.index_mut-book.result.now place c.index_mut-book.ensures.value in
+    let book = sym (ap (find (is_book_of c.args.flow)) c.self.view_is)
+    ∙ found (is_book_of c.args.flow) _ _ c.index_mut-book.result.now place c.index_mut-book.ensures.value in
     subst (λ (o : Option Book). IfFound o (λ b. b.account ≤ 4611686018427387904)) book c.requires.account
 
 pub returns : goal.returns
 returns g c =
     let place = ap (position (is_book_of c.args.flow)) c.self.view_is ∙ c.place-place.ensures in
-    changed (is_book_of c.args.flow) (charged (g.S.Rates.rates c.args.shelf.now) c.args.count) _ _ c.index_mut-book.result.now _ place c.index_mut-book.ensures.value c.charge.ensures
+    changed (is_book_of c.args.flow)
+    (charged (g.S.Rates.rates c.args.shelf.now) c.args.count) _ _ c.index_mut-book.result.now _ place
+    c.index_mut-book.ensures.value c.charge.ensures
     ∙ ap (λ bs. posted (g.S.Rates.rates c.args.shelf.now) bs c.args.flow c.args.count) c.self.view_is

@@ -1,6 +1,7 @@
 use Rattle.std.proofs.Common.{arith}
-use Rattle.share_model.specs.SoundLaws.{sound-empty}
+use Rattle.share_model.specs.run.SoundStepLaws.{sound-empty}
 use Rattle.share_core.proofs.link.Link.new.Goals as goal
 
 pub invariant_of-result : goal.invariant_of-result
-invariant_of-result g c = (omega arith, rw (c.in-Ok.ensures, c.new-3.ensures, c.in-Ok-new.ensures) (sound-empty _ _))
+invariant_of-result g c =
+    (omega arith, rw (c.in_ok-funding.ensures, c.new-3.ensures, c.in_ok-books.ensures) (sound-empty _ _))

@@ -1,6 +1,7 @@
-use Rattle.share_model.specs.SoundLaws.{sound-counted}
+use Rattle.share_model.specs.run.SoundStepLaws.{sound-counted}
 use Rattle.share_core.proofs.Living.{living}
 use Rattle.share_core.proofs.link.Link.refuse.Goals as goal
 
 pub invariant_of-self : goal.invariant_of-self
-invariant_of-self g c = (c.self.invariant.0, sound-counted c.self.invariant.1 (living _ _ c.self.view_is c.requires c.self.invariant.1))
+invariant_of-self g c =
+    (c.self.invariant.0, sound-counted c.self.invariant.1 (living _ _ c.self.view_is c.requires c.self.invariant.1))

@@ -1,5 +1,5 @@
 use Rattle.std.proofs.Common.{◌≡◌, ◌^◌, ℕ, min, sum_by, ap, ◌∙◌, arith}
-use Rattle.share_model.specs.Funding.{Graph, funding, worth, tickets}
+use Rattle.share_model.specs.funding.Graph.{Graph, funding, worth, tickets}
 use Rattle.share_ledger.proofs.ledger.Ledger.tickets.Goals as goal
 
 min_comm : (n : ℕ) → min n (2 ^ 20) ≡ min (2 ^ 20) n

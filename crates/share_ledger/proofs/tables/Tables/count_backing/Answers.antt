@@ -1,11 +1,12 @@
-use Rattle.std.proofs.Common.{◌≡◌, count_by, sym, ◌∙◌, rules}
+use Rattle.std.proofs.Common.{◌≡◌, Bool, count_by, sym, ◌∙◌, rules}
 use Rattle.std.proofs.lemmas.List.Sums.{length-filter}
 use Rattle.share_model.specs.declared.funding.Ticket.{Ticket}
-use Rattle.share_model.specs.Funding.{backing, is_held_by_currency}
+use Rattle.share_model.specs.funding.Graph.{backing, is_held_by_currency}
 use Rattle.share_ledger.proofs.tables.Tables.count_backing.Goals as goal
 
 pub returns : goal.returns
 unfolding backing
 returns c =
-    let counted : c.count.result ≡ count_by (λ (t : Ticket). is_held_by_currency c.args.name t.holder) c.args.self.now.tickets = search rules in
-    counted ∙ sym (length-filter (λ (t : Ticket). is_held_by_currency c.args.name t.holder) c.args.self.now.tickets)
+    let test : Ticket → Bool = λ t. is_held_by_currency c.args.name t.holder in
+    let counted : c.count.result ≡ count_by test c.args.self.now.tickets = search rules in
+    counted ∙ sym (length-filter test c.args.self.now.tickets)

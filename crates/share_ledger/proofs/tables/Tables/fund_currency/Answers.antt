@@ -1,6 +1,8 @@
 use Rattle.std.proofs.Common.{sym, ◌∙◌}
-use Rattle.share_model.proofs.FundingInvariant.{kept-fund_currency}
+use Rattle.share_model.proofs.FundingTickets.{kept-fund_currency}
 use Rattle.share_ledger.proofs.tables.Tables.fund_currency.Goals as goal
 
 pub give-requires : goal.give-requires
-give-requires c = kept-fund_currency c.args.self.now c.is_kept.ensures c.args.ticket c.args.currency (sym c.fund_currency_refusal.ensures ∙ c.in_default.is)
+give-requires c =
+    kept-fund_currency c.args.self.now c.is_kept.ensures c.args.ticket c.args.currency
+    (sym c.fund_currency_refusal.ensures ∙ c.in_default.is)

@@ -1,29 +1,49 @@
 use Rattle.std.proofs.Common.{◌≡◌, List, Some, position, sym, ap, subst, ◌∙◌}
 use Rattle.share_model.specs.declared.funding.Ticket.{Ticket}
-use Rattle.share_model.specs.Funding.{Graph}
-use Rattle.share_model.specs.FundingChanges.{is_numbered, with_holder}
-use Rattle.share_model.specs.FundingKept.{IsKept}
+use Rattle.share_model.specs.funding.Graph.{Graph}
+use Rattle.share_model.specs.funding.Changes.{is_numbered, held_by, with_holder}
+use Rattle.share_model.specs.funding.Kept.{IsKept}
 use Rattle.share_ledger.proofs.Lays.{lay}
-use Rattle.share_ledger.proofs.Positions.{position-first, position-none, holder-first, holder-none}
+use Rattle.share_ledger.proofs.Positions.{position-first, position-none, changed-first, changed-none}
 use Rattle.share_ledger.proofs.tables.Tables.give.Goals as goal
 
 pub invariant_of-self : goal.invariant_of-self
 invariant_of-self c =
-    let found = subst (λ (g : Graph). position (is_numbered c.args.number) g.tickets ≡ Some c.in-Some.place) (sym c.self.view_is) (sym c.place_of_ticket.ensures ∙ c.in-Some.is) in
+    let tables =
+    lay c.self.inside.currencies.keys c.self.inside.tickets.items c.self.inside.next_ticket
+    c.self.inside.flows.entries c.self.inside.next_flow in
+    let found =
+    subst (λ (g : Graph). position (is_numbered c.args.number) g.tickets ≡ Some c.in-Some.place)
+    (sym c.self.view_is) (sym c.place_of_ticket.ensures ∙ c.in-Some.is) in
     let first = position-first (is_numbered c.args.number) c.self.inside.tickets.items c.in-Some.place found in
-    let written = holder-first c.args.number c.args.holder.now c.self.inside.tickets.items c.in-Some.place c.index_mut.result.now first c.index_mut.ensures.value in
-    subst (λ ts. IsKept (lay c.self.inside.currencies.keys ts c.self.inside.next_ticket c.self.inside.flows.entries c.self.inside.next_flow)) (sym written)
-    (subst (λ (g : Graph). IsKept (record g { tickets = with_holder c.args.number c.args.holder.now g.tickets })) (sym c.self.view_is) c.requires)
+    let written =
+    changed-first (is_numbered c.args.number)
+    (held_by c.args.holder.now) c.self.inside.tickets.items c.in-Some.place c.index_mut.result.now first
+    c.index_mut.ensures.value in
+    subst (λ ts. IsKept (record tables { tickets = ts })) (sym written)
+    (subst (λ (g : Graph). IsKept (record g { tickets = with_holder c.args.number c.args.holder.now g.tickets }))
+    (sym c.self.view_is) c.requires)
 
 pub returns-in-Some : goal.returns-in-Some
 returns-in-Some c =
-    let found = subst (λ (g : Graph). position (is_numbered c.args.number) g.tickets ≡ Some c.in-Some.place) (sym c.self.view_is) (sym c.place_of_ticket.ensures ∙ c.in-Some.is) in
+    let tables =
+    lay c.self.inside.currencies.keys c.self.inside.tickets.items c.self.inside.next_ticket
+    c.self.inside.flows.entries c.self.inside.next_flow in
+    let found =
+    subst (λ (g : Graph). position (is_numbered c.args.number) g.tickets ≡ Some c.in-Some.place)
+    (sym c.self.view_is) (sym c.place_of_ticket.ensures ∙ c.in-Some.is) in
     let first = position-first (is_numbered c.args.number) c.self.inside.tickets.items c.in-Some.place found in
-    let written = holder-first c.args.number c.args.holder.now c.self.inside.tickets.items c.in-Some.place c.index_mut.result.now first c.index_mut.ensures.value in
-    ap (λ ts. lay c.self.inside.currencies.keys ts c.self.inside.next_ticket c.self.inside.flows.entries c.self.inside.next_flow) written
+    let written =
+    changed-first (is_numbered c.args.number)
+    (held_by c.args.holder.now) c.self.inside.tickets.items c.in-Some.place c.index_mut.result.now first
+    c.index_mut.ensures.value in
+    ap (λ ts. record tables { tickets = ts }) written
     ∙ ap (λ (g : Graph). record g { tickets = with_holder c.args.number c.args.holder.now g.tickets }) c.self.view_is
 
 pub returns-in_default : goal.returns-in_default
 returns-in_default c =
     ap (λ (ts : List Ticket). record c.args.self.now { tickets = ts })
-    (sym (holder-none c.args.number c.args.holder.now c.args.self.now.tickets (position-none (is_numbered c.args.number) c.args.self.now.tickets (sym c.place_of_ticket.ensures ∙ c.in_default.is))))
+    (sym
+    (changed-none (is_numbered c.args.number) (held_by c.args.holder.now) c.args.self.now.tickets
+    (position-none (is_numbered c.args.number) c.args.self.now.tickets
+    (sym c.place_of_ticket.ensures ∙ c.in_default.is))))

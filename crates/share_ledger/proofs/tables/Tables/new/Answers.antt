@@ -1,19 +1,24 @@
 use Rattle.std.proofs.Common.{◌≡◌, List, [], sym, subst}
 use Rattle.share_model.specs.declared.funding.Ticket.{Ticket}
 use Rattle.share_model.specs.declared.funding.OpenFlow.{OpenFlow}
-use Rattle.share_model.specs.Funding.{NameBytes, Graph}
-use Rattle.share_model.specs.FundingKept.{IsKept}
-use Rattle.share_model.proofs.FundingInvariant.{kept-empty}
+use Rattle.share_model.specs.funding.Graph.{NameBytes, Graph}
+use Rattle.share_model.specs.funding.Kept.{IsKept}
+use Rattle.share_model.proofs.FundingCurrencies.{kept-empty}
 use Rattle.share_ledger.proofs.tables.Tables.new.Goals as goal
 
 lay : List NameBytes → List Ticket → List (NameBytes × OpenFlow) → Graph
 lay cs ts es = record { currencies = cs; tickets = ts; next_ticket = 1; flows = es; next_flow = 1 }
 
 -- three lists that are empty
-kept-lay : (cs : List NameBytes) (ts : List Ticket) (es : List (NameBytes × OpenFlow)) → cs ≡ [] → ts ≡ [] → es ≡ [] → IsKept (lay cs ts es)
+kept-lay : (cs : List NameBytes) (ts : List Ticket) (es : List (NameBytes × OpenFlow)) → cs ≡ [] → ts ≡ [] → es ≡ []
+    → IsKept (lay cs ts es)
 unfolding lay
-kept-lay cs ts es p q r = subst (λ cs. IsKept (lay cs ts es)) (sym p) (subst (λ ts. IsKept (lay [] ts es)) (sym q) (subst (λ es. IsKept (lay [] [] es)) (sym r) kept-empty))
+kept-lay cs ts es p q r =
+    subst (λ cs. IsKept (lay cs ts es)) (sym p)
+    (subst (λ ts. IsKept (lay [] ts es)) (sym q) (subst (λ es. IsKept (lay [] [] es)) (sym r) kept-empty))
 
 pub invariant_of-result : goal.invariant_of-result
 unfolding lay
-invariant_of-result c = kept-lay c.new.result.keys c.new-2.result.items c.new-3.result.entries c.new.ensures.empty c.new-2.ensures.items c.new-3.ensures.empty
+invariant_of-result c =
+    kept-lay c.new.result.keys c.new-2.result.items c.new-3.result.entries c.new.ensures.empty c.new-2.ensures.items
+    c.new-3.ensures.empty

@@ -1,53 +1,105 @@
 use Rattle.std.proofs.Common.{◌≡◌, map, nat_eq, None, Some, position, sym, ap, subst, ◌∙◌}
 use Rattle.share_model.specs.declared.funding.OpenFlow.{OpenFlow}
-use Rattle.share_model.specs.Funding.{NameBytes, Graph}
-use Rattle.share_model.specs.FundingChanges.{is_open_as, released, remove_flow}
-use Rattle.share_model.specs.FundingKept.{IsKept}
-use Rattle.share_model.proofs.FundingInvariant.{kept-remove_flow}
+use Rattle.share_model.specs.funding.Graph.{NameBytes, Graph}
+use Rattle.share_model.specs.funding.Changes.{is_open_as, released, remove_flow}
+use Rattle.share_model.specs.funding.Kept.{IsKept}
+use Rattle.share_model.proofs.FundingFlows.{kept-remove_flow}
 use Rattle.share_ledger.proofs.Lays.{lay, written-whole}
-use Rattle.share_ledger.proofs.Positions.{position-first, position-none, flow-first, flow-none, remove-first, remove-none, without-is}
+use Rattle.share_ledger.proofs.Positions.{position-first, position-none, flow-first, flow-none, remove-first}
+use Rattle.share_ledger.proofs.Positions.{remove-none}
 use Rattle.share_ledger.proofs.tables.Tables.remove_flow.Goals as goal
 
 pub invariant_of-self : goal.invariant_of-self
 invariant_of-self c =
+    let tables =
+    lay c.self.inside.currencies.keys c.self.inside.tickets.items c.self.inside.next_ticket
+    c.self.inside.flows.entries c.self.inside.next_flow in
     let test = λ (o : OpenFlow). nat_eq c.args.flow o.number in
-    let found = subst (λ (g : Graph). position test (map (λ (e : NameBytes × OpenFlow). e.1) g.flows) ≡ Some c.in-Some.place) (sym c.self.view_is) (sym c.place_of_flow-place.ensures ∙ c.in-Some.is) in
-    let first = flow-first c.args.flow c.self.inside.flows.entries c.in-Some.place (position-first test _ c.in-Some.place found) in
-    let left = c.shift_remove_index.ensures.entries ∙ remove-first (is_open_as c.args.flow) c.self.inside.flows.entries c.in-Some.place first ∙ sym (without-is c.args.flow c.self.inside.flows.entries) in
-    let tickets = written-whole (released c.args.flow) c.self.inside.tickets.items c.release.new.tickets c.deref_mut.result.now c.self.inside.tickets.len c.release.ensures c.deref_mut.ensures.value c.self.inside.tickets.ok.0 in
-    subst (λ ts. IsKept (lay c.self.inside.currencies.keys ts c.self.inside.next_ticket c.shift_remove_index.new.self.entries c.self.inside.next_flow)) (sym tickets)
-    (subst (λ es. IsKept (lay c.self.inside.currencies.keys (map (released c.args.flow) c.self.inside.tickets.items) c.self.inside.next_ticket es c.self.inside.next_flow)) (sym left)
+    let found =
+    subst (λ (g : Graph). position test (map (λ (e : NameBytes × OpenFlow). e.1) g.flows) ≡ Some c.in-Some.place)
+    (sym c.self.view_is) (sym c.place_of_flow-place.ensures ∙ c.in-Some.is) in
+    let first =
+    flow-first c.args.flow c.self.inside.flows.entries c.in-Some.place
+    (position-first test _ c.in-Some.place found) in
+    let left =
+    c.shift_remove_index.ensures.entries
+    ∙ remove-first (is_open_as c.args.flow) c.self.inside.flows.entries c.in-Some.place first in
+    let tickets =
+    written-whole
+    (released c.args.flow) c.self.inside.tickets.items c.release.new.tickets c.deref_mut.result.now
+    c.self.inside.tickets.len c.release.ensures c.deref_mut.ensures.value c.self.inside.tickets.ok.0 in
+    subst (λ ts. IsKept (record tables { tickets = ts; flows = c.shift_remove_index.new.self.entries }))
+    (sym tickets)
+    (subst
+    (λ es. IsKept
+    (record tables { tickets = map (released c.args.flow) c.self.inside.tickets.items; flows = es }))
+    (sym left)
     (kept-remove_flow _ c.self.invariant c.args.flow))
 
 pub invariant_of-self-in_default : goal.invariant_of-self-in_default
 invariant_of-self-in_default c =
+    let tables =
+    lay c.self.inside.currencies.keys c.self.inside.tickets.items c.self.inside.next_ticket
+    c.self.inside.flows.entries c.self.inside.next_flow in
     let test = λ (o : OpenFlow). nat_eq c.args.flow o.number in
-    let missing = subst (λ (g : Graph). position test (map (λ (e : NameBytes × OpenFlow). e.1) g.flows) ≡ None) (sym c.self.view_is) (sym c.place_of_flow-place.ensures ∙ c.in_default.is) in
+    let missing =
+    subst (λ (g : Graph). position test (map (λ (e : NameBytes × OpenFlow). e.1) g.flows) ≡ None)
+    (sym c.self.view_is) (sym c.place_of_flow-place.ensures ∙ c.in_default.is) in
     let none = flow-none c.args.flow c.self.inside.flows.entries (position-none test _ missing) in
-    let left = sym (without-is c.args.flow c.self.inside.flows.entries ∙ remove-none (is_open_as c.args.flow) c.self.inside.flows.entries none) in
-    let tickets = written-whole (released c.args.flow) c.self.inside.tickets.items c.release.new.tickets c.deref_mut.result.now c.self.inside.tickets.len c.release.ensures c.deref_mut.ensures.value c.self.inside.tickets.ok.0 in
-    subst (λ ts. IsKept (lay c.self.inside.currencies.keys ts c.self.inside.next_ticket c.self.inside.flows.entries c.self.inside.next_flow)) (sym tickets)
-    (subst (λ es. IsKept (lay c.self.inside.currencies.keys (map (released c.args.flow) c.self.inside.tickets.items) c.self.inside.next_ticket es c.self.inside.next_flow)) (sym left)
+    let left = sym (remove-none (is_open_as c.args.flow) c.self.inside.flows.entries none) in
+    let tickets =
+    written-whole
+    (released c.args.flow) c.self.inside.tickets.items c.release.new.tickets c.deref_mut.result.now
+    c.self.inside.tickets.len c.release.ensures c.deref_mut.ensures.value c.self.inside.tickets.ok.0 in
+    subst (λ ts. IsKept (record tables { tickets = ts })) (sym tickets)
+    (subst
+    (λ es. IsKept
+    (record tables { tickets = map (released c.args.flow) c.self.inside.tickets.items; flows = es }))
+    (sym left)
     (kept-remove_flow _ c.self.invariant c.args.flow))
 
 pub returns-in-Some : goal.returns-in-Some
 returns-in-Some c =
+    let tables =
+    lay c.self.inside.currencies.keys c.self.inside.tickets.items c.self.inside.next_ticket
+    c.self.inside.flows.entries c.self.inside.next_flow in
     let test = λ (o : OpenFlow). nat_eq c.args.flow o.number in
-    let found = subst (λ (g : Graph). position test (map (λ (e : NameBytes × OpenFlow). e.1) g.flows) ≡ Some c.in-Some.place) (sym c.self.view_is) (sym c.place_of_flow-place.ensures ∙ c.in-Some.is) in
-    let first = flow-first c.args.flow c.self.inside.flows.entries c.in-Some.place (position-first test _ c.in-Some.place found) in
-    let left = c.shift_remove_index.ensures.entries ∙ remove-first (is_open_as c.args.flow) c.self.inside.flows.entries c.in-Some.place first ∙ sym (without-is c.args.flow c.self.inside.flows.entries) in
-    let tickets = written-whole (released c.args.flow) c.self.inside.tickets.items c.release.new.tickets c.deref_mut.result.now c.self.inside.tickets.len c.release.ensures c.deref_mut.ensures.value c.self.inside.tickets.ok.0 in
-    ap (λ ts. lay c.self.inside.currencies.keys ts c.self.inside.next_ticket c.shift_remove_index.new.self.entries c.self.inside.next_flow) tickets
-    ∙ ap (λ es. lay c.self.inside.currencies.keys (map (released c.args.flow) c.self.inside.tickets.items) c.self.inside.next_ticket es c.self.inside.next_flow) left
+    let found =
+    subst (λ (g : Graph). position test (map (λ (e : NameBytes × OpenFlow). e.1) g.flows) ≡ Some c.in-Some.place)
+    (sym c.self.view_is) (sym c.place_of_flow-place.ensures ∙ c.in-Some.is) in
+    let first =
+    flow-first c.args.flow c.self.inside.flows.entries c.in-Some.place
+    (position-first test _ c.in-Some.place found) in
+    let left =
+    c.shift_remove_index.ensures.entries
+    ∙ remove-first (is_open_as c.args.flow) c.self.inside.flows.entries c.in-Some.place first in
+    let tickets =
+    written-whole
+    (released c.args.flow) c.self.inside.tickets.items c.release.new.tickets c.deref_mut.result.now
+    c.self.inside.tickets.len c.release.ensures c.deref_mut.ensures.value c.self.inside.tickets.ok.0 in
+    ap (λ ts. record tables { tickets = ts; flows = c.shift_remove_index.new.self.entries }) tickets
+    ∙ ap
+    (λ es. record
+    tables { tickets = map (released c.args.flow) c.self.inside.tickets.items; flows = es }) left
     ∙ ap (λ g. remove_flow g c.args.flow) c.self.view_is
 
 pub returns-in_default : goal.returns-in_default
 returns-in_default c =
+    let tables =
+    lay c.self.inside.currencies.keys c.self.inside.tickets.items c.self.inside.next_ticket
+    c.self.inside.flows.entries c.self.inside.next_flow in
     let test = λ (o : OpenFlow). nat_eq c.args.flow o.number in
-    let missing = subst (λ (g : Graph). position test (map (λ (e : NameBytes × OpenFlow). e.1) g.flows) ≡ None) (sym c.self.view_is) (sym c.place_of_flow-place.ensures ∙ c.in_default.is) in
+    let missing =
+    subst (λ (g : Graph). position test (map (λ (e : NameBytes × OpenFlow). e.1) g.flows) ≡ None)
+    (sym c.self.view_is) (sym c.place_of_flow-place.ensures ∙ c.in_default.is) in
     let none = flow-none c.args.flow c.self.inside.flows.entries (position-none test _ missing) in
-    let left = sym (without-is c.args.flow c.self.inside.flows.entries ∙ remove-none (is_open_as c.args.flow) c.self.inside.flows.entries none) in
-    let tickets = written-whole (released c.args.flow) c.self.inside.tickets.items c.release.new.tickets c.deref_mut.result.now c.self.inside.tickets.len c.release.ensures c.deref_mut.ensures.value c.self.inside.tickets.ok.0 in
-    ap (λ ts. lay c.self.inside.currencies.keys ts c.self.inside.next_ticket c.self.inside.flows.entries c.self.inside.next_flow) tickets
-    ∙ ap (λ es. lay c.self.inside.currencies.keys (map (released c.args.flow) c.self.inside.tickets.items) c.self.inside.next_ticket es c.self.inside.next_flow) left
+    let left = sym (remove-none (is_open_as c.args.flow) c.self.inside.flows.entries none) in
+    let tickets =
+    written-whole
+    (released c.args.flow) c.self.inside.tickets.items c.release.new.tickets c.deref_mut.result.now
+    c.self.inside.tickets.len c.release.ensures c.deref_mut.ensures.value c.self.inside.tickets.ok.0 in
+    ap (λ ts. record tables { tickets = ts }) tickets
+    ∙ ap
+    (λ es. record
+    tables { tickets = map (released c.args.flow) c.self.inside.tickets.items; flows = es }) left
     ∙ ap (λ g. remove_flow g c.args.flow) c.self.view_is

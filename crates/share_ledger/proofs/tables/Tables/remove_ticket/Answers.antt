@@ -1,30 +1,52 @@
 use Rattle.std.proofs.Common.{◌≡◌, Some, position, sym, ap, subst, ◌∙◌}
-use Rattle.share_model.specs.Funding.{Graph}
-use Rattle.share_model.specs.FundingChanges.{is_numbered, remove_ticket}
-use Rattle.share_model.specs.FundingKept.{IsKept}
-use Rattle.share_model.proofs.FundingInvariant.{kept-remove_ticket}
+use Rattle.share_model.specs.funding.Graph.{Graph}
+use Rattle.share_model.specs.funding.Changes.{is_numbered, remove_ticket}
+use Rattle.share_model.specs.funding.Kept.{IsKept}
+use Rattle.share_model.proofs.FundingTickets.{kept-remove_ticket}
 use Rattle.share_ledger.proofs.Lays.{lay}
 use Rattle.share_ledger.proofs.Positions.{position-first, position-none, remove-first, remove-none}
 use Rattle.share_ledger.proofs.tables.Tables.remove_ticket.Goals as goal
 
 pub invariant_of-self : goal.invariant_of-self
 invariant_of-self c =
-    let found = subst (λ (g : Graph). position (is_numbered c.args.number) g.tickets ≡ Some c.in-Some-place_of_ticket.place) (sym c.self.view_is) (sym c.place_of_ticket.ensures ∙ c.in-Some-place_of_ticket.is) in
-    let left = c.remove.ensures.items ∙ remove-first (is_numbered c.args.number) c.self.inside.tickets.items c.in-Some-place_of_ticket.place (position-first (is_numbered c.args.number) c.self.inside.tickets.items c.in-Some-place_of_ticket.place found) in
-    subst (λ ts. IsKept (lay c.self.inside.currencies.keys ts c.self.inside.next_ticket c.self.inside.flows.entries c.self.inside.next_flow)) (sym left)
+    let tables =
+    lay c.self.inside.currencies.keys c.self.inside.tickets.items c.self.inside.next_ticket
+    c.self.inside.flows.entries c.self.inside.next_flow in
+    let found =
+    subst (λ (g : Graph). position (is_numbered c.args.number) g.tickets ≡ Some c.in-Some-place_of_ticket.place)
+    (sym c.self.view_is) (sym c.place_of_ticket.ensures ∙ c.in-Some-place_of_ticket.is) in
+    let left =
+    c.remove.ensures.items
+    ∙ remove-first (is_numbered c.args.number) c.self.inside.tickets.items c.in-Some-place_of_ticket.place
+    (position-first (is_numbered c.args.number) c.self.inside.tickets.items c.in-Some-place_of_ticket.place found)
+    in
+    subst (λ ts. IsKept (record tables { tickets = ts })) (sym left)
     (kept-remove_ticket _ c.self.invariant c.args.number)
 
 pub returns-in-Some-place_of_ticket-clause-done : goal.returns-in-Some-place_of_ticket-clause-done
 returns-in-Some-place_of_ticket-clause-done c =
-    let found = subst (λ (g : Graph). position (is_numbered c.args.number) g.tickets ≡ Some c.in-Some-place_of_ticket.place) (sym c.self.view_is) (sym c.place_of_ticket.ensures ∙ c.in-Some-place_of_ticket.is) in
-    let left = c.remove.ensures.items ∙ remove-first (is_numbered c.args.number) c.self.inside.tickets.items c.in-Some-place_of_ticket.place (position-first (is_numbered c.args.number) c.self.inside.tickets.items c.in-Some-place_of_ticket.place found) in (
+    let tables =
+    lay c.self.inside.currencies.keys c.self.inside.tickets.items c.self.inside.next_ticket
+    c.self.inside.flows.entries c.self.inside.next_flow in
+    let found =
+    subst (λ (g : Graph). position (is_numbered c.args.number) g.tickets ≡ Some c.in-Some-place_of_ticket.place)
+    (sym c.self.view_is) (sym c.place_of_ticket.ensures ∙ c.in-Some-place_of_ticket.is) in
+    let left =
+    c.remove.ensures.items
+    ∙ remove-first (is_numbered c.args.number) c.self.inside.tickets.items c.in-Some-place_of_ticket.place
+    (position-first (is_numbered c.args.number) c.self.inside.tickets.items c.in-Some-place_of_ticket.place found)
+    in (
       sym c.remove_ticket_refusal.ensures ∙ c.in_default.is,
-      ap (λ ts. lay c.self.inside.currencies.keys ts c.self.inside.next_ticket c.self.inside.flows.entries c.self.inside.next_flow) left ∙ ap (λ g. remove_ticket g c.args.number) c.self.view_is,
+      ap (λ ts. record tables { tickets = ts }) left
+          ∙ ap (λ g. remove_ticket g c.args.number) c.self.view_is,
     )
 
 pub returns-in_default-place_of_ticket-clause-done : goal.returns-in_default-place_of_ticket-clause-done
 returns-in_default-place_of_ticket-clause-done c = (
   sym c.remove_ticket_refusal.ensures ∙ c.in_default.is,
   ap (λ ts. record c.args.self.now { tickets = ts })
-      (sym (remove-none (is_numbered c.args.number) c.args.self.now.tickets (position-none (is_numbered c.args.number) c.args.self.now.tickets (sym c.place_of_ticket.ensures ∙ c.in_default-place_of_ticket.is)))),
+      (sym
+      (remove-none (is_numbered c.args.number) c.args.self.now.tickets
+      (position-none (is_numbered c.args.number) c.args.self.now.tickets
+      (sym c.place_of_ticket.ensures ∙ c.in_default-place_of_ticket.is)))),
 )

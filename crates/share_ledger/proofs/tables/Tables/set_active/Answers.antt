@@ -1,36 +1,68 @@
 use Rattle.std.proofs.Common.{◌≡◌, map, nat_eq, Some, position, sym, ap, subst, ◌∙◌}
 use Rattle.std.proofs.lemmas.Option.{get_or_from_slice_get}
 use Rattle.share_model.specs.declared.funding.OpenFlow.{OpenFlow}
-use Rattle.share_model.specs.Funding.{NameBytes, Graph}
-use Rattle.share_model.specs.FundingChanges.{set_active}
-use Rattle.share_model.specs.FundingKept.{IsKept}
-use Rattle.share_model.proofs.FundingInvariant.{kept-set_active}
+use Rattle.share_model.specs.funding.Graph.{NameBytes, Graph}
+use Rattle.share_model.specs.funding.Changes.{is_open_as, active_as, set_active}
+use Rattle.share_model.specs.funding.Kept.{IsKept}
+use Rattle.share_model.proofs.FundingFlows.{kept-set_active}
 use Rattle.share_ledger.proofs.Lays.{lay}
-use Rattle.share_ledger.proofs.Positions.{position-first, position-none, flow-first, flow-none, activity-first, activity-none}
+use Rattle.share_ledger.proofs.Positions.{position-first, position-none, flow-first, flow-none, activity-first}
+use Rattle.share_ledger.proofs.Positions.{changed-none}
 use Rattle.share_ledger.proofs.tables.Tables.set_active.Goals as goal
 
 pub invariant_of-self : goal.invariant_of-self
 invariant_of-self c =
+    let tables =
+    lay c.self.inside.currencies.keys c.self.inside.tickets.items c.self.inside.next_ticket
+    c.self.inside.flows.entries c.self.inside.next_flow in
     let test = λ (o : OpenFlow). nat_eq c.args.flow o.number in
-    let found = subst (λ (g : Graph). position test (map (λ (e : NameBytes × OpenFlow). e.1) g.flows) ≡ Some c.in-Some.place) (sym c.self.view_is) (sym c.place_of_flow.ensures ∙ c.in-Some.is) in
-    let first = flow-first c.args.flow c.self.inside.flows.entries c.in-Some.place (position-first test _ c.in-Some.place found) in
-    let source = sym (get_or_from_slice_get (map (λ (e : NameBytes × OpenFlow). e.1) c.self.inside.flows.entries) c.in-Some.place c.in-Some-get_index_mut.open.now c.in-Some-get_index_mut.open.now (sym c.in-Some-get_index_mut.ensures.value)) in
-    let written = activity-first c.args.flow c.args.active c.self.inside.flows.entries c.in-Some.place c.in-Some-get_index_mut.open.now first source in
-    subst (λ es. IsKept (lay c.self.inside.currencies.keys c.self.inside.tickets.items c.self.inside.next_ticket es c.self.inside.next_flow)) (sym written)
+    let found =
+    subst (λ (g : Graph). position test (map (λ (e : NameBytes × OpenFlow). e.1) g.flows) ≡ Some c.in-Some.place)
+    (sym c.self.view_is) (sym c.place_of_flow.ensures ∙ c.in-Some.is) in
+    let first =
+    flow-first c.args.flow c.self.inside.flows.entries c.in-Some.place
+    (position-first test _ c.in-Some.place found) in
+    let source =
+    sym
+    (get_or_from_slice_get
+    (map (λ (e : NameBytes × OpenFlow). e.1) c.self.inside.flows.entries) c.in-Some.place
+    c.in-Some-get_index_mut.open.now c.in-Some-get_index_mut.open.now (sym c.in-Some-get_index_mut.ensures.value))
+    in
+    let written =
+    activity-first c.args.flow c.args.active c.self.inside.flows.entries c.in-Some.place
+    c.in-Some-get_index_mut.open.now first source in
+    subst (λ es. IsKept (record tables { flows = es })) (sym written)
     (kept-set_active _ c.self.invariant c.args.flow c.args.active)
 
 pub returns-in-Some-get_index_mut : goal.returns-in-Some-get_index_mut
 returns-in-Some-get_index_mut c =
+    let tables =
+    lay c.self.inside.currencies.keys c.self.inside.tickets.items c.self.inside.next_ticket
+    c.self.inside.flows.entries c.self.inside.next_flow in
     let test = λ (o : OpenFlow). nat_eq c.args.flow o.number in
-    let found = subst (λ (g : Graph). position test (map (λ (e : NameBytes × OpenFlow). e.1) g.flows) ≡ Some c.in-Some.place) (sym c.self.view_is) (sym c.place_of_flow.ensures ∙ c.in-Some.is) in
-    let first = flow-first c.args.flow c.self.inside.flows.entries c.in-Some.place (position-first test _ c.in-Some.place found) in
-    let source = sym (get_or_from_slice_get (map (λ (e : NameBytes × OpenFlow). e.1) c.self.inside.flows.entries) c.in-Some.place c.in-Some-get_index_mut.open.now c.in-Some-get_index_mut.open.now (sym c.in-Some-get_index_mut.ensures.value)) in
-    let written = activity-first c.args.flow c.args.active c.self.inside.flows.entries c.in-Some.place c.in-Some-get_index_mut.open.now first source in
-    ap (λ es. lay c.self.inside.currencies.keys c.self.inside.tickets.items c.self.inside.next_ticket es c.self.inside.next_flow) written
+    let found =
+    subst (λ (g : Graph). position test (map (λ (e : NameBytes × OpenFlow). e.1) g.flows) ≡ Some c.in-Some.place)
+    (sym c.self.view_is) (sym c.place_of_flow.ensures ∙ c.in-Some.is) in
+    let first =
+    flow-first c.args.flow c.self.inside.flows.entries c.in-Some.place
+    (position-first test _ c.in-Some.place found) in
+    let source =
+    sym
+    (get_or_from_slice_get
+    (map (λ (e : NameBytes × OpenFlow). e.1) c.self.inside.flows.entries) c.in-Some.place
+    c.in-Some-get_index_mut.open.now c.in-Some-get_index_mut.open.now (sym c.in-Some-get_index_mut.ensures.value))
+    in
+    let written =
+    activity-first c.args.flow c.args.active c.self.inside.flows.entries c.in-Some.place
+    c.in-Some-get_index_mut.open.now first source in
+    ap (λ es. record tables { flows = es }) written
     ∙ ap (λ g. set_active g c.args.flow c.args.active) c.self.view_is
 
 pub returns-in_default : goal.returns-in_default
 returns-in_default c =
     let test = λ (o : OpenFlow). nat_eq c.args.flow o.number in
-    let none = flow-none c.args.flow c.args.self.now.flows (position-none test _ (sym c.place_of_flow.ensures ∙ c.in_default.is)) in
-    ap (λ es. record c.args.self.now { flows = es }) (sym (activity-none c.args.flow c.args.active c.args.self.now.flows none))
+    let none =
+    flow-none c.args.flow c.args.self.now.flows
+    (position-none test _ (sym c.place_of_flow.ensures ∙ c.in_default.is)) in
+    ap (λ es. record c.args.self.now { flows = es })
+    (sym (changed-none (is_open_as c.args.flow) (active_as c.args.active) c.args.self.now.flows none))

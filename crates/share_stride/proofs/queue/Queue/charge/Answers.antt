@@ -11,4 +11,5 @@ charge-requires-clause-place c = λ client found. place_fits _ _ _ c.self.invari
 pub invariant_of-self : goal.invariant_of-self
 invariant_of-self c =
     rw c.charge.ensures
-    (IsKept-charge _ _ c.args.flow c.args.units c.self.invariant (rw (← c.self.view_is) at c.requires.there) (rw (← c.self.view_is) at c.requires.clock))
+    (IsKept-charge _ _ c.args.flow c.args.units c.self.invariant (rw (← c.self.view_is) at c.requires.there)
+    (rw (← c.self.view_is) at c.requires.clock))

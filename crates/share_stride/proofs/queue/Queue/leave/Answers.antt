@@ -1,20 +1,24 @@
 use Rattle.std.proofs.Common.{◌∙◌, sym, true, arith}
-use Rattle.share_stride.proofs.Soundness.{IsKept-left, tickets_le_total, ahead_fits, competes_after_update}
+use Rattle.share_stride.proofs.Soundness.{IsKept-left, tickets_le_total, ahead_fits, competes_found}
+use Rattle.share_stride.proofs.Soundness.{competes_after_update, there_after_update}
 use Rattle.share_stride.proofs.queue.Queue.leave.Goals as goal
+
+pub leave-requires-clause-distance : goal.leave-requires-clause-distance
+leave-requires-clause-distance c = λ client found.
+    let competes = competes_after_update _ _ c.args.flow true (c.self.view_is ∙ c.update.ensures) c.requires.competes in
+    ahead_fits _ _ _ c.self.invariant.sound (sym found) (competes_found _ _ client true found competes)
 
 pub overflow_sub-self : goal.overflow_sub-self
 overflow_sub-self c =
+    let now = c.self.view_is ∙ c.update.ensures in
     let total = c.self.invariant.total in
-    let competes = competes_after_update c.args.self.now _ c.args.flow c.in-Some.client true (c.self.view_is ∙ c.update.ensures) c.in-Some.ensures c.requires.competes in
-    omega (arith, c.from.ensures, tickets_le_total c.self.inside.clients c.args.flow c.in-Some.client (sym c.in-Some.ensures) competes)
-
-pub left-requires-clause-distance : goal.left-requires-clause-distance
-left-requires-clause-distance c =
-    ahead_fits _ _ _ c.self.invariant.sound c.in-Some.ensures
-    (competes_after_update c.args.self.now _ c.args.flow c.in-Some.client true (c.self.view_is ∙ c.update.ensures) c.in-Some.ensures c.requires.competes)
+    let le = tickets_le_total _ c.args.flow _ (sym (there_after_update _ _ c.args.flow now c.requires.there))
+    (competes_after_update _ _ c.args.flow true now c.requires.competes) in
+    omega (arith, c.from.ensures, c.leave.ensures.tickets)
 
 pub invariant_of-self : goal.invariant_of-self
 invariant_of-self c =
-    rw (c.set.ensures, c.left.ensures, c.from.ensures)
-    (IsKept-left _ _ c.args.flow c.in-Some.client c.self.invariant c.in-Some.ensures
-    (competes_after_update c.args.self.now _ c.args.flow c.in-Some.client true (c.self.view_is ∙ c.update.ensures) c.in-Some.ensures c.requires.competes))
+    let now = c.self.view_is ∙ c.update.ensures in
+    rw (c.leave.ensures.left, c.from.ensures, c.leave.ensures.tickets)
+    (IsKept-left _ _ c.args.flow _ c.self.invariant (there_after_update _ _ c.args.flow now c.requires.there)
+    (competes_after_update _ _ c.args.flow true now c.requires.competes))

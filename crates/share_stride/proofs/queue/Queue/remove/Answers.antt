@@ -1,6 +1,6 @@
 use Rattle.std.proofs.Common.{ap, sym, subst, ◌∙◌, IsSome}
 use Rattle.std.specs.FinMap.{get}
-use Rattle.share_model.specs.Stride.{Stride, client}
+use Rattle.share_model.specs.stride.Moves.{Stride, client}
 use Rattle.share_stride.proofs.Soundness.{IsKept-removed}
 use Rattle.share_stride.proofs.queue.Queue.remove.Goals as goal
 

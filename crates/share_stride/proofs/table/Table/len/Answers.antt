@@ -4,4 +4,5 @@ use Rattle.share_stride.proofs.TableLaws.{len-client_map}
 use Rattle.share_stride.proofs.table.Table.len.Goals as goal
 
 pub returns : goal.returns
-returns c = c.len.ensures ∙ sym (len-client_map c.self.inside.slots.slots c.self.invariant) ∙ ap len c.self.view_is
+returns c =
+    c.len.ensures ∙ sym (len-client_map c.self.inside.slots.slots c.self.invariant.distinct) ∙ ap len c.self.view_is

@@ -9,10 +9,15 @@ returns-in-None c = absurd (lacking_never _ _ _ c.self.view_is c.in-None.ensures
 pub invariant_of-self : goal.invariant_of-self
 invariant_of-self c =
     let u = c.try_remove.ensures.updates in
-    AreDistinct-removal c.self.inside.slots.slots _ c.in-Some.key c.self.invariant (record { changed = u.changed; others = u.others })
+    record {
+      distinct = AreDistinct-removal c.self.inside.slots.slots _ c.in-Some.key c.self.invariant.distinct
+          (record { changed = u.changed; others = u.others });
+      room = rw c.try_remove.ensures.capacity c.self.invariant.room;
+    }
 
 pub returns-in-Some : goal.returns-in-Some
 returns-in-Some c =
     let u = c.try_remove.ensures.updates in
-    client_map-removal c.self.inside.slots.slots c.try_remove.new.self.slots c.args.flow c.in-Some.key c.self.invariant c.in-Some.ensures.found (record { changed = u.changed; others = u.others })
+    client_map-removal c.self.inside.slots.slots c.try_remove.new.self.slots c.args.flow c.in-Some.key
+    c.self.invariant.distinct c.in-Some.ensures.found (record { changed = u.changed; others = u.others })
     ∙ ap (λ m. remove m c.args.flow) c.self.view_is

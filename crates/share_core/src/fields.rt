@@ -1,0 +1,43 @@
+//! What the types of commands and arrivals say of their fields: they are those that a line can spell.
+ghost use Rattle.std.specs.Prelude.{◌≡◌, true};
+ghost use Rattle.std.specs.List.{list_all};
+ghost use Rattle.share_model.specs.link.Fields.{IsName, IsNumber, is_byte, IsBody, HasCommandFields};
+
+use share_base::{Body, Command, Name};
+
+/// The fields of a command.
+pub fn of_command(command: &Command)
+    ensures { HasCommandFields command.now }
+{
+    match command {
+        Command::MakeTicket { amount, currency } => of_both(*amount, currency),
+        Command::FundFlow { ticket, flow } => of_both(*ticket, flow),
+        Command::OpenFlow {
+            name,
+            limit,
+            tariff,
+        } => {
+            of_both(*limit, name);
+            of_both(*tariff, name);
+        }
+    }
+}
+
+fn of_both(number: u64, name: &Name)
+    ensures number { IsNumber number }
+    ensures name { IsName name.now }
+{
+    let _ = name.as_bytes();
+}
+
+/// The fields of an arrival.
+pub fn of_arrival(flow: &Name, body: &Body)
+    ensures { IsName flow.now × IsBody body.now }
+{
+    let _ = flow.as_bytes();
+    of_bytes(body.as_slice());
+}
+
+fn of_bytes(bytes: &[u8])
+    ensures { list_all is_byte bytes.now ≡ true }
+{}

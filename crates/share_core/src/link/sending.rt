@@ -1,0 +1,146 @@
+//! The frame that is sent, and what the writer's answers make of it.
+ghost use Rattle.std.specs.Prelude.{◌≡◌, ◌<◌, ◌≤◌, ◌+◌, true, false, option_map, IsSome, IfSome, vec_capacity};
+ghost use Rattle.share_model.specs.link.Buffers.{head_of};
+ghost use Rattle.share_model.specs.link.Did.{is_spent, Stepped};
+ghost use Rattle.share_model.specs.link.Frame.{frame};
+ghost use Rattle.share_model.specs.link.Live.{sending_at, sending, whole, in_part, wrote_turn, write_step, fault_step};
+ghost use Rattle.share_core.specs.Place.{place_of, IsPlaceOf, IsWithin};
+
+use super::Link;
+use crate::frame;
+use crate::place::Place;
+use share_base::{FlowNo, Turn};
+use share_model::{Part, Rates};
+
+/// The length of a frame's header, in bytes.
+const HEADER: u32 = 12;
+
+impl<S: Rates> Link<S> {
+    // The place at the head packet of a flow.
+    fn place(&self, flow: FlowNo, out: u32) -> Option<Place>
+        ensures { result
+            ≡ option_map (λ h. place_of (sending_at out h)) (head_of self.now.live.buffers flow) }
+    {
+        let (seq, body) = self.buffers.ring(flow)?.head()?;
+        Some(Place {
+            flow,
+            seq,
+            out,
+            length: HEADER + body.as_slice().len() as u32,
+        })
+    }
+
+    /// Where a write goes on: at the frame in part, and otherwise at a new frame of the next flow.
+    pub fn sending(&self) -> Option<Place>
+        ensures { result ≡ option_map place_of (sending self.now.live) }
+    {
+        match self.part {
+            Some(part) => self.place(part.flow, part.out),
+            None => match self.funding.next_to_send() {
+                Some(flow) => self.place(flow, 0),
+                None => None,
+            },
+        }
+    }
+
+    // The last k bytes of a frame are out: its flow is charged and posted for the whole, and its packet is taken out.
+    fn finish(&mut self, place: Place, k: u32) -> Turn
+        requires living { is_spent self.old ≡ false }
+        requires place { IsPlaceOf (sending self.old.live) place }
+        requires within { IsWithin (sending self.old.live) k }
+        ensures { IfSome (sending self.old.live) (λ s.
+            Stepped (whole self.old.rates self.old.live s k, wrote_turn s k true)
+            self.old result self.new) }
+    {
+        self.books.post(&self.shelf, place.flow, place.length);
+        self.buffers.pop(place.flow);
+        let busy = self.buffers.is_busy(place.flow);
+        self.funding.set_active(place.flow, busy);
+        self.part = None;
+        self.events += 1;
+        self.written += 1;
+        self.sent += u64::from(k);
+        Turn::Wrote {
+            flow: place.flow,
+            seq: place.seq,
+            k,
+            whole: true,
+        }
+    }
+
+    // k more bytes of a frame are out, and it is in part.
+    fn advance(&mut self, place: Place, k: u32) -> Turn
+        requires living { is_spent self.old ≡ false }
+        requires unbroken { self.old.live.broken ≡ false }
+        requires place { IsPlaceOf (sending self.old.live) place }
+        requires within { IsWithin (sending self.old.live) k }
+        requires part { place.out + k < place.length }
+        ensures { IfSome (sending self.old.live)
+            (λ s. Stepped (in_part self.old.live s k, wrote_turn s k false) self.old result self.new) }
+    {
+        self.part = Some(Part {
+            flow: place.flow,
+            out: place.out + k,
+        });
+        self.events += 1;
+        self.sent += u64::from(k);
+        Turn::Wrote {
+            flow: place.flow,
+            seq: place.seq,
+            k,
+            whole: false,
+        }
+    }
+
+    /// The writer accepted k bytes of the frame that is sent. It takes no memory.
+    pub fn wrote(&mut self, place: Place, k: u32) -> Turn
+        requires living { is_spent self.old ≡ false }
+        requires unbroken { self.old.live.broken ≡ false }
+        requires place { IsPlaceOf (sending self.old.live) place }
+        requires within { IsWithin (sending self.old.live) k }
+        ensures { IfSome (sending self.old.live)
+            (λ s. Stepped (write_step self.old.rates self.old.live s k) self.old result self.new) }
+    {
+        if place.out + k == place.length {
+            self.finish(place, k)
+        } else {
+            self.advance(place, k)
+        }
+    }
+
+    /// The writer failed on the frame that is sent. It takes no memory.
+    pub fn fail(&mut self, place: Place) -> Turn
+        requires living { is_spent self.old ≡ false }
+        requires place { IsPlaceOf (sending self.old.live) place }
+        ensures { IfSome (sending self.old.live)
+            (λ s. Stepped (fault_step self.old.rates self.old.live s) self.old result self.new) }
+    {
+        self.books.post(&self.shelf, place.flow, place.out);
+        self.part = None;
+        self.torn = Some(place.flow);
+        self.broken = true;
+        self.events += 1;
+        Turn::Torn {
+            flow: place.flow,
+            seq: place.seq,
+            j: place.out,
+        }
+    }
+
+    /// Puts the frame of the head packet of a flow into a buffer that has room for it. It takes no memory.
+    pub fn fill(&self, flow: FlowNo, buffer: &mut Vec<u8>)
+        requires there { IsSome (head_of self.now.live.buffers flow) }
+        requires room { 1502 ≤ vec_capacity buffer.old }
+        ensures frame { IfSome (head_of self.now.live.buffers flow)
+            (λ h. buffer.new.items ≡ frame h) }
+        ensures room { 1502 ≤ vec_capacity buffer.new }
+    {
+        match self.buffers.ring(flow) {
+            None => unreachable!(),
+            Some(ring) => match ring.head() {
+                None => unreachable!(),
+                Some((seq, body)) => frame::fill(buffer, flow, seq, body.as_slice()),
+            },
+        }
+    }
+}

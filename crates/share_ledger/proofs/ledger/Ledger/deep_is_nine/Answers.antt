@@ -1,0 +1,5 @@
+use Rattle.share_model.proofs.FundingLong.{deep-is-nine}
+use Rattle.share_ledger.proofs.ledger.Ledger.deep_is_nine.Goals as goal
+
+pub returns : goal.returns
+returns c = deep-is-nine c.args.self.now

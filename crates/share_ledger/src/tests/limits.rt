@@ -1,0 +1,112 @@
+//! Holders and tables that are full.
+
+use super::{Change, apply, empty, made, name, numbered, refused};
+use crate::Ledger;
+use share_base::{FlowNo, Refusal, Reply};
+use std::alloc::Global;
+use std::process::Abort;
+
+#[test]
+fn holders_are_crowded_at_sixteen(rt: HostRuntime) {
+    let (base, x, a) = (name(&rt, "base"), name(&rt, "x"), name(&rt, "a"));
+    let mut ledger = empty(&rt, rt.alloc());
+    made(
+        &rt,
+        &mut ledger,
+        &[Change::MakeCurrency(x), Change::Open(a)],
+    );
+    for k in 1..=16_u64 {
+        made(
+            &rt,
+            &mut ledger,
+            &[Change::MakeTicket(1, base), Change::FundFlow(k, a)],
+        );
+    }
+    for k in 17..=32_u64 {
+        made(
+            &rt,
+            &mut ledger,
+            &[Change::MakeTicket(1, base), Change::FundCurrency(k, x)],
+        );
+    }
+    made(&rt, &mut ledger, &[Change::MakeTicket(1, base)]);
+    refused(
+        &rt,
+        &mut ledger,
+        &[
+            (Change::FundFlow(33, a), Refusal::Crowded),
+            (Change::FundCurrency(33, x), Refusal::Crowded),
+        ],
+    );
+    ledger.set_active(FlowNo(1), true);
+    assert_eq!(rt; ledger.tickets(FlowNo(1)), 16);
+    made(
+        &rt,
+        &mut ledger,
+        &[Change::Unfund(16), Change::FundFlow(33, a)],
+    );
+    assert_eq!(rt; ledger.tickets(FlowNo(1)), 16);
+}
+
+// 64 currencies, 64 flows of the same names, and 1024 tickets.
+fn full(rt: &impl Abort, alloc: Global) -> Ledger {
+    let base = name(rt, "base");
+    let mut ledger = empty(rt, alloc);
+    for k in 0..64 {
+        let both = numbered(rt, b'c', k);
+        made(
+            rt,
+            &mut ledger,
+            &[Change::MakeCurrency(both), Change::Open(both)],
+        );
+    }
+    for _ in 0..1024 {
+        made(rt, &mut ledger, &[Change::MakeTicket(1, base)]);
+    }
+    ledger
+}
+
+#[test]
+fn tables_are_full(rt: HostRuntime) {
+    let (base, fresh) = (name(&rt, "base"), name(&rt, "fresh"));
+    let taken = numbered(&rt, b'c', 7);
+    let mut ledger = full(&rt, rt.alloc());
+    refused(
+        &rt,
+        &mut ledger,
+        &[
+            (Change::MakeCurrency(fresh), Refusal::TableFull),
+            (Change::MakeCurrency(taken), Refusal::Taken),
+            (Change::MakeCurrency(base), Refusal::Taken),
+            (Change::Open(fresh), Refusal::TableFull),
+            (Change::Open(taken), Refusal::Taken),
+            (Change::MakeTicket(1, base), Refusal::TableFull),
+            (Change::MakeTicket(0, fresh), Refusal::Range),
+            (Change::MakeTicket(1, fresh), Refusal::NoCurrency),
+        ],
+    );
+}
+
+#[test]
+fn full_tables_have_room_after_removals(rt: HostRuntime) {
+    let fresh = name(&rt, "fresh");
+    let taken = numbered(&rt, b'c', 7);
+    let mut ledger = full(&rt, rt.alloc());
+    ledger.remove_flow(FlowNo(8));
+    assert_eq!(rt; ledger.flow(taken), None);
+    assert_eq!(rt;
+        apply(&mut ledger, Change::Open(taken)),
+        Reply::Flow(FlowNo(65))
+    );
+    made(
+        &rt,
+        &mut ledger,
+        &[
+            Change::RemoveCurrency(taken),
+            Change::MakeCurrency(fresh),
+            Change::RemoveTicket(5),
+            Change::MakeTicket(1, fresh),
+        ],
+    );
+    assert_eq!(rt; ledger.next_ticket(), 1026);
+}

@@ -1,0 +1,14 @@
+use Rattle.share_model.specs.run.FoldLaws.{state-empty}
+use Rattle.share_model.specs.text.EventsLaws.{after-state, events-may_follow, talk-texts}
+use Rattle.share_model.specs.text.Talk.{start}
+use Rattle.share_model.proofs.laws.scripts_are_runs.Goals as goal
+
+pub returns-clause-follow : goal.returns-clause-follow
+returns-clause-follow c =
+    λ life rates lacks lines range. events-may_follow life rates start lacks lines range (state-empty life rates)
+
+pub returns-clause-state : goal.returns-clause-state
+returns-clause-state c = λ life rates. after-state life rates start
+
+pub returns-clause-texts : goal.returns-clause-texts
+returns-clause-texts c = λ life rates. talk-texts life rates start

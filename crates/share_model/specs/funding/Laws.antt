@@ -1,0 +1,57 @@
+-- Laws of the graph of tickets and currencies, each of which holds in every graph that the commands allow.
+use Rattle.std.specs.Prelude.{◌≡◌, ◌≤◌, ◌↔◌, ℕ, suc, true, false, ◌+◌, ◌^◌, min, List, sum_by, bytes_eq}
+use Rattle.share_model.specs.declared.funding.Ticket.{Ticket}
+use Rattle.share_model.specs.declared.funding.OpenFlow.{OpenFlow}
+use Rattle.share_model.specs.funding.Graph.{NameBytes, base, Graph, funding, act, is_active, active, val, worth}
+use Rattle.share_model.specs.funding.Graph.{tickets, chain, chain_within, is_deep}
+use Rattle.share_model.specs.funding.Changes.{fund_currency}
+use Rattle.share_model.specs.lists.Each.{Each}
+use Rattle.share_model.specs.funding.Kept.{is_awake, kept_worth, IsCached}
+
+-- what the tickets that fund a flow are worth together, before the cap
+abbrev pub uncapped : Graph → ℕ → ℕ
+uncapped g f = sum_by (worth g 9) (funding g.tickets f)
+
+-- What all flows are funded with is worth at most the active amount of `base`, before the cap and after it, and while
+-- that amount is at most 2^20 the cap lowers no sum.
+pub record SharesAreWithin (g : Graph) : Type 0 where
+  pub funded : sum_by (λ (e : NameBytes × OpenFlow). uncapped g e.1.number) g.flows ≤ active g base
+  pub shares : sum_by (λ (e : NameBytes × OpenFlow). tickets g e.1.number) g.flows ≤ active g base
+  pub cap_idle : active g base ≤ 2 ^ 20
+      → Each (λ (e : NameBytes × OpenFlow). tickets g e.1.number ≡ uncapped g e.1.number) g.flows
+
+-- Nine steps are enough: further ones change neither what is active nor what a currency is worth.
+pub record IsSettled (g : Graph) : Type 0 where
+  pub activity : (k : ℕ) → Each (λ (t : Ticket). act g (k + 9) t ≡ is_active g t) g.tickets
+  pub values : (k : ℕ) (c : NameBytes) → val g (k + 9) c ≡ val g 9 c
+
+-- Kept amounts and values are those of the definition.
+pub record IsAsDefined (g : Graph) (amount value : NameBytes → ℕ) : Type 0 where
+  pub activity : Each (λ (t : Ticket). is_awake g amount t.holder ≡ is_active g t) g.tickets
+  pub amounts : (c : NameBytes) → amount c ≡ active g c
+  pub values : (c : NameBytes) → value c ≡ val g 9 c
+  pub shares : (f : ℕ)
+      → tickets g f ≡ min (2 ^ 20) (sum_by (kept_worth g amount value) (funding g.tickets f))
+
+-- Whatever amounts and values meet the equations of one step are those of the definition.
+abbrev pub CachedIsAsDefined : Graph → Type 0
+CachedIsAsDefined g = (amount value : NameBytes → ℕ) → IsCached g amount value → IsAsDefined g amount value
+
+-- No currency backs itself, by however many steps.
+abbrev pub IsAcyclic : Graph → Type 0
+IsAcyclic g = (n : ℕ) (c : NameBytes) → chain g.tickets (suc n) c c ≡ false
+
+-- nine currencies besides `base` stand in a chain, each backing the next
+abbrev pub HasNineInChain : List Ticket → Type 0
+HasNineInChain ts = (a : NameBytes) × ((b : NameBytes) × ((bytes_eq a base ≡ false) × (chain ts 8 a b ≡ true)))
+
+-- Funding a currency is too deep exactly where nine would then stand in a chain.
+abbrev pub DeepIsNine : Graph → Type 0
+DeepIsNine g = (n : ℕ) (c : NameBytes)
+    → (is_deep (fund_currency g n c).tickets ≡ true) ↔ HasNineInChain (fund_currency g n c).tickets
+
+-- Funding a currency by a ticket is a cycle exactly where the currency backs the ticket's denomination already, by
+-- however many steps.
+abbrev pub CycleIsBacking : Graph → Type 0
+CycleIsBacking g = (c d : NameBytes)
+    → (chain_within g.tickets 8 c d ≡ true) ↔ ((n : ℕ) × (chain g.tickets n c d ≡ true))

@@ -1,0 +1,8 @@
+-- Readers and writers that tell what they gave and took.
+pub mod Calls
+pub mod CallsLaws
+pub mod Counts
+pub mod Given
+pub mod Scripted
+pub mod Told
+pub mod ToldLaws

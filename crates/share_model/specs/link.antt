@@ -1,0 +1,13 @@
+-- A link: its packets, frames and tariffs, what it holds, and what each call does to it.
+pub mod BufferLaws
+pub mod Buffers
+pub mod Did
+pub mod Fields
+pub mod Frame
+pub mod FrameLaws
+pub mod Live
+pub mod Rows
+pub mod Seen
+pub mod Tariff
+pub mod TariffRows
+pub mod TurnLaws

@@ -1,0 +1,30 @@
+-- Which values the fields of a command and of an arrival have: those that a line can spell.
+use Rattle.std.specs.Prelude.{◌≡◌, ◌<◌, ◌≤◌, ◌^◌, ℕ, Bool, true, List, length, nat_lt}
+use Rattle.std.specs.List.{list_all}
+use Rattle.share_base.specs.Name.{is_name}
+use Rattle.share_base.specs.declared.command.Command.{Command}
+use Rattle.share_base.specs.declared.command.Command.TheVariants.{MakeTicket, FundFlow, OpenFlow}
+
+abbrev pub IsName : List ℕ → Type 0
+IsName w = is_name w ≡ true
+
+abbrev pub IsNumber : ℕ → Type 0
+IsNumber n = n < 2 ^ 64
+
+abbrev pub is_byte : ℕ → Bool
+is_byte b = nat_lt b 256
+
+-- the longest body of a packet, in bytes
+abbrev pub max_payload : ℕ
+max_payload = 1490
+
+-- a body is 1 to 1490 bytes
+pub record IsBody (bs : List ℕ) : Type 0 where
+  pub some : 1 ≤ length bs
+  pub few : length bs ≤ max_payload
+  pub bytes : list_all is_byte bs ≡ true
+
+abbrev pub HasCommandFields : Command → Type 0
+HasCommandFields (OpenFlow name limit tariff) = IsName name × IsNumber limit × IsNumber tariff
+HasCommandFields (MakeTicket amount currency) = IsNumber amount × IsName currency
+HasCommandFields (FundFlow ticket flow) = IsNumber ticket × IsName flow

@@ -1,0 +1,24 @@
+-- Frames, version 1: two bytes that name the format, the flow number, the sequence number and the length of the
+-- payload, each high byte first, and the payload.
+use Rattle.std.specs.Prelude.{◌<◌, ◌≤◌, ◌^◌, ℕ, List, [], ◌∷◌, ◌++◌, length}
+use Rattle.std.specs.Int.{to_be_bytes, w16, w32}
+use Rattle.share_model.specs.link.Fields.{IsBody}
+
+pub record Packet : Type 0 where
+  pub flow : ℕ
+  pub seq : ℕ
+  pub payload : List ℕ
+
+-- a packet that a frame carries: its numbers are 1 to 2^32 - 1, and its payload is 1 to 1490 bytes
+pub record FitsFrame (h : Packet) : Type 0 where
+  pub some_flow : 1 ≤ h.flow
+  pub flow : h.flow < 2 ^ 32
+  pub some_seq : 1 ≤ h.seq
+  pub seq : h.seq < 2 ^ 32
+  pub payload : IsBody h.payload
+
+unfoldable pub header : ℕ → ℕ → ℕ → List ℕ
+header flow seq len = 76 ∷ 1 ∷ [] ++ to_be_bytes w32 flow ++ to_be_bytes w32 seq ++ to_be_bytes w16 len
+
+unfoldable pub frame : Packet → List ℕ
+frame h = header h.flow h.seq (length h.payload) ++ h.payload

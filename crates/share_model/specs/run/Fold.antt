@@ -1,0 +1,92 @@
+-- The whole state of a run: what the link holds, the packets that were written whole, and the torn one; and the bytes
+-- that a run has written.
+use Rattle.std.specs.Prelude.{ℕ, List, [], ◌∷◌, ◌++◌, take, find, flat_map, Option, None, Some, option_map}
+use Rattle.std.specs.Prelude.{if◌then◌else◌}
+use Rattle.share_base.specs.declared.command.Event.{Event}
+use Rattle.share_base.specs.declared.command.Event.TheVariants.{Commanded, Arrived, Written, Faulted}
+use Rattle.share_base.specs.declared.command.Outcome.{Outcome}
+use Rattle.share_model.specs.declared.link.Book.{Book}
+use Rattle.share_model.specs.declared.rates.Rate.{Rate}
+use Rattle.share_model.specs.link.Frame.{Packet, frame}
+use Rattle.share_model.specs.link.Live.{Live, empty_link, Sending, sending, is_book_of, is_whole, live_step}
+
+-- a packet that was written whole, and the number of its flow's tariff
+pub record Sent : Type 0 where
+  pub head : Packet
+  pub tariff : ℕ
+
+-- the torn packet, the number of its flow's tariff, and how many bytes of its frame were out
+pub record TornFrame : Type 0 where
+  pub head : Packet
+  pub tariff : ℕ
+  pub out : ℕ
+
+pub record State : Type 0 where
+  pub live : Live
+  pub done : List Sent
+  pub torn : Option TornFrame
+
+abbrev pub empty_state : State
+empty_state = record { live = empty_link; done = []; torn = None }
+
+-- the number of the tariff in a flow's book
+abbrev pub tariff_in : Option Book → ℕ
+tariff_in None = 0
+tariff_in (Some b) = b.tariff
+
+abbrev pub tariff_of : List Book → ℕ → ℕ
+tariff_of books f = tariff_in (find (is_book_of f) books)
+
+-- the packet that a write of k bytes makes whole
+abbrev pub finished_by : Live → ℕ → Option Sending → List Sent
+finished_by l k None = []
+finished_by l k (Some s) =
+    if is_whole s k then record { head = s.head; tariff = tariff_of l.books s.head.flow } ∷ [] else []
+
+abbrev pub finished : Live → Event → List Sent
+finished l (Commanded c) = []
+finished l (Arrived flow body) = []
+finished l (Written k) = finished_by l k (sending l)
+finished l Faulted = []
+
+abbrev pub torn_by : Live → Sending → TornFrame
+torn_by l s = record { head = s.head; tariff = tariff_of l.books s.head.flow; out = s.out }
+
+abbrev pub torn_after : Live → Event → Option TornFrame → Option TornFrame
+torn_after l (Commanded c) t = t
+torn_after l (Arrived flow body) t = t
+torn_after l (Written k) t = t
+torn_after l Faulted t = option_map (torn_by l) (sending l)
+
+abbrev pub step : List Rate → State → Event → State
+step rates s e = record {
+  live = (live_step rates s.live e).0;
+  done = s.done ++ finished s.live e;
+  torn = torn_after s.live e s.torn;
+}
+
+abbrev pub outcome : List Rate → State → Event → Outcome
+outcome rates s e = (live_step rates s.live e).1
+
+-- the state after a list of events, and the outcomes of these
+unfoldable pub state_after : List Rate → State → List Event → State
+state_after rates s [] = s
+state_after rates s (e ∷ es) = state_after rates (step rates s e) es
+
+unfoldable pub outcomes : List Rate → State → List Event → List Outcome
+outcomes rates s [] = []
+outcomes rates s (e ∷ es) = outcome rates s e ∷ outcomes rates (step rates s e) es
+
+-- a run from the empty link
+abbrev pub run : List Rate → List Event → State
+run rates events = state_after rates empty_state events
+
+-- the bytes of a frame that is not whole: the torn one's, or those of the frame in part
+abbrev pub beginning : Option TornFrame → Option Sending → List ℕ
+beginning (Some t) sending = take t.out (frame t.head)
+beginning None None = []
+beginning None (Some s) = take s.out (frame s.head)
+
+-- the bytes that a run has written: the frames of the packets written whole, and the beginning of one more
+unfoldable pub out : State → List ℕ
+out s = flat_map (λ (d : Sent). frame d.head) s.done ++ beginning s.torn (sending s.live)

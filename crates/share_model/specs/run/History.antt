@@ -1,0 +1,97 @@
+-- The history of a run: whose packets were accepted and sent, what they cost, and the bytes that tell them.
+use Rattle.std.specs.Prelude.{◌≡◌, ◌<◌, ◌+◌, ◌-◌, ◌*◌, ℕ, List, [], ◌∷◌, ◌++◌, length, take, map, flat_map, filter}
+use Rattle.std.specs.Prelude.{sum_by, nat_eq, Option, None, Some, if◌then◌else◌}
+use Rattle.share_base.specs.declared.command.Reply.TheVariants.{Packet as PacketReply}
+use Rattle.share_base.specs.declared.command.Outcome.{Outcome}
+use Rattle.share_base.specs.declared.command.Outcome.TheVariants.{Replied}
+use Rattle.share_base.specs.declared.command.Event.{Event}
+use Rattle.share_base.specs.declared.command.Event.TheVariants.{Arrived}
+use Rattle.share_model.specs.declared.rates.Rate.{Rate}
+use Rattle.share_model.specs.link.Tariff.{rate_of, units_of}
+use Rattle.share_model.specs.link.Frame.{Packet, FitsFrame, frame}
+use Rattle.share_model.specs.link.Buffers.{Buffer, buffer_of}
+use Rattle.share_model.specs.link.Live.{Live}
+use Rattle.share_model.specs.run.Fold.{Sent, TornFrame, State, step, outcome}
+use Rattle.share_model.specs.lists.Each.{Each}
+
+-- the packet that an event accepted, as its outcome tells: the payload that came, under the numbers of the answer
+abbrev pub accepted_by : Event → Outcome → List Packet
+accepted_by (Arrived name body) (Replied (PacketReply flow seq)) =
+    record { flow = flow; seq = seq; payload = body } ∷ []
+accepted_by _ _ = []
+
+-- the packets that a list of events accepted
+unfoldable pub accepted : List Rate → State → List Event → List Packet
+accepted rates s [] = []
+accepted rates s (e ∷ es) = accepted_by e (outcome rates s e) ++ accepted rates (step rates s e) es
+
+-- the packets of one flow
+abbrev pub packets_of : ℕ → List Packet → List Packet
+packets_of f hs = filter (λ (h : Packet). nat_eq f h.flow) hs
+
+-- the packets in a buffer, from the head to the back
+abbrev pub held_in : Buffer → List (List ℕ) → List Packet
+held_in b [] = []
+held_in b (p ∷ ps) = record { flow = b.flow; seq = b.next - length (p ∷ ps); payload = p } ∷ held_in b ps
+
+abbrev pub held_by : Option Buffer → List Packet
+held_by None = []
+held_by (Some b) = held_in b b.packets
+
+-- the packets in the buffer of a flow: none where it is not open
+abbrev pub held_packets : List Buffer → ℕ → List Packet
+held_packets bs f = held_by (buffer_of bs f)
+
+-- the packets that were written whole
+abbrev pub sent_packets : List Sent → List Packet
+sent_packets done = map (λ (d : Sent). d.head) done
+
+-- those of a flow, and their numbers
+abbrev pub sent_by : ℕ → List Sent → List Sent
+sent_by f done = filter (λ (d : Sent). nat_eq f d.head.flow) done
+
+abbrev pub sent_numbers : ℕ → List Sent → List ℕ
+sent_numbers f done = map (λ (d : Sent). d.head.seq) (sent_by f done)
+
+-- what n bytes of a frame cost under a tariff
+abbrev pub cost : List Rate → ℕ → ℕ → ℕ
+cost rates tariff n = (rate_of rates tariff).price * units_of (rate_of rates tariff) n
+
+abbrev pub sent_cost : List Rate → Sent → ℕ
+sent_cost rates d = cost rates d.tariff (length (frame d.head))
+
+-- a torn frame costs its flow the bytes that are out
+abbrev pub torn_cost : List Rate → ℕ → Option TornFrame → ℕ
+torn_cost rates f None = 0
+torn_cost rates f (Some t) = if nat_eq f t.head.flow then cost rates t.tariff t.out else 0
+
+-- what a flow's packets cost: those that were written whole, and the torn one
+abbrev pub bill : List Rate → State → ℕ → ℕ
+bill rates s f = sum_by (sent_cost rates) (sent_by f s.done) + torn_cost rates f s.torn
+
+-- the packets in the buffers, a torn one among them
+abbrev pub packets_in : List Buffer → ℕ
+packets_in bs = sum_by (λ (b : Buffer). length b.packets) bs
+
+-- the beginning of a frame, and not the whole
+pub record IsBeginning (x : List ℕ) : Type 0 where
+  pub head : Packet
+  pub fits : FitsFrame head
+  pub at : ℕ
+  pub few : at < length (frame head)
+  pub is : x ≡ take at (frame head)
+
+-- bytes that are the frames of these packets, and the beginning of one more
+pub record AreFramesOf (hs : List Packet) (bytes : List ℕ) : Type 0 where
+  pub fits : Each FitsFrame hs
+  pub rest : List ℕ
+  pub begins : IsBeginning rest
+  pub is : bytes ≡ flat_map frame hs ++ rest
+
+-- a link's torn packet, if it has one, and the packets in its buffers besides
+abbrev pub torn_packets : Option ℕ → ℕ
+torn_packets None = 0
+torn_packets (Some f) = 1
+
+abbrev pub waiting : Live → ℕ
+waiting l = packets_in l.buffers - torn_packets l.torn

@@ -1,0 +1,231 @@
+-- The lines of a script: words joined by one space, one spelling for each line. What is not spelled exactly so is no
+-- line.
+use Rattle.std.specs.Prelude.{◌≡◌, ◌≢◌, ◌≤◌, ◌+◌, ◌-◌, ◌*◌, ◌/◌, ◌%◌, ◌^◌, ◌==◌, ◌⊎◌, ℕ, Bool, true, false, ◌&&◌}
+use Rattle.std.specs.Prelude.{◌||◌, List, [], ◌∷◌, length, nat_le, nat_lt, codes, decimal, Option, None, Some, Result}
+use Rattle.std.specs.Prelude.{Ok, Err, if◌then◌else◌}
+use Rattle.std.specs.List.{slice_split, join_with_byte, list_all}
+use Rattle.std.specs.Str.{bytes_eq}
+use Rattle.std.specs.Str.Parse.{digits_value}
+use Rattle.share_base.specs.Name.{is_name}
+use Rattle.share_base.specs.declared.refusal.Refusal.{Refusal}
+use Rattle.share_base.specs.declared.refusal.Refusal.TheVariants.{NoMemory, Spent, Syntax, Range, NoCurrency, NoTicket}
+use Rattle.share_base.specs.declared.refusal.Refusal.TheVariants.{NoFlow, NoTariff, Taken, Base, InUse, Funding}
+use Rattle.share_base.specs.declared.refusal.Refusal.TheVariants.{Unfunded, Crowded, Cycle, Deep, TableFull, Sending}
+use Rattle.share_base.specs.declared.refusal.Refusal.TheVariants.{BufferFull, Broken}
+use Rattle.share_base.specs.declared.command.Command.{Command}
+use Rattle.share_base.specs.declared.command.Command.TheVariants.{MakeTicket, FundFlow, OpenFlow}
+use Rattle.share_model.specs.declared.line.Line.{Line}
+use Rattle.share_model.specs.declared.line.Line.TheVariants.{Change, Send, Turn, Torn}
+use Rattle.share_model.specs.link.Fields.{max_payload}
+pub use Rattle.share_model.specs.link.Fields.{IsName, IsNumber, is_byte, HasCommandFields}
+
+-- Payloads in hexadecimal
+
+-- the digit of a number below 16, in lower case
+abbrev pub hex_digit : ℕ → ℕ
+hex_digit n = if nat_lt n 10 then n + 48 else n + 87
+
+-- each byte as two digits
+abbrev pub hex : List ℕ → List ℕ
+hex [] = []
+hex (b ∷ bs) = hex_digit (b / 16) ∷ hex_digit (b % 16) ∷ hex bs
+
+abbrev pub is_hex_digit : ℕ → Bool
+is_hex_digit c = (nat_le 48 c && nat_le c 57) || (nat_le 97 c && nat_le c 102)
+
+abbrev pub hex_value : ℕ → ℕ
+hex_value c = if nat_le c 57 then c - 48 else c - 87
+
+abbrev pub is_pairs : List ℕ → Bool
+is_pairs [] = true
+is_pairs (c ∷ []) = false
+is_pairs (c ∷ d ∷ cs) = is_hex_digit c && is_hex_digit d && is_pairs cs
+
+abbrev pub from_pairs : List ℕ → List ℕ
+from_pairs [] = []
+from_pairs (c ∷ []) = []
+from_pairs (c ∷ d ∷ cs) = (hex_value c * 16 + hex_value d) ∷ from_pairs cs
+
+-- How each line is spelled
+
+abbrev pub command_words : Command → List (List ℕ)
+command_words (OpenFlow name limit tariff) = codes "open" ∷ name ∷ decimal limit ∷ decimal tariff ∷ []
+command_words (MakeTicket amount currency) = codes "mktkt" ∷ decimal amount ∷ currency ∷ []
+command_words (FundFlow ticket flow) = codes "fund" ∷ decimal ticket ∷ codes "flow" ∷ flow ∷ []
+
+abbrev pub words : Line → List (List ℕ)
+words (Change c) = command_words c
+words (Send flow payload) = codes "send" ∷ flow ∷ hex payload ∷ []
+words (Turn most) = codes "turn" ∷ decimal most ∷ []
+words Torn = codes "torn" ∷ []
+
+-- the bytes of a line before its line feed
+abbrev pub spelled : Line → List ℕ
+spelled l = join_with_byte 32 (words l)
+
+-- Which values a line can have
+
+-- a payload is at least one byte
+abbrev pub IsPayload : List ℕ → Type 0
+IsPayload bs = (1 ≤ length bs) × (list_all is_byte bs ≡ true)
+
+abbrev pub HasFields : Line → Type 0
+HasFields (Change c) = HasCommandFields c
+HasFields (Send flow payload) = IsName flow × IsPayload payload
+HasFields (Turn most) = IsNumber most
+HasFields Torn = Unit {0}
+
+-- a line has at most 20480 bytes
+pub record IsLine (l : Line) : Type 0 where
+  pub fields : HasFields l
+  pub short : length (spelled l) ≤ 20480
+
+-- a payload has at most 1490 bytes, and a turn offers 1 to 65535
+abbrev pub is_in_range : Line → Bool
+is_in_range (Change c) = true
+is_in_range (Send flow payload) = nat_le (length payload) max_payload
+is_in_range (Turn most) = nat_le 1 most && nat_le most 65535
+is_in_range Torn = true
+
+-- What bytes are read as
+
+abbrev pub is_space : ℕ → Bool
+is_space b = b == 32
+
+abbrev pub words_of : List ℕ → List (List ℕ)
+words_of bs = slice_split is_space bs
+
+abbrev pub name_of : List ℕ → Option (List ℕ)
+name_of w = if is_name w then Some w else None
+
+-- the number below 2^64 of which this is the decimal
+unfoldable pub number_of : List ℕ → Option ℕ
+number_of w =
+    if nat_lt (digits_value 10 w) (2 ^ 64) && bytes_eq (decimal (digits_value 10 w)) w
+    then Some (digits_value 10 w)
+    else None
+
+abbrev pub payload_of : List ℕ → Option (List ℕ)
+payload_of w = if nat_le 2 (length w) && is_pairs w then Some (from_pairs w) else None
+
+-- the second step, if the first gave a value
+infixl 10 ◌>>=◌
+abbrev pub ◌>>=◌ : {A B : Type 0} → Option A → (A → Option B) → Option B
+None >>= f = None
+Some x >>= f = f x
+
+-- the first word, read as a field, and the words after it
+abbrev pub with_rest : {A : Type 0} → List (List ℕ) → Option A → Option (A × List (List ℕ))
+with_rest ws None = None
+with_rest ws (Some x) = Some (x, ws)
+
+abbrev pub field : {A : Type 0} → (List ℕ → Option A) → List (List ℕ) → Option (A × List (List ℕ))
+field f [] = None
+field f (w ∷ ws) = with_rest ws (f w)
+
+-- this very word
+abbrev pub keyword_of : List ℕ → List ℕ → Option (List ℕ)
+keyword_of keyword w = if bytes_eq w keyword then Some w else None
+
+-- the line, where no word is left
+abbrev pub ended : List (List ℕ) → Line → Option Line
+ended [] l = Some l
+ended (w ∷ ws) l = None
+
+abbrev pub open_of : List (List ℕ) → Option Line
+open_of ws = do
+  name ← field name_of ws
+  limit ← field number_of name.1
+  tariff ← field number_of limit.1
+  ended tariff.1 (Change (OpenFlow name.0 limit.0 tariff.0))
+
+abbrev pub mktkt_of : List (List ℕ) → Option Line
+mktkt_of ws = do
+  amount ← field number_of ws
+  currency ← field name_of amount.1
+  ended currency.1 (Change (MakeTicket amount.0 currency.0))
+
+abbrev pub fund_of : List (List ℕ) → Option Line
+fund_of ws = do
+  ticket ← field number_of ws
+  kind ← field (keyword_of (codes "flow")) ticket.1
+  flow ← field name_of kind.1
+  ended flow.1 (Change (FundFlow ticket.0 flow.0))
+
+abbrev pub send_of : List (List ℕ) → Option Line
+send_of ws = do
+  flow ← field name_of ws
+  payload ← field payload_of flow.1
+  ended payload.1 (Send flow.0 payload.0)
+
+abbrev pub turn_of : List (List ℕ) → Option Line
+turn_of ws = do
+  most ← field number_of ws
+  ended most.1 (Turn most.0)
+
+abbrev pub torn_of : List (List ℕ) → Option Line
+torn_of ws = ended ws Torn
+
+unfoldable pub line_by : List ℕ → List (List ℕ) → Option Line
+line_by w ws =
+    if bytes_eq w (codes "send") then send_of ws
+    else if bytes_eq w (codes "turn") then turn_of ws
+    else if bytes_eq w (codes "open") then open_of ws
+    else if bytes_eq w (codes "mktkt") then mktkt_of ws
+    else if bytes_eq w (codes "fund") then fund_of ws
+    else if bytes_eq w (codes "torn") then torn_of ws
+    else None
+
+abbrev pub line_of : List (List ℕ) → Option Line
+line_of [] = None
+line_of (w ∷ ws) = line_by w ws
+
+abbrev pub ranged : Option Line → Result Line Refusal
+ranged None = Err Syntax
+ranged (Some l) = if is_in_range l then Ok l else Err Range
+
+-- the line that these bytes spell: Syntax where they spell none, Range where they spell one that is out of range
+unfoldable pub reading : List ℕ → Result Line Refusal
+reading bs = if nat_lt 20480 (length bs) then Err Syntax else ranged (line_of (words_of bs))
+
+-- What a reading answers, in the words of spellings
+
+-- the line is spelled by these bytes and in range
+pub record IsReading (bs : List ℕ) (l : Line) : Type 0 where
+  pub line : IsLine l
+  pub in_range : is_in_range l ≡ true
+  pub spells : spelled l ≡ bs
+
+abbrev pub is_send : Line → Bool
+is_send (Change c) = false
+is_send (Send flow payload) = true
+is_send (Turn most) = false
+is_send Torn = false
+
+-- Syntax where no line has these bytes, Range where a line out of range has them, NoMemory where a packet in range
+-- does
+abbrev pub IsUnread : List ℕ → Refusal → Type 0
+IsUnread bs Syntax = (l : Line) → IsLine l → spelled l ≢ bs
+IsUnread bs Range = (l : Line) × IsLine l × (is_in_range l ≡ false) × (spelled l ≡ bs)
+IsUnread bs NoMemory = (l : Line) × IsReading bs l × (is_send l ≡ true)
+IsUnread bs Spent = ⊥
+IsUnread bs NoCurrency = ⊥
+IsUnread bs NoTicket = ⊥
+IsUnread bs NoFlow = ⊥
+IsUnread bs NoTariff = ⊥
+IsUnread bs Taken = ⊥
+IsUnread bs Base = ⊥
+IsUnread bs InUse = ⊥
+IsUnread bs Funding = ⊥
+IsUnread bs Unfunded = ⊥
+IsUnread bs Crowded = ⊥
+IsUnread bs Cycle = ⊥
+IsUnread bs Deep = ⊥
+IsUnread bs TableFull = ⊥
+IsUnread bs Sending = ⊥
+IsUnread bs BufferFull = ⊥
+IsUnread bs Broken = ⊥
+
+-- a reading that may have found no memory for a payload
+abbrev pub Reads : List ℕ → Result Line Refusal → Type 0
+Reads bs r = (r ≡ reading bs) ⊎ ((r ≡ Err NoMemory) × ((l : Line) × (reading bs ≡ Ok l) × (is_send l ≡ true)))

@@ -1,0 +1,310 @@
+-- What is spelled is read, and nothing else is.
+use Rattle.std.specs.Prelude.{◌≡◌, ◌≢◌, ◌≤◌, ℕ, Bool, true, false, List, [], ◌∷◌}
+use Rattle.std.specs.Prelude.{length, nat_lt, codes, decimal, Option, None, Some, Ok, Err, refl}
+use Rattle.std.specs.List.{join_with_byte, AllByRecursion}
+use Rattle.std.specs.Str.{bytes_eq}
+use Rattle.std.proofs.Common.{arith, sym, ◌∙◌, ap, cond, subst}
+use Rattle.std.proofs.lemmas.List.Splits.{slice_split_at, slice_split_none, join_with_byte-slice_split}
+use Rattle.std.proofs.lemmas.List.Elements.{All-from_recursion}
+use Rattle.std.proofs.lemmas.Slice.Eq.{bytes_eq-Decides}
+use Rattle.std.proofs.lemmas.Bool.Decides.{nat_tests}
+use Rattle.share_base.specs.declared.refusal.Refusal.{Refusal}
+use Rattle.share_base.specs.declared.refusal.Refusal.TheVariants.{Syntax, Range}
+use Rattle.share_base.specs.declared.command.Command.TheVariants.{MakeTicket, FundFlow, OpenFlow}
+use Rattle.share_model.specs.declared.line.Line.{Line}
+use Rattle.share_model.specs.declared.line.Line.TheVariants.{Change, Send, Turn, Torn}
+use Rattle.share_model.specs.text.Lines.{hex, words, spelled}
+use Rattle.share_model.specs.text.Lines.{IsName, IsNumber, IsPayload, HasFields, IsLine, is_in_range, is_space}
+use Rattle.share_model.specs.text.Lines.{words_of, name_of, number_of, payload_of, field, with_rest, ◌>>=◌, keyword_of}
+use Rattle.share_model.specs.text.Lines.{ended, open_of, mktkt_of, fund_of, send_of, turn_of, torn_of, line_by, line_of}
+use Rattle.share_model.specs.text.Lines.{ranged, reading, IsReading, IsUnread}
+use Rattle.share_model.specs.text.WordLaws.{NoSpace, no_space-name_bytes, no_space-name, no_space-decimal, no_space-hex}
+use Rattle.share_model.specs.text.WordLaws.{bytes_eq-same, name_of-name, payload_of-hex, name_of-only}
+pub use Rattle.share_model.specs.text.WordLaws.{number_of-decimal, number_of-only, payload_of-only, hex-from_pairs}
+
+-- Words that are joined by one space are read as these words
+
+words_of-join : (w : List ℕ) (ws : List (List ℕ)) → NoSpace w → AllByRecursion NoSpace ws
+    → words_of (join_with_byte 32 (w ∷ ws)) ≡ w ∷ ws
+words_of-join w [] h hs = slice_split_none is_space w (All-from_recursion _ w h)
+words_of-join w (v ∷ vs) h hs =
+    slice_split_at is_space w 32 _ (All-from_recursion _ w h) refl ∙ ap (λ r. w ∷ r) (words_of-join v vs hs.0 hs.1)
+
+join-words_of : (bs : List ℕ) → join_with_byte 32 (words_of bs) ≡ bs
+join-words_of bs = join_with_byte-slice_split 32 bs
+
+-- Each line is read from its words
+
+keyword_of-same : (k : List ℕ) → keyword_of k k ≡ Some k
+keyword_of-same k = rw (bytes_eq-same k) refl
+
+open_of-words : (name : List ℕ) (limit tariff : ℕ) → IsName name → IsNumber limit → IsNumber tariff
+    → open_of (name ∷ decimal limit ∷ decimal tariff ∷ []) ≡ Some (Change (OpenFlow name limit tariff))
+open_of-words name limit tariff n l t =
+    rw (name_of-name name n, number_of-decimal limit l, number_of-decimal tariff t) refl
+
+mktkt_of-words : (amount : ℕ) (currency : List ℕ) → IsNumber amount → IsName currency
+    → mktkt_of (decimal amount ∷ currency ∷ []) ≡ Some (Change (MakeTicket amount currency))
+mktkt_of-words amount currency a c = rw (number_of-decimal amount a, name_of-name currency c) refl
+
+fund_of-words : (ticket : ℕ) (flow : List ℕ) → IsNumber ticket → IsName flow
+    → fund_of (decimal ticket ∷ codes "flow" ∷ flow ∷ []) ≡ Some (Change (FundFlow ticket flow))
+fund_of-words ticket flow t f = rw (number_of-decimal ticket t, name_of-name flow f) refl
+
+send_of-words : (flow payload : List ℕ) → IsName flow → IsPayload payload
+    → send_of (flow ∷ hex payload ∷ []) ≡ Some (Send flow payload)
+send_of-words flow payload f p = rw (name_of-name flow f, payload_of-hex payload p) refl
+
+turn_of-words : (most : ℕ) → IsNumber most → turn_of (decimal most ∷ []) ≡ Some (Turn most)
+turn_of-words most m = rw (number_of-decimal most m) refl
+
+line_of-words : (l : Line) → HasFields l → line_of (words l) ≡ Some l
+unfolding line_by
+line_of-words (Change (OpenFlow name limit tariff)) h = open_of-words name limit tariff h.0 h.1 h.2
+line_of-words (Change (MakeTicket amount currency)) h = mktkt_of-words amount currency h.0 h.1
+line_of-words (Change (FundFlow ticket flow)) h = fund_of-words ticket flow h.0 h.1
+line_of-words (Send flow payload) h = send_of-words flow payload h.0 h.1
+line_of-words (Turn most) h = turn_of-words most h
+line_of-words Torn h = refl
+
+words_of-spelled : (l : Line) → HasFields l → words_of (spelled l) ≡ words l
+words_of-spelled (Change (OpenFlow name limit tariff)) h =
+    words_of-join _ _ (no_space-name_bytes (codes "open") refl)
+    (no_space-name _ h.0, (no_space-decimal _ h.1, (no_space-decimal _ h.2, tt)))
+words_of-spelled (Change (MakeTicket amount currency)) h =
+    words_of-join _ _ (no_space-name_bytes (codes "mktkt") refl) (no_space-decimal _ h.0, (no_space-name _ h.1, tt))
+words_of-spelled (Change (FundFlow ticket flow)) h =
+    words_of-join _ _ (no_space-name_bytes (codes "fund") refl)
+    (no_space-decimal _ h.0, (no_space-name_bytes (codes "flow") refl, (no_space-name _ h.1, tt)))
+words_of-spelled (Send flow payload) h =
+    words_of-join _ _ (no_space-name_bytes (codes "send") refl) (no_space-name _ h.0, (no_space-hex payload, tt))
+words_of-spelled (Turn most) h = words_of-join _ _ (no_space-name_bytes (codes "turn") refl) (no_space-decimal _ h, tt)
+words_of-spelled Torn h = words_of-join _ _ (no_space-name_bytes (codes "torn") refl) tt
+
+short-test : (n : ℕ) → n ≤ 20480 → nat_lt 20480 n ≡ false
+short-test n h = grind (arith, nat_tests)
+
+-- a line is read from its spelling, and is Range where it is out of range
+pub reading-line : (l : Line) → IsLine l → reading (spelled l) ≡ ranged (Some l)
+unfolding reading
+reading-line l h = rw (short-test _ h.short, words_of-spelled l h.fields, line_of-words l h.fields) refl
+
+-- Words that are read are those of the line
+
+-- the words are those of this line
+abbrev AreWords : List (List ℕ) → Line → Type 0
+AreWords ws l = (words l ≡ ws) × HasFields l
+
+-- the first word was read as a field
+record Took {A : Type 0} (f : List ℕ → Option A) (ws : List (List ℕ)) (value : A) (rest : List (List ℕ)) : Type 0 where
+  word : List ℕ
+  begins : ws ≡ word ∷ rest
+  reads : f word ≡ Some value
+
+took_by : {A : Type 0} (f : List ℕ → Option A) (w : List ℕ) (ws : List (List ℕ)) (o : Option A) → f w ≡ o
+    → (p : A × List (List ℕ)) → with_rest ws o ≡ Some p → Took f (w ∷ ws) p.0 p.1
+took_by f w ws None e p h = cc
+took_by f w ws (Some x) e p h =
+    let q : (x, ws) ≡ p = cc in
+    record { word = w; begins = ap (λ r. w ∷ r.1) q; reads = e ∙ ap (λ r. Some r.0) q }
+
+took : {A : Type 0} (f : List ℕ → Option A) (ws : List (List ℕ)) (p : A × List (List ℕ)) → field f ws ≡ Some p
+    → Took f ws p.0 p.1
+took f [] p h = cc
+took f (w ∷ ws) p h = took_by f w ws (f w) refl p h
+
+record Bound {A B : Type 0} (o : Option A) (f : A → Option B) (b : B) : Type 0 where
+  value : A
+  first : o ≡ Some value
+  then : f value ≡ Some b
+
+bound : {A B : Type 0} (o : Option A) (f : A → Option B) (b : B) → (o >>= f) ≡ Some b → Bound o f b
+bound None f b e = cc
+bound (Some a) f b e = record { value = a; first = refl; then = e }
+
+ended-only : (ws : List (List ℕ)) (l m : Line) → ended ws l ≡ Some m → (ws ≡ []) × (l ≡ m)
+ended-only [] l m e = (refl, cc)
+ended-only (w ∷ ws) l m e = cc
+
+keyword_by : (k w : List ℕ) (b : Bool) → bytes_eq w k ≡ b → (v : List ℕ) → cond b (Some w) None ≡ Some v → w ≡ k
+keyword_by k w true e v h = (bytes_eq-Decides w k).0 e
+keyword_by k w false e v h = cc
+
+keyword_of-only : (k w v : List ℕ) → keyword_of k w ≡ Some v → w ≡ k
+keyword_of-only k w v e = keyword_by k w _ refl v e
+
+took_name : (ws : List (List ℕ)) (p : List ℕ × List (List ℕ)) → field name_of ws ≡ Some p
+    → IsName p.0 × (ws ≡ p.0 ∷ p.1)
+took_name ws p e =
+    let t = took name_of ws p e in
+    let x = name_of-only _ _ t.reads in
+    (x.0, t.begins ∙ ap (λ (w : List ℕ). w ∷ p.1) x.1)
+
+took_number : (ws : List (List ℕ)) (p : ℕ × List (List ℕ)) → field number_of ws ≡ Some p
+    → IsNumber p.0 × (ws ≡ decimal p.0 ∷ p.1)
+took_number ws p e =
+    let t = took number_of ws p e in
+    let x = number_of-only _ _ t.reads in
+    (x.0, t.begins ∙ ap (λ (w : List ℕ). w ∷ p.1) x.1)
+
+took_payload : (ws : List (List ℕ)) (p : List ℕ × List (List ℕ)) → field payload_of ws ≡ Some p
+    → IsPayload p.0 × (ws ≡ hex p.0 ∷ p.1)
+took_payload ws p e =
+    let t = took payload_of ws p e in
+    let x = payload_of-only _ _ t.reads in
+    (x.0, t.begins ∙ ap (λ (w : List ℕ). w ∷ p.1) x.1)
+
+took_keyword : (k : List ℕ) (ws : List (List ℕ)) (p : List ℕ × List (List ℕ)) → field (keyword_of k) ws ≡ Some p
+    → ws ≡ k ∷ p.1
+took_keyword k ws p e =
+    let t = took (keyword_of k) ws p e in t.begins ∙ ap (λ (w : List ℕ). w ∷ p.1) (keyword_of-only _ _ _ t.reads)
+
+-- words before words
+before : (w : List ℕ) (ws vs xs : List (List ℕ)) → ws ≡ w ∷ vs → vs ≡ xs → ws ≡ w ∷ xs
+before w ws vs xs e h = e ∙ ap (λ (r : List (List ℕ)). w ∷ r) h
+
+-- the line of these words, after its keyword
+are_words : (k : List ℕ) (ws vs : List (List ℕ)) (l m : Line) → words m ≡ k ∷ vs → HasFields m → ws ≡ vs → m ≡ l
+    → AreWords (k ∷ ws) l
+are_words k ws vs l m spells fields e same =
+    let P : Line → Type 0 = λ x. AreWords (k ∷ ws) x in
+    subst P same (spells ∙ ap (λ (r : List (List ℕ)). k ∷ r) (sym e), fields)
+
+open_of-only : (ws : List (List ℕ)) (l : Line) → open_of ws ≡ Some l → AreWords (codes "open" ∷ ws) l
+open_of-only ws l e =
+    let n = bound _ _ _ e in
+    let m = bound _ _ _ n.then in
+    let t = bound _ _ _ m.then in
+    let z = ended-only _ _ _ t.then in
+    let a = took_name ws n.value n.first in
+    let b = took_number n.value.1 m.value m.first in
+    let c = took_number m.value.1 t.value t.first in
+    are_words _ ws _ l _ refl (a.0, b.0, c.0) (before _ _ _ _ a.1 (before _ _ _ _ b.1 (before _ _ _ _ c.1 z.0))) z.1
+
+mktkt_of-only : (ws : List (List ℕ)) (l : Line) → mktkt_of ws ≡ Some l → AreWords (codes "mktkt" ∷ ws) l
+mktkt_of-only ws l e =
+    let n = bound _ _ _ e in
+    let m = bound _ _ _ n.then in
+    let z = ended-only _ _ _ m.then in
+    let a = took_number ws n.value n.first in
+    let b = took_name n.value.1 m.value m.first in
+    are_words _ ws _ l _ refl (a.0, b.0) (before _ _ _ _ a.1 (before _ _ _ _ b.1 z.0)) z.1
+
+fund_of-only : (ws : List (List ℕ)) (l : Line) → fund_of ws ≡ Some l → AreWords (codes "fund" ∷ ws) l
+fund_of-only ws l e =
+    let n = bound _ _ _ e in
+    let m = bound _ _ _ n.then in
+    let t = bound _ _ _ m.then in
+    let z = ended-only _ _ _ t.then in
+    let a = took_number ws n.value n.first in
+    let b = took_keyword _ n.value.1 m.value m.first in
+    let c = took_name m.value.1 t.value t.first in
+    are_words _ ws _ l _ refl (a.0, c.0) (before _ _ _ _ a.1 (before _ _ _ _ b (before _ _ _ _ c.1 z.0))) z.1
+
+send_of-only : (ws : List (List ℕ)) (l : Line) → send_of ws ≡ Some l → AreWords (codes "send" ∷ ws) l
+send_of-only ws l e =
+    let n = bound _ _ _ e in
+    let m = bound _ _ _ n.then in
+    let z = ended-only _ _ _ m.then in
+    let a = took_name ws n.value n.first in
+    let b = took_payload n.value.1 m.value m.first in
+    are_words _ ws _ l _ refl (a.0, b.0) (before _ _ _ _ a.1 (before _ _ _ _ b.1 z.0)) z.1
+
+turn_of-only : (ws : List (List ℕ)) (l : Line) → turn_of ws ≡ Some l → AreWords (codes "turn" ∷ ws) l
+turn_of-only ws l e =
+    let n = bound _ _ _ e in
+    let z = ended-only _ _ _ n.then in
+    let a = took_number ws n.value n.first in
+    are_words _ ws _ l _ refl a.0 (before _ _ _ _ a.1 z.0) z.1
+
+torn_of-only : (ws : List (List ℕ)) (l : Line) → torn_of ws ≡ Some l → AreWords (codes "torn" ∷ ws) l
+torn_of-only ws l e = let z = ended-only _ _ _ e in are_words _ ws _ l _ refl tt z.0 z.1
+
+-- a word that is this keyword, before words that its reader takes; or another word
+by_keyword : (w k : List ℕ) (ws : List (List ℕ)) (x y : Option Line) (l : Line) → (x ≡ Some l → AreWords (k ∷ ws) l)
+    → (y ≡ Some l → AreWords (w ∷ ws) l) → (b : Bool) → bytes_eq w k ≡ b → cond b x y ≡ Some l → AreWords (w ∷ ws) l
+by_keyword w k ws x y l this other true e h = let q : w ≡ k = (bytes_eq-Decides w k).0 e in rw q (this h)
+by_keyword w k ws x y l this other false e h = other h
+
+line_by-only : (w : List ℕ) (ws : List (List ℕ)) (l : Line) → line_by w ws ≡ Some l → AreWords (w ∷ ws) l
+unfolding line_by
+line_by-only w ws l e =
+    by_keyword w _ ws _ _ l (send_of-only ws l)
+    (by_keyword w _ ws _ _ l (turn_of-only ws l)
+    (by_keyword w _ ws _ _ l (open_of-only ws l)
+    (by_keyword w _ ws _ _ l (mktkt_of-only ws l)
+    (by_keyword w _ ws _ _ l (fund_of-only ws l)
+    (by_keyword w _ ws _ _ l (torn_of-only ws l)
+    (λ (h : None ≡ Some l). cc) _ refl) _ refl) _ refl) _ refl) _ refl) _ refl e
+
+line_of-only : (ws : List (List ℕ)) (l : Line) → line_of ws ≡ Some l → AreWords ws l
+line_of-only [] l e = cc
+line_of-only (w ∷ ws) l e = line_by-only w ws l e
+
+-- What a reading answers
+
+long-test : (n : ℕ) → nat_lt 20480 n ≡ false → n ≤ 20480
+long-test n h = grind (arith, nat_tests)
+
+-- bytes that are read as a line are those of its spelling
+spelled_of : (bs : List ℕ) (l : Line) → nat_lt 20480 (length bs) ≡ false → line_of (words_of bs) ≡ Some l
+    → IsLine l × (spelled l ≡ bs)
+spelled_of bs l short e =
+    let s = line_of-only _ _ e in
+    let same : spelled l ≡ bs = ap (join_with_byte 32) s.0 ∙ join-words_of bs in
+    (record { fields = s.1; short = rw same (long-test _ short) }, same)
+
+reading_by : (bs : List ℕ) (l m : Line) → IsLine m → spelled m ≡ bs → (b : Bool) → is_in_range m ≡ b
+    → cond b (Ok m) (Err Range) ≡ Ok l → IsReading bs l
+reading_by bs l m line same true r e =
+    let q : m ≡ l = cc in
+    let P : Line → Type 0 = λ x. IsReading bs x in
+    subst P q (record { line = line; in_range = r; spells = same })
+reading_by bs l m line same false r e = cc
+
+spells_by : (bs : List ℕ) (l : Line) (long : Bool) (o : Option Line) → nat_lt 20480 (length bs) ≡ long
+    → line_of (words_of bs) ≡ o → cond long (Err Syntax) (ranged o) ≡ Ok l → IsReading bs l
+spells_by bs l true o hl ho e = cc
+spells_by bs l false None hl ho e = cc
+spells_by bs l false (Some m) hl ho e = let s = spelled_of bs m hl ho in reading_by bs l m s.0 s.1 _ refl e
+
+-- a line is read only from its spelling, and only in range
+pub reading-spelled : (bs : List ℕ) (l : Line) → reading bs ≡ Ok l → IsReading bs l
+unfolding reading
+reading-spelled bs l e = spells_by bs l _ _ refl refl e
+
+-- Syntax, or Range of a line that is out of range
+data Unread (bs : List ℕ) (e : Refusal) : Type 0 where
+  syntax_fault : e ≡ Syntax → Unread bs e
+  range_fault : e ≡ Range → (l : Line) × IsLine l × (is_in_range l ≡ false) × (spelled l ≡ bs) → Unread bs e
+
+unranged_by : (bs : List ℕ) (m : Line) (r : Refusal) → IsLine m → spelled m ≡ bs → (b : Bool) → is_in_range m ≡ b
+    → cond b (Ok m) (Err Range) ≡ Err r → Unread bs r
+unranged_by bs m r line same true q e = cc
+unranged_by bs m r line same false q e = range_fault (cc) (m, line, q, same)
+
+unread_by : (bs : List ℕ) (r : Refusal) (long : Bool) (o : Option Line) → nat_lt 20480 (length bs) ≡ long
+    → line_of (words_of bs) ≡ o → cond long (Err Syntax) (ranged o) ≡ Err r → Unread bs r
+unread_by bs r true o hl ho e = syntax_fault cc
+unread_by bs r false None hl ho e = syntax_fault cc
+unread_by bs r false (Some m) hl ho e = let s = spelled_of bs m hl ho in unranged_by bs m r s.0 s.1 _ refl e
+
+unread : (bs : List ℕ) (r : Refusal) → reading bs ≡ Err r → Unread bs r
+unfolding reading
+unread bs r e = unread_by bs r _ _ refl refl e
+
+not_syntax : (l : Line) (b : Bool) → is_in_range l ≡ b → cond b (Ok l) (Err Range) ≡ Err Syntax → ⊥
+not_syntax l true r e = cc
+not_syntax l false r e = cc
+
+no_line : (bs : List ℕ) → reading bs ≡ Err Syntax → (l : Line) → IsLine l → spelled l ≢ bs
+no_line bs e l line same =
+    let given : ranged (Some l) ≡ Err Syntax = sym (reading-line l line) ∙ ap reading same ∙ e in
+    not_syntax l _ refl given
+
+-- Syntax exactly where no line has these bytes, Range where a line out of range has them
+pub reading-refused : (bs : List ℕ) (r : Refusal) → reading bs ≡ Err r → IsUnread bs r
+reading-refused bs r e = elim (unread bs r e) [
+  | syntax_fault q ↦ let P : Refusal → Type 0 = λ x. IsUnread bs x in subst P (sym q) (no_line bs (e ∙ ap Err q))
+  | range_fault q found ↦ let P : Refusal → Type 0 = λ x. IsUnread bs x in subst P (sym q) found
+]

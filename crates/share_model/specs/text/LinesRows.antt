@@ -1,0 +1,48 @@
+-- Lines, checked against worked examples: each equation holds by computation alone.
+use Rattle.std.specs.Prelude.{◌≡◌, ℕ, List, [], ◌∷◌, ◌++◌, map, replicate, Result, Ok, Err, codes, refl}
+use Rattle.std.specs.Fmt.{digits}
+use Rattle.share_base.specs.declared.refusal.Refusal.{Refusal}
+use Rattle.share_base.specs.declared.refusal.Refusal.TheVariants.{Syntax, Range}
+use Rattle.share_base.specs.declared.command.Command.TheVariants.{MakeTicket, FundFlow, OpenFlow}
+use Rattle.share_model.specs.declared.line.Line.{Line}
+use Rattle.share_model.specs.declared.line.Line.TheVariants.{Change, Send, Turn, Torn}
+use Rattle.share_model.specs.text.Lines.{number_of, line_by, reading, spelled}
+
+read : List (List ℕ) → List (Result Line Refusal)
+read lines = map reading lines
+
+lines_are_read : read (
+    codes "open a 4 1" ∷ codes "mktkt 10 base" ∷ codes "fund 1 flow a"
+    ∷ codes "send a 6869" ∷ codes "turn 65535" ∷ codes "torn" ∷ [])
+    ≡ Ok (Change (OpenFlow (codes "a") 4 1)) ∷ Ok (Change (MakeTicket 10 (codes "base")))
+    ∷ Ok (Change (FundFlow 1 (codes "a"))) ∷ Ok (Send (codes "a") (104 ∷ 105 ∷ [])) ∷ Ok (Turn 65535) ∷ Ok Torn ∷ []
+unfolding read reading line_by number_of digits
+lines_are_read = refl
+
+limits_are_read : read (codes "open a-1_z 0 18446744073709551615" ∷ codes "send z 00ff" ∷ [])
+    ≡ Ok (Change (OpenFlow (codes "a-1_z") 0 18446744073709551615)) ∷ Ok (Send (codes "z") (0 ∷ 255 ∷ [])) ∷ []
+unfolding read reading line_by number_of digits
+limits_are_read = refl
+
+-- a number of 2^64, a leading zero, a sign, an upper-case digit, an odd number of digits, a missing payload, spaces
+-- that are too many, an empty line, a carriage return, a NUL
+faults_are_syntax : read (
+    codes "turn 18446744073709551616" ∷ codes "fund 01 flow a" ∷ codes "turn +1" ∷ codes "send a 6A" ∷ codes "send a 6"
+    ∷ codes "send a " ∷ codes "send a" ∷ codes "open  a 4 1" ∷ codes "open a 4 1 " ∷ codes " torn"
+    ∷ codes "torn torn" ∷ [] ∷ codes "torn\r" ∷ (codes "torn" ++ 0 ∷ [])
+    ∷ codes "open A 4 1" ∷ codes "fund 1 cow a" ∷ [])
+    ≡ replicate 16 (Err Syntax)
+unfolding read reading line_by number_of digits
+faults_are_syntax = refl
+
+turns_out_of_range : read (codes "turn 0" ∷ codes "turn 65536" ∷ codes "turn 18446744073709551615" ∷ [])
+    ≡ replicate 3 (Err Range)
+unfolding read reading line_by number_of digits
+turns_out_of_range = refl
+
+lines_are_spelled : map spelled (
+    Change (OpenFlow (codes "a") 4 1) ∷ Change (FundFlow 1 (codes "a"))
+    ∷ Send (codes "a") (104 ∷ 255 ∷ []) ∷ Torn ∷ [])
+    ≡ codes "open a 4 1" ∷ codes "fund 1 flow a" ∷ codes "send a 68ff" ∷ codes "torn" ∷ []
+unfolding digits
+lines_are_spelled = refl

@@ -1,0 +1,143 @@
+-- A whole script: its lines, the text that each is answered with, and what its link comes to. Every write is taken to
+-- accept all that it was offered.
+use Rattle.std.specs.Prelude.{ℕ, ◌+◌, ◌==◌, Bool, true, false, ◌&&◌, List, [], ◌∷◌, ◌++◌, drop, length, min, Option}
+use Rattle.std.specs.Prelude.{None, Some, Result, Ok, Err, is_none, if◌then◌else◌}
+use Rattle.std.specs.List.{slice_split}
+use Rattle.share_base.specs.declared.refusal.Refusal.{Refusal}
+use Rattle.share_base.specs.declared.refusal.Refusal.TheVariants.{NoMemory, Spent as SpentRefusal, Syntax}
+use Rattle.share_base.specs.declared.command.Command.{Command}
+use Rattle.share_base.specs.declared.command.Reply.TheVariants.{Refused}
+use Rattle.share_base.specs.declared.command.Turn.TheVariants.{Idle, Broken, Spent}
+use Rattle.share_base.specs.declared.command.Event.{Event}
+use Rattle.share_base.specs.declared.command.Event.TheVariants.{Commanded, Arrived, Written, Faulted}
+use Rattle.share_base.specs.declared.command.Outcome.{Outcome}
+use Rattle.share_base.specs.declared.command.Outcome.TheVariants.{Replied, Turned}
+use Rattle.share_model.specs.declared.line.Line.{Line}
+use Rattle.share_model.specs.declared.line.Line.TheVariants.{Change, Send, Turn, Torn}
+use Rattle.share_model.specs.declared.rates.Rate.{Rate}
+use Rattle.share_model.specs.link.Live.{life_is_spent, takes_memory, Sending, sending, rest_of, command_refusal}
+use Rattle.share_model.specs.run.Fold.{State, empty_state, step, outcome}
+use Rattle.share_model.specs.text.Lines.{reading}
+use Rattle.share_model.specs.text.Texts.{line_text}
+
+-- What a line makes: an event, or an outcome without one
+
+abbrev pub refused : Refusal → Result Event Outcome
+refused e = Err (Replied (Refused e))
+
+abbrev pub is_syntax : Refusal → Bool
+is_syntax Syntax = true
+is_syntax _ = false
+
+-- a fault of spelling stands before a spent life, and a number out of range after it
+abbrev pub unread_event : ℕ → State → Refusal → Result Event Outcome
+unread_event life s e =
+    if is_syntax e then refused Syntax
+    else if life_is_spent life s.live then refused SpentRefusal
+    else refused e
+
+-- a command that no other refusal meets may find no memory
+abbrev pub finds_none : Bool → List Rate → State → Command → Bool
+finds_none lack rates s c = lack && takes_memory c && is_none (command_refusal rates s.live c)
+
+abbrev pub change_event : ℕ → List Rate → State → Bool → Command → Result Event Outcome
+change_event life rates s lack c =
+    if life_is_spent life s.live then refused SpentRefusal
+    else if finds_none lack rates s c then refused NoMemory
+    else Ok (Commanded c)
+
+abbrev pub send_event : ℕ → State → Bool → List ℕ → List ℕ → Result Event Outcome
+send_event life s lack flow body =
+    if life_is_spent life s.live then refused SpentRefusal
+    else if lack then refused NoMemory
+    else Ok (Arrived flow body)
+
+-- the writer accepts all that it is offered
+abbrev pub write_event : ℕ → Option Sending → Result Event Outcome
+write_event most None = Err (Turned Idle)
+write_event most (Some x) = Ok (Written (min most (length (rest_of x))))
+
+abbrev pub fault_event : Option Sending → Result Event Outcome
+fault_event None = Err (Turned Idle)
+fault_event (Some x) = Ok Faulted
+
+-- Spent, then Broken
+abbrev pub unless_over : ℕ → State → Result Event Outcome → Result Event Outcome
+unless_over life s event =
+    if life_is_spent life s.live then Err (Turned Spent)
+    else if s.live.broken then Err (Turned Broken)
+    else event
+
+abbrev pub line_event : ℕ → List Rate → State → Bool → Line → Result Event Outcome
+line_event life rates s lack (Change c) = change_event life rates s lack c
+line_event life rates s lack (Send flow body) = send_event life s lack flow body
+line_event life rates s lack (Turn most) = unless_over life s (write_event most (sending s.live))
+line_event life rates s lack Torn = unless_over life s (fault_event (sending s.live))
+
+abbrev pub read_event : ℕ → List Rate → State → Bool → Result Line Refusal → Result Event Outcome
+read_event life rates s lack (Ok l) = line_event life rates s lack l
+read_event life rates s lack (Err e) = unread_event life s e
+
+-- What a line is answered
+
+-- an event is one step, with its outcome; an outcome without an event leaves the state
+abbrev pub answered : List Rate → State → Result Event Outcome → State × Outcome
+answered rates s (Ok e) = (step rates s e, outcome rates s e)
+answered rates s (Err o) = (s, o)
+
+abbrev pub line_answer : ℕ → List Rate → State → Bool → Line → State × Outcome
+line_answer life rates s lack l = answered rates s (line_event life rates s lack l)
+
+abbrev pub read_answer : ℕ → List Rate → State → Bool → Result Line Refusal → State × Outcome
+read_answer life rates s lack r = answered rates s (read_event life rates s lack r)
+
+-- Whole scripts
+
+-- a script in progress: what its link came to, and how many of its lines were answered
+pub record Progress : Type 0 where
+  pub state : State
+  pub lines : ℕ
+
+abbrev pub start : Progress
+start = record { state = empty_state; lines = 0 }
+
+-- one more line was answered, by the text of this outcome
+abbrev pub line_said : Progress → State × Outcome → Progress × List ℕ
+line_said p d = (record { state = d.0; lines = p.lines + 1 }, line_text d.1)
+
+-- what these bytes are answered as the next line, where memory may be lacking
+unfoldable pub answer : ℕ → List Rate → Progress → Bool → List ℕ → Progress × List ℕ
+answer life rates p lack bytes = line_said p (read_answer life rates p.state lack (reading bytes))
+
+-- whether the first line finds no memory; a line beyond the flags finds it
+abbrev pub first_flag : List Bool → Bool
+first_flag [] = false
+first_flag (lack ∷ lacks) = lack
+
+-- the text that the lines are answered with
+unfoldable pub talk : ℕ → List Rate → Progress → List Bool → List (List ℕ) → List ℕ
+talk life rates p lacks [] = []
+talk life rates p lacks (l ∷ ls) =
+    (answer life rates p (first_flag lacks) l).1
+    ++ talk life rates (answer life rates p (first_flag lacks) l).0 (drop 1 lacks) ls
+
+-- the script after the lines
+unfoldable pub after : ℕ → List Rate → Progress → List Bool → List (List ℕ) → Progress
+after life rates p lacks [] = p
+after life rates p lacks (l ∷ ls) = after life rates (answer life rates p (first_flag lacks) l).0 (drop 1 lacks) ls
+
+abbrev pub is_feed : ℕ → Bool
+is_feed b = b == 10
+
+-- the bytes after the last line feed are a line where there are any
+abbrev pub last_line : List ℕ → List (List ℕ)
+last_line [] = []
+last_line (b ∷ bs) = (b ∷ bs) ∷ []
+
+abbrev pub kept : List (List ℕ) → List (List ℕ)
+kept [] = []
+kept (l ∷ []) = last_line l
+kept (l ∷ m ∷ ls) = l ∷ kept (m ∷ ls)
+
+abbrev pub lines_of : List ℕ → List (List ℕ)
+lines_of bytes = kept (slice_split is_feed bytes)

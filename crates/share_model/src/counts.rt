@@ -1,0 +1,69 @@
+//! A list of counts that takes little memory.
+ghost use Rattle.std.specs.Prelude.{◌≡◌, [], ◌∷◌, ◌++◌, IfOk, OnOk, OnErr, nat_eq};
+ghost use Rattle.std.specs.List.{prefix_len};
+
+use std::alloc::{AllocError, Global};
+use std::marker::Model;
+
+/// Counts in the order in which they were pushed. A count takes one byte for each 255 of it, and one for the
+/// rest: no more bytes than what it counts, and one byte for a count of 0.
+#[derive(Drop)]
+pub(crate) struct Counts {
+    bytes: Vec<u8>,
+}
+
+impl Model for Counts {
+    ghost use Rattle.std.specs.Prelude.{◌<◌, ◌^◌, ℕ, List};
+    ghost use Rattle.share_model.specs.io.Counts.{counts_in};
+    ghost use Rattle.share_model.specs.lists.Each.{Each};
+
+    ghost Value = { List ℕ };
+
+    ghost view = { λ counts. counts_in counts.bytes.items };
+
+    ghost invariant = { λ counts. Each (λ k. k < 2 ^ 64) (counts_in counts.bytes.items) };
+}
+
+// How many bytes of 255 stand in front.
+fn full_bytes(bytes: &[u8]) -> usize
+    ensures { result ≡ prefix_len (λ byte. nat_eq byte 255) bytes.now }
+{
+    bytes.iter().take_while(|byte| **byte == 255).count()
+}
+
+impl Counts {
+    /// No counts. They take no memory.
+    pub(crate) fn new(alloc: Global) -> Counts
+        ensures { result ≡ [] }
+    {
+        Counts {
+            bytes: Vec::new(alloc),
+        }
+    }
+
+    /// Puts a count behind the others, or changes nothing where memory is refused.
+    pub(crate) fn push(&mut self, count: usize) -> Result<(), AllocError>
+        ensures ok { OnOk result (self.new ≡ self.old ++ count ∷ []) }
+        ensures err { OnErr result (self.new ≡ self.old) }
+    {
+        let full = count / 255;
+        self.bytes.reserve(full + 1)?;
+        self.bytes.push_reserved((count % 255) as u8);
+        self.bytes.resize(self.bytes.len() + full, 255)
+    }
+
+    /// The counts, or an error where memory is refused.
+    pub(crate) fn to_vec(&self, alloc: Global) -> Result<Vec<usize>, AllocError>
+        ensures { IfOk result (λ counts. counts.items ≡ self.now) }
+    {
+        let mut counts = Vec::new(alloc);
+        let mut rest = self.bytes.as_slice();
+        while let Some((first, after)) = rest.split_first() {
+            if *first != 255 {
+                counts.push(usize::from(*first) + 255 * full_bytes(after))?;
+            }
+            rest = after;
+        }
+        Ok(counts)
+    }
+}

@@ -1,0 +1,81 @@
+#!/usr/bin/env bash
+# Runs the built program where it cannot do its work: wrong words, input that cannot be read, output that is full or
+# closed, too little memory. The status stands also where standard error takes no text.
+set -u
+cd "$(dirname "$0")/.." || exit 1
+said=$(mktemp) || exit 1
+trap 'rm "$said"' EXIT
+failed=0
+script=examples/one-packet.script
+
+stridelink() {
+    bin/stridelink "$@"
+}
+
+# Runs a command with standard error in a file, and wants this status, this text as the first line there, and no further
+# line unless the status is that of a usage fault.
+expect() {
+    local wanted=$1 text=$2 command=$3 status lines=1
+    eval "$command" 2> "$said"
+    status=$?
+    [[ -n $text ]] || lines=0
+    if [[ $status -ne $wanted || $(head -n 1 "$said") != "$text" ]] ||
+        [[ $wanted -ne 2 && $(wc -l < "$said") -ne $lines ]]; then
+        echo "$command: status $status, not $wanted, or not '$text' but: $(< "$said")" >&2
+        failed=1
+    fi
+}
+
+# Wants a text on standard output that begins with this line, and status 0.
+shows() {
+    local text=$1 command=$2
+    expect 0 '' "[[ \$($command | head -n 1) == '$text' ]]"
+    expect 0 '' "$command > /dev/null"
+    expect 1 'stridelink: cannot write the output' "$command > /dev/full"
+    expect 1 'stridelink: cannot write the output' "$command >&-"
+}
+
+# Wants that the words are refused with this text, whatever standard error is.
+refuses() {
+    local text=$1 words=$2
+    expect 2 "error: $text" "stridelink $words < $script"
+    expect 2 '' "stridelink $words < $script 2>&-"
+    expect 2 '' "stridelink $words < $script 2> /dev/full"
+}
+
+# A script of 24,000 pairs whose frames have 36 megabytes.
+pairs() {
+    awk 'BEGIN {
+        print "open a 1 1\nmktkt 1 base\nfund 1 flow a"
+        payload = sprintf("%02980d", 0)
+        for (pair = 0; pair < 24000; pair++) print "send a " payload "\nturn 65535"
+    }'
+}
+
+shows 'stridelink 0.1.0' 'stridelink --version'
+shows 'stridelink 0.1.0' 'stridelink -V'
+shows 'a link that shares its bandwidth among packet flows by tickets' 'stridelink --help'
+shows 'a link that shares its bandwidth among packet flows by tickets' 'stridelink help'
+shows 'runs the script of standard input' 'stridelink run --help'
+
+refuses "'stridelink' requires a subcommand but one was not provided" ''
+refuses "unrecognized subcommand 'walk'" 'walk'
+refuses "unexpected argument '--audit' found" 'run --audit'
+refuses "unexpected argument 'further' found" 'run further'
+refuses "a value is required for '--life <L>' but none was supplied" 'run --life'
+refuses "invalid value '0' for '--life <L>': 0 is not in 1..=16777216" 'run --life 0'
+refuses "invalid value '16777217' for '--life <L>': 16777217 is not in 1..=16777216" 'run --life=16777217'
+refuses "invalid value 'four' for '--life <L>': invalid digit found in string" 'run --life four'
+refuses "the argument '--life <L>' cannot be used multiple times" 'run --life 4 --life 4'
+refuses 'invalid UTF-8 was detected in one or more arguments' "\$'\\xff'"
+refuses 'invalid UTF-8 was detected in one or more arguments' "run --life \$'4\\xff'"
+
+expect 1 'stridelink: cannot read the script' 'stridelink run < .'
+expect 1 'stridelink: cannot read the script' 'stridelink run <&-'
+expect 1 '' 'stridelink run < . 2>&-'
+expect 1 '' 'stridelink run < . 2> /dev/full'
+expect 1 'stridelink: cannot write the output' "stridelink run < $script > /dev/full"
+expect 1 'stridelink: cannot write the output' "stridelink run < $script >&-"
+expect 1 '' "stridelink run < $script > /dev/full 2>&1"
+expect 1 'stridelink: out of memory' 'pairs | (ulimit -v 32768; stridelink run > /dev/null)'
+exit "$failed"

@@ -8,7 +8,6 @@ are what to read. Nothing is written but a folder of scripts and outputs in the 
 removed.
 """
 import filecmp
-import itertools
 import os
 import resource
 import shutil
@@ -18,58 +17,12 @@ import sys
 import tempfile
 from dataclasses import dataclass
 
+from scripts import SCRIPTS
+
 ROUNDS = int(os.environ.get("ROUNDS", "15"))
 TOP = os.path.dirname(os.path.dirname(os.path.abspath(__file__)))
 PROGRAM = os.path.join(TOP, "bin", "stridelink")
-LONGEST_LIFE = 1 << 24
 MEBIBYTE = 1 << 20
-
-
-def opening(limit):
-    """A flow with this limit of its buffer, and what funds it."""
-    return "open a %d 1\nmktkt 10 base\nfund 1 flow a\n" % limit
-
-
-def send(size):
-    """A packet of so many bytes for flow a."""
-    return "send a %s\n" % "".join("%02x" % (i * 7 % 256) for i in range(size))
-
-
-TURN = "turn 65535\n"
-
-
-@dataclass
-class Script:
-    """A script: its beginning, and lines that are repeated so many times; and the life that it is run with."""
-    name: str
-    beginning: str
-    lines: str
-    count: int
-    life: int = LONGEST_LIFE
-
-    def write(self, path, times):
-        """Writes it piece by piece, with `times` as many lines: a process starts with its parent's peak of memory."""
-        with open(path, "w") as sink:
-            sink.write(self.beginning)
-            sink.writelines(itertools.repeat(self.lines, self.count * times))
-
-    def length(self, times):
-        """How many lines there are."""
-        return self.beginning.count("\n") + self.lines.count("\n") * self.count * times
-
-
-SCRIPTS = [
-    Script("pairs of 700 bytes", opening(1000), send(700) + TURN, 100_000),
-    Script("pairs of 2 bytes", opening(1000), send(2) + TURN, 500_000),
-    Script("a byte at a time", opening(1000), send(2) + "turn 1\n" * 14, 200_000),
-    Script("backlog of 1000 packets", opening(1000), send(1000) * 1000 + TURN * 1000, 60),
-    Script("full buffer", opening(1) + send(2), send(2), 1_000_000),
-    Script("no such flow", opening(1), "send b 6869\n", 1_000_000),
-    Script("idle turns", opening(1), TURN, 1_000_000),
-    Script("no such line", opening(1), "frobnicate 1\n", 1_000_000),
-    Script("ticket in use of 1024", opening(1) + "mktkt 1 base\n" * 1023, "fund 1 flow a\n", 1_000_000),
-    Script("spent life", opening(1), TURN, 1_000_000, life=3),
-]
 
 
 @dataclass
@@ -93,8 +46,8 @@ def run(command, script, output):
 def build_plain(folder):
     """Builds the yardstick."""
     program = os.path.join(folder, "plain")
-    source = os.path.join(TOP, "bench", "plain.rs")
-    subprocess.run(["rustc", "--edition", "2021", "-O", "-o", program, source], check=True)
+    source = os.path.join(TOP, "bench", "plain", "main.rs")
+    subprocess.run(["rustc", "--edition", "2024", "-O", "-C", "codegen-units=1", "-o", program, source], check=True)
     return program
 
 
@@ -163,6 +116,16 @@ def measure_scripts():
             print_row(row(script, plain, folder))
 
 
+LEDGER_LOOPS = (
+    ("ledger", "set_active and all tickets by number, deep graph"),
+    ("places", "set_active and all tickets by place, deep graph"),
+    ("wide", "set_active, 1023 tickets on 63 flows"),
+    ("still", "set_active of what stands so, 1023 tickets on 63 flows"),
+    ("currencies", "a currency made and removed, 1023 tickets on 63 flows"),
+    ("funds", "a ticket funds a flow and its end, 1023 tickets on 63 flows"),
+)
+
+
 def build_loops(folder):
     """Builds the loops over the ledger and the stride queue, in a repository of their own over copies of the crates."""
     used = ["share_base", "share_model", "share_ledger", "share_stride"]
@@ -198,7 +161,10 @@ def measure_loops():
         program = build_loops(folder)
         for flows in (8, 64):
             print("least and charge, %2d flows: %.3f us" % (flows, per_round(program, "stride", flows, 1, 2_000_000)))
-        print("set_active and all tickets, deep graph: %.1f us" % per_round(program, "ledger", 65, 1, 5_000))
+        for kind, what in LEDGER_LOOPS:
+            print("%s: %.1f us" % (what, per_round(program, kind, 65, 1, 5_000)))
+        for kind in ("level", "change"):
+            print("%s of one of 64 flows, after contains: %.3f us" % (kind, per_round(program, kind, 64, 1, 2_000_000)))
 
 
 def main():

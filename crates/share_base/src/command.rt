@@ -9,12 +9,24 @@ use crate::refusal::Refusal;
 /// A change of the funding or of the flows.
 #[derive(Clone, Copy, Debug)]
 pub enum Command {
+    /// Makes a currency.
+    MakeCurrency(Name),
+    /// Removes a currency in which no ticket is denominated and which none funds.
+    RemoveCurrency(Name),
     /// Issues a ticket of this amount, 1 to 2^20, in a currency.
     MakeTicket { amount: u64, currency: Name },
+    /// Removes a ticket without a holder.
+    RemoveTicket(u64),
+    /// Lets a ticket without a holder fund a currency.
+    FundCurrency { ticket: u64, currency: Name },
     /// Lets a ticket without a holder fund an open flow.
     FundFlow { ticket: u64, flow: Name },
+    /// Takes a ticket's holder away.
+    Unfund(u64),
     /// Opens a flow with a buffer of `limit` packets, 1 to 1024, under a tariff of the shelf.
     OpenFlow { name: Name, limit: u64, tariff: u64 },
+    /// Closes an open flow and drops the packets that wait in its buffer.
+    CloseFlow(Name),
 }
 
 /// The answer to a command or an arrival.

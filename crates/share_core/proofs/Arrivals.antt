@@ -1,17 +1,22 @@
 -- Packets that come for a flow by its name.
-use Rattle.std.proofs.Common.{◌≡◌, ℕ, Bool, true, false, not, ◌&&◌, nat_le, List, Option, None, Some, option_map}
-use Rattle.std.proofs.Common.{IsSome, IsTrue, is_some, refl, subst, true≢false}
-use Rattle.share_base.specs.declared.refusal.Refusal.TheVariants.{Range, NoTariff}
+use Rattle.std.proofs.Common.{◌≡◌, ◌<◌, ◌≤◌, ◌^◌, ◌∙◌, ℕ, true, List, map, length, find, Option, None, Some, option_map}
+use Rattle.std.proofs.Common.{IsSome, bytes_eq, refl, sym, ap, subst, arith}
+use Rattle.std.proofs.lemmas.List.{length-map}
+use Rattle.share_model.specs.declared.link.Book.{Book}
 use Rattle.share_model.specs.declared.rates.Rate.{Rate}
-use Rattle.share_model.specs.link.Tariff.{rate_at}
-use Rattle.share_model.specs.link.Live.{Live, open_flow_refusal}
-use Rattle.share_model.proofs.FundingChanged.{not-refused}
+use Rattle.share_model.specs.link.Live.{Live, is_book_of, accept}
+use Rattle.share_model.specs.link.Fields.{IsBody}
+use Rattle.share_model.specs.lists.Laws.{has_number, each-find, is_some-find_number}
+use Rattle.std.specs.FinMap.{get}
+use Rattle.share_core.specs.Held.{IfFound}
 use Rattle.share_model.specs.declared.funding.OpenFlow.{OpenFlow}
-use Rattle.share_model.specs.link.Buffers.{buffer_of}
-use Rattle.share_model.specs.funding.Graph.{NameBytes}
+use Rattle.share_model.specs.link.Buffers.{Buffer, buffer_of, is_buffer_of}
+use Rattle.share_model.specs.funding.Graph.{NameBytes, Graph, flow_numbers}
 use Rattle.share_model.specs.funding.Changes.{flow_named}
-use Rattle.share_model.specs.run.Sound.{Sound}
+use Rattle.share_model.specs.run.Sound.{Sound, IsSoundBuffer}
 use Rattle.share_model.specs.run.SoundLaws.{flow-buffered}
+use Rattle.share_model.specs.run.SoundStepLaws.{sound-accept}
+use Rattle.share_model.specs.link.BufferLaws.{number-of_named}
 use Rattle.share_model.specs.link.Seen.{Seen}
 
 -- the entry of which a number was read
@@ -20,26 +25,75 @@ pub record HasNumber (o : Option OpenFlow) (f : ℕ) : Type 0 where
   pub found : o ≡ Some entry
   pub number : entry.number ≡ f
 
-pub has_number : (o : Option OpenFlow) (f : ℕ) → option_map (λ (e : OpenFlow). e.number) o ≡ Some f → HasNumber o f
-has_number None f is = absurd (cc)
-has_number (Some e) f is = record { entry = e; found = refl; number = cc }
+pub entry_of : (o : Option OpenFlow) (f : ℕ) → option_map (λ (e : OpenFlow). e.number) o ≡ Some f → HasNumber o f
+entry_of None f is = absurd (cc)
+entry_of (Some e) f is = record { entry = e; found = refl; number = cc }
 
 -- an open flow has a buffer
 pub buffered : (k : Seen (Unit {0})) → Sound k.life k.rates k.live → (name : NameBytes) (f : ℕ)
     → option_map (λ (e : OpenFlow). e.number) (flow_named k.live.graph name) ≡ Some f
     → IsSome (buffer_of k.live.buffers f)
 buffered k sound name f is =
-    let has = has_number (flow_named k.live.graph name) f is in
+    let has = entry_of (flow_named k.live.graph name) f is in
     subst (λ (n : ℕ). IsSome (buffer_of k.live.buffers n)) has.number (flow-buffered sound name has.found)
 
--- the tariff of a flow that may be opened is on the shelf
-pub open_known : (rates : List Rate) (l : Live) (name : NameBytes) (limit tariff : ℕ)
-    → open_flow_refusal rates l name limit tariff ≡ None → IsTrue (is_some (rate_at rates tariff))
-open_known rates l name limit tariff none =
-    let range = not-refused (not (nat_le 1 limit && nat_le limit 1024)) Range _ none in
-    let known = not-refused (not (is_some (rate_at rates tariff))) NoTariff _ range.1 in
-    holds (is_some (rate_at rates tariff)) known.0
+-- and stands among the flows
+pub open_stands : (g : Graph) (name : NameBytes) (f : ℕ)
+    → option_map (λ (e : OpenFlow). e.number) (flow_named g name) ≡ Some f → has_number f (flow_numbers g.flows) ≡ true
+open_stands g name f is =
+    let has = entry_of (flow_named g name) f is in
+    subst (λ (n : ℕ). has_number n (flow_numbers g.flows) ≡ true) has.number
+    (number-of_named (bytes_eq name) g.flows has.entry has.found)
+
+same_length : {A B C : Type 0} (f : A → C) (g : B → C) (xs : List A) (ys : List B) → map f xs ≡ map g ys
+    → length xs ≡ length ys
+same_length f g xs ys same = sym (length-map xs f) ∙ ap length same ∙ length-map ys g
+
+-- as many buffers as open flows
+pub buffer_count : {life : ℕ} {rates : List Rate} {l : Live} → Sound life rates l
+    → length l.buffers ≡ length l.graph.flows
+buffer_count {l = l} sound =
+    same_length (λ (b : Buffer). b.flow) (λ (e : NameBytes × OpenFlow). e.1.number) l.buffers l.graph.flows
+    sound.flows.buffered
+
+-- and as many books
+pub book_count : {life : ℕ} {rates : List Rate} {l : Live} → Sound life rates l
+    → length l.books ≡ length l.graph.flows
+book_count {l = l} sound =
+    same_length (λ (b : Book). b.flow) (λ (e : NameBytes × OpenFlow). e.1.number) l.books l.graph.flows
+    sound.flows.booked
+
+-- the next number of a buffer fits its field
+pub few_numbers : {life : ℕ} {rates : List Rate} {l : Live} → Sound life rates l → life ≤ 2 ^ 24 → (f : ℕ)
+    → IfFound (buffer_of l.buffers f) (λ b. b.next < 4294967295)
+few_numbers {l = l} sound short f = by_buffer (buffer_of l.buffers f) refl
   where
-    holds : (b : Bool) → not b ≡ false → IsTrue b
-    holds true e = refl
-    holds false e = absurd (true≢false e)
+    by_buffer : (o : Option Buffer) → buffer_of l.buffers f ≡ o → IfFound o (λ b. b.next < 4294967295)
+    by_buffer None found = tt
+    by_buffer (Some b) found =
+        let is = each-find (IsSoundBuffer l.counts.events) (is_buffer_of f) l.buffers b sound.buffers found in
+        omega (arith, is.numbers, sound.counts.events, short)
+
+-- a packet that comes for an open flow
+pub sound-came : {life : ℕ} {rates : List Rate} {l : Live} → Sound life rates l → l.counts.events < life → (f : ℕ)
+    (body : List ℕ) → IsBody body → IsSome (buffer_of l.buffers f) → Sound life rates (accept l f body)
+sound-came {life = life} {rates = rates} {l = l} sound few f body is there = by_buffer
+    (buffer_of l.buffers f) refl there
+  where
+    by_buffer : (o : Option Buffer) → buffer_of l.buffers f ≡ o → IsSome o → Sound life rates (accept l f body)
+    by_buffer None found some = absurd (cc)
+    by_buffer (Some b) found some = sound-accept sound few f body is b found
+
+-- an open flow is a client of the queue, and has a buffer and a book
+module _ {life : ℕ} {rates : List Rate} {l : Live} (sound : Sound life rates l) (f : ℕ)
+    (stands : has_number f (flow_numbers l.graph.flows) ≡ true) where
+  pub stands-joined : IsSome (get l.queue.clients f)
+  stands-joined = sound.queue.clients f ∙ stands
+
+  pub stands-buffered : IsSome (buffer_of l.buffers f)
+  stands-buffered =
+      is_some-find_number (λ (b : Buffer). b.flow) f l.buffers ∙ (ap (has_number f) sound.flows.buffered ∙ stands)
+
+  pub stands-booked : IsSome (find (is_book_of f) l.books)
+  stands-booked =
+      is_some-find_number (λ (b : Book). b.flow) f l.books ∙ (ap (has_number f) sound.flows.booked ∙ stands)

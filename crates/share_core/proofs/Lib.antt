@@ -1,8 +1,13 @@
+pub mod Activities
 pub mod Arrivals
-pub mod Basics
+pub mod Closings
 pub mod Frames
+pub mod Fundings
+pub mod Levellings
 pub mod Living
+pub mod Openings
 pub mod Places
 pub mod Sendings
+pub mod Tallies
 pub mod Turns
 pub mod Writes

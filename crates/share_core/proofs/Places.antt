@@ -1,7 +1,9 @@
 -- The first item that passes a test, by its place.
 use Rattle.std.proofs.Common.{◌≡◌, ℕ, ◌<◌, ◌≤◌, zero, suc, Bool, true, false, List, [], ◌∷◌, length, get_or, set}
+use Rattle.std.proofs.Common.{remove}
 use Rattle.std.proofs.Common.{position, find, Option, None, Some, IsSome, nat_lt, refl, sym, ◌∙◌, ap, subst, arith}
 use Rattle.std.specs.List.{position_or_len}
+use Rattle.std.specs.Set.{remove_key}
 use Rattle.std.proofs.lemmas.Bool.Decides.{nat_tests}
 use Rattle.std.proofs.lemmas.List.Folds.{find_at}
 use Rattle.std.proofs.lemmas.List.Quantifiers.{position-Some}
@@ -64,6 +66,19 @@ some_place {A} p xs h = by_test (nat_lt (position_or_len p xs) (length xs)) refl
         let past : length xs ≤ position_or_len p xs = grind (arith, nat_tests) in
         let none : find p xs ≡ None = find_at p xs ∙ slice_get_past xs (position_or_len p xs) past in
         absurd (nothing (subst IsSome none h))
+
+take_first : {A : Type 0} (p : A → Bool) (xs : List A) (i : ℕ) (x : A) → IsFirst p xs i x
+    → remove xs i ≡ remove_key p xs
+take_first p [] i x is = absurd (omega (arith, is.inside))
+take_first p (y ∷ ys) zero x is = rw is.passes refl
+take_first p (y ∷ ys) (suc i) x is =
+    rw (is.before 0 (omega arith)) (ap (λ zs. y ∷ zs) (take_first p ys i x (first_rest p y ys i x is)))
+
+-- taking out the item at that place is to take out the first that passes
+pub taken : {A : Type 0} (p : A → Bool) (xs : List A) (i : ℕ) → position p xs ≡ Some i
+    → remove xs i ≡ remove_key p xs
+taken p [] i e = absurd (cc)
+taken p (y ∷ ys) i e = take_first p (y ∷ ys) i y (first_of p (y ∷ ys) i y e)
 
 -- a value is there, or not
 no_some : IsSome {T = ℕ} None → ⊥

@@ -6,7 +6,8 @@ use Rattle.share_model.specs.link.Frame.{Packet}
 use Rattle.share_model.specs.link.FrameLaws.{length-frame}
 use Rattle.share_model.specs.link.Buffers.{Buffer, buffer_of, head_of_buffer, head_of}
 use Rattle.share_model.specs.link.BufferLaws.{head_of-flow}
-use Rattle.share_model.specs.link.Live.{Live, sending_at, sending, selected_flow}
+use Rattle.share_model.specs.link.Live.{Live, sending_at, sending}
+use Rattle.share_model.specs.stride.Moves.{next}
 use Rattle.share_core.specs.declared.place.Place.{Place}
 use Rattle.share_core.specs.Place.{place_of}
 
@@ -37,14 +38,14 @@ pub sending-part : (l : Live) (p : Part) → l.part ≡ Some p
 unfolding sending
 sending-part l p is = rw is (sym (map-map p.out (head_of l.buffers p.flow)))
 
-pub sending-next : (l : Live) (f : ℕ) → l.part ≡ None → selected_flow l.graph ≡ Some f
+pub sending-next : (l : Live) (f : ℕ) → l.part ≡ None → next l.queue.clients ≡ Some f
     → option_map (place_at 0) (head_of l.buffers f) ≡ option_map place_of (sending l)
 unfolding sending
-sending-next l f none next = rw (none, next) (sym (map-map 0 (head_of l.buffers f)))
+sending-next l f none is = rw (none, is) (sym (map-map 0 (head_of l.buffers f)))
 
-pub sending-none : (l : Live) → l.part ≡ None → selected_flow l.graph ≡ None → None ≡ option_map place_of (sending l)
+pub sending-none : (l : Live) → l.part ≡ None → next l.queue.clients ≡ None → None ≡ option_map place_of (sending l)
 unfolding sending
-sending-none l none next = rw (none, next) refl
+sending-none l none is = rw (none, is) refl
 
 -- the head packet of a buffer that is found, by the flow's number
 pub head_found : (bs : List Buffer) (f : ℕ) (b : Buffer) (h : Packet) → buffer_of bs f ≡ Some b

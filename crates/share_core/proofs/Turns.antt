@@ -1,16 +1,14 @@
 -- What a turn offers, and what it makes of the answer.
-use Rattle.std.proofs.Common.{◌≡◌, ℕ, Bool, true, false, List, Option, None, Some, IfSome, MatchBool, option_map}
-use Rattle.std.proofs.Common.{option_and_then, true≢false, if◌then◌else◌, refl, sym, ◌∙◌, ap, subst}
+use Rattle.std.proofs.Common.{◌≡◌, ℕ, Bool, true, false, List, Option, None, Some, IfSome, option_map}
+use Rattle.std.proofs.Common.{option_and_then, if◌then◌else◌, refl, sym, ◌∙◌, ap, subst}
 use Rattle.share_base.specs.declared.command.Turn.{Turn}
 use Rattle.share_model.specs.declared.link.Part.{Part}
-use Rattle.share_model.specs.declared.writer.Answer.{Answer}
 use Rattle.share_model.specs.declared.rates.Rate.{Rate}
 use Rattle.share_model.specs.link.Frame.{Packet, frame}
 use Rattle.share_model.specs.link.Buffers.{head_of}
-use Rattle.share_model.specs.link.Did.{is_spent, Offered, OffersSome, TurnDid}
-use Rattle.share_model.specs.link.Live.{Live, Sending, sending_at, sending, selected_flow, is_whole, whole, in_part}
+use Rattle.share_model.specs.link.Live.{Live, Sending, sending_at, sending, is_whole, whole, in_part}
+use Rattle.share_model.specs.stride.Moves.{next}
 use Rattle.share_model.specs.link.Live.{wrote_turn, write_step}
-use Rattle.share_model.specs.link.Seen.{Seen}
 use Rattle.share_model.specs.run.Sound.{Sound}
 use Rattle.share_model.specs.run.SoundLaws.{sending-head}
 use Rattle.share_core.specs.declared.place.Place.{Place}
@@ -44,23 +42,9 @@ kept_frame l s bytes sends some kept = by_part l.part refl kept
   where
     by_part : (o : Option Part) → l.part ≡ o → IsFrameOf l.buffers o bytes → bytes ≡ frame s.head
     by_part None is kept =
-        absurd (some ((head_of_at 0 (option_and_then (head_of l.buffers) (selected_flow l.graph)) s
+        absurd (some ((head_of_at 0 (option_and_then (head_of l.buffers) (next l.queue.clients)) s
         (rw is at sends)).0))
     by_part (Some p) is kept = kept s.head ((head_of_at p.out (head_of l.buffers p.flow) s (rw is at sends)).1)
-
-match_false : (P Q : Type 0) (b : Bool) → b ≡ false → Q → MatchBool b P Q
-match_false P Q true e h = absurd (true≢false e)
-match_false P Q false e h = h
-
--- a turn that offered, of a link that is neither spent nor broken
-pub turn_offered : {W : Type 0} (answers : W → List ℕ → Answer → W → Type 0) (old : Seen W) (most : ℕ) (s : Sending)
-    (turn : Turn) (new : Seen W)
-    → is_spent old ≡ false → old.live.broken ≡ false → sending old.live ≡ Some s → Offered answers old most s turn new
-    → TurnDid answers old most turn new
-turn_offered answers old most s turn new living whole is did =
-    match_false _ _ (is_spent old) living
-    (match_false _ _ old.live.broken whole
-    (subst (λ (o : Option Sending). OffersSome answers old most o turn new) (sym is) did))
 
 -- the loaded frame is that of the frame in part, if there is one
 pub framed-loaded : (l : Live) (s : Sending) (bytes : List ℕ) → sending l ≡ Some s → bytes ≡ frame s.head

@@ -1,13 +1,23 @@
 -- What is known of the frame that is sent, by its place.
-use Rattle.std.proofs.Common.{◌≡◌, ℕ, ◌+◌, ◌<◌, ◌≤◌, ◌^◌, true, false, List, length, find, Option, None, Some, IsSome}
-use Rattle.std.proofs.Common.{IsTrue, is_some, refl, sym, ◌∙◌, ap, subst, arith}
+use Rattle.std.proofs.Common.{◌≡◌, ℕ, ◌+◌, ◌<◌, ◌≤◌, ◌^◌, Bool, true, false, List, [], ◌∷◌, length, find, Option}
+use Rattle.std.proofs.Common.{None, Some}
+use Rattle.std.proofs.Common.{option_and_then, IsSome, IsTrue, is_some, refl, sym, ◌∙◌, ap, subst, arith}
 use Rattle.share_model.specs.declared.rates.Rate.{Rate}
-use Rattle.share_model.specs.link.Buffers.{Buffer, buffer_of, popped, head_of, is_busy}
+use Rattle.share_model.specs.link.Buffers.{Buffer, buffer_of, popped, head_in, head_of_buffer, head_of}
+use Rattle.share_model.specs.link.Buffers.{is_some_packet, holds_packet, is_busy}
+use Rattle.share_model.specs.link.Frame.{Packet}
 use Rattle.share_model.specs.funding.Changes.{set_active}
-use Rattle.share_model.specs.link.Live.{Live, Sending, sending, rest_of, is_book_of, posted}
+use Rattle.share_model.specs.link.Live.{Live, Sending, sending, rest_of, is_book_of, units_due, posted, levelled, wants}
+use Rattle.share_model.specs.funding.Graph.{flow_numbers}
+use Rattle.share_model.specs.lists.Laws.{has_number}
+use Rattle.share_model.specs.run.QueueLaws.{level-charged, queue-charged}
+use Rattle.share_model.specs.stride.Level.{CanLevel, IsLevel}
+use Rattle.share_core.proofs.Activities.{can-settle}
+use Rattle.share_model.specs.stride.Moves.{charge}
+use Rattle.std.specs.FinMap.{get}
 use Rattle.share_model.specs.run.Sound.{Sound}
 use Rattle.share_model.specs.run.SoundLaws.{sending-head, sending-few, sending-short, rest-short, head-booked}
-use Rattle.share_model.specs.run.SoundLaws.{book-sound}
+use Rattle.share_model.specs.run.SoundLaws.{book-known, book-account, head-stands, units_due-few}
 use Rattle.share_model.specs.run.SoundWriteLaws.{sound-whole, sound-in_part, sound-failed}
 use Rattle.share_model.specs.link.Tariff.{rate_at, AreInRange}
 use Rattle.share_core.specs.declared.place.Place.{Place}
@@ -30,6 +40,36 @@ sent k n place same h =
     sent_by k.live place (sending k.live) refl
     (subst (λ (k : Seen (Unit {0})). IsPlaceOf (sending k.live) place) (sym same) h)
 
+-- a link of which the last k bytes of the frame at a place are out, and one of which it was torn
+abbrev pub whole_at : List Rate → Live → Place → ℕ → Live
+whole_at rates l place k =
+    let units = units_due rates l.books place.flow place.length in
+    let left = popped l.buffers place.flow in
+    levelled (record l {
+      graph = set_active l.graph place.flow (is_busy left place.flow);
+      queue = charge l.queue place.flow units;
+      buffers = left;
+      books = posted rates l.books place.flow units;
+      part = None;
+      counts = record l.counts {
+        events = l.counts.events + 1;
+        written = l.counts.written + 1;
+        sent = l.counts.sent + k;
+      };
+    })
+
+abbrev pub torn_at : List Rate → Live → Place → Live
+torn_at rates l place =
+    let units = units_due rates l.books place.flow place.out in
+    record l {
+      queue = charge l.queue place.flow units;
+      books = posted rates l.books place.flow units;
+      part = None;
+      torn = Some place.flow;
+      broken = true;
+      counts = record l.counts { events = l.counts.events + 1 };
+    }
+
 -- n bytes, at least 1, are no more than what is left
 pub within : (k m : Seen (Unit {0})) (place : Place) (n : ℕ) → k ≡ m → (t : IsSent k.live place)
     → IsWithin (sending m.live) n → (0 < n) × (n ≤ length (rest_of t.s))
@@ -39,6 +79,17 @@ within k m place n same t h =
 if_found : {A : Type 0} (o : Option A) (P : A → Type 0) → ((a : A) → o ≡ Some a → P a) → IfFound o P
 if_found None P h = tt
 if_found (Some a) P h = h a refl
+
+head_busy : (bs : List Buffer) (f : ℕ) (h : Packet) → head_of bs f ≡ Some h → is_busy bs f ≡ true
+head_busy bs f h is = by_buffer (buffer_of bs f) is
+  where
+    by_packets : (b : Buffer) (ps : List (List ℕ)) → head_in b ps ≡ Some h → is_some_packet ps ≡ true
+    by_packets b [] is = cc
+    by_packets b (p ∷ ps) is = refl
+
+    by_buffer : (o : Option Buffer) → option_and_then head_of_buffer o ≡ Some h → holds_packet o ≡ true
+    by_buffer None is = cc
+    by_buffer (Some b) is = by_packets b b.packets is
 
 module _ (life : ℕ) (rates : List Rate) (l : Live) (place : Place) (sound : Sound life rates l)
     (t : IsSent l place) where
@@ -51,12 +102,12 @@ module _ (life : ℕ) (rates : List Rate) (l : Live) (place : Place) (sound : So
   pub known : IfFound (find (is_book_of place.flow) l.books) (λ b. IsTrue (is_some (rate_at rates b.tariff)))
   known =
       if_found (find (is_book_of place.flow) l.books) (λ b. IsTrue (is_some (rate_at rates b.tariff)))
-      (λ b found. let is = book-sound sound place.flow found in is.known)
+      (λ b found. book-known sound place.flow found)
 
   pub posts : life ≤ 2 ^ 24 → IfFound (find (is_book_of place.flow) l.books) (λ b. b.account ≤ 4611686018427387904)
   posts few =
       if_found (find (is_book_of place.flow) l.books) (λ b. b.account ≤ 4611686018427387904)
-      (λ b found. let is = book-sound sound place.flow found in omega (arith, is.account, sound.events, few))
+      (λ b found. omega (arith, book-account sound place.flow found, sound.counts.events, few))
 
   -- its frame is short, and not all of it is out
   pub short : place.length ≤ 1502
@@ -81,48 +132,61 @@ module _ (life : ℕ) (rates : List Rate) (l : Live) (place : Place) (sound : So
           no_head e = cc
       of_head (Some b) is h = rw is refl
 
+  -- its flow is a client of the queue
+  pub joined : IsSome (get l.queue.clients place.flow)
+  joined =
+      subst (λ (p : Place). IsSome (get l.queue.clients p.flow)) (sym t.place_is)
+      (sound.queue.clients t.s.head.flow ∙ head-stands sound t.s.head.flow (sending-head sound t.is))
+
+  -- the clock has room for its units
+  pub clock : AreInRange rates → life ≤ 2 ^ 24 → l.counts.events < life → (n : ℕ) → n ≤ 1502
+      → l.queue.clock + units_due rates l.books place.flow n ≤ 2 ^ 40
+  clock range short_life living n few =
+      omega (arith, sound.queue.clock, units_due-few rates l.books place.flow n range few)
+
   -- a link stays sound where the frame is whole, is in part, or was torn
-  pub sound-finish : AreInRange rates → l.counts.events < life → (k : ℕ) → k ≤ length (rest_of t.s)
-      → Sound life rates (record l {
-        graph = set_active l.graph place.flow (is_busy (popped l.buffers place.flow) place.flow);
-        buffers = popped l.buffers place.flow;
-        books = posted rates l.books place.flow place.length;
-        part = None;
-        counts = record l.counts
-            { events = l.counts.events + 1; written = l.counts.written + 1; sent = l.counts.sent + k };
-      })
-  sound-finish range living k fits = subst (λ (p : Place). Sound life rates (record l {
-    graph = set_active l.graph p.flow (is_busy (popped l.buffers p.flow) p.flow);
-    buffers = popped l.buffers p.flow;
-    books = posted rates l.books p.flow p.length;
-    part = None;
-    counts = record l.counts { events = l.counts.events + 1; written = l.counts.written + 1; sent = l.counts.sent + k };
-  })) (sym t.place_is)
+  pub sound-finish : AreInRange rates → l.counts.events < life → l.broken ≡ false → (k : ℕ)
+      → k ≤ length (rest_of t.s) → Sound life rates (whole_at rates l place k)
+  sound-finish range living unbroken k fits =
+      subst (λ (p : Place). Sound life rates (whole_at rates l p k)) (sym t.place_is)
       (let rest = rest-short sound t.is in
-      sound-whole range sound living t.s k (sending-short sound t.is) (omega (arith, rest, fits)))
+      sound-whole range sound living unbroken t.is k (omega (arith, rest, fits)))
 
   pub sound-advance : l.counts.events < life → l.broken ≡ false → (k : ℕ) → 0 < k → place.out + k < place.length
       → Sound life rates (record l {
         part = Some record { flow = place.flow; out = place.out + k };
         counts = record l.counts { events = l.counts.events + 1; sent = l.counts.sent + k };
       })
-  sound-advance living whole k some few = subst (λ (p : Place). Sound life rates (record l {
+  sound-advance living unbroken k some few = subst (λ (p : Place). Sound life rates (record l {
     part = Some record { flow = p.flow; out = p.out + k };
     counts = record l.counts { events = l.counts.events + 1; sent = l.counts.sent + k };
   })) (sym t.place_is)
-      (sound-in_part sound living whole t.is k some (subst (λ (p : Place). p.out + k < p.length) t.place_is few))
+      (sound-in_part sound living unbroken t.is k some (subst (λ (p : Place). p.out + k < p.length) t.place_is few))
 
-  pub sound-fail : AreInRange rates → l.counts.events < life → Sound life rates (record l {
-    books = posted rates l.books place.flow place.out;
-    part = None;
-    torn = Some place.flow;
-    broken = true;
-    counts = record l.counts { events = l.counts.events + 1 };
-  })
-  sound-fail range living = subst (λ (p : Place). Sound life rates (record l {
-    books = posted rates l.books p.flow p.out;
-    part = None;
-    torn = Some p.flow;
-    broken = true;
-    counts = record l.counts { events = l.counts.events + 1 };
-  })) (sym t.place_is) (sound-failed range sound living t.is)
+  pub sound-fail : AreInRange rates → l.counts.events < life → l.broken ≡ false
+      → Sound life rates (torn_at rates l place)
+  sound-fail range living unbroken =
+      subst (λ (p : Place). Sound life rates (torn_at rates l p)) (sym t.place_is)
+      (sound-failed range sound living unbroken t.is)
+
+  -- its flow is open, and holds a packet
+  pub stands : has_number place.flow (flow_numbers l.graph.flows) ≡ true
+  stands =
+      subst (λ (p : Place). has_number p.flow (flow_numbers l.graph.flows) ≡ true) (sym t.place_is)
+      (head-stands sound t.s.head.flow (sending-head sound t.is))
+
+  pub busy : is_busy l.buffers place.flow ≡ true
+  busy =
+      subst (λ (p : Place). is_busy l.buffers p.flow ≡ true) (sym t.place_is)
+      (head_busy l.buffers t.s.head.flow t.s.head (sending-head sound t.is))
+
+  -- after its flow was charged the queue is level still, and can be levelled whether the flow is active or not
+  module _ (units : ℕ) where
+    pub charged-level : IsLevel (charge l.queue place.flow units) (wants l.graph)
+    charged-level = level-charged l.queue place.flow units (wants l.graph) sound.level
+
+    pub charged-can : l.counts.events < life → units ≤ 4026 → (active : Bool)
+        → CanLevel (charge l.queue place.flow units) (wants (set_active l.graph place.flow active))
+    charged-can living few active =
+        can-settle sound (charge l.queue place.flow units)
+        (queue-charged place.flow units stands living few sound.queue) place.flow active

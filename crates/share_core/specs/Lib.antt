@@ -1,4 +1,3 @@
-pub mod Based
 pub mod Framed
 pub mod Held
 pub mod Life

@@ -1,8 +1,9 @@
 //! The books of the open flows: their tariffs and accounts.
 ghost use Rattle.std.specs.Prelude.{◌≡◌, ◌<◌, ◌≤◌, ◌^◌, ◌+◌, ℕ, [], ◌∷◌, ◌++◌, length, position, find, IfOk, None};
 ghost use Rattle.std.specs.Prelude.{Some, IsSome, IsTrue, is_some, option_copied};
-ghost use Rattle.share_model.specs.link.Tariff.{rate_at};
-ghost use Rattle.share_model.specs.link.Live.{is_book_of, new_book, charged, posted};
+ghost use Rattle.std.specs.Set.{remove_key};
+ghost use Rattle.share_model.specs.link.Tariff.{rate_at, rate_of, units_of};
+ghost use Rattle.share_model.specs.link.Live.{is_book_of, new_book, account_of, units_due, with_units, posted};
 ghost use Rattle.share_core.specs.Held.{IfFound};
 
 use crate::MAX_FLOWS;
@@ -25,7 +26,7 @@ impl Model for Books {
 
     ghost view = { λ b. b.books.items };
 
-    ghost invariant = { λ b. 1 ≤ vec_capacity b.books };
+    ghost invariant = { λ b. 64 ≤ vec_capacity b.books };
 }
 
 impl Books {
@@ -64,30 +65,52 @@ impl Books {
         place_of(self.books.as_slice(), flow).unwrap()
     }
 
-    /// Charges and posts a flow for `count` bytes of a frame.
-    pub fn post<S: Rates>(&mut self, shelf: &S, flow: FlowNo, count: u32)
+    /// The account of a flow, and 0 where it is not open.
+    pub fn account(&self, flow: FlowNo) -> u64
+        ensures { result ≡ account_of self.now flow }
+    {
+        match self.book(flow) {
+            None => 0,
+            Some(book) => book.account,
+        }
+    }
+
+    /// Posts a flow for `count` bytes of a frame, and gives the units that they are charged.
+    pub fn charge<S: Rates>(&mut self, shelf: &S, flow: FlowNo, count: u32) -> u64
         requires there { IsSome (find (is_book_of flow) self.old) }
         requires known { IfFound (find (is_book_of flow) self.old)
             (λ b. IsTrue (is_some (rate_at (S.rates shelf.now) b.tariff))) }
         requires account { IfFound (find (is_book_of flow) self.old) (λ b. b.account ≤ 2 ^ 62) }
         requires few { count ≤ 1502 }
-        ensures { self.new ≡ posted (S.rates shelf.now) self.old flow count }
+        ensures units { result ≡ units_due (S.rates shelf.now) self.old flow count }
+        ensures posted { self.new ≡ posted (S.rates shelf.now) self.old flow result }
     {
         let place = self.place(flow);
         let book = &mut self.books[place];
-        charge(book, shelf, count);
+        post(book, shelf, count)
+    }
+
+    /// Closes the book of a flow.
+    pub fn close(&mut self, flow: FlowNo)
+        requires { IsSome (find (is_book_of flow) self.old) }
+        ensures { self.new ≡ remove_key (is_book_of flow) self.old }
+    {
+        let place = self.place(flow);
+        self.books.remove(place);
     }
 }
 
-// Charges and posts a book for `count` bytes of a frame.
-fn charge<S: Rates>(book: &mut Book, shelf: &S, count: u32)
+// Posts a book for `count` bytes of a frame, and gives the units that they are charged.
+fn post<S: Rates>(book: &mut Book, shelf: &S, count: u32) -> u64
     requires known { IsTrue (is_some (rate_at (S.rates shelf.now) book.old.tariff)) }
     requires account { book.old.account ≤ 2 ^ 62 }
     requires few { count ≤ 1502 }
-    ensures { book.new ≡ charged (S.rates shelf.now) count book.old }
+    ensures units { result ≡ units_of (rate_of (S.rates shelf.now) book.old.tariff) count }
+    ensures posted { book.new ≡ with_units (S.rates shelf.now) result book.old }
 {
     let units = shelf.units(book.tariff, count);
     book.account = shelf.post(book.tariff, book.account, units);
+    units
 }
 
 fn is_of(book: &Book, flow: FlowNo) -> bool

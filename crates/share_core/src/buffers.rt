@@ -1,10 +1,13 @@
 //! The buffers of the open flows.
-ghost use Rattle.std.specs.Prelude.{◌≡◌, ◌≢◌, ◌<◌, ◌≤◌, ◌^◌, ◌-◌, ℕ, [], true, false, not, position, IfOk, IfErr, IsOk};
-ghost use Rattle.std.specs.Prelude.{MatchOption, OnErr, None, Some, IsSome, option_copied};
-ghost use Rattle.share_model.specs.link.Buffers.{Buffer, buffer_of, is_buffer_of, opened, pushed, popped, is_full};
+ghost use Rattle.std.specs.Prelude.{◌≡◌, ◌≢◌, ◌<◌, ◌≤◌, ◌^◌, ◌-◌, ◌++◌, ℕ, [], ◌∷◌, length, true, false, not};
+ghost use Rattle.std.specs.Prelude.{position, IfOk};
+ghost use Rattle.std.specs.Prelude.{MatchOption, None, Some, IsSome, option_copied};
+ghost use Rattle.share_model.specs.link.Buffers.{Buffer, buffer_of, is_buffer_of, closed, count_in, pushed, popped};
+ghost use Rattle.share_model.specs.link.Buffers.{is_full};
 ghost use Rattle.share_model.specs.link.Buffers.{head_of, is_busy};
 ghost use Rattle.share_core.specs.Held.{IfFound};
 
+use crate::MAX_FLOWS;
 use crate::ring::Ring;
 use share_base::{Body, FlowNo};
 use std::alloc::{AllocError, Global};
@@ -17,32 +20,31 @@ pub struct Buffers {
 }
 
 impl Model for Buffers {
-    ghost use Rattle.std.specs.Prelude.{List};
+    ghost use Rattle.std.specs.Prelude.{List, ◌≤◌, vec_capacity};
     ghost use Rattle.share_model.specs.link.Buffers.{Buffer};
 
     ghost Value = { List Buffer };
 
     ghost view = { λ b. b.rings.items };
+
+    ghost invariant = { λ b. 64 ≤ vec_capacity b.rings };
 }
 
 impl Buffers {
-    /// No buffer. It takes no memory.
-    pub fn new(alloc: Global) -> Buffers
-        ensures { result ≡ [] }
+    /// No buffer, and room for as many as there may be.
+    pub fn new(alloc: Global) -> Result<Buffers, AllocError>
+        ensures { IfOk result (λ b. b ≡ []) }
     {
-        Buffers {
-            rings: Vec::new(alloc),
-        }
+        let rings = Vec::with_capacity(alloc, MAX_FLOWS)?;
+        Ok(Buffers { rings })
     }
 
-    /// Opens the buffer of a flow, with room for its limit.
-    pub fn open(&mut self, alloc: Global, flow: FlowNo, limit: u32) -> Result<(), AllocError>
-        ensures ok { IfOk result (λ _. self.new ≡ opened self.old flow limit) }
-        ensures err { OnErr result (self.new ≡ self.old) }
+    /// Takes the buffer of a flow that is opened. It takes no memory.
+    pub fn open(&mut self, ring: Ring)
+        requires { length self.old < MAX_FLOWS }
+        ensures { self.new ≡ self.old ++ ring ∷ [] }
     {
-        let ring = Ring::new(alloc, flow, limit)?;
-        self.rings.push(ring)?;
-        Ok(())
+        self.rings.push_reserved(ring);
     }
 
     /// The buffer of a flow.
@@ -60,6 +62,25 @@ impl Buffers {
             None => false,
             Some(ring) => !ring.is_empty(),
         }
+    }
+
+    /// How many packets are in a flow's buffer, and 0 where it is not open.
+    pub fn count(&self, flow: FlowNo) -> usize
+        ensures { result ≡ count_in self.now flow }
+    {
+        match self.ring(flow) {
+            None => 0,
+            Some(ring) => ring.count(),
+        }
+    }
+
+    /// Closes the buffer of a flow, and drops its packets.
+    pub fn close(&mut self, flow: FlowNo)
+        requires { IsSome (buffer_of self.old flow) }
+        ensures { self.new ≡ closed self.old flow }
+    {
+        let place = self.place(flow);
+        self.rings.remove(place);
     }
 
     // The place of a flow's buffer.

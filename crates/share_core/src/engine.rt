@@ -2,6 +2,10 @@
 ghost use Rattle.std.specs.Prelude.{◌≡◌, ◌<◌, ◌≤◌, ◌^◌, find, length, take, drop, vec_capacity, IfOk, IfErr, IfSome};
 ghost use Rattle.std.specs.Prelude.{None, option_map, false};
 ghost use Rattle.share_base.specs.Refusal.{IsRefused};
+ghost use Rattle.std.specs.FinMap.{get};
+ghost use Rattle.share_model.specs.stride.Moves.{global_part};
+ghost use Rattle.share_model.specs.stride.Moves.{position as position_of};
+ghost use Rattle.share_model.specs.link.Totals.{totals, row};
 ghost use Rattle.share_model.specs.link.Did.{is_spent, Steps, CommandDid, Offered, TurnDid, TearDid};
 ghost use Rattle.share_model.specs.funding.Graph.{tickets};
 ghost use Rattle.share_model.specs.funding.Changes.{flow_named};
@@ -20,7 +24,7 @@ use crate::fields;
 use crate::link::Link;
 use crate::place::Place;
 use share_base::{Body, Command, FlowNo, Name, Refusal, Reply, Turn};
-use share_model::{Answer, Rates, Telling};
+use share_model::{Answer, GlobalPart, Position, Rates, Row, Telling, Totals};
 use std::alloc::Global;
 use std::marker::Model;
 
@@ -43,8 +47,12 @@ impl<W, S: Rates> Model for Engine<W, S> {
     ghost use Rattle.std.specs.Prelude.{◌≤◌, vec_capacity};
     ghost use Rattle.share_model.specs.link.Seen.{Seen};
     ghost use Rattle.share_core.specs.Framed.{IsFrameOf};
+    ghost use Rattle.std.specs.Coded.{codes};
+    ghost use Rattle.share_model.specs.stride.Moves.{coded_stride};
 
     ghost Value = { Seen W };
+
+    ghost coded = { Prim.hlevel (codes, coded_stride) };
 
     ghost view = { λ e.
         record { life = e.link.life; rates = e.link.rates; live = e.link.live; writer = e.writer } };
@@ -118,6 +126,38 @@ impl<W, S: Rates> Engine<W, S> {
         self.link.tickets(flow)
     }
 
+    /// Where an open flow stands in the queue: whether it competes, its tickets and stride (the last ones where it does
+    /// not compete), and its pass or, where it does not compete, its remain. `None` where no open flow has this number.
+    pub fn position(&self, flow: FlowNo) -> Option<Position>
+        ensures { result ≡ option_map position_of (get self.now.live.queue.clients flow) }
+    {
+        self.link.position(flow)
+    }
+
+    /// What the flows share: the tickets of those that compete, the global pass and the clock at its last update, and
+    /// the clock, in units.
+    pub fn global(&self) -> GlobalPart
+        ensures { result ≡ global_part self.now.live.queue }
+    {
+        self.link.global()
+    }
+
+    /// What the link counted, and what it holds.
+    pub fn totals(&self) -> Totals
+        ensures { result ≡ totals self.now.live }
+    {
+        self.link.totals()
+    }
+
+    /// The n-th open flow, from 0, in order of opening: its number, its name, and how many packets wait in its buffer,
+    /// a
+    /// torn one not counted. `None` where fewer flows are open.
+    pub fn row(&self, n: u32) -> Option<Row>
+        ensures { result ≡ row self.now.live n }
+    {
+        self.link.row(n)
+    }
+
     /// The writer.
     pub fn writer(&self) -> &W
         ensures { result.now ≡ self.now.writer }
@@ -128,10 +168,19 @@ impl<W, S: Rates> Engine<W, S> {
     /// Makes a command: one event, unless the life is spent or memory was refused, which changes nothing. A refused
     /// command is an event that changes nothing else. Refusals, in order, after `Spent`:
     ///
+    /// - `MakeCurrency`: `Taken`, `TableFull` (64 besides `base`), `NoMemory`;
+    /// - `RemoveCurrency`: `NoCurrency`, `Base`, `InUse` (a ticket is denominated in it or funds it);
     /// - `MakeTicket`: `Range` (an amount of 1 to 2^20), `NoCurrency`, `TableFull` (1024 tickets), `NoMemory`;
-    /// - `FundFlow`, which takes no memory: `NoTicket`, `NoFlow`, `Funding` (it funds another), `Crowded` (16 tickets
-    ///   fund the flow);
-    /// - `OpenFlow`: `Range` (a limit of 1 to 1024 packets), `NoTariff`, `Taken`, `TableFull` (one flow), `NoMemory`.
+    /// - `RemoveTicket`: `NoTicket`, `Funding` (it funds something);
+    /// - `FundCurrency`: `NoTicket`, `NoCurrency`, `Base`, `Funding`, `Crowded` (16 tickets fund the currency), `Cycle`
+    ///   (the currency backs the ticket's), `Deep` (nine currencies would stand in a chain);
+    /// - `FundFlow`: `NoTicket`, `NoFlow`, `Funding`, `Crowded` (16 tickets fund the flow);
+    /// - `Unfund`: `NoTicket`, `Unfunded`;
+    /// - `OpenFlow`: `Range` (a limit of 1 to 1024 packets), `NoTariff`, `Taken`, `TableFull` (64 flows), `NoMemory`;
+    /// - `CloseFlow`: `NoFlow`, `Sending` (its frame is in part).
+    ///
+    /// The three that make something may find no memory; the other six take none. After a command that is done, each
+    /// open flow competes with as many tickets as it has.
     pub fn command(&mut self, command: Command) -> Reply
         ensures did { CommandDid self.old command result self.new }
         ensures fields { HasCommandFields command }

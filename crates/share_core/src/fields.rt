@@ -10,8 +10,13 @@ pub fn of_command(command: &Command)
     ensures { HasCommandFields command.now }
 {
     match command {
+        Command::MakeCurrency(name) => of_name(name),
+        Command::RemoveCurrency(name) => of_name(name),
         Command::MakeTicket { amount, currency } => of_both(*amount, currency),
+        Command::RemoveTicket(ticket) => of_number(*ticket),
+        Command::FundCurrency { ticket, currency } => of_both(*ticket, currency),
         Command::FundFlow { ticket, flow } => of_both(*ticket, flow),
+        Command::Unfund(ticket) => of_number(*ticket),
         Command::OpenFlow {
             name,
             limit,
@@ -20,14 +25,26 @@ pub fn of_command(command: &Command)
             of_both(*limit, name);
             of_both(*tariff, name);
         }
+        Command::CloseFlow(name) => of_name(name),
     }
+}
+
+fn of_number(number: u64)
+    ensures { IsNumber number }
+{}
+
+fn of_name(name: &Name)
+    ensures { IsName name.now }
+{
+    let _ = name.as_bytes();
 }
 
 fn of_both(number: u64, name: &Name)
     ensures number { IsNumber number }
     ensures name { IsName name.now }
 {
-    let _ = name.as_bytes();
+    of_number(number);
+    of_name(name);
 }
 
 /// The fields of an arrival.

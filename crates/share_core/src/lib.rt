@@ -6,7 +6,6 @@ mod buffers;
 mod engine;
 mod fields;
 mod frame;
-mod funding;
 mod link;
 mod place;
 mod ring;
@@ -18,4 +17,4 @@ pub use engine::Engine;
 pub use tariff::{Shelf, Tariff};
 
 /// The most flows that are open at once.
-pub const MAX_FLOWS: usize = 1;
+pub const MAX_FLOWS: usize = 64;

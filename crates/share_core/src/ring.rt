@@ -68,6 +68,13 @@ impl Ring {
         self.packets.is_empty()
     }
 
+    /// How many packets it holds.
+    pub fn count(&self) -> usize
+        ensures { result ≡ length self.now.packets }
+    {
+        self.packets.len()
+    }
+
     /// Puts a packet at the back, and gives its sequence number. It takes no memory.
     pub fn push(&mut self, body: Body) -> u32
         requires room { is_full self.old ≡ false }

@@ -1,6 +1,9 @@
 //! Worked figures of whole packets, and what the other tests share: calls and their outcomes as rows of a table.
 
+mod currencies;
 mod cuts;
+mod plain;
+mod random;
 mod refusals;
 mod tariffs;
 
@@ -19,8 +22,13 @@ const FLOW: FlowNo = FlowNo(1);
 #[derive(Clone, Copy, Debug)]
 enum Call {
     Open(&'static str, u64, u64),
+    MakeCurrency(&'static str),
+    RemoveCurrency(&'static str),
     MakeTicket(u64, &'static str),
+    RemoveTicket(u64),
+    Back(u64, &'static str),
     Fund(u64, &'static str),
+    Unfund(u64),
     Send(&'static str, &'static [u8]),
     Turn(u32),
     Tear,
@@ -42,14 +50,28 @@ fn answer_to<W: Telling, S: Rates>(
             limit,
             tariff,
         })),
+        Call::MakeCurrency(currency) => {
+            Outcome::Replied(engine.command(Command::MakeCurrency(name(rt, currency))))
+        }
+        Call::RemoveCurrency(currency) => {
+            Outcome::Replied(engine.command(Command::RemoveCurrency(name(rt, currency))))
+        }
         Call::MakeTicket(amount, currency) => {
             let currency = name(rt, currency);
             Outcome::Replied(engine.command(Command::MakeTicket { amount, currency }))
+        }
+        Call::RemoveTicket(ticket) => Outcome::Replied(engine.command(Command::RemoveTicket(
+            ticket,
+        ))),
+        Call::Back(ticket, currency) => {
+            let currency = name(rt, currency);
+            Outcome::Replied(engine.command(Command::FundCurrency { ticket, currency }))
         }
         Call::Fund(ticket, flow) => {
             let flow = name(rt, flow);
             Outcome::Replied(engine.command(Command::FundFlow { ticket, flow }))
         }
+        Call::Unfund(ticket) => Outcome::Replied(engine.command(Command::Unfund(ticket))),
         Call::Send(flow, payload) => {
             let body = Body::new(alloc, payload).expect(rt, "a payload");
             Outcome::Replied(engine.arrive(name(rt, flow), body))

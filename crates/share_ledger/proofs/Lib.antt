@@ -1,7 +1,12 @@
+pub mod FlowShares
 pub mod Lays
 pub mod LinkChains
 pub mod LinkPlaces
 pub mod LinkSteps
-pub mod LinkWorths
 pub mod Positions
+pub mod RouteLists
+pub mod RouteSteps
+pub mod RouteWorths
+pub mod RoutesDone
+pub mod RoutesLeft
 pub mod Walks

@@ -11,12 +11,12 @@ use Rattle.share_model.specs.funding.Graph.{chain_within, runs, is_deep}
 use Rattle.share_model.specs.lists.Each.{Each}
 use Rattle.share_model.specs.funding.Kept.{names_of, times, IsKept}
 use Rattle.share_model.specs.lists.Laws.{each_map, each-change_first}
-use Rattle.share_model.proofs.Sums.{Each-all}
-use Rattle.share_model.proofs.FundingSettles.{any-same}
+use Rattle.share_model.specs.lists.SumLaws.{Each-all}
+use Rattle.share_model.specs.funding.SettleLaws.{any-same}
+use Rattle.share_model.specs.lists.CountLaws.{any-filter}
+use Rattle.share_model.specs.funding.ChangeLaws.{stands}
 use Rattle.share_model.specs.funding.Changes.{is_numbered, is_currency, found_denomination, held_by, with_holder}
 use Rattle.share_model.specs.lists.Change.{change_first}
-use Rattle.share_model.proofs.Lists.{any-filter}
-use Rattle.share_model.proofs.FundingChanged.{stands}
 use Rattle.std.proofs.lemmas.List.{length-map}
 use Rattle.share_ledger.specs.declared.rounds.Target.TheVariants.{Behind}
 use Rattle.share_ledger.specs.declared.rounds.Link.{Link}

@@ -11,9 +11,9 @@ use Rattle.share_model.specs.declared.funding.Ticket.{Ticket}
 use Rattle.share_model.specs.funding.Graph.{NameBytes, base, Graph, is_active_flow}
 use Rattle.share_model.specs.lists.Each.{Each}
 use Rattle.share_model.specs.funding.Kept.{names_of, times, IsHolderKnown, IsKept}
-use Rattle.share_model.proofs.Sums.{same_name, name_same, name_sym}
-use Rattle.share_model.proofs.FundingSettles.{none_any}
-use Rattle.share_model.proofs.FundingChanged.{absent}
+use Rattle.share_model.specs.lists.SumLaws.{same_name, name_same, name_sym}
+use Rattle.share_model.specs.funding.SettleLaws.{none_any}
+use Rattle.share_model.specs.funding.ChangeLaws.{absent}
 use Rattle.std.proofs.lemmas.List.{map_more}
 use Rattle.share_model.specs.declared.funding.OpenFlow.{OpenFlow}
 use Rattle.std.proofs.Math.Seq.{take-suc-set}
@@ -116,7 +116,6 @@ pub link-within : (g : Graph) → length g.currencies ≤ 64 → (t : Ticket) �
 link-within g few t ok = record {
   from_place = let below = place-below t.denomination (names_of g) ok.denomination_known in omega arith;
   to_place = target t.holder ok.holder_known;
-  small = ok.amount_small;
 }
   where
     flow : (b : Bool) → IsTargetWithin (cond b Awake Asleep)

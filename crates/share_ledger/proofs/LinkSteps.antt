@@ -9,7 +9,7 @@ use Rattle.share_model.specs.funding.Graph.{NameBytes, Graph, is_active_flow}
 use Rattle.share_model.specs.lists.Each.{Each}
 use Rattle.share_model.specs.funding.Kept.{names_of, times, IsHolderKnown}
 use Rattle.share_model.specs.lists.Laws.{each_map}
-use Rattle.share_model.proofs.FundingSettles.{any-same}
+use Rattle.share_model.specs.funding.SettleLaws.{any-same}
 use Rattle.share_ledger.specs.declared.rounds.Target.TheVariants.{Asleep, Awake}
 use Rattle.share_ledger.specs.declared.rounds.Link.{Link}
 use Rattle.share_ledger.specs.Places.{place, target_of, link_of}

@@ -1,21 +1,19 @@
 -- Rounds over links: what is flagged and summed so far, and rounds that start alike.
-use Rattle.std.proofs.Common.{◌≡◌, ◌≢◌, set, Fits, w64, ◌≤◌, ◌<◌, ◌*◌, ◌/◌, ◌^◌, ◌+◌, ℕ, zero, suc, Bool, true, false}
-use Rattle.std.proofs.Common.{cond, ◌&&◌, ◌||◌, not, nat_eq, List, [], ◌∷◌, take, sum_by, length, get_or, replicate}
-use Rattle.std.proofs.Common.{if◌then◌else◌, refl, sym, ap, ◌∙◌, arith, add-one}
+use Rattle.std.proofs.Common.{◌≡◌, ◌≢◌, set, ◌≤◌, ◌<◌, ◌*◌, ◌+◌, ℕ, zero, suc, Bool, true, false}
+use Rattle.std.proofs.Common.{◌&&◌, ◌||◌, not, nat_eq, List, [], ◌∷◌, sum_by, length, get_or, replicate}
+use Rattle.std.proofs.Common.{refl, sym, ap, ◌∙◌, arith, add-one}
 use Rattle.std.specs.List.{list_any}
-use Rattle.std.proofs.lemmas.List.Sums.{sum_by-cons, sum_by-take-le}
+use Rattle.std.proofs.lemmas.List.Sums.{sum_by-cons}
 use Rattle.share_ledger.specs.declared.rounds.Target.{Target}
 use Rattle.share_ledger.specs.declared.rounds.Target.TheVariants.{Asleep, Awake, Behind}
 use Rattle.share_ledger.specs.declared.rounds.Link.{Link}
 use Rattle.std.proofs.lemmas.List.{get_or-replicate, get_or-set_other, length-replicate}
 use Rattle.std.proofs.lemmas.Grind.{get_or-set_at}
 use Rattle.std.proofs.lemmas.Bool.Decides.{nat_tests}
-use Rattle.share_ledger.specs.Rounds.{IsTargetWithin, IsLinkWithin, leads, stepped, walked, meets, is_long, total}
-use Rattle.share_ledger.specs.Rounds.{weight, is_behind, poured, valued}
+use Rattle.share_ledger.specs.Rounds.{IsTargetWithin, IsLinkWithin, leads, stepped, walked, meets, is_long}
 use Rattle.share_model.specs.lists.Each.{Each}
 use Rattle.share_model.specs.lists.Laws.{each_map}
-use Rattle.share_model.proofs.Sums.{sum_by-same_of}
-use Rattle.share_model.proofs.FundingSettles.{any-same}
+use Rattle.share_model.specs.funding.SettleLaws.{any-same}
 
 pub Each-at : {X : Type 0} (P : X → Type 0) (xs : List X) (i : ℕ) (d : X) → Each P xs → i < length xs
     → P (get_or xs i d)
@@ -75,36 +73,6 @@ sum_by-bound P f m (x ∷ xs) each small =
     let here = small x each.0 in
     omega (arith, sum_by-cons f x xs)
 
-pub totals-bound : (ls : List Link) (i p : ℕ) → Each IsLinkWithin ls → length ls ≤ 1024
-    → sum_by (λ (k : Link). if nat_eq p k.from then k.amount else 0) (take i ls) ≤ 2 ^ 30
-totals-bound ls i p within few =
-    let all = sum_by-bound IsLinkWithin (λ (k : Link). if nat_eq p k.from then k.amount else 0) (2 ^ 20) ls within
-    (λ l w. by (nat_eq p l.from) l w.small) in
-    omega (arith, sum_by-take-le (λ (k : Link). if nat_eq p k.from then k.amount else 0) ls i)
-  where
-    by : (b : Bool) (l : Link) → l.amount ≤ 2 ^ 20 → cond b l.amount 0 ≤ 2 ^ 20
-    by true l small = small
-    by false l small = omega arith
-
-weight-same : (v w t s : ℕ → ℕ) (l : Link) → IsLinkWithin l → ((p : ℕ) → p < 65 → v p ≡ w p)
-    → ((p : ℕ) → p < 65 → t p ≡ s p) → weight v t l ≡ weight w s l
-weight-same v w t s l within same whole =
-    ap (λ n. cond (nat_eq l.from 0) l.amount (n * l.amount / t l.from)) (same l.from within.from_place)
-    ∙ ap (λ n. cond (nat_eq l.from 0) l.amount (w l.from * l.amount / n)) (whole l.from within.from_place)
-
-pub poured-same : (ls : List Link) (v w t s : ℕ → ℕ) (p : ℕ) → Each IsLinkWithin ls → ((p : ℕ) → p < 65 → v p ≡ w p)
-    → ((p : ℕ) → p < 65 → t p ≡ s p)
-    → poured (weight v t) ls p ≡ poured (weight w s) ls p
-unfolding poured
-poured-same ls v w t s p within same whole =
-    sum_by-same_of IsLinkWithin (λ (l : Link). cond (is_behind p l.to) (weight v t l) 0)
-    (λ (l : Link). cond (is_behind p l.to) (weight w s l) 0) ls within
-    (λ l inside. ap (λ n. cond (is_behind p l.to) n 0) (weight-same v w t s l inside same whole))
-
-pub valued-more : (ls : List Link) (n p : ℕ) → valued ls (n + 1) p ≡ poured (weight (valued ls n) (total ls)) ls p
-unfolding valued
-valued-more ls n p = ap (λ k. valued ls k p) (add-one n)
-
 -- one place of all is flagged
 pub marked-one : (to : ℕ) → to < 65 → (p : ℕ) → p < 65 → get_or (set (replicate 65 false) to true) p false ≡ nat_eq p to
 marked-one to below p lt = by (nat_eq p to) refl
@@ -135,17 +103,3 @@ long-is ls held start within all is =
     ≡ (not (nat_eq k.from 0) && walked false ls (λ p. true) 8 k.from))
     (λ k w. ap (λ b. not (nat_eq k.from 0) && b)
     (is k.from w.from_place ∙ walked-same false ls start (λ p. true) within all 8 k.from w.from_place)) ls within)
-
-fits_sum : (a b : ℕ) → a ≤ 2 ^ 30 → b ≤ 2 ^ 20 → Fits w64 (a + b)
-fits_sum a b p q = omega arith
-
-pub total-fits : (ls : List Link) (i : ℕ) (d : Link) (held : ℕ → ℕ) (amount : ℕ) → Each IsLinkWithin ls
-    → length ls ≤ 1024 → i < length ls
-    → ((p : ℕ) → p < 65 → held p ≡ sum_by (λ (k : Link). if nat_eq p k.from then k.amount else 0) (take i ls))
-    → amount ≡ (get_or ls i d).amount → Fits w64 (held (get_or ls i d).from + amount)
-total-fits ls i d held amount within few lt summed e =
-    let w = Each-at IsLinkWithin ls i d within lt in
-    let bound = totals-bound ls i (get_or ls i d).from within few in
-    let small = w.small in
-    fits_sum (held (get_or ls i d).from) amount (let s = summed (get_or ls i d).from w.from_place in omega arith)
-    (omega arith)

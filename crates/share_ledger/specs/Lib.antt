@@ -1,2 +1,4 @@
 pub mod Places
 pub mod Rounds
+pub mod Routes
+pub mod Shares

@@ -20,4 +20,4 @@ target_of g (Currency c) = Behind (place (names_of g) c)
 target_of g (Flow f) = if is_active_flow g f then Awake else Asleep
 
 abbrev pub link_of : Graph → Ticket → Link
-link_of g t = record { from = place (names_of g) t.denomination; to = target_of g t.holder; amount = t.amount }
+link_of g t = record { from = place (names_of g) t.denomination; to = target_of g t.holder }

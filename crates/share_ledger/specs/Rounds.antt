@@ -1,6 +1,6 @@
 -- Rounds over links. A link is what one ticket does between places: a place stands for a currency.
-use Rattle.std.specs.Prelude.{◌≤◌, ◌<◌, ℕ, ◌*◌, ◌/◌, ◌^◌, zero, suc, Bool, true, false, not, ◌&&◌, ◌||◌, List, sum_by}
-use Rattle.std.specs.Prelude.{nat_eq, slice_index_or, if◌then◌else◌}
+use Rattle.std.specs.Prelude.{◌<◌, ℕ, zero, suc, Bool, true, false, not, ◌&&◌, ◌||◌, List}
+use Rattle.std.specs.Prelude.{nat_eq, slice_index_or}
 use Rattle.std.specs.List.{list_any}
 use Rattle.share_ledger.specs.declared.rounds.Target.{Target}
 use Rattle.share_ledger.specs.declared.rounds.Target.TheVariants.{Asleep, Awake, Behind}
@@ -15,7 +15,6 @@ IsTargetWithin (Behind p) = p < 65
 pub record IsLinkWithin (l : Link) : Type 0 where
   pub from_place : l.from < 65
   pub to_place : IsTargetWithin l.to
-  pub small : l.amount ≤ 2 ^ 20
 
 -- what an array holds at each place
 abbrev pub flags_of : List Bool → ℕ → Bool
@@ -47,29 +46,3 @@ meets ls from to (suc n) = meets ls from to n || walked false ls (λ p. nat_eq p
 -- nine places besides that of `base` stand in a chain
 unfoldable pub is_long : List Link → Bool
 is_long ls = list_any (λ l. not (nat_eq l.from 0) && walked false ls (λ p. true) 8 l.from) ls
-
--- a link that leads to nothing active has no amount
-abbrev pub hushed : (ℕ → Bool) → Link → Link
-hushed flag l = if leads true flag l.to then l else record l { amount = 0 }
-
--- the amounts of the links from a place
-unfoldable pub total : List Link → ℕ → ℕ
-total ls p = sum_by (λ l. if nat_eq p l.from then l.amount else 0) ls
-
--- what a link carries: its amount from the place of `base`, else its share of the value of its place
-abbrev pub weight : (ℕ → ℕ) → (ℕ → ℕ) → Link → ℕ
-weight value whole l = if nat_eq l.from 0 then l.amount else value l.from * l.amount / whole l.from
-
-abbrev pub is_behind : ℕ → Target → Bool
-is_behind p Asleep = false
-is_behind p Awake = false
-is_behind p (Behind q) = nat_eq p q
-
--- what the links carry to a place
-unfoldable pub poured : (Link → ℕ) → List Link → ℕ → ℕ
-poured carried ls p = sum_by (λ l. if is_behind p l.to then carried l else 0) ls
-
--- the values of places after n rounds
-unfoldable pub valued : List Link → ℕ → ℕ → ℕ
-valued ls zero p = 0
-valued ls (suc n) p = poured (weight (valued ls n) (total ls)) ls p

@@ -2,6 +2,7 @@
 ghost use Rattle.std.specs.Prelude.{◌≡◌};
 ghost use Rattle.share_model.specs.funding.Graph.{is_held_by_currency, is_held_by_flow};
 ghost use Rattle.share_model.specs.funding.Changes.{is_held};
+ghost use Rattle.share_ledger.specs.Routes.{is_kind};
 
 use share_base::{FlowNo, Name};
 use share_model::Holder;
@@ -36,5 +37,16 @@ pub(crate) fn is_flow(holder: &Holder, flow: FlowNo) -> bool
         Holder::Nobody => false,
         Holder::Currency(_) => false,
         Holder::Flow(number) => flow == *number,
+    }
+}
+
+/// Whether the holder is a currency, or whether it is a flow.
+pub(crate) fn is_kind(holder: &Holder, backing: bool) -> bool
+    ensures { result ≡ is_kind backing holder.now }
+{
+    match holder {
+        Holder::Nobody => false,
+        Holder::Currency(_) => backing,
+        Holder::Flow(_) => !backing,
     }
 }

@@ -1,6 +1,7 @@
 //! Laws that hold of every ledger, each as the contract of a call that does nothing.
 ghost use Rattle.share_model.specs.funding.Kept.{IsKept};
 ghost use Rattle.share_model.specs.funding.Laws.{SharesAreWithin, IsAcyclic, IsSettled, CachedIsAsDefined, DeepIsNine};
+ghost use Rattle.share_model.specs.funding.Laws.{LeavesTickets};
 ghost use Rattle.share_model.specs.funding.Laws.{CycleIsBacking};
 
 use crate::ledger::Ledger;
@@ -28,6 +29,14 @@ impl Ledger {
     /// No currency backs itself, by however many steps.
     pub fn is_acyclic(&self)
         ensures { IsAcyclic self.now }
+    {
+        self.is_kept();
+    }
+
+    /// Tickets without a holder count for nothing: making and removing them, making and removing currencies, and
+    /// opening a flow change the tickets of no flow. A flow that is idle or not open has none.
+    pub fn leaves_tickets(&self)
+        ensures { LeavesTickets self.now }
     {
         self.is_kept();
     }

@@ -1,5 +1,5 @@
-//! The ledger: the tables, and beside them what each ticket is worth.
-ghost use Rattle.std.specs.Prelude.{◌≡◌, ◌<◌, ◌-◌, ◌^◌, option_map, Some, None, IfOk, IfErr};
+//! The ledger: the tables, and what is kept beside them.
+ghost use Rattle.std.specs.Prelude.{◌≡◌, ◌<◌, ◌-◌, ◌^◌, length, slice_get, option_map, Some, None, IfOk, IfErr};
 ghost use Rattle.share_base.specs.declared.refusal.Refusal as Refusal;
 ghost use Rattle.share_base.specs.Refusal.{IsRefused};
 ghost use Rattle.share_model.specs.funding.Graph.{empty_graph, tickets};
@@ -10,8 +10,10 @@ ghost use Rattle.share_model.specs.funding.Changes.{fund_currency_refusal, fund_
 ghost use Rattle.share_model.specs.funding.Changes.{unfund_refusal, unfund, add_flow_refusal, add_flow, remove_flow};
 ghost use Rattle.share_model.specs.funding.Changes.{set_active};
 
-use crate::tables::{MAX_AMOUNT, MAX_TICKETS, Tables};
+use crate::kept::Kept;
+use crate::tables::Tables;
 use share_base::{FlowNo, Name, Refusal, TicketNo};
+use share_model::OpenFlow;
 use std::alloc::Global;
 use std::marker::Model;
 
@@ -24,31 +26,32 @@ use std::marker::Model;
 #[derive(Drop)]
 pub struct Ledger {
     tables: Tables,
-    worths: Box<[u64; MAX_TICKETS]>,
+    kept: Kept,
 }
 
 impl Model for Ledger {
-    ghost use Rattle.std.specs.Prelude.{◌≡◌, length, map, take};
-    ghost use Rattle.share_model.specs.funding.Graph.{Graph, worth};
+    ghost use Rattle.share_model.specs.funding.Graph.{Graph};
+    ghost use Rattle.share_ledger.specs.Shares.{AreKept};
 
     ghost Value = { Graph };
 
     ghost view = { λ l. l.tables };
 
     ghost invariant = { λ l.
-        take (length l.tables.tickets) l.worths.value ≡ map (worth l.tables 9) l.tables.tickets };
+        AreKept l.kept.backing l.kept.funding l.kept.shares.value l.tables };
 }
 
 impl Ledger {
-    /// An empty ledger, whose numbers count from 1. `NoMemory` where the room for worths was refused.
+    /// An empty ledger, whose numbers count from 1. `NoMemory` where the room for what is kept of its tickets was
+    /// refused.
     pub fn new(alloc: Global) -> Result<Ledger, Refusal>
         ensures made { IfOk result (λ ledger. ledger ≡ empty_graph) }
         ensures refused { IfErr result (λ e. e ≡ Refusal.NoMemory) }
     {
-        let worths = Box::new(alloc, [0; MAX_TICKETS])?;
+        let kept = Kept::new(alloc)?;
         Ok(Ledger {
             tables: Tables::new(alloc),
-            worths,
+            kept,
         })
     }
 
@@ -60,9 +63,8 @@ impl Ledger {
         ensures refused { IfErr result
             (λ e. IsRefused (make_currency_refusal self.old name) e × (self.new ≡ self.old)) }
     {
-        self.tables.make_currency(name)?;
-        self.tables.refresh(&mut self.worths);
-        Ok(())
+        self.tables.is_kept();
+        self.tables.make_currency(name)
     }
 
     /// Removes a currency. `NoCurrency` where none has this name, `Base` where it is `base`, `InUse` where a
@@ -74,7 +76,7 @@ impl Ledger {
             (λ e. (remove_currency_refusal self.old name ≡ Some e) × (self.new ≡ self.old)) }
     {
         self.tables.remove_currency(name)?;
-        self.tables.refresh(&mut self.worths);
+        self.kept.relist(&self.tables);
         Ok(())
     }
 
@@ -89,9 +91,7 @@ impl Ledger {
         ensures refused { IfErr result
             (λ e. IsRefused (make_ticket_refusal self.old amount currency) e × (self.new ≡ self.old)) }
     {
-        let ticket = self.tables.make_ticket(amount, currency)?;
-        self.tables.refresh(&mut self.worths);
-        Ok(ticket)
+        self.tables.make_ticket(amount, currency)
     }
 
     /// Removes a ticket. `NoTicket` where none has this number, `Funding` where it has a holder.
@@ -101,9 +101,7 @@ impl Ledger {
         ensures refused { IfErr result
             (λ e. (remove_ticket_refusal self.old ticket ≡ Some e) × (self.new ≡ self.old)) }
     {
-        self.tables.remove_ticket(ticket)?;
-        self.tables.refresh(&mut self.worths);
-        Ok(())
+        self.tables.remove_ticket(ticket)
     }
 
     /// Lets a ticket fund a currency. `NoTicket` where none has this number, `NoCurrency` where none has this
@@ -118,7 +116,7 @@ impl Ledger {
             (λ e. (fund_currency_refusal self.old ticket currency ≡ Some e) × (self.new ≡ self.old)) }
     {
         self.tables.fund_currency(ticket, currency)?;
-        self.tables.refresh(&mut self.worths);
+        self.kept.renew(&self.tables);
         Ok(())
     }
 
@@ -131,7 +129,7 @@ impl Ledger {
             (λ e. (fund_flow_refusal self.old ticket flow ≡ Some e) × (self.new ≡ self.old)) }
     {
         self.tables.fund_flow(ticket, flow)?;
-        self.tables.refresh(&mut self.worths);
+        self.kept.renew(&self.tables);
         Ok(())
     }
 
@@ -143,7 +141,7 @@ impl Ledger {
             (λ e. (unfund_refusal self.old ticket ≡ Some e) × (self.new ≡ self.old)) }
     {
         self.tables.unfund(ticket)?;
-        self.tables.refresh(&mut self.worths);
+        self.kept.renew(&self.tables);
         Ok(())
     }
 
@@ -157,8 +155,10 @@ impl Ledger {
         ensures refused { IfErr result
             (λ e. IsRefused (add_flow_refusal self.old name) e × (self.new ≡ self.old)) }
     {
+        self.tables.is_kept();
+        let count = self.tables.flow_count();
         let flow = self.tables.add_flow(name)?;
-        self.tables.refresh(&mut self.worths);
+        self.kept.append_none(count);
         Ok(flow)
     }
 
@@ -167,15 +167,17 @@ impl Ledger {
         ensures { self.new ≡ remove_flow self.old flow }
     {
         self.tables.remove_flow(flow);
-        self.tables.refresh(&mut self.worths);
+        self.kept.renew(&self.tables);
     }
 
     /// Makes a flow active or idle, if one of this number is open.
     pub fn set_active(&mut self, flow: FlowNo, active: bool)
         ensures { self.new ≡ set_active self.old flow active }
     {
-        self.tables.set_active(flow, active);
-        self.tables.refresh(&mut self.worths);
+        self.tables.is_kept();
+        if self.tables.set_active(flow, active) {
+            self.kept.refresh(&self.tables);
+        }
     }
 
     /// The number of the open flow of this name.
@@ -183,6 +185,29 @@ impl Ledger {
         ensures { result ≡ option_map (λ f. f.number) (flow_named self.now name) }
     {
         self.tables.flow(name)
+    }
+
+    /// Why no flow can be opened under this name, want of memory aside: `Taken` where an open flow has it,
+    /// `TableFull` where 64 are open.
+    pub fn add_flow_refusal(&self, name: Name) -> Option<Refusal>
+        ensures { result ≡ add_flow_refusal self.now name }
+    {
+        self.tables.add_flow_refusal(name)
+    }
+
+    /// How many flows are open, at most 64.
+    pub fn flow_count(&self) -> usize
+        ensures { result ≡ length self.now.flows }
+    {
+        self.tables.flow_count()
+    }
+
+    /// The open flow at a place, and its name. Places count from 0 in the order of opening; `None` where fewer
+    /// flows are open.
+    pub fn flow_at(&self, place: usize) -> Option<(Name, OpenFlow)>
+        ensures { result ≡ slice_get self.now.flows place }
+    {
+        self.tables.flow_at(place)
     }
 
     /// The number that the next ticket gets.
@@ -204,9 +229,19 @@ impl Ledger {
     pub fn tickets(&self, flow: FlowNo) -> u32
         ensures { result ≡ tickets self.now flow }
     {
-        self.tables
-            .worth_of_flow(flow, &self.worths)
-            .min(MAX_AMOUNT) as u32
+        match self.tables.place_of_flow(flow) {
+            Some(place) => self.tickets_at(place),
+            None => 0,
+        }
+    }
+
+    /// The tickets of the open flow at a place, as `tickets` gives them by its number.
+    pub fn tickets_at(&self, place: usize) -> u32
+        requires { place < length self.now.flows }
+        ensures { option_map (λ e. tickets self.now e.1.number) (slice_get self.now.flows place) ≡ Some result }
+    {
+        self.tables.is_kept();
+        self.kept.shares[place]
     }
 
     pub(crate) fn tables(&self) -> &Tables

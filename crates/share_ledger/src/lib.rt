@@ -7,9 +7,11 @@
 #![tactic(auto)]
 
 mod holders;
+mod kept;
 mod laws;
 mod ledger;
 mod rounds;
+mod routes;
 mod tables;
 #[cfg(test)]
 mod tests;

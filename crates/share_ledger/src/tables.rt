@@ -1,6 +1,6 @@
 //! The tables of the ledger, and what is looked up in them.
 ghost use Rattle.std.specs.Prelude.{◌≡◌, ℕ, ◌+◌, ◌≤◌, length, bytes_eq, nat_eq, map, position, option_map};
-ghost use Rattle.std.specs.Prelude.{option_copied};
+ghost use Rattle.std.specs.Prelude.{option_copied, slice_get};
 ghost use Rattle.share_model.specs.funding.Graph.{base, backing, funding, empty_graph};
 ghost use Rattle.share_model.specs.funding.Changes.{ticket_of, is_currency, flow_named, is_numbered};
 ghost use Rattle.share_model.specs.funding.Kept.{IsKept};
@@ -9,7 +9,7 @@ ghost use Rattle.share_model.specs.declared.funding.OpenFlow.{OpenFlow};
 mod changes;
 mod links;
 mod refusals;
-mod worths;
+mod routes;
 
 use crate::holders;
 use indexmap::{IndexMap, IndexSet};
@@ -147,7 +147,25 @@ impl Tables {
         }
     }
 
-    fn place_of_flow(&self, flow: FlowNo) -> Option<usize>
+    /// How many flows are open.
+    pub(crate) fn flow_count(&self) -> usize
+        ensures { result ≡ length self.now.flows }
+    {
+        self.flows.len()
+    }
+
+    /// The open flow at a place in the order of opening, with its name.
+    pub(crate) fn flow_at(&self, place: usize) -> Option<(Name, OpenFlow)>
+        ensures { result ≡ slice_get self.now.flows place }
+    {
+        match self.flows.get_index(place) {
+            Some((name, open)) => Some((*name, *open)),
+            None => None,
+        }
+    }
+
+    /// The place of an open flow in the order of opening.
+    pub(crate) fn place_of_flow(&self, flow: FlowNo) -> Option<usize>
         ensures { result
             ≡ position (λ (o : OpenFlow). nat_eq flow o.number) (map (λ e. e.1) self.now.flows) }
     {

@@ -9,8 +9,8 @@ use Rattle.share_model.specs.lists.Each.{Each}
 use Rattle.share_model.specs.funding.Kept.{IsShallow}
 use Rattle.share_model.specs.funding.Laws.{IsAcyclic}
 use Rattle.share_model.specs.lists.Laws.{each_map}
-use Rattle.share_model.proofs.Sums.{same_name, name_sym, Each-all, Each-filter}
-use Rattle.share_model.proofs.FundingSettles.{any-more, none_any, runs-none}
+use Rattle.share_model.specs.lists.SumLaws.{same_name, name_sym, Each-all, Each-filter}
+use Rattle.share_model.specs.funding.SettleLaws.{any-more, none_any, runs-none}
 
 step-more : (p q : NameBytes → Bool) → ((c : NameBytes) → p c ≡ true → q c ≡ true) → (h : Holder) → leads_on p h ≡ true
     → leads_on q h ≡ true

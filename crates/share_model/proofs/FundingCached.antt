@@ -14,9 +14,9 @@ use Rattle.share_model.specs.funding.Graph.{tickets}
 use Rattle.share_model.specs.lists.Each.{Each}
 use Rattle.share_model.specs.funding.Kept.{IsShallow, is_awake, kept_worth, IsCached}
 use Rattle.share_model.specs.lists.Laws.{each_map}
-use Rattle.share_model.proofs.Sums.{Each-filter, sum_by-same_of}
+use Rattle.share_model.specs.lists.SumLaws.{Each-filter, sum_by-same_of}
 use Rattle.share_model.proofs.FundingShares.{active-is}
-use Rattle.share_model.proofs.FundingSettles.{act-unique, val-unique}
+use Rattle.share_model.specs.funding.SettleLaws.{act-unique, val-unique}
 
 -- a sum of amounts that are not zero is above zero exactly where one of them counts
 any-above : (p : Ticket → Bool) (ts : List Ticket) → Each (λ (t : Ticket). 1 ≤ t.amount) ts

@@ -6,7 +6,7 @@ use Rattle.share_model.specs.funding.Graph.{is_active_holder, val, worth_by, bac
 use Rattle.share_model.specs.funding.Kept.{IsShallow, IsKept}
 use Rattle.share_model.specs.funding.Laws.{IsSettled, CachedIsAsDefined}
 use Rattle.share_model.specs.lists.Laws.{each_map}
-use Rattle.share_model.proofs.FundingSettles.{act-is, val-is, val-settles}
+use Rattle.share_model.specs.funding.SettleLaws.{act-is, val-is, val-settles}
 use Rattle.share_model.proofs.FundingCached.{awake-is, amount-is, value-is, tickets-kept}
 
 act-stays : (g : Graph) → IsShallow g → (k : ℕ) (t : Ticket) → is_held_by_currency base t.holder ≡ false

@@ -12,10 +12,10 @@ use Rattle.share_model.specs.funding.Graph.{chain_within, runs, is_deep}
 use Rattle.share_model.specs.funding.Changes.{fund_currency}
 use Rattle.share_model.specs.funding.Kept.{IsShallow}
 use Rattle.share_model.specs.funding.Laws.{HasNineInChain, DeepIsNine, CycleIsBacking}
-use Rattle.share_model.proofs.Sums.{name_refl, Each-filter}
-use Rattle.share_model.proofs.FundingSettles.{none_any, holder-short}
+use Rattle.share_model.specs.lists.SumLaws.{name_refl, Each-filter}
+use Rattle.share_model.specs.funding.SettleLaws.{none_any, holder-short}
 use Rattle.share_model.proofs.FundingAcyclic.{runs-fewer}
-use Rattle.share_model.proofs.FundingChains.{chain-runs, short-from_deep}
+use Rattle.share_model.specs.funding.ChainLaws.{chain-runs, short-from_deep}
 
 -- an item that passes a test, and that is among the items
 record Passing {X : Type 0} (p : X → Bool) (xs : List X) : Type 0 where

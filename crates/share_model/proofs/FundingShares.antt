@@ -13,8 +13,8 @@ use Rattle.share_model.specs.lists.Each.{Each}
 use Rattle.share_model.specs.funding.Kept.{names_of, times, IsSound}
 use Rattle.share_model.specs.funding.Laws.{uncapped, SharesAreWithin}
 use Rattle.share_model.specs.lists.Laws.{each_map}
-use Rattle.share_model.proofs.Sums.{same_name, sum_by-filter, sum_by-le_of, each-term, Each-all, Each-filter}
-use Rattle.share_model.proofs.Sums.{count_by-none, count_by-zero, part, parts-cover, parts-apart}
+use Rattle.share_model.specs.lists.SumLaws.{same_name, sum_by-filter, sum_by-le_of, each-term, Each-all, Each-filter}
+use Rattle.share_model.specs.lists.SumLaws.{count_by-none, count_by-zero, part, parts-cover, parts-apart}
 
 -- the amount of a ticket where it is active
 abbrev pub active_amount : Graph → Ticket → ℕ

@@ -1,14 +1,7 @@
 pub mod CountBytes
 pub mod FundingAcyclic
 pub mod FundingCached
-pub mod FundingChains
-pub mod FundingChanged
-pub mod FundingCurrencies
-pub mod FundingFlows
+pub mod FundingHeld
 pub mod FundingLawsHold
 pub mod FundingLong
-pub mod FundingSettles
 pub mod FundingShares
-pub mod FundingTickets
-pub mod Lists
-pub mod Sums

@@ -1,4 +1,5 @@
 pub mod funding
+pub mod ingress
 pub mod io
 pub mod link
 pub mod lists

@@ -1,6 +1,7 @@
 -- A link: its packets, frames and tariffs, what it holds, and what each call does to it.
 pub mod BufferLaws
 pub mod Buffers
+pub mod CommandLaws
 pub mod Did
 pub mod Fields
 pub mod Frame
@@ -10,4 +11,5 @@ pub mod Rows
 pub mod Seen
 pub mod Tariff
 pub mod TariffRows
+pub mod Totals
 pub mod TurnLaws

@@ -1,19 +1,31 @@
 //! What holds of every run of a link. Each function here does nothing: its contract is a law, which is proved with it.
-ghost use Rattle.std.specs.Prelude.{◌≡◌, ◌<◌, ◌≤◌, ◌+◌, ◌^◌, ℕ, Bool, List, [], ◌∷◌, ◌++◌};
-ghost use Rattle.std.specs.Prelude.{length, find, filter, nat_eq, Some};
+ghost use Rattle.std.specs.Prelude.{◌≡◌, ◌≢◌, ◌<◌, ◌≤◌, ◌+◌, ◌^◌, ℕ, Bool, true, List, []};
+ghost use Rattle.std.specs.Prelude.{◌∷◌, ◌++◌};
+ghost use Rattle.std.specs.Prelude.{length, find, filter, nat_eq, None, Some, is_some};
 ghost use Rattle.share_base.specs.declared.command.Event.{Event};
 ghost use Rattle.share_model.specs.declared.link.Book.{Book};
 ghost use Rattle.share_model.specs.declared.rates.Rate.{Rate};
+ghost use Rattle.share_model.specs.declared.stride.Client.{Client};
+ghost use Rattle.share_model.specs.stride.Bound.{IsNearGlobalPass};
+ghost use Rattle.share_model.specs.stride.Moves.{client};
+ghost use Rattle.share_model.specs.stride.Shares.{IsWithinShare};
+ghost use Rattle.share_model.specs.run.Shares.{KeepCompeting, stretch_charges};
+ghost use Rattle.share_model.specs.stride.Level.{IsLevel};
+ghost use Rattle.share_model.specs.funding.Laws.{SharesAreWithin};
+ghost use Rattle.std.specs.FinMap.{get};
 ghost use Rattle.share_model.specs.link.Tariff.{AreInRange};
 ghost use Rattle.share_model.specs.link.Frame.{Packet};
 ghost use Rattle.share_model.specs.link.Buffers.{head_of};
-ghost use Rattle.share_model.specs.link.Live.{is_book_of};
+ghost use Rattle.share_model.specs.link.Live.{wants, levelled, is_book_of};
 ghost use Rattle.share_model.specs.run.Fold.{TornFrame, empty_state, run, outcomes, out};
 ghost use Rattle.share_model.specs.run.Events.{MayFollow, event_bytes};
-ghost use Rattle.share_model.specs.run.Sound.{SoundState};
+ghost use Rattle.share_model.specs.run.Sound.{max_life, SoundState};
 ghost use Rattle.share_model.specs.lists.Rises.{Rises};
 ghost use Rattle.share_model.specs.run.History.{accepted, packets_of, held_packets, AreFramesOf, sent_packets};
-ghost use Rattle.share_model.specs.run.History.{sent_numbers, bill, torn_packets, waiting};
+ghost use Rattle.share_model.specs.run.History.{sent_numbers, bill, past_bill};
+ghost use Rattle.share_model.specs.link.Totals.{torn_count, waiting};
+ghost use Rattle.share_model.specs.funding.Graph.{flow_numbers};
+ghost use Rattle.share_model.specs.lists.Laws.{has_number};
 ghost use Rattle.share_model.specs.text.Events.{made_of, events_of, texts_of};
 ghost use Rattle.share_model.specs.text.Talk.{start, talk, after};
 
@@ -51,12 +63,16 @@ pub fn bytes_tell_packets()
         → AreFramesOf others bytes → heads ≡ others }
 {}
 
-/// The account of a flow is what its packets cost: those written whole, and the bytes of a torn one that are out.
+/// The account of a flow is what its packets cost: those written whole, and the bytes of a torn one that are out; and
+/// what closed flows had on their accounts is what their packets cost.
 pub fn accounts_are_bills()
-    ensures { (life : ℕ) (rates : List Rate) (events : List Event) → AreInRange rates
+    ensures account { (life : ℕ) (rates : List Rate) (events : List Event) → AreInRange rates
         → MayFollow life rates empty_state events → (flow : ℕ) (book : Book)
         → find (is_book_of flow) (run rates events).live.books ≡ Some book
         → book.account ≡ bill rates (run rates events) flow }
+    ensures past { (life : ℕ) (rates : List Rate) (events : List Event) → AreInRange rates
+        → MayFollow life rates empty_state events
+        → (run rates events).live.counts.past ≡ past_bill rates (run rates events) }
 {}
 
 /// The numbers of the packets that a flow sent rise, and none is sent twice.
@@ -69,28 +85,91 @@ pub fn numbers_rise()
         → length (filter (nat_eq seq) (sent_numbers flow (run rates events).done)) ≤ 1 }
 {}
 
-/// Each accepted packet was written whole, is the torn one, or waits; the torn one stays at the head of its buffer.
+/// Each accepted packet was written whole, is the torn one, waits, or was dropped as its flow was closed. A packet is
+/// torn exactly where the link is broken, and stays at the head of its buffer while its flow is open.
 pub fn packets_are_kept()
     ensures accepted { (life : ℕ) (rates : List Rate) (events : List Event) → AreInRange rates
         → MayFollow life rates empty_state events
         → (run rates events).live.counts.accepted
-        ≡ (run rates events).live.counts.written
-        + torn_packets (run rates events).live.torn + waiting (run rates events).live }
+        ≡ (run rates events).live.counts.written + torn_count (run rates events).live.broken
+        + waiting (run rates events).live + (run rates events).live.counts.dropped }
+    ensures broken { (life : ℕ) (rates : List Rate) (events : List Event) → AreInRange rates
+        → MayFollow life rates empty_state events
+        → (run rates events).live.broken ≡ is_some (run rates events).torn }
     ensures torn { (life : ℕ) (rates : List Rate) (events : List Event) → AreInRange rates
         → MayFollow life rates empty_state events → (frame : TornFrame)
         → (run rates events).torn ≡ Some frame
+        → has_number frame.head.flow (flow_numbers (run rates events).live.graph.flows) ≡ true
         → (head_of (run rates events).live.buffers frame.head.flow ≡ Some frame.head)
         × ((run rates events).live.torn ≡ Some frame.head.flow) }
 {}
 
-/// What a flow accepted is, in order, what was written whole of it and what its buffer holds: each packet that was
-/// written was accepted with that payload.
+/// What an open flow accepted is, in order, what was written whole of it and what its buffer holds: each packet that
+/// was written was accepted with that payload. What was written of a flow that was closed comes first in what it
+/// accepted.
 pub fn packets_are_sent_as_accepted()
-    ensures { (life : ℕ) (rates : List Rate) (events : List Event) → AreInRange rates
+    ensures open { (life : ℕ) (rates : List Rate) (events : List Event) → AreInRange rates
         → MayFollow life rates empty_state events → (flow : ℕ)
+        → has_number flow (flow_numbers (run rates events).live.graph.flows) ≡ true
         → packets_of flow (accepted rates empty_state events)
         ≡ packets_of flow (sent_packets (run rates events).done)
         ++ held_packets (run rates events).live.buffers flow }
+    ensures first { (life : ℕ) (rates : List Rate) (events : List Event) → AreInRange rates
+        → MayFollow life rates empty_state events → (flow : ℕ)
+        → (rest : List Packet)
+        × (packets_of flow (accepted rates empty_state events)
+        ≡ packets_of flow (sent_packets (run rates events).done) ++ rest) }
+{}
+
+/// Each open flow of a run competes with as many tickets as it has, and does not where it has none; so levelling it
+/// once more changes nothing.
+pub fn runs_are_level()
+    ensures level { (life : ℕ) (rates : List Rate) (events : List Event) → AreInRange rates
+        → MayFollow life rates empty_state events
+        → IsLevel (run rates events).live.queue (wants (run rates events).live.graph) }
+    ensures stays { (life : ℕ) (rates : List Rate) (events : List Event) → AreInRange rates
+        → MayFollow life rates empty_state events
+        → levelled (run rates events).live ≡ (run rates events).live }
+{}
+
+/// The tickets of all open flows of a run are within the active amount of `base`.
+pub fn shares_are_within_of_runs()
+    ensures { (life : ℕ) (rates : List Rate) (events : List Event) → AreInRange rates
+        → MayFollow life rates empty_state events → SharesAreWithin (run rates events).live.graph }
+{}
+
+/// In a life of at most 2^24 events fewer than 2^36 units are charged; the pass of a flow that competes, and the remain
+/// of another, is within its stride times one more than these units; and accounts stay below 2^52, those of closed
+/// flows together too.
+pub fn bounds_of_runs()
+    ensures clock { (life : ℕ) (rates : List Rate) (events : List Event)
+        → life ≤ max_life → AreInRange rates
+        → MayFollow life rates empty_state events → (run rates events).live.queue.clock < 2 ^ 36 }
+    ensures near { (life : ℕ) (rates : List Rate) (events : List Event)
+        → life ≤ max_life → AreInRange rates → MayFollow life rates empty_state events → (flow : ℕ) (client : Client)
+        → get (run rates events).live.queue.clients flow ≡ Some client
+        → IsNearGlobalPass (run rates events).live.queue client }
+    ensures account { (life : ℕ) (rates : List Rate) (events : List Event)
+        → life ≤ max_life → AreInRange rates → MayFollow life rates empty_state events → (flow : ℕ) (book : Book)
+        → find (is_book_of flow) (run rates events).live.books ≡ Some book → book.account < 2 ^ 52 }
+    ensures past { (life : ℕ) (rates : List Rate) (events : List Event)
+        → life ≤ max_life → AreInRange rates
+        → MayFollow life rates empty_state events → (run rates events).live.counts.past < 2 ^ 52 }
+{}
+
+/// Take a stretch of the events of a run that begins with no frame in part, and two flows that compete with the same
+/// tickets before its first event and after each. The pass that the one is charged in it, for whole frames and at a
+/// fault, is at most the greater of 0 and what the other is charged, the lead of the other's pass over the one's at the
+/// start, and the largest single charge to the one, together.
+pub fn shares_of_runs()
+    ensures { (life : ℕ) (rates : List Rate) (before stretch : List Event)
+        (one other one_tickets other_tickets : ℕ) → AreInRange rates
+        → MayFollow life rates empty_state (before ++ stretch) → one ≢ other
+        → (run rates before).live.part ≡ None
+        → KeepCompeting one other one_tickets other_tickets rates (run rates before) stretch
+        → IsWithinShare (client (run rates before).live.queue one).pass
+        (client (run rates before).live.queue other).pass
+        (stretch_charges one other rates (run rates before) stretch) }
 {}
 
 /// A script is a run of its events, of which a line makes one or none. They may follow one another;

@@ -5,6 +5,7 @@
 
 mod counts;
 mod funding;
+mod ingress;
 mod laws;
 mod line;
 mod link;
@@ -18,13 +19,14 @@ mod tests;
 mod writer;
 
 pub use funding::{Holder, OpenFlow, Ticket};
+pub use ingress::{Ended, Offer, QueueView};
 pub use laws::{
-    accounts_are_bills, bytes_tell_packets, events_add_bytes, events_are_counted,
+    accounts_are_bills, bounds_of_runs, bytes_tell_packets, events_add_bytes, events_are_counted,
     events_keep_sound, numbers_rise, packets_are_kept, packets_are_sent_as_accepted,
-    scripts_are_runs,
+    runs_are_level, scripts_are_runs, shares_are_within_of_runs, shares_of_runs,
 };
-pub use line::Line;
-pub use link::{Book, Part};
+pub use line::{HolderKind, Line};
+pub use link::{Book, Counts, LinkState, Part, Row, Totals};
 pub use rates::{Rate, Rates};
 pub use reader::{Got, PlainReader, Source};
 pub use scripted::Scripted;

@@ -2,6 +2,13 @@
 
 use share_base::{Body, Command, Name};
 
+/// What the word after the number of a funding ticket names.
+#[derive(Clone, Copy, Debug, PartialEq, Eq)]
+pub enum HolderKind {
+    Currency,
+    Flow,
+}
+
 /// A line of a script.
 #[derive(Drop)]
 pub enum Line {

@@ -1,6 +1,6 @@
-//! What a link keeps beside its funding and its buffers.
+//! What a link keeps beside its funding, its queue and its buffers, and what is read of it.
 
-use share_base::FlowNo;
+use share_base::{FlowNo, Name};
 
 /// The books of an open flow: the number of its tariff on the shelf, from 1, and its account.
 #[derive(Clone, Copy, Debug)]
@@ -15,4 +15,66 @@ pub struct Book {
 pub struct Part {
     pub flow: FlowNo,
     pub out: u32,
+}
+
+/// What a link counted in its life.
+#[derive(Clone, Copy, Debug)]
+pub struct Counts {
+    /// Events, refused commands and arrivals among them.
+    pub events: u64,
+    /// Packets that were accepted.
+    pub accepted: u64,
+    /// Packets whose frames are whole.
+    pub written: u64,
+    /// Packets that waited in the buffers of flows as these were closed.
+    pub dropped: u64,
+    /// Bytes that were written, those of a frame in part or torn among them.
+    pub sent: u64,
+    /// The accounts of the flows that were closed, as they were then.
+    pub past: u64,
+}
+
+/// Whether a frame is out in part.
+#[derive(Clone, Copy, Debug, PartialEq, Eq)]
+pub enum LinkState {
+    /// No frame is in part.
+    Free,
+    /// Some bytes of a frame are out, and the others follow before any other frame.
+    InPart,
+    /// The writer failed, and the link is broken for good.
+    Torn,
+}
+
+/// What a link counted and what it holds now.
+#[derive(Clone, Copy, Debug, PartialEq, Eq)]
+pub struct Totals {
+    /// Units that were charged.
+    pub clock: u64,
+    /// Packets that were accepted: those written, the torn one, and those that wait or were dropped.
+    pub accepted: u64,
+    /// Packets whose frames are whole.
+    pub written: u64,
+    /// 1 where the writer failed on a packet, and 0 otherwise.
+    pub torn: u64,
+    /// Packets in buffers, but for a torn one.
+    pub waiting: u64,
+    /// Packets that waited in the buffers of flows as these were closed.
+    pub dropped: u64,
+    /// Bytes that were written, those of a frame in part or torn among them.
+    pub bytes: u64,
+    /// The accounts of the flows that were closed, as they were then.
+    pub past: u64,
+    /// The tickets of the flows that compete.
+    pub tickets: u64,
+    /// The global pass at the last update.
+    pub pass: u128,
+    pub link: LinkState,
+}
+
+/// An open flow, and how many packets wait in its buffer: a torn one is not counted.
+#[derive(Clone, Copy, Debug)]
+pub struct Row {
+    pub flow: FlowNo,
+    pub name: Name,
+    pub waiting: u32,
 }

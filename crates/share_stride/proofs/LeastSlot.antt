@@ -11,8 +11,8 @@ use Rattle.share_model.specs.declared.stride.Client.{Client}
 use Rattle.share_model.specs.stride.Moves.{Precedes, IsNext}
 use Rattle.share_stride.specs.declared.table.Slot.{Slot}
 use Rattle.share_stride.specs.Table.{Slots, client_map, slot_at, AreDistinct, ComesBefore, IsEarlier, IsNoLater}
-use Rattle.share_stride.specs.Table.{IsFirstSlot}
-use Rattle.share_stride.proofs.TableLaws.{client_of_slot, slot_of_client}
+use Rattle.share_stride.specs.Table.{IsFirstSlot, Clients}
+use Rattle.share_stride.proofs.TableLaws.{client_of_slot, slot_of_client, clients_of}
 
 -- a slot that does not come before another comes after it, or is at its place
 IsNoLater-total : (p q : ℤ) (f g : ℕ) → ¬ (Precedes q g p f) → (p <ℤ q) ⊎ ((p ≡ q) × (f ≤ g))
@@ -143,8 +143,8 @@ IsNext-first_slot slots (Some first) distinct is = record {
       (subst (λ (c : Client). Precedes first.client.pass first.flow c.pass s.slot.flow) s.client_is precedes);
 }
 
-pub IsNext-view : (slots : Slots) (m : FinMap nat_cmp Client) (first : Option Slot) → AreDistinct slots
-    → client_map slots ≡ m → IsFirstSlot slots first → IsNext m (option_map (λ slot. slot.flow) first)
-IsNext-view slots m first distinct view is =
-    subst (λ (n : FinMap nat_cmp Client). IsNext n (option_map (λ slot. slot.flow) first)) view
+pub IsNext-view : (slots : Slots) (now : Clients) (first : Option Slot) {keys : FinMap nat_cmp ℕ} → AreDistinct slots
+    → clients_of slots keys ≡ now → IsFirstSlot slots first → IsNext now.by_flow (option_map (λ slot. slot.flow) first)
+IsNext-view slots now first distinct view is =
+    subst (λ (c : Clients). IsNext c.by_flow (option_map (λ slot. slot.flow) first)) view
     (IsNext-first_slot slots first distinct is)

@@ -1,5 +1,5 @@
+pub mod IndexLaws
 pub mod TableLaws
 pub mod LeastSlot
 pub mod Division
-pub mod Bounds
 pub mod Soundness

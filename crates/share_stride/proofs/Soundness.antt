@@ -1,252 +1,62 @@
--- Each move keeps the total of the competing tickets right, and the queue sound.
-use Rattle.std.proofs.Common.{◌≡◌, ℕ, ◌+◌, ◌-◌, ◌*◌, ◌/◌, ◌<◌, ◌≤◌, ◌^◌, Bool, true, false, Option, None, Some, IsSome}
-use Rattle.std.proofs.Common.{unwrap_or, inl, inr, refl, sym, ap, subst, ◌∙◌, arith}
+-- Each move keeps the queue sound with the total of the tickets that it keeps, and what it computes fits its types.
+use Rattle.std.proofs.Common.{◌≡◌, ℕ, ◌+◌, ◌-◌, ◌*◌, ◌/◌, ◌<◌, ◌≤◌, ◌^◌, true, false, None, Some, IsSome}
+use Rattle.std.proofs.Common.{refl, sym, ap, subst, ◌∙◌, arith}
 use Rattle.std.specs.Prelude.{ℤ, pos, negsuc, ◌+ℤ◌, ◌-ℤ◌, unsigned_abs, if◌then◌else◌}
-use Rattle.std.proofs.lemmas.Bool.{cases_eq}
-use Rattle.std.proofs.Math.Nat.{mul-le-mul_left, mul-le-mul_right, div-le_self}
+use Rattle.std.proofs.Math.Nat.{mul-le-mul_left}
 use Rattle.std.proofs.lemmas.Int.{ints}
 use borrow.Author.Differences.{up, down}
 use Rattle.std.specs.Ordering.{nat_cmp}
-use Rattle.std.specs.FinMap.{FinMap, get, insert, remove, len, get-empty, len-empty}
+use Rattle.std.specs.FinMap.{FinMap, get, insert, remove, len}
 use Rattle.share_model.specs.declared.stride.Client.{Client}
-use Rattle.share_model.specs.stride.MapLaws.{get-insert_same, get-insert_other, get-remove_same, get-remove_other}
-use Rattle.share_model.specs.stride.MapLaws.{insert-insert_same, len-insert_new, len-insert_found, len-remove_le}
-use Rattle.share_model.specs.stride.Moves.{Stride, start, stride_of, total, competing_tickets, global_stride, update}
-use Rattle.share_model.specs.stride.Moves.{joined, left, charged, charge, new_client, with_client, client, position}
-use Rattle.share_model.specs.stride.Moves.{modify, Modify}
-use Rattle.share_model.specs.stride.MoveLaws.{moved_is, client-with_client_same, total-empty, total-insert_found}
-use Rattle.share_model.specs.stride.MoveLaws.{total-insert_new, total-remove, total_le}
-use Rattle.share_model.specs.stride.Bound.{IsBounded, IsSound, IsNearGlobalPass, distance}
+use Rattle.share_model.specs.stride.MapLaws.{get-insert_same, insert-insert_same}
+use Rattle.share_model.specs.stride.Moves.{Stride, start, stride_of, update, joined, left, charged}
+use Rattle.share_model.specs.stride.Moves.{charge, new_client, with_client, client, position, modify, Modify}
+use Rattle.share_model.specs.stride.MoveLaws.{moved_is, client_is, is_there, total-empty}
+use Rattle.share_model.specs.stride.Bound.{IsSound, IsNearGlobalPass, distance}
+use Rattle.share_model.specs.stride.DivisionLaws.{stride_of-le}
+use Rattle.share_model.specs.stride.BoundLaws.{distance-idle, distance-competing, rises}
+use Rattle.share_model.specs.stride.SoundLaws.{IsSound-start, IsSound-update, IsSound-joined, IsSound-left}
+use Rattle.share_model.specs.stride.SoundLaws.{IsSound-charge}
+use Rattle.share_model.specs.stride.SoundLaws.{IsSound-add, IsSound-remove, total-joined, total-left, total-charged}
+use Rattle.share_model.specs.stride.SoundLaws.{total-added, total-removed}
 use Rattle.share_stride.specs.Fits.{IsWithin}
-use Rattle.share_stride.specs.Queue.{IsKept}
-use Rattle.share_stride.proofs.Division.{stride_of-le, stride_of-antitone}
-use Rattle.share_stride.proofs.Bounds.{IsBounded-new, IsBounded-charged, IsBounded-charged_other, IsBounded-update}
-use Rattle.share_stride.proofs.Bounds.{IsBounded-joined, IsBounded-left, distance-idle, distance-competing, rises}
-
--- ---- The total
-
-competing_tickets-idle : (f : ℕ) (c : Client) → c.competes ≡ false → competing_tickets (f, c) ≡ 0
-competing_tickets-idle f c idle = ap (λ b. if b then c.tickets else 0) idle
-
-competing_tickets-competing : (f : ℕ) (c : Client) → c.competes ≡ true → competing_tickets (f, c) ≡ c.tickets
-competing_tickets-competing f c competes = ap (λ b. if b then c.tickets else 0) competes
-
-competing_tickets-charged : (f : ℕ) (c : Client) (units : ℕ)
-    → competing_tickets (f, charged c units) ≡ competing_tickets (f, c)
-competing_tickets-charged f c units =
-    elim c.competes as (λ b. competing_tickets (
-      f,
-      if b then record c { pass = c.pass +ℤ pos (c.stride * units / 1024) }
-          else record c { remain = c.remain +ℤ pos (c.stride * units / 1024) },
-    ) ≡ competing_tickets (f, c)) [
-      | true ↦ refl
-      | false ↦ refl
-    ]
-
-pub total-joined : (m : FinMap nat_cmp Client) (f : ℕ) (c : Client) (global_pass tickets : ℕ) → get m f ≡ Some c
-    → c.competes ≡ false → total (insert m f (joined global_pass c tickets)) ≡ total m + tickets
-total-joined m f c global_pass tickets found idle =
-    omega (arith, total-insert_found m f c (joined global_pass c tickets) found, competing_tickets-idle f c idle)
-
-pub total-left : (m : FinMap nat_cmp Client) (f : ℕ) (c : Client) (global_pass : ℕ) → get m f ≡ Some c
-    → c.competes ≡ true → total (insert m f (left global_pass c)) + c.tickets ≡ total m
-total-left m f c global_pass found competes =
-    omega (arith, total-insert_found m f c (left global_pass c) found, competing_tickets-competing f c competes)
-
-pub total-charged : (m : FinMap nat_cmp Client) (f : ℕ) (c : Client) (units : ℕ) → get m f ≡ Some c
-    → total (insert m f (charged c units)) ≡ total m
-total-charged m f c units found =
-    omega (arith, total-insert_found m f c (charged c units) found, competing_tickets-charged f c units)
-
-pub total-added : (m : FinMap nat_cmp Client) (f : ℕ) → get m f ≡ None → total (insert m f new_client) ≡ total m
-total-added m f absent = total-insert_new m f new_client absent ∙ omega arith
-
-pub total-removed : (m : FinMap nat_cmp Client) (f : ℕ) (c : Client) → get m f ≡ Some c → c.competes ≡ false
-    → total (remove m f) ≡ total m
-total-removed m f c found idle = omega (arith, total-remove m f c found, competing_tickets-idle f c idle)
-
-few_tickets : (f : ℕ) (c : Client) → c.tickets ≤ 2 ^ 20 → competing_tickets (f, c) ≤ 2 ^ 20
-few_tickets f c few =
-    elim c.competes as (λ b. (if b then c.tickets else 0) ≤ 2 ^ 20) [ true ↦ few | false ↦ omega arith ]
-
-pub total_small : (s : Stride) → IsSound s → total s.clients ≤ 2 ^ 26
-total_small s sound =
-    let each : total s.clients ≤ len s.clients * 2 ^ 20 =
-    total_le (2 ^ 20) s.clients (λ f c found. few_tickets f c (sound.clients f c found).tickets) in
-    let few = sound.count in
-    omega arith
-
-pub tickets_le_total : (m : FinMap nat_cmp Client) (f : ℕ) (c : Client) → get m f ≡ Some c → c.competes ≡ true
-    → c.tickets ≤ total m
-tickets_le_total m f c found competes =
-    omega (arith, total-remove m f c found, competing_tickets-competing f c competes)
-
--- ---- The queue
-
-pub IsSound-start : IsSound start
-IsSound-start = record {
-  clients = λ f c found. let absent = get-empty {X = Client} nat_cmp f in absurd (cc);
-  count = omega (arith, len-empty nat_cmp Client);
-  time = omega arith;
-  clock = omega arith;
-  pass = omega arith;
-}
-
-global_stride_le : (s : Stride) → IsSound s → (f : ℕ) (c : Client) → get s.clients f ≡ Some c → c.competes ≡ true
-    → global_stride s ≤ c.stride
-global_stride_le s sound f c found competes =
-    let b = sound.clients f c found in
-    let le = stride_of-antitone c.tickets (total s.clients) (b.competing competes)
-    (tickets_le_total s.clients f c found competes) in
-    omega (arith, le, b.stride)
-
-pub IsSound-update : (s : Stride) → IsSound s → IsSound (update s)
-IsSound-update s sound =
-    let more = s.clock - s.last in
-    let x = global_stride s * more / 1024 in
-    let time = sound.time in
-    let now : s.last + more ≡ s.clock = omega arith in
-    let small : x ≤ global_stride s * more = div-le_self (global_stride s * more) 1024 in
-    let modest : global_stride s * more ≤ 2 ^ 40 * more = mul-le-mul_right more (stride_of-le (total s.clients)) in
-    record {
-      clients = λ f c found.
-          subst (λ (n : ℕ). IsBounded (s.pass + x) n s.clock c) now
-          (IsBounded-update s.pass s.last more s.clock x c
-          (λ competes. let slow : global_stride s * more ≤ c.stride * more =
-          mul-le-mul_right more (global_stride_le s sound f c found competes) in omega arith)
-          (sound.clients f c found));
-      count = sound.count;
-      time = omega arith;
-      clock = sound.clock;
-      pass = let pass = sound.pass in omega arith;
-    }
-
-same_value : (c d : Client) → Some c ≡ Some d → c ≡ d
-same_value c d e = cc
-
-pub IsSound-with_client : (s : Stride) (f : ℕ) (old new : Client) → IsSound s → get s.clients f ≡ Some old
-    → IsBounded s.pass s.last s.clock new → IsSound (with_client s f new)
-IsSound-with_client s f old new sound found b = record {
-  clients = λ g c at.
-      elim (cases_eq g f) [
-        | inl same ↦ subst (λ (d : Client). IsBounded s.pass s.last s.clock d)
-            (same_value new c (sym (get-insert_same s.clients f new) ∙ ap (get (insert s.clients f new)) (sym same)
-            ∙ at)) b
-        | inr apart ↦ sound.clients g c (sym (get-insert_other s.clients f new g apart) ∙ at)
-      ];
-  count = omega (arith, sound.count, len-insert_found s.clients f old new found);
-  time = sound.time;
-  clock = sound.clock;
-  pass = sound.pass;
-}
-
-pub IsSound-add : (s : Stride) (f : ℕ) → IsSound s → get s.clients f ≡ None → len s.clients < 64
-    → IsSound (with_client s f new_client)
-IsSound-add s f sound absent room = record {
-  clients = λ g c at.
-      elim (cases_eq g f) [
-        | inl same ↦ subst (λ (d : Client). IsBounded s.pass s.last s.clock d)
-            (same_value new_client c (sym (get-insert_same s.clients f new_client)
-            ∙ ap (get (insert s.clients f new_client)) (sym same) ∙ at)) (IsBounded-new s.pass s.last s.clock)
-        | inr apart ↦ sound.clients g c (sym (get-insert_other s.clients f new_client g apart) ∙ at)
-      ];
-  count = omega (arith, room, len-insert_new s.clients f new_client absent);
-  time = sound.time;
-  clock = sound.clock;
-  pass = sound.pass;
-}
-
-pub IsSound-charge : (s : Stride) (f : ℕ) (c : Client) (units : ℕ) → IsSound s → get s.clients f ≡ Some c
-    → s.clock + units ≤ 2 ^ 40 → IsSound
-    (record s { clients = insert s.clients f (charged c units); clock = s.clock + units })
-IsSound-charge s f c units sound found fits = record {
-  clients = λ g d at.
-      elim (cases_eq g f) [
-        | inl same ↦ subst (λ (e : Client). IsBounded s.pass s.last (s.clock + units) e)
-            (same_value (charged c units) d
-            (sym (get-insert_same s.clients f (charged c units))
-            ∙ ap (get (insert s.clients f (charged c units))) (sym same) ∙ at))
-            (IsBounded-charged s.pass s.last s.clock c units (sound.clients f c found))
-        | inr apart ↦ IsBounded-charged_other s.pass s.last s.clock d units
-            (sound.clients g d (sym (get-insert_other s.clients f (charged c units) g apart) ∙ at))
-      ];
-  count = omega (arith, sound.count, len-insert_found s.clients f c (charged c units) found);
-  time = let time = sound.time in omega arith;
-  clock = fits;
-  pass = sound.pass;
-}
-
-pub IsSound-remove : (s : Stride) (f : ℕ) → IsSound s → IsSound (record s { clients = remove s.clients f })
-IsSound-remove s f sound = record {
-  clients = λ g c at.
-      elim (cases_eq g f) [
-        | inl same ↦ let gone = get-remove_same s.clients f in let there = ap (get (remove s.clients f)) same in
-            absurd (cc)
-        | inr apart ↦ sound.clients g c (sym (get-remove_other s.clients f g apart) ∙ at)
-      ];
-  count = omega (arith, sound.count, len-remove_le s.clients f);
-  time = sound.time;
-  clock = sound.clock;
-  pass = sound.pass;
-}
+use Rattle.share_model.specs.declared.stride.GlobalPart.{GlobalPart}
+use Rattle.share_stride.specs.Table.{Clients}
+use Rattle.share_stride.specs.Queue.{IsKept, AreKept, state_of, updated}
 
 -- ---- The queue with the total that it keeps
 
 pub IsKept-start : IsKept 0 start
 IsKept-start = record { total = sym total-empty; sound = IsSound-start }
 
-pub IsKept-update : (tickets : ℕ) (s : Stride) (stride shared : ℕ) → IsKept tickets s → stride ≡ stride_of tickets
-    → shared ≡ stride * (s.clock - s.last) / 1024 → IsKept tickets (record s { pass = s.pass + shared; last = s.clock })
-IsKept-update tickets s stride shared kept stride_is shared_is =
-    let e : stride * (s.clock - s.last) / 1024 ≡ global_stride s * (s.clock - s.last) / 1024 =
-    ap (λ n. n * (s.clock - s.last) / 1024) (stride_is ∙ ap stride_of kept.total) in
-    record {
-      total = kept.total;
-      sound =
-          subst (λ (n : ℕ). IsSound (record s { pass = s.pass + n; last = s.clock })) (sym (shared_is ∙ e))
-          (IsSound-update s kept.sound);
-    }
+-- an update of what is shared is an update of the state
+pub updated_is : (clients : Clients) (global : GlobalPart) → AreKept clients global
+    → state_of clients (updated global) ≡ update (state_of clients global)
+updated_is clients global kept =
+    ap (λ n. record (update (state_of clients global)) {
+      pass = global.pass + stride_of n * (global.clock - global.last) / 1024;
+    }) kept.total
 
--- the client of a flow that has one
-pub client_is : (s : Stride) (f : ℕ) (c : Client) → Some c ≡ get s.clients f → client s f ≡ c
-client_is s f c found = sym (ap (λ o. unwrap_or o new_client) found)
-
-pub is_there : (s : Stride) (f : ℕ) → IsSome (get s.clients f) → Some (client s f) ≡ get s.clients f
-is_there s f there =
-    elim (get s.clients f) as (λ o. IsSome o → Some (unwrap_or o new_client) ≡ o) [
-      | None ↦ λ none. absurd (cc)
-      | Some c ↦ λ _. refl
-    ] there
-
-pub competes_found : (clients : FinMap nat_cmp Client) (f : ℕ) (c : Client) (b : Bool) → get clients f ≡ Some c
-    → (unwrap_or (get clients f) new_client).competes ≡ b → c.competes ≡ b
-competes_found clients f c b found is = ap (λ o. (unwrap_or o new_client).competes) (sym found) ∙ is
-
--- an update moves no client
-pub there_after_update : (s now : Stride) (f : ℕ) → now ≡ update s → IsSome (get s.clients f)
-    → Some (client now f) ≡ get now.clients f
-there_after_update s now f e there =
-    subst (λ (u : Stride). Some (client u f) ≡ get u.clients f) (sym e) (is_there s f there)
-
-pub competes_after_update : (s now : Stride) (f : ℕ) (b : Bool) → now ≡ update s → (client s f).competes ≡ b
-    → (client now f).competes ≡ b
-competes_after_update s now f b e is = ap (λ (u : Stride). (client u f).competes) e ∙ is
+pub AreKept-updated : (clients : Clients) (global : GlobalPart) → AreKept clients global
+    → AreKept clients (updated global)
+AreKept-updated clients global kept = record {
+  total = kept.total;
+  sound = subst IsSound (sym (updated_is clients global kept)) (IsSound-update (state_of clients global) kept.sound);
+}
 
 pub IsKept-joined : (tickets : ℕ) (s : Stride) (f : ℕ) (c : Client) (more : ℕ) → IsKept tickets s
     → Some c ≡ get s.clients f → c.competes ≡ false → 0 < more → more ≤ 2 ^ 20
     → IsKept (tickets + more) (with_client s f (joined s.pass c more))
 IsKept-joined tickets s f c more kept found idle some few = record {
   total = ap (λ n. n + more) kept.total ∙ sym (total-joined s.clients f c s.pass more (sym found) idle);
-  sound = IsSound-with_client s f c (joined s.pass c more) kept.sound (sym found)
-      (IsBounded-joined s.pass s.last s.clock c more idle some few (kept.sound.clients f c (sym found)));
+  sound = IsSound-joined s f c more kept.sound (sym found) idle some few;
 }
 
 pub IsKept-left : (tickets : ℕ) (s : Stride) (f : ℕ) (c : Client) → IsKept tickets s → Some c ≡ get s.clients f
     → c.competes ≡ true → IsKept (tickets - c.tickets) (with_client s f (left s.pass c))
 IsKept-left tickets s f c kept found competes = record {
   total = let total = kept.total in omega (arith, total-left s.clients f c s.pass (sym found) competes);
-  sound = IsSound-with_client s f c (left s.pass c) kept.sound (sym found)
-      (IsBounded-left s.pass s.last s.clock c competes (kept.sound.clients f c (sym found)));
+  sound = IsSound-left s f c kept.sound (sym found) competes;
 }
 
 pub IsKept-modified : (tickets : ℕ) (s : Stride) (f : ℕ) (c : Client) (more : ℕ) → IsKept tickets s
@@ -368,11 +178,3 @@ near_in_view s now f c e sound found =
     subst (λ (u : Stride). IsNearGlobalPass u (client u f)) e
     (subst (λ (k : Client). IsNearGlobalPass s k) (sym (client_is s f c found))
     (IsNearGlobalPass-client s f c sound found))
-
-pub there_after_write : (s t : Stride) (f : ℕ) (c : Client) → t ≡ with_client s f c → IsSome (get t.clients f)
-there_after_write s t f c e =
-    subst (λ (o : Option Client). IsSome o)
-    (sym (ap (λ (u : Stride). get u.clients f) e ∙ get-insert_same s.clients f c)) refl
-
-pub client_after_write : (s t : Stride) (f : ℕ) (c : Client) → t ≡ with_client s f c → client t f ≡ c
-client_after_write s t f c e = ap (λ (u : Stride). client u f) e ∙ client-with_client_same s f c

@@ -1,17 +1,23 @@
 -- What the map of a table's slots answers, before and after a change of one slot.
-use Rattle.std.proofs.Common.{◌≡◌, ◌≢◌, ℕ, zero, suc, ◌<◌, [], ◌∷◌, set, length, IsSome, Option, None, Some, is_some}
-use Rattle.std.proofs.Common.{count_by, cond, inl, inr, refl, sym, ap, subst, ◌∙◌, arith}
+use Rattle.std.proofs.Common.{◌≡◌, ◌≢◌, ℕ, zero, suc, ◌<◌, [], ◌∷◌, set, length, Option, None, Some, is_some}
+use Rattle.std.proofs.Common.{option_map, IsSome, ◌≤◌}
+use Rattle.std.proofs.Common.{count_by, cond, unwrap_or, inl, inr, refl, sym, ap, subst, ◌∙◌, arith}
 use Rattle.std.proofs.lemmas.Bool.{cases_eq}
 use Rattle.std.proofs.lemmas.List.{get_or-set_same, get_or-set_other, get_or_past}
 use Rattle.std.proofs.lemmas.List.Sums.{sum_by-cons}
 use Rattle.std.specs.Ordering.{nat_cmp}
 use Rattle.std.specs.Cmp.{nat_cmp_total}
-use Rattle.std.specs.FinMap.{FinMap, get, insert, remove, len, get-empty, len-empty, same_map, nat_cmp-IsAntisymmetric}
+use Rattle.std.specs.FinMap.{FinMap, empty, get, insert, remove, len, get-empty, len-empty, same_map}
+use Rattle.std.specs.FinMap.{nat_cmp-IsAntisymmetric}
+use Rattle.slab.specs.Slab.{Slab}
 use Rattle.share_model.specs.declared.stride.Client.{Client}
 use Rattle.share_model.specs.stride.MapLaws.{get-insert_same, get-insert_other, get-remove_same, get-remove_other}
-use Rattle.share_model.specs.stride.MapLaws.{len-insert_new}
+use Rattle.share_model.specs.stride.MapLaws.{len-insert_new, len-insert_found}
+use Rattle.share_model.specs.stride.Moves.{new_client}
 use Rattle.share_stride.specs.declared.table.Slot.{Slot}
-use Rattle.share_stride.specs.Table.{Slots, client_map, slot_at, AreDistinct, HoldsFlow, LacksFlow}
+use Rattle.share_stride.specs.declared.table.Place.{Place}
+use Rattle.share_stride.specs.Table.{Slots, client_map, slot_at, AreDistinct, HoldsFlow, LacksFlow, flow_under}
+use Rattle.share_stride.specs.Table.{IsIndexed, IsWellFormed, Clients, IsPlaceIn, client_at, with_client_at}
 
 AreDistinct-rest : (head : Option Slot) (rest : Slots) → AreDistinct (head ∷ rest) → AreDistinct rest
 AreDistinct-rest head rest distinct = record {
@@ -250,75 +256,267 @@ len-client_map (Some a ∷ rest) distinct =
       sum_by-cons (λ o. cond (is_some o) 1 0) (Some a) rest,
     )
 
--- ---- The same, for a table whose view is a map m
+-- ---- The keys of the flows
 
-ChangesSlot-set : (slots : Slots) (key : ℕ) (was : Slot) (slot : Option Slot) → slot_at slots key ≡ Some was
-    → ChangesSlot slots (set slots key slot) key slot
-ChangesSlot-set slots key was slot at =
-    let within : key < length slots = grind (arith, get_or_past) in
-    record {
-      changed = get_or-set_same slots key slot None within;
-      others = λ other differs. get_or-set_other slots key other slot None differs;
-    }
+holds_under : (slots : Slots) (flow key : ℕ) → flow_under slots key ≡ Some flow → HoldsFlow slots flow key
+holds_under slots flow key =
+    elim (slot_at slots key) as (λ o. slot_at slots key ≡ o → option_map (λ (s : Slot). s.flow) o ≡ Some flow
+    → HoldsFlow slots flow key) [
+      | None ↦ λ at none. absurd (cc)
+      | Some slot ↦ λ at is. record { slot = slot; found = at; has = cc }
+    ] refl
 
-pub lacking_in_view : (slots : Slots) (m : FinMap nat_cmp Client) (flow : ℕ) → client_map slots ≡ m
-    → LacksFlow slots flow → get m flow ≡ None
-lacking_in_view slots m flow view lacks = ap (λ n. get n flow) (sym view) ∙ absent_of_lack slots flow lacks
+flow_of_slot : (slots : Slots) (key : ℕ) (slot : Slot) → slot_at slots key ≡ Some slot
+    → flow_under slots key ≡ Some slot.flow
+flow_of_slot slots key slot at = ap (λ o. option_map (λ (s : Slot). s.flow) o) at
 
-pub lacking_never : (slots : Slots) (m : FinMap nat_cmp Client) (flow : ℕ) → client_map slots ≡ m → LacksFlow slots flow
-    → IsSome (get m flow) → ⊥
-lacking_never slots m flow view lacks there =
-    let none : IsSome {T = Client} None =
-    subst (λ (o : Option Client). IsSome o) (lacking_in_view slots m flow view lacks) there in
+pub key_holds : (slots : Slots) (keys : FinMap nat_cmp ℕ) (flow key : ℕ) → IsIndexed slots keys
+    → get keys flow ≡ Some key → HoldsFlow slots flow key
+key_holds slots keys flow key indexed found = holds_under slots flow key ((indexed.key_is flow key).0 found)
+
+key_of_slot : (slots : Slots) (keys : FinMap nat_cmp ℕ) (key : ℕ) (slot : Slot) → IsIndexed slots keys
+    → slot_at slots key ≡ Some slot → get keys slot.flow ≡ Some key
+key_of_slot slots keys key slot indexed at = (indexed.key_is slot.flow key).1 (flow_of_slot slots key slot at)
+
+pub distinct : (slots : Slots) (keys : FinMap nat_cmp ℕ) → IsIndexed slots keys → AreDistinct slots
+distinct slots keys indexed = record {
+  same_key = λ i j a b at_i at_j same.
+      let first = key_of_slot slots keys i a indexed at_i in
+      let second = key_of_slot slots keys j b indexed at_j in
+      let one = ap (get keys) same in
+      cc;
+}
+
+-- a flow that has no key has no client
+pub absent_without_key : (slots : Slots) (keys : FinMap nat_cmp ℕ) (flow : ℕ) → IsIndexed slots keys
+    → get keys flow ≡ None → get (client_map slots) flow ≡ None
+absent_without_key slots keys flow indexed none =
+    absent_of_lack slots flow (record {
+      none = λ key slot at same.
+          let found = key_of_slot slots keys key slot indexed at in
+          let here = ap (get keys) same in
+          absurd (cc);
+    })
+
+-- nor has one that has no client a key
+pub keyless_of_absent : (slots : Slots) (keys : FinMap nat_cmp ℕ) (flow : ℕ) → IsIndexed slots keys
+    → get (client_map slots) flow ≡ None → get keys flow ≡ None
+keyless_of_absent slots keys flow indexed absent =
+    elim (get keys flow) as (λ o. get keys flow ≡ o → o ≡ None) [
+      | None ↦ λ _. refl
+      | Some key ↦ λ found.
+          let holds = key_holds slots keys flow key indexed found in
+          absurd ((lack_of_absent slots flow (distinct slots keys indexed) absent).none key holds.slot holds.found
+          holds.has)
+    ] refl
+
+-- a change of one slot under which another flow, or none, comes to stand
+flow_under_other : (old new : Slots) (key : ℕ) (slot : Option Slot) → ChangesSlot old new key slot → (other : ℕ)
+    → other ≢ key → flow_under new other ≡ flow_under old other
+flow_under_other old new key slot changes other apart =
+    ap (λ o. option_map (λ (s : Slot). s.flow) o) (changes.others other apart)
+
+flow_under_changed : (old new : Slots) (key : ℕ) (slot : Option Slot) → ChangesSlot old new key slot
+    → flow_under new key ≡ option_map (λ (s : Slot). s.flow) slot
+flow_under_changed old new key slot changes = ap (λ o. option_map (λ (s : Slot). s.flow) o) changes.changed
+
+IsIndexed-same : (old new : Slots) (keys : FinMap nat_cmp ℕ)
+    → ((key : ℕ) → flow_under new key ≡ flow_under old key) → IsIndexed old keys → IsIndexed new keys
+IsIndexed-same old new keys same indexed = record {
+  key_is = λ flow key. (
+    λ found. same key ∙ (indexed.key_is flow key).0 found,
+    λ under. (indexed.key_is flow key).1 (sym (same key) ∙ under),
+  );
+}
+
+pub IsIndexed-add : (old new : Slots) (keys : FinMap nat_cmp ℕ) (key : ℕ) (slot : Slot) → IsIndexed old keys
+    → slot_at old key ≡ None → get keys slot.flow ≡ None → ChangesSlot old new key (Some slot)
+    → IsIndexed new (insert keys slot.flow key)
+IsIndexed-add old new keys key slot indexed vacant keyless changes = record {
+  key_is = λ flow k. (
+    λ found.
+        elim (cases_eq flow slot.flow) [
+          | inl same ↦
+              let here = get-insert_same keys slot.flow key in
+              let there = ap (get (insert keys slot.flow key)) same in
+              let k_is : k ≡ key = cc in
+              ap (flow_under new) k_is ∙ flow_under_changed old new key (Some slot) changes ∙ ap Some (sym same)
+          | inr apart ↦
+              let under = (indexed.key_is flow k).0 (sym (get-insert_other keys slot.flow key flow apart) ∙ found) in
+              let holds = holds_under old flow k under in
+              flow_under_other old new key (Some slot) changes k
+              (λ is. let there = ap (slot_at old) is in let occupied = holds.found in absurd (cc))
+              ∙ under
+        ],
+    λ under.
+        elim (cases_eq k key) [
+          | inl same ↦
+              let flow_is : Some flow ≡ Some slot.flow =
+              sym under ∙ ap (flow_under new) same ∙ flow_under_changed old new key (Some slot) changes in
+              let is : flow ≡ slot.flow = cc in
+              ap (get (insert keys slot.flow key)) is ∙ get-insert_same keys slot.flow key ∙ ap Some (sym same)
+          | inr apart ↦
+              let found = (indexed.key_is flow k).1
+              (sym (flow_under_other old new key (Some slot) changes k apart) ∙ under) in
+              get-insert_other keys slot.flow key flow
+              (λ is. let there = ap (get keys) is in absurd (cc))
+              ∙ found
+        ],
+  );
+}
+
+pub IsIndexed-removal : (old new : Slots) (keys : FinMap nat_cmp ℕ) (flow key : ℕ) → IsIndexed old keys
+    → get keys flow ≡ Some key → ChangesSlot old new key None → IsIndexed new (remove keys flow)
+IsIndexed-removal old new keys flow key indexed stood changes = record {
+  key_is = λ f k. (
+    λ found.
+        elim (cases_eq f flow) [
+          | inl same ↦
+              let gone = get-remove_same keys flow in
+              let there = ap (get (remove keys flow)) same in
+              absurd (cc)
+          | inr apart ↦
+              let was = sym (get-remove_other keys flow f apart) ∙ found in
+              let under = (indexed.key_is f k).0 was in
+              flow_under_other old new key None changes k
+              (λ is. let one = ap (flow_under old) is in let other = (indexed.key_is flow key).0 stood in
+              let f_is : f ≡ flow = cc in absurd (apart f_is))
+              ∙ under
+        ],
+    λ under.
+        elim (cases_eq k key) [
+          | inl same ↦
+              let gone = flow_under_changed old new key None changes in
+              let there = ap (flow_under new) same in
+              absurd (cc)
+          | inr apart ↦
+              let found = (indexed.key_is f k).1
+              (sym (flow_under_other old new key None changes k apart) ∙ under) in
+              get-remove_other keys flow f
+              (λ is. let there = ap (get keys) is in let k_is : k ≡ key = cc in absurd (apart k_is))
+              ∙ found
+        ],
+  );
+}
+
+-- ---- A table as its caller sees it
+
+-- the view of the slots and the keys
+abbrev pub clients_of : Slots → FinMap nat_cmp ℕ → Clients
+clients_of slots keys = record { by_flow = client_map slots; keys = keys }
+
+module _ (slots : Slots) (keys : FinMap nat_cmp ℕ) (now : Clients) (indexed : IsIndexed slots keys)
+    (view : clients_of slots keys ≡ now) (place : Place) (is_place : IsPlaceIn now place) where
+  place_holds : HoldsFlow slots place.flow place.key
+  place_holds =
+      key_holds slots keys place.flow place.key indexed (ap (λ (c : Clients). get c.keys place.flow) view ∙ is_place)
+
+  pub place_filled : None ≡ slot_at slots place.key → ⊥
+  place_filled none = let found = place_holds.found in absurd (cc)
+
+  module _ (was : Slot) (at : Some was ≡ slot_at slots place.key) where
+    place_flow : was.flow ≡ place.flow
+    place_flow =
+        let is : Some was ≡ Some place_holds.slot = at ∙ place_holds.found in
+        let flow_is : was.flow ≡ place_holds.slot.flow = cc in
+        flow_is ∙ place_holds.has
+
+    pub client_found : Some was.client ≡ get now.by_flow place.flow
+    client_found =
+        sym (client_of_slot slots (distinct slots keys indexed) place.key was (sym at))
+        ∙ ap (get (client_map slots)) place_flow
+        ∙ ap (λ (c : Clients). get c.by_flow place.flow) view
+
+    pub client_is_at : was.client ≡ client_at now place
+    client_is_at = ap (λ o. unwrap_or o new_client) client_found
+
+    -- a client that is written in its slot
+    module _ (client : Client) where
+      changes : ChangesSlot slots (set slots place.key (Some (record { flow = was.flow; client = client }))) place.key
+          (Some (record { flow = was.flow; client = client }))
+      changes =
+          let within : place.key < length slots = let there = sym at in grind (arith, get_or_past) in
+          record {
+            changed = get_or-set_same slots place.key (Some (record { flow = was.flow; client = client })) None within;
+            others = λ other differs. get_or-set_other slots place.key other
+                (Some (record { flow = was.flow; client = client })) None differs;
+          }
+
+      pub indexed_written : IsIndexed (set slots place.key (Some (record { flow = was.flow; client = client }))) keys
+      indexed_written =
+          IsIndexed-same slots _ keys (λ key.
+          elim (cases_eq key place.key) [
+            | inl same ↦
+                ap (flow_under (set slots place.key (Some (record { flow = was.flow; client = client })))) same
+                ∙ flow_under_changed slots _ place.key (Some (record { flow = was.flow; client = client })) changes
+                ∙ sym (flow_of_slot slots place.key was (sym at))
+                ∙ ap (flow_under slots) (sym same)
+            | inr apart ↦
+                flow_under_other slots _ place.key (Some (record { flow = was.flow; client = client })) changes key
+                apart
+          ]) indexed
+
+      map_written : client_map (set slots place.key (Some (record { flow = was.flow; client = client })))
+          ≡ insert (client_map slots) place.flow client
+      map_written =
+          let apart = distinct slots keys indexed in
+          client_map-write slots _ place.key (record { flow = was.flow; client = client }) apart
+          (rw place_flow (only_where_held slots place.flow place.key apart place_holds))
+          (λ s s_at. let is : Some s ≡ Some was = sym s_at ∙ sym at in cc) changes
+          ∙ ap (λ f. insert (client_map slots) f client) place_flow
+
+      pub count_written : len keys ≡ len (client_map slots)
+          → len keys ≡ len (client_map (set slots place.key (Some (record { flow = was.flow; client = client }))))
+      count_written count =
+          count
+          ∙ sym (len-insert_found (client_map slots) place.flow was.client client
+          (sym (client_found ∙ ap (λ (c : Clients). get c.by_flow place.flow) (sym view))))
+          ∙ ap len (sym map_written)
+
+      pub view_written : clients_of (set slots place.key (Some (record { flow = was.flow; client = client }))) keys
+          ≡ with_client_at now place client
+      view_written =
+          ap (λ m. record { by_flow = m; keys = keys }) map_written
+          ∙ ap (λ (c : Clients). with_client_at c place client) view
+
+pub IsWellFormed-new : (slab : Slab Slot) (keys : FinMap nat_cmp ℕ) → slab.slots ≡ [] → keys ≡ empty
+    → 64 ≤ slab.capacity → IsWellFormed slab keys
+IsWellFormed-new slab keys no_slots no_keys room = record {
+  indexed = subst (λ (slots : Slots). IsIndexed slots keys) (sym no_slots)
+      (subst (λ (k : FinMap nat_cmp ℕ). IsIndexed [] k) (sym no_keys) (record {
+        key_is = λ flow key. (
+          λ found. let none = get-empty {X = ℕ} nat_cmp flow in absurd (cc),
+          λ under. absurd (cc),
+        );
+      }));
+  count = ap len no_keys ∙ len-empty nat_cmp ℕ ∙ sym (len-empty nat_cmp Client)
+      ∙ sym (ap (λ (slots : Slots). len (client_map slots)) no_slots);
+  room = room;
+}
+
+-- a flow that has no key has no client, as its caller sees it
+pub absent_in_view : (slots : Slots) (keys : FinMap nat_cmp ℕ) (now : Clients) (flow : ℕ) → IsIndexed slots keys
+    → clients_of slots keys ≡ now → None ≡ get keys flow → IsSome (get now.by_flow flow) → ⊥
+absent_in_view slots keys now flow indexed view none there =
+    let absent : get now.by_flow flow ≡ None =
+    sym (ap (λ (c : Clients). get c.by_flow flow) view) ∙ absent_without_key slots keys flow indexed (sym none) in
+    let nothing : IsSome {T = Client} None = subst (λ (o : Option Client). IsSome o) absent there in
     cc
 
-pub found_in_view : (slots : Slots) (m : FinMap nat_cmp Client) (flow key : ℕ) (slot : Slot) → AreDistinct slots
-    → client_map slots ≡ m → HoldsFlow slots flow key → Some slot ≡ slot_at slots key → Some slot.client ≡ get m flow
-found_in_view slots m flow key slot distinct view holds at =
-    let is : Some slot ≡ Some holds.slot = at ∙ holds.found in
-    let flow_is : slot.flow ≡ holds.slot.flow = cc in
-    sym (client_of_slot slots distinct key slot (sym at)) ∙ ap (get (client_map slots)) (flow_is ∙ holds.has)
-    ∙ ap (λ n. get n flow) view
+pub there_in_view : (slots : Slots) (keys : FinMap nat_cmp ℕ) (now : Clients) (flow key : ℕ) → IsIndexed slots keys
+    → clients_of slots keys ≡ now → Some key ≡ get keys flow → IsSome (get now.by_flow flow)
+there_in_view slots keys now flow key indexed view found =
+    let holds = key_holds slots keys flow key indexed (sym found) in
+    let here = client_of_slot slots (distinct slots keys indexed) key holds.slot holds.found in
+    subst (λ (o : Option Client). IsSome o)
+    (sym (sym (ap (λ (c : Clients). get c.by_flow flow) view) ∙ ap (get (client_map slots)) (sym holds.has)
+    ∙ here)) refl
 
-same_flow : (slots : Slots) (flow key : ℕ) (was : Slot) → HoldsFlow slots flow key → slot_at slots key ≡ Some was
-    → was.flow ≡ flow
-same_flow slots flow key was holds at =
-    let is : Some was ≡ Some holds.slot = sym at ∙ holds.found in
-    let flow_is : was.flow ≡ holds.slot.flow = cc in
-    flow_is ∙ holds.has
-
-pub AreDistinct-set : (slots : Slots) (flow key : ℕ) (was : Slot) (client : Client) → AreDistinct slots
-    → HoldsFlow slots flow key → slot_at slots key ≡ Some was
-    → AreDistinct (set slots key (Some (record { flow = was.flow; client = client })))
-AreDistinct-set slots flow key was client distinct holds at =
-    let is = same_flow slots flow key was holds at in
-    AreDistinct-write slots _ key (record { flow = was.flow; client = client }) distinct
-    (rw is (only_where_held slots flow key distinct holds)) (ChangesSlot-set slots key was _ at)
-
-pub client_map-set : (slots : Slots) (m : FinMap nat_cmp Client) (flow key : ℕ) (was : Slot) (client : Client)
-    → AreDistinct slots → client_map slots ≡ m → HoldsFlow slots flow key → slot_at slots key ≡ Some was
-    → client_map (set slots key (Some (record { flow = was.flow; client = client }))) ≡ insert m flow client
-client_map-set slots m flow key was client distinct view holds at =
-    let is = same_flow slots flow key was holds at in
-    client_map-write slots _ key (record { flow = was.flow; client = client }) distinct
-    (rw is (only_where_held slots flow key distinct holds)) (λ s s_at. same_flow slots flow key s holds s_at ∙ sym is)
-    (ChangesSlot-set slots key was _ at)
-    ∙ ap (λ f. insert (client_map slots) f client) is
-    ∙ ap (λ n. insert n flow client) view
-
--- a slot is filled that was empty, by a flow that the map does not have
-pub AreDistinct-add : (old new : Slots) (m : FinMap nat_cmp Client) (key : ℕ) (slot : Slot) → AreDistinct old
-    → client_map old ≡ m → get m slot.flow ≡ None → ChangesSlot old new key (Some slot) → AreDistinct new
-AreDistinct-add old new m key slot distinct view absent changes =
-    AreDistinct-write old new key slot distinct
-    (only_where_lacking old slot.flow key
-    (lack_of_absent old slot.flow distinct (ap (λ n. get n slot.flow) view ∙ absent))) changes
-
-pub client_map-add : (old new : Slots) (m : FinMap nat_cmp Client) (key : ℕ) (slot : Slot) → AreDistinct old
-    → client_map old ≡ m → get m slot.flow ≡ None → slot_at old key ≡ None → ChangesSlot old new key (Some slot)
-    → client_map new ≡ insert m slot.flow slot.client
-client_map-add old new m key slot distinct view absent vacant changes =
-    client_map-write old new key slot distinct
-    (only_where_lacking old slot.flow key
-    (lack_of_absent old slot.flow distinct (ap (λ n. get n slot.flow) view ∙ absent))) (λ was at. absurd (cc)) changes
-    ∙ ap (λ n. insert n slot.flow slot.client) view
+-- a slot is filled that was empty, by a flow that has no client
+pub client_map-add : (old new : Slots) (keys : FinMap nat_cmp ℕ) (key : ℕ) (slot : Slot) → IsIndexed old keys
+    → get (client_map old) slot.flow ≡ None → slot_at old key ≡ None → ChangesSlot old new key (Some slot)
+    → client_map new ≡ insert (client_map old) slot.flow slot.client
+client_map-add old new keys key slot indexed absent vacant changes =
+    let apart = distinct old keys indexed in
+    client_map-write old new key slot apart
+    (only_where_lacking old slot.flow key (lack_of_absent old slot.flow apart absent)) (λ was at. absurd (cc)) changes

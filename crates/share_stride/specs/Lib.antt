@@ -1,3 +1,4 @@
 pub mod Fits
+pub mod Index
 pub mod Queue
 pub mod Table

@@ -1,9 +1,27 @@
 -- What a queue keeps beside its value.
-use Rattle.std.specs.Prelude.{◌≡◌, ℕ}
-use Rattle.share_model.specs.stride.Moves.{Stride, total}
+use Rattle.std.specs.Prelude.{◌≡◌, ℕ, ◌+◌, ◌-◌, ◌*◌, ◌/◌}
+use Rattle.share_model.specs.declared.stride.GlobalPart.{GlobalPart}
+use Rattle.share_model.specs.stride.Moves.{Stride, stride_of, total}
 use Rattle.share_model.specs.stride.Bound.{IsSound}
+use Rattle.share_stride.specs.Table.{Clients}
+
+-- the clients with what they share
+abbrev pub state_of : Clients → GlobalPart → Stride
+state_of clients global =
+    record { clients = clients.by_flow; pass = global.pass; last = global.last; clock = global.clock }
 
 -- the tickets that are kept are the total of those that compete, and each client is within its bound
 pub record IsKept (tickets : ℕ) (s : Stride) : Type 0 where
   pub total : tickets ≡ total s.clients
   pub sound : IsSound s
+
+abbrev pub AreKept : Clients → GlobalPart → Type 0
+AreKept clients global = IsKept global.tickets (state_of clients global)
+
+-- the global pass moves on by what was charged since the last update
+abbrev pub updated : GlobalPart → GlobalPart
+updated global =
+    record global {
+      pass = global.pass + stride_of global.tickets * (global.clock - global.last) / 1024;
+      last = global.clock;
+    }

@@ -2,12 +2,17 @@
 #![tactic(auto)]
 
 mod client;
+mod index;
 mod laws;
+mod moves;
 mod queue;
 mod table;
 #[cfg(test)]
 mod tests;
 
-pub use laws::{moves_commute, next_is_unique, runs_stay_close, shares_stay_close};
+pub use laws::{
+    levelling_levels, moves_commute, moves_in_any_order, next_is_unique, removal_commutes,
+    runs_stay_close, shares_stay_close,
+};
 pub use queue::Queue;
 pub use share_model::{GlobalPart, Position};

@@ -3,13 +3,14 @@ ghost use Rattle.std.specs.Prelude.{◌≡◌, ◌+◌, ◌^◌, ◌<◌, ◌≤
 ghost use Rattle.std.specs.FinMap as map;
 ghost use Rattle.share_model.specs.stride.Moves.{start, add_refusal, global_part, next, IsNext};
 ghost use Rattle.share_model.specs.stride.Moves.{client as model_client, position as model_position};
-ghost use Rattle.share_model.specs.stride.Moves.{add as model_add, remove as model_remove, update as model_update};
+ghost use Rattle.share_model.specs.stride.Moves.{add as model_add, remove as model_remove};
 ghost use Rattle.share_model.specs.stride.Moves.{join as model_join, leave as model_leave, modify as model_modify};
 ghost use Rattle.share_model.specs.stride.Moves.{charge as model_charge};
+ghost use Rattle.share_model.specs.stride.Level.{level_one};
 ghost use Rattle.share_model.specs.stride.Bound.{IsSound, IsNearGlobalPass};
 
-use crate::client;
 use crate::table::{MAX_CLIENTS, Table};
+use crate::{client, moves};
 use share_base::{FlowNo, Refusal};
 use share_model::{GlobalPart, Position};
 use std::alloc::Global;
@@ -26,34 +27,20 @@ use std::marker::Model;
 #[derive(Drop)]
 pub struct Queue {
     clients: Table,
-    // The tickets of those that compete.
-    tickets: u64,
-    pass: u128,
-    last: u64,
-    clock: u64,
+    global: GlobalPart,
 }
 
 impl Model for Queue {
     ghost use Rattle.share_model.specs.stride.Moves.{Stride, coded_stride};
-    ghost use Rattle.share_stride.specs.Queue.{IsKept};
+    ghost use Rattle.share_stride.specs.Queue.{state_of, AreKept};
 
     ghost Value = { Stride };
 
     ghost coded = { coded_stride };
 
-    ghost view = { λ queue. record {
-      clients = queue.clients;
-      pass = queue.pass;
-      last = queue.last;
-      clock = queue.clock;
-    } };
+    ghost view = { λ queue. state_of queue.clients queue.global };
 
-    ghost invariant = { λ queue. IsKept queue.tickets (record {
-      clients = queue.clients;
-      pass = queue.pass;
-      last = queue.last;
-      clock = queue.clock;
-    }) };
+    ghost invariant = { λ queue. AreKept queue.clients queue.global };
 }
 
 impl Queue {
@@ -65,10 +52,12 @@ impl Queue {
     {
         Ok(Queue {
             clients: Table::new(alloc)?,
-            tickets: 0,
-            pass: 0,
-            last: 0,
-            clock: 0,
+            global: GlobalPart {
+                tickets: 0,
+                pass: 0,
+                last: 0,
+                clock: 0,
+            },
         })
     }
 
@@ -88,14 +77,6 @@ impl Queue {
         Ok(())
     }
 
-    // Moves the global pass on by what was charged since the last update.
-    fn update(&mut self)
-        ensures { self.new ≡ model_update self.old }
-    {
-        self.pass += client::share(client::stride_of(self.tickets), self.clock - self.last);
-        self.last = self.clock;
-    }
-
     /// Lets a client that does not compete join with 1 to 2^20 tickets. Its pass begins at the global pass plus its
     /// remain, which is multiplied by the new stride and divided by the old one, rounded down; the first remain of a
     /// client is its stride. It refuses nothing.
@@ -106,9 +87,10 @@ impl Queue {
         requires few { tickets ≤ 2 ^ 20 }
         ensures { self.new ≡ model_join self.old flow tickets }
     {
-        self.update();
-        self.clients.join(flow, self.pass, tickets);
-        self.tickets += u64::from(tickets);
+        match self.clients.find(flow) {
+            None => {}
+            Some(place) => moves::join(&mut self.clients, &mut self.global, place, tickets),
+        }
     }
 
     /// Lets a client that competes leave. It keeps its tickets, its stride, and as its remain by how much its pass is
@@ -118,8 +100,10 @@ impl Queue {
         requires competes { IsTrue (model_client self.old flow).competes }
         ensures { self.new ≡ model_leave self.old flow }
     {
-        self.update();
-        self.tickets -= u64::from(self.clients.leave(flow, self.pass));
+        match self.clients.find(flow) {
+            None => {}
+            Some(place) => moves::leave(&mut self.clients, &mut self.global, place),
+        }
     }
 
     /// Gives a client that competes other tickets, 1 to 2^20: it leaves, and joins with them. It refuses nothing.
@@ -130,9 +114,33 @@ impl Queue {
         requires few { tickets ≤ 2 ^ 20 }
         ensures { self.new ≡ model_modify self.old flow tickets }
     {
-        self.update();
-        let before = self.clients.modify(flow, self.pass, tickets);
-        self.tickets = self.tickets - u64::from(before) + u64::from(tickets);
+        match self.clients.find(flow) {
+            None => {}
+            Some(place) => moves::modify(&mut self.clients, &mut self.global, place, tickets),
+        }
+    }
+
+    /// Levels a client: afterwards it competes with so many tickets, 2^20 at most, or with none does not compete. It
+    /// joins,
+    /// leaves or is modified where that must be so, and nothing changes where it stands so already. It refuses nothing.
+    pub fn level(&mut self, flow: FlowNo, tickets: u32)
+        requires there { IsSome (map.get self.old.clients flow) }
+        requires few { tickets ≤ 2 ^ 20 }
+        ensures { self.new ≡ level_one self.old flow tickets }
+    {
+        match self.clients.find(flow) {
+            None => {}
+            Some(place) => {
+                let client = self.clients.at(&place);
+                if !client.competes && tickets > 0 {
+                    moves::join(&mut self.clients, &mut self.global, place, tickets);
+                } else if client.competes && tickets == 0 {
+                    moves::leave(&mut self.clients, &mut self.global, place);
+                } else if client.competes && client.tickets != tickets {
+                    moves::modify(&mut self.clients, &mut self.global, place, tickets);
+                }
+            }
+        }
     }
 
     /// Charges a client so many units, whether it competes or not, and moves the clock on by as many, to 2^40 at most.
@@ -142,8 +150,10 @@ impl Queue {
         requires clock { self.old.clock + units ≤ 2 ^ 40 }
         ensures { self.new ≡ model_charge self.old flow units }
     {
-        self.clients.charge(flow, units);
-        self.clock += units;
+        match self.clients.find(flow) {
+            None => {}
+            Some(place) => moves::charge(&mut self.clients, &mut self.global, place, units),
+        }
     }
 
     /// Removes a client that does not compete. What it was charged stays in the clock. It refuses nothing.
@@ -168,7 +178,7 @@ impl Queue {
     pub fn contains(&self, flow: FlowNo) -> bool
         ensures { IsTrue result ↔ IsSome (map.get self.now.clients flow) }
     {
-        self.clients.get(flow).is_some()
+        self.clients.find(flow).is_some()
     }
 
     /// Where the client of a flow stands: its tickets, its stride, and its pass while it competes, else its remain.
@@ -179,9 +189,9 @@ impl Queue {
         // Its pass is within its stride times (1 + clock) of the global pass, or its remain of zero.
         ensures near { IsNearGlobalPass self.now (model_client self.now flow) }
     {
-        match self.clients.get(flow) {
+        match self.clients.find(flow) {
             None => client::position(&client::new_client()),
-            Some(client) => client::position(&client),
+            Some(place) => client::position(&self.clients.at(&place)),
         }
     }
 
@@ -193,11 +203,6 @@ impl Queue {
         // Every client is within its bound, and the clock is at most 2^40.
         ensures sound { IsSound self.now }
     {
-        GlobalPart {
-            tickets: self.tickets,
-            pass: self.pass,
-            last: self.last,
-            clock: self.clock,
-        }
+        self.global
     }
 }

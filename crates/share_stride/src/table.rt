@@ -1,13 +1,14 @@
 //! The clients of a queue by their flow numbers, in a slab.
-ghost use Rattle.std.specs.Prelude.{◌≡◌, ◌<◌, ◌≤◌, ◌*◌, ◌^◌, ◌↔◌, pos, ◌-ℤ◌};
+ghost use Rattle.std.specs.Prelude.{◌≡◌, ◌<◌, ◌≤◌, ◌*◌, ◌^◌, ◌↔◌, pos, ◌-ℤ◌, Some, None, false};
 ghost use Rattle.std.specs.Prelude.{IsTrue, IsSome, IfSome, IfNone, IfOk, option_copied};
 ghost use Rattle.std.specs.FinMap as map;
-ghost use Rattle.std.specs.Option.{ForSome};
 ghost use Rattle.share_model.specs.stride.Moves.{IsNext, joined, left, charged, position};
 ghost use Rattle.share_stride.specs.Fits.{IsWithin};
-ghost use Rattle.share_stride.specs.Table.{client_of, HoldsFlow, LacksFlow, ComesBefore, IsEarlier, IsFirstSlot};
+ghost use Rattle.share_stride.specs.Table.{no_clients, client_of, client_at, with_client_at, IsPlaceIn};
+ghost use Rattle.share_stride.specs.Table.{ComesBefore, IsEarlier, IsFirstSlot};
 
 use crate::client;
+use crate::index::Index;
 use share_base::FlowNo;
 use share_model::Client;
 use slab::Slab;
@@ -23,161 +24,171 @@ pub(crate) struct Slot {
     client: Client,
 }
 
-/// Clients by their flow numbers. A contract sees a finite map.
+/// Where the client of a flow stands.
+#[derive(Clone, Copy, Debug)]
+pub(crate) struct Place {
+    flow: FlowNo,
+    key: usize,
+}
+
+/// Clients by their flow numbers. A contract sees two finite maps: of the clients, and of the keys under which they
+/// stand.
 #[derive(Drop)]
 pub(crate) struct Table {
     slots: Slab<Slot>,
+    index: Index,
 }
 
 impl Model for Table {
-    ghost use Rattle.std.specs.Ordering.{nat_cmp};
-    ghost use Rattle.std.specs.Coded.{coded_ℕ};
-    ghost use Rattle.std.specs.FinMap as map;
-    ghost use Rattle.share_model.specs.declared.stride.Client.{Client as ClientValue};
-    ghost use Rattle.share_model.specs.stride.Moves.{coded_client};
+    ghost use Rattle.share_stride.specs.Table.{Clients, coded_clients, client_map, IsWellFormed};
 
-    ghost Value = { map.FinMap nat_cmp ClientValue };
+    ghost Value = { Clients };
 
-    ghost coded = { map.code coded_ℕ coded_client };
+    ghost coded = { coded_clients };
 
-    ghost use Rattle.share_stride.specs.Table.{client_map, IsWellFormed};
+    ghost view = { λ table. record { by_flow = client_map table.slots.slots; keys = table.index } };
 
-    ghost view = { λ table. client_map table.slots.slots };
-
-    ghost invariant = { λ table. IsWellFormed table.slots };
+    ghost invariant = { λ table. IsWellFormed table.slots table.index };
 }
 
 impl Table {
     /// An empty table with room for all its clients. An error where that memory was refused.
     pub(crate) fn new(alloc: Global) -> Result<Table, AllocError>
-        ensures { IfOk result (λ table. table ≡ map.empty) }
+        ensures { IfOk result (λ table. table ≡ no_clients) }
     {
+        let index = Index::new(alloc)?;
         Ok(Table {
             slots: Slab::with_capacity(alloc, MAX_CLIENTS)?,
+            index,
         })
     }
 
     /// How many clients there are.
     pub(crate) fn len(&self) -> usize
-        ensures { result ≡ map.len self.now }
+        ensures { result ≡ map.len self.now.by_flow }
     {
         self.slots.len()
     }
 
-    /// The client of a flow, if it is there.
-    pub(crate) fn get(&self, flow: FlowNo) -> Option<Client>
-        ensures { result ≡ map.get self.now flow }
+    /// The place of a flow's client, if it is there.
+    pub(crate) fn find(&self, flow: FlowNo) -> Option<Place>
+        ensures flow { IfSome result (λ place. place.flow ≡ flow) }
+        ensures found { IfSome result (IsPlaceIn self.now) }
+        ensures there { IsSome result ↔ IsSome (map.get self.now.by_flow flow) }
     {
-        match key_of(&self.slots, flow) {
+        match self.index.get(flow) {
             None => None,
-            Some(key) => match self.slots.get(key) {
-                None => None,
-                Some(slot) => Some(slot.client),
-            },
+            Some(key) => Some(Place { flow, key }),
         }
     }
 
-    /// Lets the client of a flow join with so many tickets.
-    pub(crate) fn join(&mut self, flow: FlowNo, global_pass: u128, tickets: u32)
-        requires there { IsSome (map.get self.old flow) }
+    /// The client at a place.
+    pub(crate) fn at(&self, place: &Place) -> Client
+        requires { IsPlaceIn self.now place.now }
+        ensures { Some result ≡ map.get self.now.by_flow place.now.flow }
+    {
+        match self.slots.get(place.key) {
+            None => client::new_client(),
+            Some(slot) => slot.client,
+        }
+    }
+
+    /// Lets the client at a place, which does not compete, join with so many tickets.
+    pub(crate) fn enter(&mut self, place: Place, global_pass: u128, tickets: u32)
+        requires place { IsPlaceIn self.old place }
+        requires idle { (client_at self.old place).competes ≡ false }
         requires some { 0 < tickets }
         requires pass { global_pass ≤ 2 ^ 80 }
-        requires stride { ForSome (map.get self.old flow) (λ c. c.stride ≤ 2 ^ 40) }
-        requires remain { ForSome (map.get self.old flow)
-            (λ c. IsWithin c.remain (c.stride * 2 ^ 41)) }
+        requires stride { (client_at self.old place).stride ≤ 2 ^ 40 }
+        requires remain { IsWithin (client_at self.old place).remain
+            ((client_at self.old place).stride * 2 ^ 41) }
         ensures { self.new
-            ≡ map.insert self.old flow (joined global_pass (client_of self.old flow) tickets) }
+            ≡ with_client_at self.old place (joined global_pass (client_at self.old place) tickets) }
     {
-        match key_of(&self.slots, flow) {
+        match self.slots.get_mut(place.key) {
             None => {}
-            Some(key) => match self.slots.get_mut(key) {
-                None => {}
-                Some(slot) => slot.client = client::joined(global_pass, &slot.client, tickets),
-            },
+            Some(slot) => slot.client = client::joined(global_pass, &slot.client, tickets),
         }
     }
 
-    /// Lets the client of a flow leave, and answers its tickets.
-    pub(crate) fn leave(&mut self, flow: FlowNo, global_pass: u128) -> u32
-        requires there { IsSome (map.get self.old flow) }
+    /// Lets the client at a place, which competes, leave, and answers its tickets.
+    pub(crate) fn leave(&mut self, place: Place, global_pass: u128) -> u32
+        requires place { IsPlaceIn self.old place }
+        requires competes { IsTrue (client_at self.old place).competes }
         requires pass { global_pass ≤ 2 ^ 80 }
-        requires distance { ForSome (map.get self.old flow)
-            (λ c. IsWithin (c.pass -ℤ pos global_pass) (2 ^ 81)) }
-        ensures tickets { result ≡ (client_of self.old flow).tickets }
+        requires distance { IsWithin ((client_at self.old place).pass -ℤ pos global_pass) (2 ^ 81) }
+        ensures tickets { result ≡ (client_at self.old place).tickets }
         ensures left { self.new
-            ≡ map.insert self.old flow (left global_pass (client_of self.old flow)) }
+            ≡ with_client_at self.old place (left global_pass (client_at self.old place)) }
     {
-        match key_of(&self.slots, flow) {
+        match self.slots.get_mut(place.key) {
             None => 0,
-            Some(key) => match self.slots.get_mut(key) {
-                None => 0,
-                Some(slot) => {
-                    slot.client = client::left(global_pass, &slot.client);
-                    slot.client.tickets
-                }
-            },
+            Some(slot) => {
+                slot.client = client::left(global_pass, &slot.client);
+                slot.client.tickets
+            }
         }
     }
 
-    /// Gives the client of a flow other tickets: it leaves, and joins with them. Answers those that it had.
-    pub(crate) fn modify(&mut self, flow: FlowNo, global_pass: u128, tickets: u32) -> u32
-        requires there { IsSome (map.get self.old flow) }
+    /// Gives the client at a place, which competes, other tickets: it leaves, and joins with them. Answers those that
+    /// it
+    /// had.
+    pub(crate) fn modify(&mut self, place: Place, global_pass: u128, tickets: u32) -> u32
+        requires place { IsPlaceIn self.old place }
+        requires competes { IsTrue (client_at self.old place).competes }
         requires some { 0 < tickets }
         requires pass { global_pass ≤ 2 ^ 80 }
-        requires stride { ForSome (map.get self.old flow) (λ c. c.stride ≤ 2 ^ 40) }
-        requires distance { ForSome (map.get self.old flow)
-            (λ c. IsWithin (c.pass -ℤ pos global_pass) (c.stride * 2 ^ 41)) }
-        ensures tickets { result ≡ (client_of self.old flow).tickets }
-        ensures modified { self.new ≡ map.insert self.old flow
-            (joined global_pass (left global_pass (client_of self.old flow)) tickets) }
+        requires stride { (client_at self.old place).stride ≤ 2 ^ 40 }
+        requires distance { IsWithin ((client_at self.old place).pass -ℤ pos global_pass)
+            ((client_at self.old place).stride * 2 ^ 41) }
+        ensures tickets { result ≡ (client_at self.old place).tickets }
+        ensures modified { self.new ≡ with_client_at self.old place
+            (joined global_pass (left global_pass (client_at self.old place)) tickets) }
     {
-        match key_of(&self.slots, flow) {
+        match self.slots.get_mut(place.key) {
             None => 0,
-            Some(key) => match self.slots.get_mut(key) {
-                None => 0,
-                Some(slot) => {
-                    let before = slot.client.tickets;
-                    let client = client::left(global_pass, &slot.client);
-                    slot.client = client::joined(global_pass, &client, tickets);
-                    before
-                }
-            },
+            Some(slot) => {
+                let before = slot.client.tickets;
+                let client = client::left(global_pass, &slot.client);
+                slot.client = client::joined(global_pass, &client, tickets);
+                before
+            }
         }
     }
 
-    /// Charges the client of a flow so many units.
-    pub(crate) fn charge(&mut self, flow: FlowNo, units: u64)
-        requires there { IsSome (map.get self.old flow) }
+    /// Charges the client at a place so many units.
+    pub(crate) fn charge(&mut self, place: Place, units: u64)
+        requires place { IsPlaceIn self.old place }
         requires units { units ≤ 2 ^ 40 }
-        requires stride { ForSome (map.get self.old flow) (λ c. c.stride ≤ 2 ^ 40) }
-        requires place { ForSome (map.get self.old flow)
-            (λ c. IsWithin (position c).place (2 ^ 83)) }
-        ensures { self.new ≡ map.insert self.old flow (charged (client_of self.old flow) units) }
+        requires stride { (client_at self.old place).stride ≤ 2 ^ 40 }
+        requires fits { IsWithin (position (client_at self.old place)).place (2 ^ 83) }
+        ensures { self.new
+            ≡ with_client_at self.old place (charged (client_at self.old place) units) }
     {
-        match key_of(&self.slots, flow) {
+        match self.slots.get_mut(place.key) {
             None => {}
-            Some(key) => match self.slots.get_mut(key) {
-                None => {}
-                Some(slot) => slot.client = client::charged(&slot.client, units),
-            },
+            Some(slot) => slot.client = client::charged(&slot.client, units),
         }
     }
 
-    /// Adds the client of a flow that has none, where there are fewer than 64.
+    /// Adds the client of a flow that has none, one that does not compete, where there are fewer than 64.
     pub(crate) fn add(&mut self, flow: FlowNo, client: Client)
-        requires absent { map.get self.old flow ≡ None }
-        requires room { map.len self.old < 64 }
-        ensures { self.new ≡ map.insert self.old flow client }
+        requires absent { map.get self.old.by_flow flow ≡ None }
+        requires idle { client.competes ≡ false }
+        requires room { map.len self.old.by_flow < 64 }
+        ensures { self.new.by_flow ≡ map.insert self.old.by_flow flow client }
     {
-        self.slots.insert_reserved(Slot { flow, client });
+        let key = self.slots.insert_reserved(Slot { flow, client });
+        self.index.insert(flow, key);
     }
 
-    /// Removes the client of a flow.
+    /// Removes the client of a flow, which does not compete.
     pub(crate) fn remove(&mut self, flow: FlowNo)
-        requires { IsSome (map.get self.old flow) }
-        ensures { self.new ≡ map.remove self.old flow }
+        requires there { IsSome (map.get self.old.by_flow flow) }
+        requires idle { (client_of self.old.by_flow flow).competes ≡ false }
+        ensures { self.new.by_flow ≡ map.remove self.old.by_flow flow }
     {
-        match key_of(&self.slots, flow) {
+        match self.index.remove(flow) {
             None => {}
             Some(key) => {
                 self.slots.try_remove(key);
@@ -187,26 +198,13 @@ impl Table {
 
     /// The next flow.
     pub(crate) fn least(&self) -> Option<FlowNo>
-        ensures { IsNext self.now result }
+        ensures { IsNext self.now.by_flow result }
     {
         match least_slot(&self.slots) {
             None => None,
             Some(slot) => Some(slot.flow),
         }
     }
-}
-
-// The key of the slot that has this flow.
-fn key_of(slots: &Slab<Slot>, flow: FlowNo) -> Option<usize>
-    ensures found { IfSome result (λ key. HoldsFlow slots.now.slots flow key) }
-    ensures absent { IfNone result (LacksFlow slots.now.slots flow) }
-{
-    for (key, slot) in slots.iter() {
-        if slot.flow == flow {
-            return Some(key);
-        }
-    }
-    None
 }
 
 // The competing slot that comes first.

@@ -1,7 +1,9 @@
 //! Worked figures on a queue, and a long run of moves beside a plain model.
+mod guarded;
 mod plain;
 
 use crate::Queue;
+use guarded::{add, charge, join, least, leave, level, modify, position, remove};
 use plain::Plain;
 use share_base::{FlowNo, Refusal};
 use share_model::Position;
@@ -10,86 +12,6 @@ use std::process::Abort;
 use std::test::Fail;
 
 const STRIDE_OF_ONE: i128 = 1_099_511_627_776;
-
-// The calls, each made only where it may be, and whether it was.
-fn add(queue: &mut Queue, flow: u32) -> bool {
-    let ready = !queue.contains(FlowNo(flow));
-    ready && queue.add(FlowNo(flow)).is_ok()
-}
-
-fn join(queue: &mut Queue, flow: u32, tickets: u32) -> bool {
-    let flow = FlowNo(flow);
-    let ready = queue.contains(flow)
-        && !queue.position(flow).competing
-        && tickets > 0
-        && tickets <= 1_048_576;
-    if ready {
-        queue.join(flow, tickets);
-    }
-    ready
-}
-
-fn leave(queue: &mut Queue, flow: u32) -> bool {
-    let flow = FlowNo(flow);
-    let ready = queue.contains(flow) && queue.position(flow).competing;
-    if ready {
-        queue.leave(flow);
-    }
-    ready
-}
-
-fn modify(queue: &mut Queue, flow: u32, tickets: u32) -> bool {
-    let flow = FlowNo(flow);
-    let ready = queue.contains(flow)
-        && queue.position(flow).competing
-        && tickets > 0
-        && tickets <= 1_048_576;
-    if ready {
-        queue.modify(flow, tickets);
-    }
-    ready
-}
-
-fn charge(queue: &mut Queue, flow: u32, units: u64) -> bool {
-    let flow = FlowNo(flow);
-    let clock = queue.global().clock;
-    let ready = queue.contains(flow) && units <= 1_099_511_627_776 - clock;
-    if ready {
-        queue.charge(flow, units);
-    }
-    ready
-}
-
-fn remove(queue: &mut Queue, flow: u32) -> bool {
-    let flow = FlowNo(flow);
-    let ready = queue.contains(flow) && !queue.position(flow).competing;
-    if ready {
-        queue.remove(flow);
-    }
-    ready
-}
-
-// A client that is not there stands nowhere.
-fn position(queue: &Queue, flow: u32) -> Position {
-    let flow = FlowNo(flow);
-    if queue.contains(flow) {
-        queue.position(flow)
-    } else {
-        Position {
-            competing: false,
-            tickets: 0,
-            stride: 0,
-            place: 0,
-        }
-    }
-}
-
-fn least(queue: &Queue) -> u32 {
-    match queue.least() {
-        None => 0,
-        Some(flow) => flow.number(),
-    }
-}
 
 fn stands(competing: bool, tickets: u32, stride: u64, place: i128) -> Position {
     Position {
@@ -252,6 +174,51 @@ fn charged_late(rt: HostRuntime) -> Result<(), Fail> {
     Ok(())
 }
 
+// A levelling joins, leaves and changes; where nothing must change there is no update of the global pass.
+#[test]
+fn levels_by_tickets(rt: HostRuntime) -> Result<(), Fail> {
+    let mut queue = Queue::new(rt.alloc())?;
+    assert!(rt;
+        add(&mut queue, 1)
+            && add(&mut queue, 2)
+            && level(&mut queue, 1, 1)
+            && level(&mut queue, 2, 1)
+    );
+    assert_eq!(rt;
+        position(&queue, 1),
+        stands(true, 1, 1_099_511_627_776, STRIDE_OF_ONE)
+    );
+    assert!(rt; charge(&mut queue, 1, 1024) && level(&mut queue, 1, 1));
+    assert_eq!(rt; (queue.global().pass, queue.global().last), (0, 0));
+    assert!(rt; level(&mut queue, 2, 0));
+    assert_eq!(rt;
+        position(&queue, 2),
+        stands(false, 1, 1_099_511_627_776, 549_755_813_888)
+    );
+    assert!(rt; charge(&mut queue, 1, 1024) && level(&mut queue, 2, 0));
+    assert_eq!(rt;
+        (queue.global().pass, queue.global().last),
+        (549_755_813_888, 1024)
+    );
+    assert!(rt; level(&mut queue, 1, 2));
+    assert_eq!(rt;
+        position(&queue, 1),
+        stands(true, 2, 549_755_813_888, 2_473_901_162_496)
+    );
+    assert_eq!(rt;
+        (queue.global().pass, queue.global().last),
+        (1_649_267_441_664, 2048)
+    );
+    assert!(rt; level(&mut queue, 2, 3));
+    assert_eq!(rt;
+        position(&queue, 2),
+        stands(true, 3, 366_503_875_925, 1_832_519_379_626)
+    );
+    assert_eq!(rt; queue.global().tickets, 5);
+    assert_eq!(rt; least(&queue), 2);
+    Ok(())
+}
+
 // Sixty-four flows join from the last to the first: a tie goes to the least number.
 #[test]
 fn ties_by_number(rt: HostRuntime) -> Result<(), Fail> {
@@ -289,6 +256,7 @@ pub(crate) enum Move {
     Join(u32),
     Leave,
     Modify(u32),
+    Level(u32),
     Charge(u64),
     Remove,
 }
@@ -300,6 +268,7 @@ fn make(queue: &mut Queue, flow: u32, step: Move) -> bool {
         Move::Join(tickets) => join(queue, flow, tickets),
         Move::Leave => leave(queue, flow),
         Move::Modify(tickets) => modify(queue, flow, tickets),
+        Move::Level(tickets) => level(queue, flow, tickets),
         Move::Charge(units) => charge(queue, flow, units),
         Move::Remove => remove(queue, flow),
     }
@@ -313,12 +282,13 @@ fn drawn(number: u64) -> Move {
         1_048_576
     };
     let tickets = (number >> 42) as u32 % most + 1;
-    match (number >> 33) as u32 % 12 {
+    match (number >> 33) as u32 % 14 {
         0 => Move::Add,
         1 | 2 => Move::Join(tickets),
         3 => Move::Leave,
         4 => Move::Modify(tickets),
         5 => Move::Remove,
+        6 | 7 => Move::Level(tickets / 2),
         _ => Move::Charge((number >> 20) % 4096),
     }
 }

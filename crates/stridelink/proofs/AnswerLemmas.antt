@@ -1,7 +1,7 @@
 -- The answers to single lines.
 use Rattle.std.proofs.Common.{◌≡◌, ◌≢◌, ◌≤◌, ◌+◌, ◌-◌, inl, inr, ℕ, Bool, true, false, List, ◌++◌, length, take}
 use Rattle.std.proofs.Common.{Result, Ok, Err, arith, sym, ◌∙◌, ap, subst, IfOk, Option, IsTrue, ◌↔◌}
-use Rattle.std.proofs.Common.{if◌then◌else◌}
+use Rattle.std.proofs.Common.{if◌then◌else◌, true≢false}
 use Rattle.std.proofs.Math.Seq.{take-append-add}
 use Rattle.share_base.specs.declared.refusal.Refusal.{Refusal}
 use Rattle.share_base.specs.declared.refusal.Refusal.TheVariants.{NoMemory, Spent, Syntax}
@@ -48,10 +48,10 @@ module _ {W : Type 0} (told : W → Option Told) where
 
   no_memory_by : (old : Seen W) (bytes : List ℕ) (l : Line) (r : Refusal) → reading bytes ≡ Ok l → is_send l ≡ true
       → r ≡ (if is_spent old then Spent else NoMemory) → Says told old bytes (line_text (Replied (Refused r))) old
-  no_memory_by old bytes (Change c) r is send given = cc
+  no_memory_by old bytes (Change c) r is send given = absurd (true≢false (sym send))
   no_memory_by old bytes (Send flow body) r is send given = no_memory-says told old bytes flow body r is given
-  no_memory_by old bytes (TurnLine most) r is send given = cc
-  no_memory_by old bytes TornLine r is send given = cc
+  no_memory_by old bytes (TurnLine most) r is send given = absurd (true≢false (sym send))
+  no_memory_by old bytes TornLine r is send given = absurd (true≢false (sym send))
 
   pub unread_said : (old : Seen W) (bytes : List ℕ) (e r : Refusal) (spent : Bool) → Reads bytes (Err e)
       → spent ≡ is_spent old → r ≡ (if is_syntax e then Syntax else if spent then Spent else e)

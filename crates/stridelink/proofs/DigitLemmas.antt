@@ -1,14 +1,14 @@
 -- How digits are decoded, two for each byte.
 use Rattle.std.proofs.Common.{◌≡◌, ◌<◌, ◌≤◌, ◌+◌, ◌*◌, ◌%◌, ◌⊎◌, inl, inr, ℕ, Bool, true, false, cond, nat_eq, nat_le}
-use Rattle.std.proofs.Common.{◌&&◌, suc, zero, List, [], ◌∷◌, ◌++◌, length, take, drop, set, get_or, None, Some}
+use Rattle.std.proofs.Common.{◌&&◌, suc, List, [], ◌∷◌, ◌++◌, length, take, drop, set, get_or, None, Some}
 use Rattle.std.proofs.Common.{max, arith, sym, ◌∙◌, ap, subst, refl}
 use mathlib.Core.List.{append_assoc}
 use Rattle.std.specs.List.{list_all}
 use Rattle.std.proofs.Math.Seq.{drop-cons}
-use Rattle.std.proofs.lemmas.List.{append-nil, drop_all, take_more_set}
+use Rattle.std.proofs.lemmas.List.{take_more_set}
 use Rattle.std.proofs.lemmas.Bool.Decides.{nat_tests, leb_tells}
 use Rattle.share_model.specs.text.Lines.{is_hex_digit, hex_value, is_pairs, from_pairs, payload_of}
-use Rattle.stridelink.specs.Digits.{value_or_255}
+use Rattle.stridelink.specs.Digits.{value_or_255, DecodedUpTo, DecodesUpTo}
 
 and_false : (b : Bool) → (b && false) ≡ false
 and_false true = refl
@@ -57,11 +57,6 @@ no_payload w e = not_pairs w (short_or_odd w e)
 
 pub not_decoded : (w : List ℕ) → has_pairs w ≡ false → payload_of w ≡ None
 not_decoded w e = rw (no_payload w e) refl
-
--- the digits from a place on are as good as all of them, and the bytes before it are in the buffer
-pub record DecodedUpTo (w bytes : List ℕ) (place : ℕ) : Type 0 where
-  pub pairs : is_pairs w ≡ is_pairs (drop (2 * place) w)
-  pub decoded : from_pairs w ≡ take place bytes ++ from_pairs (drop (2 * place) w)
 
 pub decoded_none : (w bytes : List ℕ) → DecodedUpTo w bytes 0
 decoded_none w bytes = record { pairs = refl; decoded = refl }
@@ -128,11 +123,6 @@ bad_pair w bytes place high low so h eh el (inr bad) =
     refl in
     rw (none, and_false (nat_le 2 (length w))) refl
 
--- the digits before a place are decoded, where the greatest of their values is one of a digit; else the word is none
-pub record DecodesUpTo (w bytes : List ℕ) (place greatest : ℕ) : Type 0 where
-  pub good : greatest < 16 → DecodedUpTo w bytes place
-  pub bad : 15 < greatest → payload_of w ≡ None
-
 pub decodes_none : (w bytes : List ℕ) → DecodesUpTo w bytes 0 0
 decodes_none w bytes = record { good = λ h. decoded_none w bytes; bad = λ h. absurd (omega arith) }
 
@@ -165,16 +155,6 @@ decodes_more w bytes place high low greatest next value so h room eh el is store
       let more : 15 < max (max high low) greatest = omega arith in
       bad_by_greatest w bytes place high low greatest so h eh el more (tells_few greatest) (tells_few high);
 }
-
-pub decoded_all : (w bytes : List ℕ) (count : ℕ) → DecodedUpTo w bytes count → 2 ≤ length w → length w ≡ 2 * count
-    → payload_of w ≡ Some (take count bytes)
-decoded_all w bytes count so long whole =
-    let none : drop (2 * count) w ≡ [] = drop_all (2 * count) w (omega arith) in
-    let t : nat_le 2 (length w) ≡ true = grind (arith, nat_tests) in
-    let pairs : is_pairs w ≡ true = so.pairs ∙ ap is_pairs none in
-    let decoded : from_pairs w ≡ take count bytes = so.decoded ∙ ap (λ r. take count bytes ++ from_pairs r) none
-    ∙ append-nil _ in
-    rw (t, pairs, decoded) refl
 
 pub even_payload : (w : List ℕ) (r : Bool) → r ≡ list_all is_hex_digit w → has_pairs w ≡ true → r
     ≡ (nat_le 2 (length w) && is_pairs w)

@@ -186,15 +186,6 @@ module _ {W : Type 0} (told : W → Option Told) where
     begins = λ p h ls. begins_cut old.life old.rates p xs ys spoke.text ls e (spoke.begins p h ls);
   }
 
-  -- nothing of the answer was printed
-  pub spoke_nothing : (a b : Option (List ℕ)) (x : List ℕ) (old : Seen W) (line : List ℕ) → SpooledPart a x b []
-      → SpokePart told a x b old line
-  spoke_nothing a b x old line s = record {
-    text = [];
-    spooled = s;
-    begins = λ p h ls. record { lacks = []; tail = talk old.life old.rates p [] (line ∷ ls); texts = refl };
-  }
-
   -- the answer waits, and a part of it was not printed
   pub spoke_part : (a b c : Option (List ℕ)) (x y : List ℕ) (old : Seen W) (line : List ℕ) (new : Seen W)
       → Spoke told a x b y old line new → SpooledPart b y c [] → SpokePart told a x c old line

@@ -5,7 +5,7 @@ use mathlib.Core.List.{append_assoc}
 use Rattle.std.specs.Io.KnownBytes.{Appends}
 use Rattle.std.proofs.KnownBytes.{Appends-trans}
 use Rattle.std.proofs.Math.Seq.{take-add, take-append-add}
-use Rattle.std.proofs.lemmas.List.{length-set, take-append-drop, take-append-le, take_all, take_min, take_more}
+use Rattle.std.proofs.lemmas.List.{length-set, take-append-drop, take-append-le, take_min, take_more}
 use Rattle.std.proofs.lemmas.List.{take_more_set}
 use Rattle.share_model.specs.declared.writer.Answer.{Answer}
 use Rattle.share_model.specs.io.Calls.{Offers, OfferRefused}
@@ -57,9 +57,6 @@ pub record SpelledUpTo (bytes text : List ℕ) (size place : ℕ) : Type 0 where
   pub kept : length text ≡ size
   pub digits : take (2 * place) text ≡ hex (take place bytes)
 
-pub spelled_none : (bytes text : List ℕ) → SpelledUpTo bytes text (length text) 0
-spelled_none bytes text = record { kept = refl; digits = refl }
-
 pub spelled_more : (bytes text : List ℕ) (size place high low : ℕ) → SpelledUpTo bytes text size place
     → place < length bytes → 2 * place + 1 < size → high ≡ hex_digit (get_or bytes place 0 / 16) → low
     ≡ hex_digit (get_or bytes place 0 % 16)
@@ -80,10 +77,6 @@ spelled_more bytes text size place high low so inside room eh el =
     let joined : (take (2 * place) text ++ high ∷ []) ++ low ∷ [] ≡ hex (take place bytes) ++ high ∷ low ∷ [] =
     append_assoc (take (2 * place) text) (high ∷ []) (low ∷ []) ∙ ap (λ r. r ++ high ∷ low ∷ []) so.digits in
     record { kept = second ∙ first ∙ kept; digits = written ∙ joined ∙ sym spelled }
-
-pub spelled_all : (bytes text : List ℕ) (size : ℕ) → SpelledUpTo bytes text size (length bytes)
-    → take (2 * length bytes) text ≡ hex bytes
-spelled_all bytes text size so = so.digits ∙ ap hex (take_all (length bytes) bytes (omega arith))
 
 -- Pieces
 
@@ -124,9 +117,3 @@ hex_part a before now bytes at count so part =
     subst P (sym (in_parts bytes at count))
     (part_longer a now _ (hex (drop (at + count) bytes))
     (part_after a before now _ _ so.appends (subst Q size part)))
-
-pub hex_all : (a now : Option (List ℕ)) (bytes : List ℕ) (at : ℕ) → HexUpTo a now bytes at → length bytes ≤ at
-    → Appends a now (hex bytes)
-hex_all a now bytes at so end =
-    let P : List ℕ → Type 0 = λ r. Appends a now (hex r) in
-    subst P (take_all at bytes end) so.appends

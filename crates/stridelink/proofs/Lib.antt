@@ -4,6 +4,7 @@ mod ChunkLemmas
 mod DigitLemmas
 mod FeedLemmas
 mod HexLemmas
+mod LaneLemmas
 mod LineLemmas
 mod NumberLemmas
 mod PrintLemmas
@@ -12,6 +13,6 @@ mod ReadingLemmas
 mod RunLemmas
 mod SpoolLemmas
 mod StopLemmas
-pub mod TextLemmas
+mod TextLemmas
 mod WentLemmas
 mod WordLemmas

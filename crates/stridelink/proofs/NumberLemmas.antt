@@ -1,7 +1,6 @@
 -- A number is read digit by digit.
 use Rattle.std.proofs.Common.{◌≡◌, ◌<◌, ◌≤◌, ◌+◌, ◌-◌, ◌*◌, ◌^◌, ℕ, true, false, List, [], ◌∷◌, length, drop, get_or}
-use Rattle.std.proofs.Common.{zero, suc, Option, None, Some, codes, decimal, arith, sym, ◌∙◌, ap, refl, ◌⊎◌, inl, inr}
-use Rattle.std.proofs.Common.{lit<}
+use Rattle.std.proofs.Common.{zero, suc, Option, None, Some, decimal, arith, sym, ◌∙◌, ap, refl, ◌⊎◌, inl, inr}
 use Rattle.std.specs.Char.{digit_value}
 use Rattle.std.specs.Fmt.{digits}
 use Rattle.std.specs.Str.Parse.{AllDigits, digits_value, digits_value_after}
@@ -21,18 +20,11 @@ pub record ReadUpTo (w : List ℕ) (at value : ℕ) : Type 0 where
   pub digits : AllDigits 10 (drop at w) → AllDigits 10 w
   pub fits : value < 2 ^ 64
 
-pub read_none : (w : List ℕ) → ReadUpTo w 0 0
-read_none w = record { value_is = refl; digits = λ h. h; fits = lit< tt }
-
 -- where no number has this decimal, none is read
 not_decimal : (w : List ℕ) (o : Option ℕ) → number_of w ≡ o → ((n : ℕ) → IsNumber n → w ≡ decimal n → ⊥) → number_of w
     ≡ None
 not_decimal w None e h = e
 not_decimal w (Some n) e h = let p = number_of-only w n e in absurd (h n p.0 p.1)
-
-decimal_zero : decimal 0 ≡ codes "0"
-unfolding digits
-decimal_zero = refl
 
 begins_high : (w : List ℕ) → 48 < get_or w 0 0 → 0 < length w → begins_number w ≡ true
 begins_high w high some = grind (arith, nat_tests)
@@ -63,18 +55,6 @@ digit_value-digit d low high = grind (arith, nat_tests)
 
 at_digit : (w : List ℕ) (at : ℕ) → at < length w → drop at w ≡ get_or w at 0 ∷ drop (at + 1) w
 at_digit w at h = let on : suc at ≡ at + 1 = omega arith in drop-cons w at 0 h ∙ ap (λ n. get_or w at 0 ∷ drop n w) on
-
-pub read_more : (w : List ℕ) (at value next : ℕ) → ReadUpTo w at value → at < length w → 48 ≤ get_or w at 0
-    → get_or w at 0 ≤ 57 → next ≡ value * 10 + (get_or w at 0 - 48) → next < 2 ^ 64 → ReadUpTo w (at + 1) next
-read_more w at value next so h low high e few =
-    let d = digit_value-digit (get_or w at 0) low high in
-    let small : digit_value (get_or w at 0) < 10 = omega arith in record {
-      value_is = so.value_is ∙ ap (digits_value_after 10 value) (at_digit w at h)
-          ∙ ap (λ n. digits_value_after 10 (value * 10 + n) (drop (at + 1) w)) d
-          ∙ ap (λ n. digits_value_after 10 n (drop (at + 1) w)) (sym e);
-      digits = λ rest. so.digits (rw (at_digit w at h) (small, rest));
-      fits = few;
-    }
 
 after_le : (n : ℕ) (ds : List ℕ) → n ≤ digits_value_after 10 n ds
 after_le n [] = omega arith

@@ -1,13 +1,13 @@
 -- How printing goes on.
-use Rattle.std.proofs.Common.{◌≡◌, ◌<◌, ◌≤◌, ◌+◌, ℕ, List, [], ◌++◌, length, take, drop, Option, None, Some}
+use Rattle.std.proofs.Common.{◌≡◌, ◌≤◌, ◌+◌, ℕ, List, [], ◌++◌, length, take, drop, Option, None, Some}
 use Rattle.std.proofs.Common.{option_map, arith, sym, ◌∙◌, ap, subst, refl, ◌-◌}
 use mathlib.Core.List.{append_assoc}
 use Rattle.std.specs.Io.KnownBytes.{Appends}
 use Rattle.std.proofs.Math.Seq.{take-add}
-use Rattle.std.proofs.lemmas.List.{append-nil, length-drop, length-take, take_all}
+use Rattle.std.proofs.lemmas.List.{append-nil, length-drop, take_all}
 use Rattle.share_model.specs.declared.writer.Answer.TheVariants.{Accepted}
 use Rattle.share_model.specs.io.Told.{Told, WasTold, with_first}
-use Rattle.stridelink.specs.Printing.{bytes_told, AppendsPart}
+use Rattle.stridelink.specs.Printing.{bytes_told}
 
 pub appends_none : (o : Option (List ℕ)) (bs : List ℕ) → bs ≡ [] → Appends o o bs
 appends_none None bs e = tt
@@ -41,21 +41,3 @@ put_more a before after bs at k so told =
     let fits : k ≤ length (drop at bs) = rw rest at told.0 in
     let few : at + k ≤ length bs = omega (arith, so.few) in
     record { few = few; appends = appends_told a before after bs at k so.appends (rw rest at told.1) }
-
--- nothing more was appended
-pub put_nothing : (a : Option (List ℕ)) (before after : Option Told) (bs : List ℕ) (at : ℕ) → PutUpTo a before bs at
-    → after ≡ before → AppendsPart a (bytes_told after) bs
-put_nothing a before after bs at so e =
-    (at, let P : Option Told → Type 0 = λ o. Appends a (bytes_told o) (take at bs) in subst P (sym e) so.appends)
-
-pub put_zero : (a : Option (List ℕ)) (before after : Option Told) (bs : List ℕ) (at k : ℕ) → PutUpTo a before bs at
-    → WasTold before (take (length bs - at) (drop at bs)) (Accepted k) after → AppendsPart a (bytes_told after) bs
-put_zero a before after bs at k so told = (at + k, (put_more a before after bs at k so told).appends)
-
-pub put_all : (a : Option (List ℕ)) (now : Option Told) (bs : List ℕ) (at : ℕ) → PutUpTo a now bs at → length bs ≤ at
-    → Appends a (bytes_told now) bs
-put_all a now bs at so end = let P : List ℕ
-    → Type 0 = λ r. Appends a (bytes_told now) r in subst P (take_all at bs end) so.appends
-
-pub nonempty_rest : (bs : List ℕ) (at : ℕ) → at < length bs → 0 < length (take (length bs - at) (drop at bs))
-nonempty_rest bs at h = omega (arith, length-drop at bs, length-take (length bs - at) (drop at bs))

@@ -3,6 +3,9 @@ use Rattle.std.proofs.Common.{if◌then◌else◌, ◌≡◌, ◌<◌, ◌≤◌
 use Rattle.std.proofs.Common.{List, [], ◌∷◌, length, Option, None, Some, Result, Ok, Err, IfOk, IfErr, codes, arith}
 use Rattle.std.proofs.Common.{sym, ◌∙◌, ap, subst, refl}
 use Rattle.std.specs.Str.{bytes_eq}
+use Rattle.std.specs.List.{join_with_byte}
+use Rattle.std.proofs.lemmas.List.Splits.{slice_split_none, join_with_byte-slice_split}
+use Rattle.std.proofs.lemmas.List.Elements.{All-from_recursion}
 use Rattle.std.proofs.lemmas.Bool.Decides.{nat_tests}
 use Rattle.share_base.specs.Body.{is_payload_length}
 use Rattle.share_base.specs.declared.refusal.Refusal.{Refusal}
@@ -10,10 +13,12 @@ use Rattle.share_base.specs.declared.refusal.Refusal.TheVariants.{NoMemory, Synt
 use Rattle.share_model.specs.declared.line.Line.{Line}
 use Rattle.share_model.specs.declared.line.Line.TheVariants.{Send}
 use Rattle.share_model.specs.text.Lines.{is_pairs, from_pairs, name_of, payload_of, field, words_of, send_of, line_by}
+use Rattle.share_model.specs.text.Lines.{is_space, number_of, turn_of}
 use Rattle.share_model.specs.text.Lines.{line_of, ranged, reading, Reads, IsReading, IsUnread}
-use Rattle.share_model.specs.text.WordLaws.{payload_of-only, hex-from_pairs}
+use Rattle.share_model.specs.text.WordLaws.{payload_of-only, number_of-only, hex-from_pairs}
+use Rattle.share_model.specs.text.WordLaws.{NoSpace, no_space-decimal, no_space-hex}
 use Rattle.share_model.specs.text.LinesLaws.{reading-spelled, reading-refused}
-use Rattle.stridelink.specs.Words.{short_line_by, sent_by, ReadsRanged}
+use Rattle.stridelink.specs.Words.{last, short_line_by, sent_by, ReadsRanged}
 
 -- Packets
 
@@ -36,10 +41,6 @@ long_payload flow digits long good =
 bad_payload : (flow digits : List ℕ) → (nat_le 2 (length digits) && is_pairs digits) ≡ false → Err Syntax
     ≡ ranged (sent_by flow (payload_of digits))
 bad_payload flow digits bad = rw bad refl
-
-pub none_sent : (flow digits : List ℕ) → payload_of digits ≡ None → Err Syntax
-    ≡ ranged (sent_by flow (payload_of digits))
-none_sent flow digits none = rw none refl
 
 in_range : (n : ℕ) → 1 ≤ n → n ≤ 1490 → (is_payload_length n ≡ true) × (nat_le n 1490 ≡ true)
 in_range n a b = (grind (arith, nat_tests), grind (arith, nat_tests))
@@ -78,42 +79,51 @@ unread_unheld flow digits r few is = by _ refl is
         subst P (sym e) (unheld_sent flow digits few good)
     by false bad e = inl (ap Err e ∙ bad_payload flow digits bad)
 
-pub all_sent : (flow digits p : List ℕ) → payload_of digits ≡ Some p → length p ≤ 1490 → Ok (Send flow p)
-    ≡ ranged (sent_by flow (payload_of digits))
-all_sent flow digits p is few =
-    let some : 1 ≤ length p = (payload_of-only digits p is).0.0 in
-    let r = in_range (length p) some few in
-    rw (is, r.1) refl
+-- The last field
+
+-- what holds no space is one word
+one_word : (w : List ℕ) → NoSpace w → words_of w ≡ w ∷ []
+one_word w clear = slice_split_none is_space w (All-from_recursion _ w clear)
+
+one_word-only : (w bs : List ℕ) → words_of bs ≡ w ∷ [] → w ≡ bs
+one_word-only w bs one = ap (join_with_byte 32) (sym one) ∙ join_with_byte-slice_split 32 bs
+
+-- a field that no bytes with a space spell is the last word exactly where all bytes spell it
+last_is_all : {A : Type 0} (f : List ℕ → Option A) (bs : List ℕ) → ((x : A) → f bs ≡ Some x → NoSpace bs)
+    → last f (words_of bs) ≡ f bs
+last_is_all {A} f bs clear = by (f bs) refl (words_of bs) refl
+  where
+    by : (o : Option A) → f bs ≡ o → (ws : List (List ℕ)) → words_of bs ≡ ws → last f ws ≡ o
+    by (Some x) e ws h = let one : ws ≡ bs ∷ [] = sym h ∙ one_word bs (clear x e) in rw one e
+    by None e [] h = refl
+    by None e (w ∷ []) h = ap f (one_word-only w bs h) ∙ e
+    by None e (w ∷ v ∷ ws) h = refl
+
+pub last_number : (bs : List ℕ) → last number_of (words_of bs) ≡ number_of bs
+last_number bs = last_is_all number_of bs (λ n e. let only = number_of-only bs n e in
+    subst NoSpace (sym only.1) (no_space-decimal n only.0))
+
+last_payload : (bs : List ℕ) → last payload_of (words_of bs) ≡ payload_of bs
+last_payload bs = last_is_all payload_of bs (λ p e. let only = payload_of-only bs p e in
+    subst NoSpace (sym only.1) (no_space-hex p))
 
 -- the words of a packet
--- what is read after the payload
-abbrev send_of_rest : List (List ℕ) → List ℕ → Option (List ℕ) → Option Line
-send_of_rest [] flow o = sent_by flow o
-send_of_rest (w ∷ ws) flow o = None
+send_of-last : (ws : List (List ℕ)) (flow : List ℕ) (rest : List (List ℕ)) → field name_of ws ≡ Some (flow, rest)
+    → send_of ws ≡ sent_by flow (last payload_of rest)
+send_of-last ws flow [] n = rw n refl
+send_of-last ws flow (w ∷ left) n = by (payload_of w) refl left n
+  where
+    by : (o : Option (List ℕ)) → payload_of w ≡ o → (vs : List (List ℕ)) → field name_of ws ≡ Some (flow, w ∷ vs)
+        → send_of ws ≡ sent_by flow (last payload_of (w ∷ vs))
+    by None e [] h = rw (h, e) refl
+    by None e (v ∷ vs) h = rw (h, e) refl
+    by (Some p) e [] h = rw (h, e) refl
+    by (Some p) e (v ∷ vs) h = rw (h, e) refl
 
-never_ended : (ws : List (List ℕ)) (flow : List ℕ) (o : Option (List ℕ)) (w : List ℕ) → payload_of w ≡ o
-    → (ws ≡ [] → ⊥) → (l : Option Line) → send_of_rest ws flow o ≡ l → l ≡ None
-never_ended [] flow o w e h l q = absurd (h refl)
-never_ended (v ∷ vs) flow None w e h l q = sym q
-never_ended (v ∷ vs) flow (Some p) w e h l q = sym q
-
-send_rest : (ws : List (List ℕ)) (flow digits : List ℕ) (rest left : List (List ℕ)) (o : Option (List ℕ))
-    → field name_of ws ≡ Some (flow, rest) → rest ≡ digits ∷ left → payload_of digits ≡ o → send_of ws
-    ≡ send_of_rest left flow o
-send_rest ws flow digits rest [] None n d e = rw (n, d, e) refl
-send_rest ws flow digits rest (w ∷ left) None n d e = rw (n, d, e) refl
-send_rest ws flow digits rest [] (Some p) n d e = rw (n, d, e) refl
-send_rest ws flow digits rest (w ∷ left) (Some p) n d e = rw (n, d, e) refl
-
-pub send_too_long : (ws : List (List ℕ)) (flow digits : List ℕ) (rest left : List (List ℕ)) → field name_of ws
-    ≡ Some (flow, rest) → rest ≡ digits ∷ left → (left ≡ [] → ⊥) → Err Syntax ≡ ranged (send_of ws)
-send_too_long ws flow digits rest left n d more = let e = never_ended left flow _ digits refl more _ refl in
-    rw (send_rest ws flow digits rest left _ n d refl, e) refl
-
-pub send_ends : (ws : List (List ℕ)) (flow digits : List ℕ) (rest left : List (List ℕ)) → field name_of ws
-    ≡ Some (flow, rest) → rest ≡ digits ∷ left → left ≡ [] → send_of ws ≡ sent_by flow (payload_of digits)
-send_ends ws flow digits rest left n d none = send_rest ws flow digits rest left _ n d refl
-    ∙ ap (λ r. send_of_rest r flow (payload_of digits)) none
+pub send_ends : (ws : List (List ℕ)) (flow digits : List ℕ) (rest : List (List ℕ)) → field name_of ws
+    ≡ Some (flow, rest) → rest ≡ words_of digits → send_of ws ≡ sent_by flow (payload_of digits)
+send_ends ws flow digits rest n d = send_of-last ws flow rest n ∙ ap (sent_by flow) (ap (last payload_of) d
+    ∙ last_payload digits)
 
 pub reads_same : (o p : Option Line) (r : Result Line Refusal) → o ≡ p → ReadsRanged p r → ReadsRanged o r
 reads_same o p r e h = rw e h
@@ -128,6 +138,10 @@ pub line_by-short : (w : List ℕ) (ws : List (List ℕ)) → bytes_eq w (codes 
     ≡ short_line_by w ws
 unfolding line_by
 line_by-short w ws e = rw e refl
+
+pub line_by-turn : (ws : List (List ℕ)) → line_by (codes "turn") ws ≡ turn_of ws
+unfolding line_by
+line_by-turn ws = refl
 
 pub too_long : (bs : List ℕ) → 20480 < length bs → Err Syntax ≡ reading bs
 unfolding reading

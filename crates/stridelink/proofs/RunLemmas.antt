@@ -2,7 +2,7 @@
 use Rattle.std.proofs.Common.{◌≡◌, ◌≢◌, ◌<◌, inl, inr, ℕ, Bool, List, [], ◌∷◌, ◌++◌, length, IfSome, Option}
 use Rattle.std.proofs.Common.{None, Some, arith, sym, ◌∙◌, ap, subst, refl}
 use mathlib.Core.List.{append_assoc}
-use Rattle.std.specs.Io.KnownBytes.{Appends, Consumes, Keeps, IsAtEnd}
+use Rattle.std.specs.Io.KnownBytes.{Appends, Consumes, Keeps}
 use Rattle.std.proofs.KnownBytes.{Consumes-trans}
 use Rattle.std.proofs.lemmas.List.{append-nil}
 use Rattle.share_model.specs.declared.rates.Rate.{Rate}
@@ -83,16 +83,6 @@ module _ {W : Type 0} (told : W → Option Told) where
       part_as told a c [] old [] _ script e
       (part_longer told a c [] old [] (so.done ++ chunk) last
       (fed_then_part told a b c [] [] old mid [] line so.done chunk so.fed broke))
-
-  pub running_end : (given left next a b : Option (List ℕ)) (old mid : Seen W) (line : List ℕ)
-      → Running told given left a b old mid line → Consumes left next [] → IsAtEnd next
-      → IfSome given (λ script. Feeds told a [] b [] old [] script mid line)
-  running_end None left next a b old mid line so read end = tt
-  running_end (Some script) None next a b old mid line so read end = absurd so.reads
-  running_end (Some script) (Some rest) None a b old mid line so read end = absurd read
-  running_end (Some script) (Some rest) (Some last) a b old mid line so read end =
-      let e : so.done ≡ script = sym (so.reads ∙ ap (λ r. so.done ++ r) (read ∙ end) ∙ append-nil so.done) in
-      let P : List ℕ → Type 0 = λ r. Feeds told a [] b [] old [] r mid line in subst P e so.fed
 
 -- The end of the script
 

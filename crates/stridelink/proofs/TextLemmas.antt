@@ -1,30 +1,17 @@
--- The names of refusals are short.
-use Rattle.std.proofs.Common.{◌≤◌, length, lit≤}
-use Rattle.share_base.specs.Refusal.{refusal_name}
-use Rattle.share_base.specs.declared.refusal.Refusal.{Refusal}
-use Rattle.share_base.specs.declared.refusal.Refusal.TheVariants.{NoMemory, Spent, Syntax, Range, NoCurrency}
-use Rattle.share_base.specs.declared.refusal.Refusal.TheVariants.{NoTicket, NoFlow, NoTariff, Taken, Base, InUse}
-use Rattle.share_base.specs.declared.refusal.Refusal.TheVariants.{Funding, Unfunded, Crowded, Cycle, Deep, TableFull}
-use Rattle.share_base.specs.declared.refusal.Refusal.TheVariants.{Sending, BufferFull, Broken}
+-- The decimal of a number of two digits.
+use Rattle.std.proofs.Common.{◌≡◌, ◌<◌, ◌≤◌, ◌+◌, ◌/◌, ◌%◌, ◌∷◌, ◌++◌, ◌∙◌, ℕ, List, [], ap, arith, sym}
+use mathlib.Core.List.{append_assoc}
+use Rattle.std.specs.Fmt.{decimal}
+use Rattle.std.proofs.lemmas.Fmt.{decimal_digit, decimal_step}
 
-pub short_refusal_name : (e : Refusal) → length (refusal_name e) ≤ 10
-short_refusal_name NoMemory = lit≤ tt
-short_refusal_name Spent = lit≤ tt
-short_refusal_name Syntax = lit≤ tt
-short_refusal_name Range = lit≤ tt
-short_refusal_name NoCurrency = lit≤ tt
-short_refusal_name NoTicket = lit≤ tt
-short_refusal_name NoFlow = lit≤ tt
-short_refusal_name NoTariff = lit≤ tt
-short_refusal_name Taken = lit≤ tt
-short_refusal_name Base = lit≤ tt
-short_refusal_name InUse = lit≤ tt
-short_refusal_name Funding = lit≤ tt
-short_refusal_name Unfunded = lit≤ tt
-short_refusal_name Crowded = lit≤ tt
-short_refusal_name Cycle = lit≤ tt
-short_refusal_name Deep = lit≤ tt
-short_refusal_name TableFull = lit≤ tt
-short_refusal_name Sending = lit≤ tt
-short_refusal_name BufferFull = lit≤ tt
-short_refusal_name Broken = lit≤ tt
+pub decimal_two_digits : (n : ℕ) → 10 ≤ n → n < 100 → decimal n ≡ (48 + n / 10) ∷ (48 + n % 10) ∷ []
+decimal_two_digits n low high = decimal_step n low (omega arith)
+    ∙ ap (λ ds. ds ++ (48 + n % 10) ∷ []) (decimal_digit (n / 10) (omega arith))
+
+-- the two digits, one after the other
+pub pushed_two_digits : (n : ℕ) → 10 ≤ n → n < 100 → (before middle after : List ℕ)
+    → middle ≡ before ++ decimal (n / 10) → after ≡ middle ++ decimal (n % 10) → after ≡ before ++ decimal n
+pushed_two_digits n low high before middle after first second =
+    second ∙ ap (λ ds. ds ++ decimal (n % 10)) first ∙ append_assoc before (decimal (n / 10)) (decimal (n % 10))
+    ∙ ap (λ ds. before ++ ds) (ap (λ ds. decimal (n / 10) ++ ds) (decimal_digit (n % 10) (omega arith))
+    ∙ sym (decimal_step n low (omega arith)))

@@ -9,7 +9,7 @@ use crate::output::{NotWritten, put};
 use share_model::Telling;
 
 /// How many bytes are spelled in one piece.
-const PIECE: usize = 2048;
+const PIECE: usize = 8192;
 
 /// Prints the line of a link's bytes: `out `, their digits or a hyphen where there are none, and a line feed. On an
 /// error a beginning of the line is written.
@@ -75,7 +75,7 @@ fn put_hex<O: Telling>(output: &mut O, bytes: &[u8]) -> Result<(), NotWritten>
 }
 
 fn put_piece<O: Telling>(output: &mut O, piece: &[u8]) -> Result<(), NotWritten>
-    requires { length piece.now ≤ 2048 }
+    requires { length piece.now ≤ 8192 }
     ensures bytes { MatchResult result
         (λ _. Appends (bytes_told (O.told output.old)) (bytes_told (O.told output.new))
         (hex piece.now))

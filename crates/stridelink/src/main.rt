@@ -57,9 +57,10 @@ enum Asked {
     Text(clap::Error),
 }
 
-/// The shelf of the program: tariffs 1 to 4.
+/// The shelf of the program: tariffs 1 to 4. It is refused only where memory is.
 fn shelf(alloc: Global) -> Result<Shelf, Refusal>
-    ensures { IfOk result (λ shelf. rates_of shelf ≡ program_rates) }
+    ensures rates { IfOk result (λ shelf. rates_of shelf ≡ program_rates) }
+    ensures memory { IfErr result (λ refusal. refusal ≡ Refusal.NoMemory) }
 {
     let tariffs = [
         Tariff::new(1, 0, 1)?,

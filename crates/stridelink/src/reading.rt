@@ -1,15 +1,20 @@
 //! Lines of a script, read from their bytes.
-ghost use Rattle.std.specs.Prelude.{◌≡◌, ◌&&◌, length, nat_le, IfOk, IfErr, if◌then◌else◌};
+ghost use Rattle.std.specs.Prelude.{◌≡◌, ◌≤◌, ◌∷◌, ◌&&◌, ℕ, List, codes, length, nat_le, option_map, IfOk, IfErr};
+ghost use Rattle.std.specs.Prelude.{IfSome, if◌then◌else◌};
 ghost use Rattle.share_base.specs.declared.refusal.Refusal.TheVariants.{Syntax};
+ghost use Rattle.share_base.specs.declared.command.Command.{Command};
+ghost use Rattle.share_base.specs.declared.command.Command.TheVariants.{MakeCurrency, RemoveCurrency, RemoveTicket};
+ghost use Rattle.share_base.specs.declared.command.Command.TheVariants.{Unfund, CloseFlow};
+ghost use Rattle.share_model.specs.declared.line.Line.TheVariants.{Change};
 ghost use Rattle.share_model.specs.text.Lines.{Reads, IsReading, IsUnread, is_in_range, is_pairs, payload_of};
-ghost use Rattle.share_model.specs.text.Lines.{open_of, mktkt_of, fund_of, send_of, turn_of, torn_of, ranged};
-ghost use Rattle.share_model.specs.text.Lines.{line_by};
+ghost use Rattle.share_model.specs.text.Lines.{named_of, numbered_of, mktkt_of, fund_of, funding_of, open_of};
+ghost use Rattle.share_model.specs.text.Lines.{send_of, turn_of, torn_of, ranged, line_by, words_of};
 ghost use Rattle.stridelink.specs.Words.{ReadsRanged, short_line_by, sent_by};
 
 use crate::payload::{decode, is_payload};
 use crate::words::Words;
 use share_base::{Body, Command, Name, Refusal};
-use share_model::Line;
+use share_model::{HolderKind, Line};
 use std::alloc::{AllocError, Global};
 
 /// The longest line, in bytes before its line feed.
@@ -35,6 +40,39 @@ fn read_bytes(alloc: Global, bytes: &[u8]) -> Result<Line, Refusal>
     if bytes.len() > MAX_LINE {
         return Err(Refusal::Syntax);
     }
+    if let Some(rest) = after_send(bytes) {
+        return send(alloc, &mut Words::of(rest));
+    }
+    if let Some(rest) = after_turn(bytes) {
+        return ranged(turn(&mut Words::of(rest)));
+    }
+    read_any(alloc, bytes)
+}
+
+// Packets and turns come most, and are told soonest by the first bytes of their lines.
+fn after_send(line: &[u8]) -> Option<&[u8]>
+    ensures { IfSome result (λ rest. words_of line.now ≡ codes "send" ∷ words_of rest.now) }
+{
+    match line {
+        [b's', b'e', b'n', b'd', b' ', rest @ ..] => Some(rest),
+        _ => None,
+    }
+}
+
+fn after_turn(line: &[u8]) -> Option<&[u8]>
+    ensures { IfSome result (λ rest. words_of line.now ≡ codes "turn" ∷ words_of rest.now) }
+{
+    match line {
+        [b't', b'u', b'r', b'n', b' ', rest @ ..] => Some(rest),
+        _ => None,
+    }
+}
+
+// The line that these bytes spell, whichever it is.
+fn read_any(alloc: Global, bytes: &[u8]) -> Result<Line, Refusal>
+    requires { length bytes.now ≤ 20480 }
+    ensures { Reads bytes.now result }
+{
     let mut words = Words::of(bytes);
     match words.next() {
         None => Err(Refusal::Syntax),
@@ -59,10 +97,20 @@ fn short_line(keyword: &[u8], words: &mut Words<'_>) -> Option<Line>
         turn(words)
     } else if keyword == b"open".as_slice() {
         open(words)
+    } else if keyword == b"close".as_slice() {
+        close(words)
     } else if keyword == b"mktkt".as_slice() {
         make_ticket(words)
     } else if keyword == b"fund".as_slice() {
         fund(words)
+    } else if keyword == b"unfund".as_slice() {
+        unfund(words)
+    } else if keyword == b"rmtkt".as_slice() {
+        remove_ticket(words)
+    } else if keyword == b"mkcur".as_slice() {
+        make_currency(words)
+    } else if keyword == b"rmcur".as_slice() {
+        remove_currency(words)
     } else if keyword == b"torn".as_slice() {
         torn(words)
     } else {
@@ -96,13 +144,11 @@ fn is_in_range(line: &Line) -> bool
     }
 }
 
+#[inline(always)]
 fn turn(words: &mut Words<'_>) -> Option<Line>
     ensures { result ≡ turn_of words.old }
 {
-    let most = words.number()?;
-    if !words.is_end() {
-        return None;
-    }
+    let most = words.last_number()?;
     Some(Line::Turn(most))
 }
 
@@ -142,18 +188,79 @@ fn make_ticket(words: &mut Words<'_>) -> Option<Line>
     Some(Line::Change(Command::MakeTicket { amount, currency }))
 }
 
+fn make_currency(words: &mut Words<'_>) -> Option<Line>
+    ensures { result ≡ named_of MakeCurrency words.old }
+{
+    Some(Line::Change(Command::MakeCurrency(last_name(words)?)))
+}
+
+fn remove_currency(words: &mut Words<'_>) -> Option<Line>
+    ensures { result ≡ named_of RemoveCurrency words.old }
+{
+    Some(Line::Change(Command::RemoveCurrency(last_name(words)?)))
+}
+
+fn close(words: &mut Words<'_>) -> Option<Line>
+    ensures { result ≡ named_of CloseFlow words.old }
+{
+    Some(Line::Change(Command::CloseFlow(last_name(words)?)))
+}
+
+fn remove_ticket(words: &mut Words<'_>) -> Option<Line>
+    ensures { result ≡ numbered_of RemoveTicket words.old }
+{
+    Some(Line::Change(Command::RemoveTicket(last_number(words)?)))
+}
+
+fn unfund(words: &mut Words<'_>) -> Option<Line>
+    ensures { result ≡ numbered_of Unfund words.old }
+{
+    Some(Line::Change(Command::Unfund(last_number(words)?)))
+}
+
+// The name that is the only word left.
+fn last_name(words: &mut Words<'_>) -> Option<Name>
+    ensures { (command : List ℕ → Command)
+        → option_map (λ name. Change (command name)) result ≡ named_of command words.old }
+{
+    let name = words.name()?;
+    if words.is_end() { Some(name) } else { None }
+}
+
+// The number that is the only word left.
+fn last_number(words: &mut Words<'_>) -> Option<u64>
+    ensures { (command : ℕ → Command)
+        → option_map (λ number. Change (command number)) result ≡ numbered_of command words.old }
+{
+    let number = words.number()?;
+    if words.is_end() { Some(number) } else { None }
+}
+
 fn fund(words: &mut Words<'_>) -> Option<Line>
     ensures { result ≡ fund_of words.old }
 {
     let ticket = words.number()?;
-    words.flow_keyword()?;
-    let flow = words.name()?;
+    let kind = words.kind()?;
+    let name = words.name()?;
     if !words.is_end() {
         return None;
     }
-    Some(Line::Change(Command::FundFlow { ticket, flow }))
+    Some(Line::Change(funding(kind, ticket, name)))
 }
 
+fn funding(kind: HolderKind, ticket: u64, name: Name) -> Command
+    ensures { result ≡ funding_of kind ticket name }
+{
+    match kind {
+        HolderKind::Currency => Command::FundCurrency {
+            ticket,
+            currency: name,
+        },
+        HolderKind::Flow => Command::FundFlow { ticket, flow: name },
+    }
+}
+
+#[inline(always)]
 fn send(alloc: Global, words: &mut Words<'_>) -> Result<Line, Refusal>
     ensures { ReadsRanged (send_of words.old) result }
 {
@@ -161,17 +268,15 @@ fn send(alloc: Global, words: &mut Words<'_>) -> Result<Line, Refusal>
         None => return Err(Refusal::Syntax),
         Some(flow) => flow,
     };
-    let digits = match words.next() {
+    let digits = match words.rest() {
         None => return Err(Refusal::Syntax),
         Some(digits) => digits,
     };
-    if !words.is_end() {
-        return Err(Refusal::Syntax);
-    }
     sent(alloc, flow, digits)
 }
 
 // The packet whose payload these digits spell.
+#[inline(always)]
 fn sent(alloc: Global, flow: Name, digits: &[u8]) -> Result<Line, Refusal>
     ensures { ReadsRanged (sent_by flow (payload_of digits.now)) result }
 {

@@ -97,14 +97,38 @@ fn push_turn(text: &mut Spool, turn: &Turn)
     }
 }
 
-#[tactic(auto, using(crate::proofs::TextLemmas::short_refusal_name))]
 fn push_refusal(text: &mut Spool, refusal: Refusal)
     requires { length text.old + 100 ≤ 65536 }
     ensures bytes { text.new ≡ text.old ++ refusal_text refusal }
     ensures few { length text.new ≤ length text.old + 100 }
 {
-    text.push_str("no ");
-    text.push_number(refusal.number() as u64);
-    text.push_str(" ");
-    text.push_str(refusal.name());
+    text.push_str(refusal_text(refusal));
+}
+
+fn refusal_text(refusal: Refusal) -> &'static str
+    ensures text { result.now ≡ refusal_text refusal }
+    ensures few { length result.now ≤ 20 }
+{
+    match refusal {
+        Refusal::NoMemory => "no 1 NoMemory",
+        Refusal::Spent => "no 2 Spent",
+        Refusal::Syntax => "no 3 Syntax",
+        Refusal::Range => "no 4 Range",
+        Refusal::NoCurrency => "no 5 NoCurrency",
+        Refusal::NoTicket => "no 6 NoTicket",
+        Refusal::NoFlow => "no 7 NoFlow",
+        Refusal::NoTariff => "no 8 NoTariff",
+        Refusal::Taken => "no 9 Taken",
+        Refusal::Base => "no 10 Base",
+        Refusal::InUse => "no 11 InUse",
+        Refusal::Funding => "no 12 Funding",
+        Refusal::Unfunded => "no 13 Unfunded",
+        Refusal::Crowded => "no 14 Crowded",
+        Refusal::Cycle => "no 15 Cycle",
+        Refusal::Deep => "no 16 Deep",
+        Refusal::TableFull => "no 17 TableFull",
+        Refusal::Sending => "no 18 Sending",
+        Refusal::BufferFull => "no 19 BufferFull",
+        Refusal::Broken => "no 20 Broken",
+    }
 }

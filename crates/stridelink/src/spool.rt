@@ -1,5 +1,5 @@
 //! Text that waits to be written.
-ghost use Rattle.std.specs.Prelude.{◌≡◌, ◌≤◌, ◌+◌, ◌++◌, ◌↔◌, [], length, decimal, IfOk, OnOk, IsTrue, MatchResult};
+ghost use Rattle.std.specs.Prelude.{◌≡◌, ◌<◌, ◌≤◌, ◌+◌, ◌++◌, [], length, decimal, IfOk, OnOk, MatchResult};
 ghost use Rattle.std.specs.Io.KnownBytes.{Appends};
 ghost use Rattle.share_model.specs.io.Calls.{Offers, OfferRefused};
 ghost use Rattle.stridelink.specs.Printing.{bytes_told, AppendsPart, Spooled, SpooledPart};
@@ -43,6 +43,7 @@ impl Spool {
     }
 
     /// Adds a text at the end.
+    #[inline(always)]
     pub fn push_str(&mut self, text: &str)
         requires { length self.old + length text.now ≤ 65536 }
         ensures bytes { self.new ≡ self.old ++ text.now }
@@ -54,7 +55,42 @@ impl Spool {
     }
 
     /// Adds the decimal of a number at the end: 20 bytes at most.
+    #[inline(always)]
     pub fn push_number(&mut self, number: u64)
+        requires { length self.old + 20 ≤ 65536 }
+        ensures bytes { self.new ≡ self.old ++ decimal number }
+        ensures few { length self.new ≤ length self.old + 20 }
+    {
+        if number < 10 {
+            self.push_digit(number as u8);
+        } else if number < 100 {
+            self.push_two_digits(number as u8);
+        } else {
+            self.push_digits(number);
+        }
+    }
+
+    #[tactic(auto, using(std::proofs::lemmas::Fmt::decimal_digit))]
+    fn push_digit(&mut self, number: u8)
+        requires one { number < 10 }
+        requires room { length self.old < 65536 }
+        ensures bytes { self.new ≡ self.old ++ decimal number }
+        ensures few { length self.new ≤ length self.old + 1 }
+    {
+        self.bytes.push_reserved(b'0' + number);
+    }
+
+    fn push_two_digits(&mut self, number: u8)
+        requires two { (10 ≤ number) × (number < 100) }
+        requires room { length self.old + 20 ≤ 65536 }
+        ensures bytes { self.new ≡ self.old ++ decimal number }
+        ensures few { length self.new ≤ length self.old + 20 }
+    {
+        self.push_digit(number / 10);
+        self.push_digit(number % 10);
+    }
+
+    fn push_digits(&mut self, number: u64)
         requires { length self.old + 20 ≤ 65536 }
         ensures bytes { self.new ≡ self.old ++ decimal number }
         ensures few { length self.new ≤ length self.old + 20 }

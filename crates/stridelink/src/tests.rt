@@ -1,4 +1,7 @@
 //! Whole scripts, against the replies and the bytes that the rules give.
+
+mod standing;
+
 use crate::script::{ScriptFault, run_script};
 use crate::{run, shelf};
 use share_base::FlowNo;

@@ -1,11 +1,12 @@
 //! The words of a line, read one after the other.
-ghost use Rattle.std.specs.Prelude.{◌≡◌, ◌<◌, ◌+◌, ◌*◌, ◌^◌, ◌∷◌, ◌↔◌, [], None, Some, IsTrue, MatchOption, codes};
+ghost use Rattle.std.specs.Prelude.{◌≡◌, ◌<◌, ◌+◌, ◌*◌, ◌^◌, ◌∷◌, ◌↔◌, [], None, Some, IsTrue, MatchOption};
 ghost use Rattle.std.specs.Option.{SomeIff};
-ghost use Rattle.stridelink.specs.Words.{begins_number};
-ghost use Rattle.share_model.specs.text.Lines.{name_of, number_of, keyword_of, words_of, field};
+ghost use Rattle.stridelink.specs.Words.{begins_number, last};
+ghost use Rattle.share_model.specs.text.Lines.{name_of, number_of, kind_of, words_of, field, is_space};
+ghost use Rattle.memchr.specs.Find.{IsFirstByte};
 
-use memchr::memchr;
 use share_base::Name;
+use share_model::HolderKind;
 use std::marker::Model;
 
 /// The words of a line that are not read yet. A contract sees it as these words.
@@ -37,7 +38,7 @@ impl<'a> Words<'a> {
         ensures { MatchOption result (self.old ≡ []) (λ w. self.old ≡ w.now ∷ self.new) }
     {
         let rest = self.rest?;
-        match memchr(b' ', rest) {
+        match first_space(rest) {
             None => {
                 self.rest = None;
                 Some(rest)
@@ -71,14 +72,31 @@ impl<'a> Words<'a> {
         }
     }
 
-    /// Reads the word `flow`. Where it is not the next word, the words are not to be read on.
-    pub fn flow_keyword(&mut self) -> Option<&'a [u8]>
-        ensures { MatchOption result (field (keyword_of (codes "flow")) self.old ≡ None)
-            (λ w. field (keyword_of (codes "flow")) self.old ≡ Some (w.now, self.new)) }
+    /// Reads a number, the last word. Where what is left is none, the words are not to be read on.
+    pub fn last_number(&self) -> Option<u64>
+        ensures { result ≡ last number_of self.now }
+    {
+        match self.rest() {
+            None => None,
+            Some(bytes) => number_in(bytes),
+        }
+    }
+
+    /// The bytes of all words that are left, with the spaces between them.
+    pub fn rest(&self) -> Option<&'a [u8]>
+        ensures { MatchOption result (self.now ≡ []) (λ bytes. self.now ≡ words_of bytes.now) }
+    {
+        self.rest
+    }
+
+    /// Reads the word `cur` or `flow`. Where the next word is neither, the words are not to be read on.
+    pub fn kind(&mut self) -> Option<HolderKind>
+        ensures { MatchOption result (field kind_of self.old ≡ None)
+            (λ kind. field kind_of self.old ≡ Some (kind, self.new)) }
     {
         match self.next() {
             None => None,
-            Some(word) => flow_in(word),
+            Some(word) => kind_in(word),
         }
     }
 
@@ -90,12 +108,20 @@ impl<'a> Words<'a> {
     }
 }
 
-fn flow_in(word: &[u8]) -> Option<&[u8]>
-    ensures { MatchOption result (keyword_of (codes "flow") word.now ≡ None)
-        (λ w. keyword_of (codes "flow") word.now ≡ Some w.now) }
+// The place of the first space. Most words are short, and a loop in place finds their end soonest.
+fn first_space(bytes: &[u8]) -> Option<usize>
+    ensures { IsFirstByte is_space bytes.now result }
 {
-    if word == b"flow".as_slice() {
-        Some(word)
+    bytes.iter().position(|byte| *byte == b' ')
+}
+
+fn kind_in(word: &[u8]) -> Option<HolderKind>
+    ensures { result ≡ kind_of word.now }
+{
+    if word == b"cur".as_slice() {
+        Some(HolderKind::Currency)
+    } else if word == b"flow".as_slice() {
+        Some(HolderKind::Flow)
     } else {
         None
     }

@@ -6,6 +6,7 @@ ghost use Rattle.share_model.specs.link.Fields.{IsBody};
 ghost use Rattle.share_model.specs.link.Live.{arrive_in, arrive_step};
 
 use super::Link;
+use super::levelling::settle;
 use share_base::{Body, FlowNo, Name, Refusal, Reply};
 use share_model::Rates;
 
@@ -26,10 +27,11 @@ impl<S: Rates> Link<S> {
                 }
             }
         }
+        let busy = self.buffers.is_busy(flow);
         let seq = self.buffers.push(flow, body);
-        self.funding.set_active(flow, true);
-        self.accepted += 1;
-        self.events += 1;
+        self.counts.accepted += 1;
+        self.counts.events += 1;
+        settle(&mut self.queue, &mut self.ledger, flow, true, busy);
         Reply::Packet { flow, seq }
     }
 
@@ -39,7 +41,7 @@ impl<S: Rates> Link<S> {
         requires body { IsBody body }
         ensures { Steps (λ _ l. arrive_step l name.now body) self.old result self.new }
     {
-        match self.funding.flow(name) {
+        match self.ledger.flow(*name) {
             None => self.refuse(Refusal::NoFlow),
             Some(flow) => self.accept(flow, body),
         }

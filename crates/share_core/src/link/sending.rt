@@ -1,5 +1,6 @@
 //! The frame that is sent, and what the writer's answers make of it.
-ghost use Rattle.std.specs.Prelude.{◌≡◌, ◌<◌, ◌≤◌, ◌+◌, true, false, option_map, IsSome, IfSome, vec_capacity};
+ghost use Rattle.std.specs.Prelude.{◌≡◌, ◌<◌, ◌≤◌, ◌+◌, true, false, option_map, IsSome, IfSome};
+ghost use Rattle.std.specs.Prelude.{vec_capacity};
 ghost use Rattle.share_model.specs.link.Buffers.{head_of};
 ghost use Rattle.share_model.specs.link.Did.{is_spent, Stepped};
 ghost use Rattle.share_model.specs.link.Frame.{frame};
@@ -7,6 +8,7 @@ ghost use Rattle.share_model.specs.link.Live.{sending_at, sending, whole, in_par
 ghost use Rattle.share_core.specs.Place.{place_of, IsPlaceOf, IsWithin};
 
 use super::Link;
+use super::levelling::settle;
 use crate::frame;
 use crate::place::Place;
 use share_base::{FlowNo, Turn};
@@ -31,12 +33,13 @@ impl<S: Rates> Link<S> {
     }
 
     /// Where a write goes on: at the frame in part, and otherwise at a new frame of the next flow.
+    #[inline(always)]
     pub fn sending(&self) -> Option<Place>
         ensures { result ≡ option_map place_of (sending self.now.live) }
     {
         match self.part {
             Some(part) => self.place(part.flow, part.out),
-            None => match self.funding.next_to_send() {
+            None => match self.queue.least() {
                 Some(flow) => self.place(flow, 0),
                 None => None,
             },
@@ -46,20 +49,22 @@ impl<S: Rates> Link<S> {
     // The last k bytes of a frame are out: its flow is charged and posted for the whole, and its packet is taken out.
     fn finish(&mut self, place: Place, k: u32) -> Turn
         requires living { is_spent self.old ≡ false }
+        requires unbroken { self.old.live.broken ≡ false }
         requires place { IsPlaceOf (sending self.old.live) place }
         requires within { IsWithin (sending self.old.live) k }
         ensures { IfSome (sending self.old.live) (λ s.
             Stepped (whole self.old.rates self.old.live s k, wrote_turn s k true)
             self.old result self.new) }
     {
-        self.books.post(&self.shelf, place.flow, place.length);
+        let units = self.books.charge(&self.shelf, place.flow, place.length);
+        self.queue.charge(place.flow, units);
         self.buffers.pop(place.flow);
-        let busy = self.buffers.is_busy(place.flow);
-        self.funding.set_active(place.flow, busy);
         self.part = None;
-        self.events += 1;
-        self.written += 1;
-        self.sent += u64::from(k);
+        self.counts.events += 1;
+        self.counts.written += 1;
+        self.counts.sent += u64::from(k);
+        let busy = self.buffers.is_busy(place.flow);
+        settle(&mut self.queue, &mut self.ledger, place.flow, busy, busy);
         Turn::Wrote {
             flow: place.flow,
             seq: place.seq,
@@ -82,8 +87,8 @@ impl<S: Rates> Link<S> {
             flow: place.flow,
             out: place.out + k,
         });
-        self.events += 1;
-        self.sent += u64::from(k);
+        self.counts.events += 1;
+        self.counts.sent += u64::from(k);
         Turn::Wrote {
             flow: place.flow,
             seq: place.seq,
@@ -111,15 +116,17 @@ impl<S: Rates> Link<S> {
     /// The writer failed on the frame that is sent. It takes no memory.
     pub fn fail(&mut self, place: Place) -> Turn
         requires living { is_spent self.old ≡ false }
+        requires unbroken { self.old.live.broken ≡ false }
         requires place { IsPlaceOf (sending self.old.live) place }
         ensures { IfSome (sending self.old.live)
             (λ s. Stepped (fault_step self.old.rates self.old.live s) self.old result self.new) }
     {
-        self.books.post(&self.shelf, place.flow, place.out);
+        let units = self.books.charge(&self.shelf, place.flow, place.out);
+        self.queue.charge(place.flow, units);
         self.part = None;
         self.torn = Some(place.flow);
         self.broken = true;
-        self.events += 1;
+        self.counts.events += 1;
         Turn::Torn {
             flow: place.flow,
             seq: place.seq,

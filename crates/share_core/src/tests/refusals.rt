@@ -63,7 +63,6 @@ fn refuses_beside_an_open_flow(rt: HostRuntime) {
             (Call::Open("a", 0, 1), refused(Refusal::Range)),
             (Call::Open("a", 1, 9), refused(Refusal::NoTariff)),
             (Call::Open("a", 1, 1), refused(Refusal::Taken)),
-            (Call::Open("b", 1, 1), refused(Refusal::TableFull)),
             (Call::Fund(4294967297, "a"), refused(Refusal::NoTicket)),
             (Call::Fund(1, "zz"), refused(Refusal::NoFlow)),
             (Call::Fund(1, "a"), DONE),
@@ -71,7 +70,7 @@ fn refuses_beside_an_open_flow(rt: HostRuntime) {
             (Call::Fund(1, "a"), refused(Refusal::Funding)),
         ],
     );
-    assert_eq!(rt; engine.events(), 11);
+    assert_eq!(rt; engine.events(), 10);
     assert_eq!(rt; engine.flow(name(&rt, "a")), Some(FLOW));
     assert_eq!(rt; engine.account(FLOW), Some(0));
     assert_eq!(rt; engine.account(FlowNo(2)), None);

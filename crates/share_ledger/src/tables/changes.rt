@@ -1,5 +1,5 @@
 //! The commands: each changes the graph as its rule says, or is refused with nothing changed.
-ghost use Rattle.std.specs.Prelude.{◌≡◌, ◌-◌, ◌^◌, ◌<◌, map, Some, None, IfOk, IfErr};
+ghost use Rattle.std.specs.Prelude.{◌≡◌, ◌-◌, ◌^◌, ◌<◌, false, map, Some, None, IfOk, IfErr};
 ghost use Rattle.share_base.specs.Refusal.{IsRefused};
 ghost use Rattle.share_model.specs.funding.Changes.{with_holder, make_currency_refusal, make_currency};
 ghost use Rattle.share_model.specs.funding.Changes.{remove_currency_refusal, remove_currency, make_ticket_refusal};
@@ -173,15 +173,20 @@ impl Tables {
         }
     }
 
-    pub(crate) fn set_active(&mut self, flow: FlowNo, active: bool)
-        ensures { self.new ≡ set_active self.old flow active }
+    /// Makes a flow active or idle, and says whether it was not so before.
+    pub(crate) fn set_active(&mut self, flow: FlowNo, active: bool) -> bool
+        ensures change { self.new ≡ set_active self.old flow active }
+        ensures still { result ≡ false → self.new ≡ self.old }
     {
         self.is_kept();
         if let Some(place) = self.place_of_flow(flow) {
             if let Some(open) = self.flows.get_index_mut(place) {
+                let news = open.active != active;
                 open.active = active;
+                return news;
             }
         }
+        false
     }
 }
 

@@ -1,11 +1,11 @@
 //! The tickets as links between the places of currencies, and what follows from rounds over them.
-ghost use Rattle.std.specs.Prelude.{◌≡◌, ◌≤◌, ◌<◌, ◌&&◌, nat_eq, [], ◌∷◌, true, is_some, length, map, take};
+ghost use Rattle.std.specs.Prelude.{◌≡◌, ◌≤◌, ◌<◌, ◌&&◌, nat_eq, [], ◌∷◌, true, is_some, length, map};
 ghost use Rattle.std.specs.List.{list_any};
 ghost use Rattle.share_base.specs.Refusal.{first_refusal};
 ghost use Rattle.share_model.specs.declared.funding.OpenFlow.{OpenFlow};
 ghost use Rattle.share_base.specs.declared.refusal.Refusal as Refusal;
 ghost use Rattle.share_model.specs.declared.funding.Holder as Holder;
-ghost use Rattle.share_model.specs.funding.Graph.{worth, chain_within, is_deep};
+ghost use Rattle.share_model.specs.funding.Graph.{chain_within, is_deep};
 ghost use Rattle.share_model.specs.funding.Changes.{ticket_of, found_denomination, with_holder, is_currency};
 ghost use Rattle.share_model.specs.funding.Kept.{names_of, times, IsHolderKnown};
 ghost use Rattle.share_ledger.specs.Places.{place, target_of, link_of};
@@ -19,12 +19,11 @@ use share_model::{Holder, Ticket};
 const IDLE: Link = Link {
     from: 0,
     to: Target::Asleep,
-    amount: 0,
 };
 
 impl Tables {
-    // The place of a currency: 0 for `base`, then the order in which they were made.
-    fn place_of(&self, name: Name) -> usize
+    /// The place of a currency: 0 for `base`, then the order in which they were made.
+    pub(super) fn place_of(&self, name: Name) -> usize
         requires { 1 ≤ times name (names_of self.now) }
         ensures value { result ≡ place (names_of self.now) name }
         ensures within { result < 65 }
@@ -73,7 +72,6 @@ impl Tables {
         Link {
             from: self.place_of(ticket.denomination),
             to: self.target(&ticket.holder),
-            amount: ticket.amount,
         }
     }
 
@@ -112,30 +110,5 @@ impl Tables {
             return Some(Refusal::Deep);
         }
         None
-    }
-
-    /// What each ticket is worth, in the order of the tickets.
-    pub(crate) fn refresh(&self, worths: &mut [u64; MAX_TICKETS])
-        ensures { take (length self.now.tickets) worths.new
-            ≡ map (worth self.now 9) self.now.tickets }
-    {
-        self.is_kept();
-        let count = self.tickets.len();
-        let mut links = [IDLE; MAX_TICKETS];
-        self.weigh(&mut links[..count], &mut worths[..count]);
-    }
-
-    fn weigh(&self, links: &mut [Link], worths: &mut [u64])
-        requires links { length links.old ≡ length self.now.tickets }
-        requires worths { length worths.old ≡ length self.now.tickets }
-        ensures { worths.new ≡ map (worth self.now 9) self.now.tickets }
-    {
-        self.is_kept();
-        self.link_all(links);
-        let flags = rounds::walk(links, true, &[false; PLACES], 8);
-        rounds::hush(links, &flags);
-        let totals = rounds::totals(links);
-        let values = rounds::values(links, &totals);
-        rounds::weigh(links, &values, &totals, worths);
     }
 }

@@ -71,6 +71,8 @@ fn tables_are_full(rt: HostRuntime) {
     let (base, fresh) = (name(&rt, "base"), name(&rt, "fresh"));
     let taken = numbered(&rt, b'c', 7);
     let mut ledger = full(&rt, rt.alloc());
+    assert_eq!(rt; ledger.add_flow_refusal(fresh), Some(Refusal::TableFull));
+    assert_eq!(rt; ledger.add_flow_refusal(taken), Some(Refusal::Taken));
     refused(
         &rt,
         &mut ledger,
@@ -85,6 +87,38 @@ fn tables_are_full(rt: HostRuntime) {
             (Change::MakeTicket(1, fresh), Refusal::NoCurrency),
         ],
     );
+}
+
+#[test]
+fn flows_by_place(rt: HostRuntime) {
+    let (base, a, b) = (name(&rt, "base"), name(&rt, "a"), name(&rt, "b"));
+    let mut ledger = empty(&rt, rt.alloc());
+    assert_eq!(rt; ledger.flow_count(), 0);
+    assert_eq!(rt; ledger.add_flow_refusal(a), None);
+    made(
+        &rt,
+        &mut ledger,
+        &[
+            Change::Open(a),
+            Change::Open(b),
+            Change::MakeTicket(5, base),
+            Change::FundFlow(1, b),
+        ],
+    );
+    ledger.set_active(FlowNo(2), true);
+    assert_eq!(rt; ledger.add_flow_refusal(a), Some(Refusal::Taken));
+    assert_eq!(rt; ledger.flow_count(), 2);
+    assert!(rt; ledger.flow_at(2).is_none());
+    let (second, open) = ledger.flow_at(1).expect(&rt, "a second flow");
+    assert_eq!(rt; (second, open.number, open.active), (b, FlowNo(2), true));
+    ledger.remove_flow(FlowNo(1));
+    let (first, open) = ledger.flow_at(0).expect(&rt, "a flow");
+    assert_eq!(rt; (first, open.number, open.active), (b, FlowNo(2), true));
+    assert!(rt; ledger.flow_count() == 1);
+    if 0 < ledger.flow_count() {
+        assert_eq!(rt; ledger.tickets_at(0), 5);
+    }
+    assert_eq!(rt; ledger.tickets(FlowNo(1)), 0);
 }
 
 #[test]

@@ -111,6 +111,17 @@ impl Model {
         None
     }
 
+    /// How many flows are open.
+    pub(crate) fn flow_count(&self) -> usize {
+        self.opened.len()
+    }
+
+    /// The name, the number and the activity of the flow at a place in the order of opening.
+    pub(crate) fn flow_at(&self, place: usize) -> Option<(Name, u32, bool)> {
+        let open = self.opened.get(place)?;
+        Some((open.name, open.number, open.active))
+    }
+
     fn ticket(&self, number: u64) -> Option<Issued> {
         for ticket in &self.issued {
             if u64::from(ticket.number) == number {

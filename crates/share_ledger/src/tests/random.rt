@@ -116,6 +116,7 @@ fn step(
             model.close(number);
         }
         _ => {
+            assert_eq!(rt; ledger.add_flow_refusal(name).is_some(), number.is_some());
             let change = drawn(rt, state, ledger.next_ticket());
             let wanted = model.apply(change)?;
             assert_eq!(rt; apply(ledger, change), wanted, "{change:?}");
@@ -125,6 +126,24 @@ fn step(
         }
     }
     Ok(None)
+}
+
+// Whether both have the same flows open, in the same order, with the same tickets by place.
+fn agree_by_place(rt: &impl Abort, ledger: &Ledger, model: &Model) -> bool {
+    let count = model.flow_count();
+    if ledger.flow_count() != count || ledger.flow_at(count).is_some() {
+        return false;
+    }
+    for place in 0..ledger.flow_count() {
+        let (name, flow) = ledger.flow_at(place).expect(rt, "an open flow");
+        if model.flow_at(place) != Some((name, flow.number.number(), flow.active)) {
+            return false;
+        }
+        if u64::from(ledger.tickets_at(place)) != model.tickets(flow.number.number()) {
+            return false;
+        }
+    }
+    true
 }
 
 // Whether both give each open flow the same tickets.
@@ -152,6 +171,10 @@ fn long_run_beside_a_plain_model(rt: HostRuntime) -> Result<(), Fail> {
         }
         model.settle();
         assert!(rt; agree(&rt, &ledger, &model), "after step {count}");
+        assert!(rt;
+            agree_by_place(&rt, &ledger, &model),
+            "by place after step {count}"
+        );
     }
     for refusal in REFUSALS {
         assert!(rt;

@@ -1,10 +1,11 @@
 -- Laws of the graph of tickets and currencies, each of which holds in every graph that the commands allow.
-use Rattle.std.specs.Prelude.{◌≡◌, ◌≤◌, ◌↔◌, ℕ, suc, true, false, ◌+◌, ◌^◌, min, List, sum_by, bytes_eq}
+use Rattle.std.specs.Prelude.{◌≡◌, ◌≤◌, ◌↔◌, ℕ, suc, true, false, ◌+◌, ◌^◌, min, List, sum_by, bytes_eq, None}
 use Rattle.share_model.specs.declared.funding.Ticket.{Ticket}
 use Rattle.share_model.specs.declared.funding.OpenFlow.{OpenFlow}
 use Rattle.share_model.specs.funding.Graph.{NameBytes, base, Graph, funding, act, is_active, active, val, worth}
-use Rattle.share_model.specs.funding.Graph.{tickets, chain, chain_within, is_deep}
-use Rattle.share_model.specs.funding.Changes.{fund_currency}
+use Rattle.share_model.specs.funding.Graph.{tickets, is_active_flow, chain, chain_within, is_deep}
+use Rattle.share_model.specs.funding.Changes.{make_currency, remove_currency, make_ticket, remove_ticket_refusal}
+use Rattle.share_model.specs.funding.Changes.{remove_ticket, fund_currency, add_flow}
 use Rattle.share_model.specs.lists.Each.{Each}
 use Rattle.share_model.specs.funding.Kept.{is_awake, kept_worth, IsCached}
 
@@ -19,6 +20,16 @@ pub record SharesAreWithin (g : Graph) : Type 0 where
   pub shares : sum_by (λ (e : NameBytes × OpenFlow). tickets g e.1.number) g.flows ≤ active g base
   pub cap_idle : active g base ≤ 2 ^ 20
       → Each (λ (e : NameBytes × OpenFlow). tickets g e.1.number ≡ uncapped g e.1.number) g.flows
+
+-- Tickets without a holder count for nothing, and a flow that is idle or not open has no tickets. So these commands
+-- leave the tickets of every flow.
+pub record LeavesTickets (g : Graph) : Type 0 where
+  pub make_currency : (c : NameBytes) (f : ℕ) → tickets (make_currency g c) f ≡ tickets g f
+  pub remove_currency : (c : NameBytes) (f : ℕ) → tickets (remove_currency g c) f ≡ tickets g f
+  pub make_ticket : (amount : ℕ) (c : NameBytes) (f : ℕ) → tickets (make_ticket g amount c) f ≡ tickets g f
+  pub remove_ticket : (n f : ℕ) → remove_ticket_refusal g n ≡ None → tickets (remove_ticket g n) f ≡ tickets g f
+  pub add_flow : (name : NameBytes) (f : ℕ) → tickets (add_flow g name) f ≡ tickets g f
+  pub idle : (f : ℕ) → is_active_flow g f ≡ false → tickets g f ≡ 0
 
 -- Nine steps are enough: further ones change neither what is active nor what a currency is worth.
 pub record IsSettled (g : Graph) : Type 0 where

@@ -1,10 +1,11 @@
 -- Laws of buffers: the head packet of a flow after a packet was pushed or a buffer opened, and the ties between the
 -- buffers and the open flows.
 use Rattle.std.specs.Prelude.{◌≡◌, ◌<◌, ◌+◌, ◌-◌, ℕ, Bool, true, false, ◌&&◌, ◌||◌, List, [], ◌∷◌, ◌++◌, length, map}
-use Rattle.std.specs.Prelude.{nat_eq, Option, None, Some, option_map, option_and_then, if◌then◌else◌}
+use Rattle.std.specs.Prelude.{suc, nat_eq, is_some, Option, None, Some, option_map, option_and_then, if◌then◌else◌}
 use Rattle.std.specs.List.{list_any}
+use Rattle.std.specs.Set.{remove_key}
 use Rattle.std.specs.Map.{lookup}
-use Rattle.std.proofs.Common.{refl, ap, sym, ◌∙◌, arith, length-append}
+use Rattle.std.proofs.Common.{refl, ap, sym, ◌∙◌, subst, arith, length-append}
 use Rattle.std.proofs.lemmas.Bool.{eqb-true, eqb-false, eq-eqb, ne_eqb, cond-true, cond-false, or_from, or_left}
 use Rattle.std.proofs.lemmas.Bool.{or_right, and_left}
 use Rattle.std.proofs.lemmas.Option.{same_Some, option_and_then_some}
@@ -13,7 +14,7 @@ use Rattle.share_model.specs.link.Frame.{Packet}
 use Rattle.share_model.specs.link.Buffers.{Buffer, is_buffer_of, buffer_of, new_buffer, opened}
 use Rattle.share_model.specs.lists.Change.{change_first}
 use Rattle.share_model.specs.link.Buffers.{with_packet, pushed, head_in, head_of_buffer, head_of, is_some_packet}
-use Rattle.share_model.specs.link.Buffers.{holds_packet, is_busy}
+use Rattle.share_model.specs.link.Buffers.{holds_packet, is_busy, closed, without_head, popped}
 use Rattle.share_model.specs.funding.Graph.{NameBytes}
 use Rattle.share_model.specs.funding.Changes.{is_open_as, active_as, with_activity}
 use Rattle.share_model.specs.lists.Each.{Each}
@@ -21,7 +22,8 @@ use Rattle.share_model.specs.funding.Graph.{flow_numbers}
 use Rattle.share_model.specs.lists.Rises.{Rises}
 use Rattle.share_model.specs.lists.Laws.{map-change_first, has_number, find-change_first, find-change_first_other}
 use Rattle.share_model.specs.lists.Laws.{find-holds}
-use Rattle.share_model.specs.lists.Laws.{find-append_found}
+use Rattle.share_model.specs.lists.Laws.{find-append_found, is_some-find_number}
+use Rattle.share_model.specs.lists.RemoveLaws.{map-remove_key, find-remove_other, find-absent}
 
 -- The head packet of a flow
 
@@ -215,3 +217,61 @@ number-of_named p [] e found = cc
 number-of_named p (x ∷ xs) e found =
     named_by e.number (has_number e.number (flow_numbers xs)) x (lookup p xs) e refl (p x.0)
     (number-of_named p xs e) found
+
+-- the head packet of a buffer, and those behind it
+pub record IsHeadPacket (b : Buffer) (h : Packet) : Type 0 where
+  pub behind : List (List ℕ)
+  pub packets : b.packets ≡ h.payload ∷ behind
+  pub seq : h.seq ≡ b.next - suc (length behind)
+
+head_packet : (b : Buffer) (ps : List (List ℕ)) (h : Packet) → b.packets ≡ ps → head_in b ps ≡ Some h → IsHeadPacket b h
+head_packet b [] h are is = cc
+head_packet b (p ∷ ps) h are is =
+    subst (λ h. IsHeadPacket b h)
+    (same_Some (record { flow = b.flow; seq = b.next - length (p ∷ ps); payload = p }) h is)
+    (record { behind = ps; packets = are; seq = refl })
+
+-- the buffer of a flow that has a head packet
+pub record IsHeadBuffer (bs : List Buffer) (f : ℕ) (h : Packet) : Type 0 where
+  pub buffer : Buffer
+  pub found : buffer_of bs f ≡ Some buffer
+  pub head : IsHeadPacket buffer h
+
+pub head_buffer : (bs : List Buffer) (f : ℕ) (h : Packet) → head_of bs f ≡ Some h → IsHeadBuffer bs f h
+head_buffer bs f h is = option_and_then_some head_of_buffer (buffer_of bs f) h is (λ b found here. record {
+  buffer = b;
+  found = found;
+  head = head_packet b b.packets h refl here;
+})
+
+-- a buffer of one flow is not another's, nor is it after a change that keeps its flow
+pub other_buffer : (change : Buffer → Buffer) → ((b : Buffer) → (change b).flow ≡ b.flow) → (f g : ℕ)
+    → nat_eq f g ≡ false → (b : Buffer) → is_buffer_of g b ≡ true
+    → (is_buffer_of f b ≡ false) × (is_buffer_of f (change b) ≡ false)
+other_buffer change keeps f g test b holds =
+    let e : nat_eq f b.flow ≡ false = ne_eqb f b.flow
+    (λ same. eqb-false f g test (same ∙ sym (eqb-true g b.flow holds))) in
+    (e, ap (nat_eq f) (keeps b) ∙ e)
+
+-- Buffers that are closed
+
+pub head_of-closed_other : (bs : List Buffer) (g f : ℕ) → nat_eq f g ≡ false → head_of (closed bs g) f ≡ head_of bs f
+head_of-closed_other bs g f apart =
+    ap (option_and_then head_of_buffer) (find-remove_other (λ (b : Buffer). b.flow) g f apart bs)
+
+-- buffers of the same flows lack the same
+pub buffer_of-absent : (bs bs' : List Buffer) (f : ℕ) → buffer_flows bs' ≡ buffer_flows bs → buffer_of bs f ≡ None
+    → buffer_of bs' f ≡ None
+buffer_of-absent bs bs' f same absent =
+    find-absent (λ (b : Buffer). b.flow) f bs'
+    (ap (has_number f) same
+    ∙ (sym (is_some-find_number (λ (b : Buffer). b.flow) f bs) ∙ ap is_some absent))
+
+pub flows-pushed : (bs : List Buffer) (f : ℕ) (body : List ℕ) → buffer_flows (pushed bs f body) ≡ buffer_flows bs
+flows-pushed bs f body = map-change_first (λ (b : Buffer). b.flow) (is_buffer_of f) (with_packet body) (λ b. refl) bs
+
+pub flows-popped : (bs : List Buffer) (f : ℕ) → buffer_flows (popped bs f) ≡ buffer_flows bs
+flows-popped bs f = map-change_first (λ (b : Buffer). b.flow) (is_buffer_of f) without_head (λ b. refl) bs
+
+pub flows-closed : (bs : List Buffer) (f : ℕ) → buffer_flows (closed bs f) ≡ remove_key (nat_eq f) (buffer_flows bs)
+flows-closed bs f = map-remove_key (λ (b : Buffer). b.flow) (nat_eq f) bs

@@ -1,6 +1,7 @@
 -- The buffers of the open flows, in order of opening: each a list of payloads, with a limit and the sequence number
 -- that is given next. A packet's number is the next one less the packets from it to the back.
 use Rattle.std.specs.Prelude.{ℕ, ◌+◌, ◌-◌, Bool, true, false, List, [], ◌∷◌, ◌++◌, length, drop, find, nat_eq, nat_le}
+use Rattle.std.specs.Set.{remove_key}
 use Rattle.std.specs.Prelude.{Option, None, Some, option_and_then}
 use Rattle.share_model.specs.link.Frame.{Packet}
 use Rattle.share_model.specs.lists.Change.{change_first}
@@ -22,6 +23,17 @@ new_buffer f limit = record { flow = f; limit = limit; next = 1; packets = [] }
 
 abbrev pub opened : List Buffer → ℕ → ℕ → List Buffer
 opened bs f limit = bs ++ new_buffer f limit ∷ []
+
+abbrev pub closed : List Buffer → ℕ → List Buffer
+closed bs f = remove_key (is_buffer_of f) bs
+
+-- the packets in the buffer of a flow, and 0 where it is not open
+abbrev pub count_by : Option Buffer → ℕ
+count_by None = 0
+count_by (Some b) = length b.packets
+
+abbrev pub count_in : List Buffer → ℕ → ℕ
+count_in bs f = count_by (buffer_of bs f)
 
 -- a packet goes to the back, and takes the next number
 abbrev pub with_packet : List ℕ → Buffer → Buffer

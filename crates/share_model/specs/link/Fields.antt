@@ -3,7 +3,9 @@ use Rattle.std.specs.Prelude.{◌≡◌, ◌<◌, ◌≤◌, ◌^◌, ℕ, Bool,
 use Rattle.std.specs.List.{list_all}
 use Rattle.share_base.specs.Name.{is_name}
 use Rattle.share_base.specs.declared.command.Command.{Command}
-use Rattle.share_base.specs.declared.command.Command.TheVariants.{MakeTicket, FundFlow, OpenFlow}
+use Rattle.share_base.specs.declared.command.Command.TheVariants.{MakeCurrency, RemoveCurrency, MakeTicket}
+use Rattle.share_base.specs.declared.command.Command.TheVariants.{RemoveTicket, FundCurrency, FundFlow, Unfund}
+use Rattle.share_base.specs.declared.command.Command.TheVariants.{OpenFlow, CloseFlow}
 
 abbrev pub IsName : List ℕ → Type 0
 IsName w = is_name w ≡ true
@@ -25,6 +27,12 @@ pub record IsBody (bs : List ℕ) : Type 0 where
   pub bytes : list_all is_byte bs ≡ true
 
 abbrev pub HasCommandFields : Command → Type 0
-HasCommandFields (OpenFlow name limit tariff) = IsName name × IsNumber limit × IsNumber tariff
+HasCommandFields (MakeCurrency name) = IsName name
+HasCommandFields (RemoveCurrency name) = IsName name
 HasCommandFields (MakeTicket amount currency) = IsNumber amount × IsName currency
+HasCommandFields (RemoveTicket ticket) = IsNumber ticket
+HasCommandFields (FundCurrency ticket currency) = IsNumber ticket × IsName currency
 HasCommandFields (FundFlow ticket flow) = IsNumber ticket × IsName flow
+HasCommandFields (Unfund ticket) = IsNumber ticket
+HasCommandFields (OpenFlow name limit tariff) = IsName name × IsNumber limit × IsNumber tariff
+HasCommandFields (CloseFlow name) = IsName name

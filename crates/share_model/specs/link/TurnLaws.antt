@@ -94,7 +94,7 @@ below_life a b differ most = let h : ¬ (a ≡ b) = eqb-false a b differ in omeg
 
 pub events-below : {W : Type 0} (old : Seen W) → Sound old.life old.rates old.live → is_spent old ≡ false
     → old.live.counts.events < old.life
-events-below old sound living = below_life old.live.counts.events old.life living sound.events
+events-below old sound living = below_life old.live.counts.events old.life living sound.counts.events
 
 pub written-step : (rates : List Rate) (l : Live) (k : ℕ) (s : Sending) → sending l ≡ Some s
     → live_step rates l (Written k) ≡ turned (write_step rates l s k)

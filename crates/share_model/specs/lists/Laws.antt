@@ -3,8 +3,9 @@ use Rattle.std.specs.Prelude.{◌≡◌, ◌<◌, ◌+◌, ℕ, suc, Bool, true,
 use Rattle.std.specs.Prelude.{find, nat_eq, Option, Some, option_map, is_some, if◌then◌else◌}
 use Rattle.std.specs.Option.{option_or}
 use Rattle.std.specs.List.{list_any}
-use Rattle.std.proofs.Common.{refl, ap, sym, ◌∙◌, arith}
-use Rattle.std.proofs.lemmas.Bool.{cond_both, cond-true, cond-false, ne_eqb, or_from}
+use Rattle.std.proofs.Common.{refl, ap, sym, ◌∙◌, arith, inl, inr}
+use Rattle.std.proofs.lemmas.Bool.{cond_both, cond-true, cond-false, eqb-true, ne_eqb, eq-eqb, or_cases, or_from}
+use Rattle.std.proofs.lemmas.Bool.{or_right}
 use Rattle.std.proofs.lemmas.Option.{same_Some}
 use Rattle.std.proofs.lemmas.List.Folds.{find-append}
 use Rattle.share_model.specs.lists.Change.{change_first}
@@ -152,3 +153,32 @@ rises-append limit (n ∷ ns) rises = (
   each-append (λ m. n < m) ns (limit ∷ []) rises.1 (rises.0, tt),
   rises-append limit ns rises.2,
 )
+
+below_same : (n m limit : ℕ) → n ≡ m → m < limit → n < limit
+below_same n m limit same below = omega arith
+
+-- numbers below a limit
+pub rises-below : (limit n : ℕ) (ns : List ℕ) → Rises limit ns → has_number n ns ≡ true → n < limit
+unfolding Rises
+rises-below limit n [] rises has = cc
+rises-below limit n (m ∷ ns) rises has = elim (or_cases (nat_eq n m) (has_number n ns) has) [
+  | inl same ↦ below_same n m limit (eqb-true n m same) rises.0
+  | inr later ↦ rises-below limit n ns rises.2 later
+]
+
+-- a number at the head, after it, and at the end
+pub has_number-head : (n : ℕ) (ns : List ℕ) → has_number n (n ∷ ns) ≡ true
+has_number-head n ns = ap (λ b. b || has_number n ns) (eq-eqb n n refl)
+
+pub has_number-later : (f n : ℕ) (ns : List ℕ) → has_number f ns ≡ true → has_number f (n ∷ ns) ≡ true
+has_number-later f n ns later = or_right (nat_eq f n) (has_number f ns) later
+
+pub has_number-last : (f g : ℕ) (ns : List ℕ) → has_number g (ns ++ f ∷ []) ≡ (nat_eq g f || has_number g ns)
+has_number-last f g [] = refl
+has_number-last f g (n ∷ ns) =
+    ap (λ b. nat_eq g n || b) (has_number-last f g ns) ∙ by_tests (nat_eq g n) (nat_eq g f) (has_number g ns)
+  where
+    by_tests : (a b r : Bool) → (a || (b || r)) ≡ (b || (a || r))
+    by_tests true true r = refl
+    by_tests true false r = refl
+    by_tests false b r = refl

@@ -1,18 +1,14 @@
--- A law of the packets that a run accepted: those of a flow are, in order, those that were written whole of it and
--- those that its buffer holds.
-use Rattle.std.specs.Prelude.{◌≡◌, ◌+◌, ◌-◌, ℕ, Bool, true, false, List, [], ◌∷◌, ◌++◌, length, drop, nat_eq, Option}
-use Rattle.std.specs.Prelude.{None, Some, option_map, option_and_then, if◌then◌else◌}
-use Rattle.std.specs.Option.{option_or}
-use Rattle.std.proofs.Common.{refl, ap, sym, ◌∙◌, arith, append_assoc, length-append}
+-- A law of the packets that a run accepted: those of an open flow are, in order, those that were written whole of it
+-- and those that its buffer holds; and those written whole of any flow come first.
+use Rattle.std.specs.Prelude.{◌≡◌, ◌<◌, ◌≤◌, ℕ, Bool, true, false, ◌||◌, List, [], ◌∷◌, ◌++◌, nat_eq}
+use Rattle.std.specs.Prelude.{Option, None, Some, is_some, if◌then◌else◌}
+use Rattle.std.specs.Set.{remove_key}
+use Rattle.std.proofs.Common.{refl, ap, sym, ◌∙◌, subst, arith, append_assoc}
 use Rattle.std.proofs.lemmas.Bool.{cond_both, eqb-true}
 use Rattle.std.proofs.lemmas.List.{append-nil, map-append}
 use Rattle.std.proofs.lemmas.List.Elements.{filter-append}
-use Rattle.std.proofs.lemmas.List.Folds.{find-append}
-use Rattle.std.proofs.lemmas.Option.{same_Some}
-use Rattle.share_base.specs.declared.refusal.Refusal.{Refusal}
 use Rattle.share_base.specs.declared.refusal.Refusal.TheVariants.{BufferFull}
 use Rattle.share_base.specs.declared.command.Command.{Command}
-use Rattle.share_base.specs.declared.command.Command.TheVariants.{MakeTicket, FundFlow, OpenFlow}
 use Rattle.share_base.specs.declared.command.Reply.{Reply}
 use Rattle.share_base.specs.declared.command.Reply.TheVariants.{Packet as PacketReply, Refused}
 use Rattle.share_base.specs.declared.command.Outcome.TheVariants.{Replied}
@@ -20,143 +16,166 @@ use Rattle.share_base.specs.declared.command.Event.{Event}
 use Rattle.share_base.specs.declared.command.Event.TheVariants.{Commanded, Arrived, Written, Faulted}
 use Rattle.share_model.specs.declared.rates.Rate.{Rate}
 use Rattle.share_model.specs.declared.funding.OpenFlow.{OpenFlow as FlowEntry}
+use Rattle.share_model.specs.lists.Laws.{has_number, has_number-last, is_some-find_number, rises-below}
+use Rattle.share_model.specs.lists.RemoveLaws.{has_number-remove_same, has_number-remove_other}
+use Rattle.share_model.specs.funding.Graph.{NameBytes, flow_numbers}
+use Rattle.share_model.specs.funding.Changes.{flow_named}
 use Rattle.share_model.specs.link.Tariff.{AreInRange}
 use Rattle.share_model.specs.link.Frame.{Packet}
-use Rattle.share_model.specs.link.Buffers.{Buffer, is_buffer_of, buffer_of, new_buffer, opened, with_packet, pushed}
-use Rattle.share_model.specs.link.Buffers.{is_full, without_head, popped, head_in, head_of_buffer, head_of}
-use Rattle.share_model.specs.funding.Graph.{NameBytes}
-use Rattle.share_model.specs.funding.Changes.{flow_named}
-use Rattle.share_model.specs.link.Live.{Live, Sending, sending, counted, by_refusal, command_refusal, commanded}
-use Rattle.share_model.specs.link.Live.{command_step, accept, arrive_in, arrive_by, arrive_step, is_whole}
+use Rattle.share_model.specs.link.Buffers.{Buffer, buffer_of, closed, is_full, popped, is_busy}
+use Rattle.share_model.specs.link.BufferLaws.{numbers-with_activity}
+use Rattle.share_model.specs.link.CommandLaws.{command-cases}
+use Rattle.share_model.specs.link.Live.{Live, Sending, sending, counted, with_graph, open_flow, close_flow}
+use Rattle.share_model.specs.link.Live.{command_step}
+use Rattle.share_model.specs.link.Live.{accept, arrive_in, arrive_by, arrive_step, is_whole, whole, in_part, torn}
 use Rattle.share_model.specs.run.Fold.{Sent, State, empty_state, step, outcome, state_after, run}
 use Rattle.share_model.specs.run.Events.{MayCome, MayFollow}
 use Rattle.share_model.specs.run.Sound.{Sound, SoundState}
-use Rattle.share_model.specs.lists.Laws.{find-change_first, find-change_first_other, find-holds}
-use Rattle.share_model.specs.run.SoundLaws.{sending-head}
+use Rattle.share_model.specs.run.SoundLaws.{sending-head, head-given, head-stands, sound-numbered, next-unbuffered}
+use Rattle.share_model.specs.run.SoundStepLaws.{numbers-added}
+use Rattle.share_model.specs.run.SoundCloseLaws.{numbers-without}
 use Rattle.share_model.specs.run.FoldLaws.{state-step, state-empty}
 use Rattle.share_model.specs.run.BytesLaws.{sent_of, written_as, step-written, step-failed}
-use Rattle.share_model.specs.run.NumberLaws.{other_buffer}
-use Rattle.share_model.specs.run.History.{accepted_by, accepted, packets_of, held_in, held_by, held_packets}
-use Rattle.share_model.specs.run.History.{sent_packets}
-
--- The packets in the buffer of a flow
-
-abbrev packet : ℕ → List ℕ → ℕ → Packet
-packet f body n = record { flow = f; seq = n; payload = body }
-
-last_number : (next : ℕ) → (next + 1) - 1 ≡ next
-last_number next = omega arith
-
-same_number : (next : ℕ) (p body : List ℕ) (ps : List (List ℕ))
-    → (next + 1) - length (p ∷ ps ++ body ∷ []) ≡ next - length (p ∷ ps)
-same_number next p body ps = rw (length-append (p ∷ ps) (body ∷ [])) (omega arith)
-
-held_more : (b : Buffer) (body : List ℕ) (ps : List (List ℕ))
-    → held_in (with_packet body b) (ps ++ body ∷ []) ≡ held_in b ps ++ packet b.flow body b.next ∷ []
-held_more b body [] = ap (λ n. packet b.flow body n ∷ []) (last_number b.next)
-held_more b body (p ∷ ps) =
-    ap (λ n. packet b.flow p n ∷ held_in (with_packet body b) (ps ++ body ∷ [])) (same_number b.next p body ps)
-    ∙ ap (λ hs. packet b.flow p (b.next - length (p ∷ ps)) ∷ hs) (held_more b body ps)
-
--- a packet that is pushed comes last, under the buffer's next number
-held_pushed : (bs : List Buffer) (f : ℕ) (body : List ℕ) (b : Buffer) → buffer_of bs f ≡ Some b → (g : ℕ) (k : Bool)
-    → nat_eq g f ≡ k → held_packets (pushed bs f body) g
-    ≡ held_packets bs g ++ (if k then packet f body b.next ∷ [] else [])
-held_pushed bs f body b found g true test =
-    let same : g ≡ f = eqb-true g f test in
-    let flow : f ≡ b.flow = eqb-true f b.flow (find-holds (is_buffer_of f) bs b found) in
-    let before : held_packets bs g ≡ held_in b b.packets = ap (held_packets bs) same ∙ ap held_by found in
-    let after : held_packets (pushed bs f body) g ≡ held_in (with_packet body b) (b.packets ++ body ∷ [])
-    = ap (held_packets (pushed bs f body)) same
-    ∙ (ap held_by (find-change_first (is_buffer_of f) (with_packet body) (λ b holds. holds) bs)
-    ∙ ap (λ o. held_by (option_map (with_packet body) o)) found) in
-    after ∙ (held_more b body b.packets
-    ∙ (ap (λ n. held_in b b.packets ++ packet n body b.next ∷ []) (sym flow)
-    ∙ ap (λ hs. hs ++ packet f body b.next ∷ []) (sym before)))
-held_pushed bs f body b found g false test =
-    ap held_by (find-change_first_other (is_buffer_of f) (is_buffer_of g) (with_packet body)
-    (other_buffer (with_packet body) (λ b. refl) g f test) bs) ∙ sym (append-nil (held_packets bs g))
-
-held_new : (f limit : ℕ) (k : Bool) (o : Option Buffer)
-    → held_by (option_or o (if k then Some (new_buffer f limit) else None)) ≡ held_by o
-held_new f limit k (Some b) = refl
-held_new f limit true None = refl
-held_new f limit false None = refl
-
--- a buffer that is opened holds no packet
-held_opened : (bs : List Buffer) (f limit g : ℕ) → held_packets (opened bs f limit) g ≡ held_packets bs g
-held_opened bs f limit g =
-    ap held_by (find-append (is_buffer_of g) bs (new_buffer f limit ∷ []))
-    ∙ held_new f limit (nat_eq g f) (buffer_of bs g)
-
-held_less : (b : Buffer) (ps : List (List ℕ)) (h : Packet) → head_in b ps ≡ Some h
-    → held_in b ps ≡ h ∷ held_in (without_head b) (drop 1 ps)
-held_less b [] h is = cc
-held_less b (p ∷ ps) h is = ap (λ h. h ∷ held_in b ps) (same_Some (packet b.flow p (b.next - length (p ∷ ps))) h is)
-
-held_less_by : (o : Option Buffer) (h : Packet) → option_and_then head_of_buffer o ≡ Some h
-    → held_by o ≡ h ∷ held_by (option_map without_head o)
-held_less_by None h is = cc
-held_less_by (Some b) h is = held_less b b.packets h is
-
--- the packet that is taken out was the first
-held_popped : (bs : List Buffer) (h : Packet) → head_of bs h.flow ≡ Some h → (f : ℕ) (k : Bool) → nat_eq f h.flow ≡ k
-    → (if k then h ∷ [] else []) ++ held_packets (popped bs h.flow) f ≡ held_packets bs f
-held_popped bs h is f true test =
-    let same : f ≡ h.flow = eqb-true f h.flow test in
-    let after : held_packets (popped bs h.flow) f ≡ held_by (option_map without_head (buffer_of bs h.flow))
-    = ap (held_packets (popped bs h.flow)) same ∙ ap held_by
-    (find-change_first (is_buffer_of h.flow) without_head (λ b holds. holds) bs) in
-    ap (λ hs. h ∷ hs) after ∙ (sym (held_less_by (buffer_of bs h.flow) h is) ∙ ap (held_packets bs) (sym same))
-held_popped bs h is f false test =
-    ap held_by (find-change_first_other (is_buffer_of h.flow) (is_buffer_of f) without_head
-    (other_buffer without_head (λ b. refl) f h.flow test) bs)
+use Rattle.share_model.specs.run.HeldLaws.{packet, held_pushed, held_opened, held_popped, held_closed}
+use Rattle.share_model.specs.run.History.{accepted_by, accepted, packets_of, held_by, held_packets, sent_packets}
 
 -- Each event
 
--- the packets of a flow that were written whole, and those that its buffer holds
-abbrev kept_packets : ℕ → State → List Packet
-kept_packets f s = packets_of f (sent_packets s.done) ++ held_packets s.live.buffers f
+-- of these packets of a flow the first were written whole, and the others are those that its buffer holds while it is
+-- open; a flow that was not opened yet has none
+record AreAccepted (f : ℕ) (hs : List Packet) (l : Live) (done : List Sent) : Type 0 where
+  rest : List Packet
+  split : hs ≡ packets_of f (sent_packets done) ++ rest
+  held : has_number f (flow_numbers l.graph.flows) ≡ true → rest ≡ held_packets l.buffers f
+  fresh : l.graph.next_flow ≤ f → rest ≡ []
 
-allowed_holds : (l : Live) (c : Command) (f : ℕ) → held_packets (commanded l c).0.buffers f ≡ held_packets l.buffers f
-allowed_holds l (MakeTicket amount currency) f = refl
-allowed_holds l (FundFlow ticket flow) f = refl
-allowed_holds l (OpenFlow name limit tariff) f = held_opened l.buffers l.graph.next_flow limit f
+-- where flows and buffers stay
+accepted_same : (f : ℕ) (hs : List Packet) (l l' : Live) (done : List Sent) → l'.graph.flows ≡ l.graph.flows
+    → l'.graph.next_flow ≡ l.graph.next_flow → l'.buffers ≡ l.buffers → AreAccepted f hs l done
+    → AreAccepted f hs l' done
+accepted_same f hs l l' done flows next buffers was = record {
+  rest = was.rest;
+  split = was.split;
+  held =
+      λ stands. was.held (ap (λ (es : List (NameBytes × FlowEntry)). has_number f (flow_numbers es)) (sym flows)
+      ∙ stands) ∙ ap (λ bs. held_packets bs f) (sym buffers);
+  fresh = λ above. was.fresh (omega (arith, next));
+}
 
-command_holds : (l : Live) (c : Command) (o : Option Refusal) (f : ℕ)
-    → held_packets (by_refusal l o (commanded l c)).0.buffers f ≡ held_packets l.buffers f
-command_holds l c None f = allowed_holds l c f
-command_holds l c (Some e) f = refl
+new_held : (bs : List Buffer) (f : ℕ) → buffer_of bs f ≡ None → held_packets bs f ≡ []
+new_held bs f none = ap held_by none
 
-arrive_in_holds : (l : Live) (name : NameBytes) (n : ℕ) (body : List ℕ) (o : Option Buffer) → buffer_of l.buffers n ≡ o
-    → (f : ℕ)
-    → held_packets (arrive_in l n body o).0.buffers f
-    ≡ held_packets l.buffers f ++ packets_of f (accepted_by (Arrived name body) (Replied (arrive_in l n body o).1))
-arrive_in_holds l name n body None found f = sym (append-nil (held_packets l.buffers f))
-arrive_in_holds l name n body (Some b) found f =
+accepted_opened : {life : ℕ} {rates : List Rate} {l : Live} → Sound life rates l → (f : ℕ) (hs : List Packet)
+    (done : List Sent) (name : NameBytes) (limit tariff : ℕ) → AreAccepted f hs l done
+    → AreAccepted f hs (open_flow l name limit tariff) done
+accepted_opened {l = l} sound f hs done name limit tariff was = record {
+  rest = was.rest;
+  split = was.split;
+  held =
+      λ stands. by_flow (nat_eq f next) refl
+      (sym (has_number-last next f (flow_numbers l.graph.flows))
+      ∙ (ap (has_number f) (sym (numbers-added l.graph name)) ∙ stands))
+      ∙ sym (held_opened l.buffers next limit f);
+  fresh = λ above. was.fresh (omega arith);
+}
+  where
+    next : ℕ
+    next = l.graph.next_flow
+
+    by_flow : (b : Bool) → nat_eq f next ≡ b → (b || has_number f (flow_numbers l.graph.flows)) ≡ true
+        → was.rest ≡ held_packets l.buffers f
+    by_flow true test stands =
+        let same : f ≡ next = eqb-true f next test in
+        was.fresh (omega (arith, same))
+        ∙ sym (ap (held_packets l.buffers) same ∙ new_held l.buffers next (next-unbuffered sound))
+    by_flow false test stands = was.held stands
+
+accepted_closed : {life : ℕ} {rates : List Rate} {l : Live} → Sound life rates l → (f : ℕ) (hs : List Packet)
+    (done : List Sent) (g : ℕ) → AreAccepted f hs l done → AreAccepted f hs (close_flow l g) done
+accepted_closed {l = l} sound f hs done g was = record {
+  rest = was.rest;
+  split = was.split;
+  held =
+      λ stands. by_flow (nat_eq f g) refl
+      (ap (has_number f) (sym (numbers-without g l.graph.flows)) ∙ stands);
+  fresh = was.fresh;
+}
+  where
+    by_flow : (b : Bool) → nat_eq f g ≡ b → has_number f (remove_key (nat_eq g) (flow_numbers l.graph.flows)) ≡ true
+        → was.rest ≡ held_packets (closed l.buffers g) f
+    by_flow true test stands =
+        let none : false ≡ true =
+        sym (has_number-remove_same l.graph.next_flow g (flow_numbers l.graph.flows) (sound-numbered sound))
+        ∙ (ap (λ n. has_number n (remove_key (nat_eq g) (flow_numbers l.graph.flows))) (sym (eqb-true f g test))
+        ∙ stands) in
+        cc
+    by_flow false test stands =
+        was.held (sym (has_number-remove_other g f test (flow_numbers l.graph.flows)) ∙ stands)
+        ∙ sym (held_closed l.buffers g f test)
+
+accepted_commanded : {life : ℕ} {rates : List Rate} {l : Live} → Sound life rates l → (f : ℕ) (hs : List Packet)
+    (done : List Sent) (c : Command) → AreAccepted f hs l done → AreAccepted f hs (command_step rates l c).0 done
+accepted_commanded {rates = rates} {l = l} sound f hs done c was =
+    command-cases (λ (l' : Live). AreAccepted f hs l' done) rates l c
+    (accepted_same f hs l (counted l) done refl refl refl was)
+    (λ g funded. accepted_same f hs l (with_graph l g) done funded.flows funded.next_flow refl was)
+    (λ name limit tariff allowed. accepted_opened sound f hs done name limit tariff was)
+    (λ g may. accepted_closed sound f hs done g was)
+
+accepted_none : (f : ℕ) (hs : List Packet) (l : Live) (done : List Sent) → AreAccepted f hs l done
+    → AreAccepted f (hs ++ []) l done
+accepted_none f hs l done was = subst (λ hs. AreAccepted f hs l done) (sym (append-nil hs)) was
+
+-- a packet comes
+accepted_pushed : {life : ℕ} {rates : List Rate} {l : Live} → Sound life rates l → (f : ℕ) (hs : List Packet)
+    (done : List Sent) (n : ℕ) (body : List ℕ) (b : Buffer) → buffer_of l.buffers n ≡ Some b
+    → AreAccepted f hs l done
+    → AreAccepted f (hs ++ packets_of f (packet n body b.next ∷ [])) (accept l n body) done
+accepted_pushed {l = l} sound f hs done n body b found was =
+    let more : List Packet = packets_of f (packet n body b.next ∷ []) in
+    record {
+      rest = was.rest ++ more;
+      split =
+          ap (λ hs. hs ++ more) was.split
+          ∙ append_assoc (packets_of f (sent_packets done)) was.rest more;
+      held =
+          λ stands. ap (λ hs. hs ++ more)
+          (was.held (ap (has_number f) (sym (numbers-with_activity n true l.graph.flows)) ∙ stands))
+          ∙ sym (held_pushed l.buffers n body b found f (nat_eq f n) refl);
+      fresh = λ above. ap (λ hs. hs ++ more) (was.fresh above) ∙ by_flow above (nat_eq f n) refl;
+    }
+  where
+    given : n < l.graph.next_flow
+    given = rises-below l.graph.next_flow n (flow_numbers l.graph.flows) (sound-numbered sound)
+        (sym (ap (has_number n) sound.flows.buffered)
+        ∙ (sym (is_some-find_number (λ (b : Buffer). b.flow) n l.buffers) ∙ ap is_some found))
+
+    by_flow : l.graph.next_flow ≤ f → (k : Bool) → nat_eq f n ≡ k
+        → (if k then packet n body b.next ∷ [] else []) ≡ []
+    by_flow above true test = let same : f ≡ n = eqb-true f n test in absurd (omega (arith, given))
+    by_flow above false test = refl
+
+accepted_in : {life : ℕ} {rates : List Rate} {l : Live} → Sound life rates l → (f : ℕ) (hs : List Packet)
+    (done : List Sent) (name : NameBytes) (n : ℕ) (body : List ℕ) (o : Option Buffer) → buffer_of l.buffers n ≡ o
+    → AreAccepted f hs l done
+    → AreAccepted f (hs ++ packets_of f (accepted_by (Arrived name body) (Replied (arrive_in l n body o).1)))
+    (arrive_in l n body o).0 done
+accepted_in {l = l} sound f hs done name n body None found was =
+    accepted_none f hs (counted l) done (accepted_same f hs l (counted l) done refl refl refl was)
+accepted_in {l = l} sound f hs done name n body (Some b) found was =
     cond_both (is_full b) (counted l, Refused BufferFull) (accept l n body, PacketReply n b.next)
-    (λ (d : Live × Reply). held_packets d.0.buffers f
-    ≡ held_packets l.buffers f ++ packets_of f (accepted_by (Arrived name body) (Replied d.1)))
-    (λ _. sym (append-nil (held_packets l.buffers f)))
-    (λ _. held_pushed l.buffers n body b found f (nat_eq f n) refl)
+    (λ (d : Live × Reply). AreAccepted f (hs ++ packets_of f (accepted_by (Arrived name body) (Replied d.1))) d.0 done)
+    (λ _. accepted_none f hs (counted l) done (accepted_same f hs l (counted l) done refl refl refl was))
+    (λ _. accepted_pushed sound f hs done n body b found was)
 
-arrive_holds : (l : Live) (name : NameBytes) (body : List ℕ) (o : Option FlowEntry) (f : ℕ)
-    → held_packets (arrive_by l body o).0.buffers f
-    ≡ held_packets l.buffers f ++ packets_of f (accepted_by (Arrived name body) (Replied (arrive_by l body o).1))
-arrive_holds l name body None f = sym (append-nil (held_packets l.buffers f))
-arrive_holds l name body (Some e) f = arrive_in_holds l name e.number body (buffer_of l.buffers e.number) refl f
-
--- where an event ends no frame, its packet goes to those that the buffer holds
-holds_more : (done : List Sent) (f : ℕ) (old new more : List Packet) → new ≡ old ++ more
-    → packets_of f (sent_packets (done ++ [])) ++ new ≡ (packets_of f (sent_packets done) ++ old) ++ more
-holds_more done f old new more is =
-    ap (λ (ds : List Sent). packets_of f (sent_packets ds) ++ new) (append-nil done)
-    ∙ (ap (λ hs. packets_of f (sent_packets done) ++ hs) is
-    ∙ sym (append_assoc (packets_of f (sent_packets done)) old more))
-
-holds_same : (done : List Sent) (f : ℕ) (old new : List Packet) → new ≡ old
-    → packets_of f (sent_packets (done ++ [])) ++ new ≡ (packets_of f (sent_packets done) ++ old) ++ []
-holds_same done f old new is = holds_more done f old new [] (is ∙ sym (append-nil old))
+accepted_arrived : {life : ℕ} {rates : List Rate} {l : Live} → Sound life rates l → (f : ℕ) (hs : List Packet)
+    (done : List Sent) (name : NameBytes) (body : List ℕ) (o : Option FlowEntry) → AreAccepted f hs l done
+    → AreAccepted f (hs ++ packets_of f (accepted_by (Arrived name body) (Replied (arrive_by l body o).1)))
+    (arrive_by l body o).0 done
+accepted_arrived {l = l} sound f hs done name body None was =
+    accepted_none f hs (counted l) done (accepted_same f hs l (counted l) done refl refl refl was)
+accepted_arrived {l = l} sound f hs done name body (Some e) was =
+    accepted_in sound f hs done name e.number body (buffer_of l.buffers e.number) refl was
 
 sent_more : (done : List Sent) (d : Sent) (f : ℕ)
     → packets_of f (sent_packets (done ++ d ∷ [])) ≡ packets_of f (sent_packets done) ++ packets_of f (d.head ∷ [])
@@ -164,57 +183,121 @@ sent_more done d f =
     ap (packets_of f) (map-append (λ (d : Sent). d.head) done (d ∷ []))
     ∙ filter-append (λ (h : Packet). nat_eq f h.flow) (sent_packets done) (d.head ∷ [])
 
--- a write that ends a frame moves its packet, and any other moves none
-written_packets : (life : ℕ) (rates : List Rate) (s : State) (snd : Sending) (k : ℕ) → Sound life rates s.live
-    → sending s.live ≡ Some snd → (b : Bool) (f : ℕ)
-    → kept_packets f (written_as rates s snd k b) ≡ kept_packets f s ++ []
-written_packets life rates s snd k sound is true f =
-    ap (λ hs. hs ++ held_packets (popped s.live.buffers snd.head.flow) f) (sent_more s.done (sent_of s.live snd) f)
-    ∙ (append_assoc (packets_of f (sent_packets s.done)) (packets_of f (snd.head ∷ []))
-    (held_packets (popped s.live.buffers snd.head.flow) f)
-    ∙ (ap (λ hs. packets_of f (sent_packets s.done) ++ hs)
-    (held_popped s.live.buffers snd.head (sending-head sound is) f (nat_eq f snd.head.flow) refl)
-    ∙ sym (append-nil (kept_packets f s))))
-written_packets life rates s snd k sound is false f =
-    holds_same s.done f (held_packets s.live.buffers f) (held_packets s.live.buffers f) refl
+-- a packet that was written whole is the first of those that the buffer held
+accepted_whole : {life : ℕ} {rates : List Rate} {l : Live} → Sound life rates l → (f : ℕ) (hs : List Packet)
+    (done : List Sent) (snd : Sending) (k : ℕ) → sending l ≡ Some snd → AreAccepted f hs l done
+    → (b : Bool) → nat_eq f snd.head.flow ≡ b
+    → AreAccepted f hs (whole rates l snd k) (done ++ sent_of l snd ∷ [])
+accepted_whole {l = l} sound f hs done snd k is was true test =
+    let g = snd.head.flow in
+    let same : f ≡ g = eqb-true f g test in
+    let stands : has_number f (flow_numbers l.graph.flows) ≡ true =
+    ap (λ n. has_number n (flow_numbers l.graph.flows)) same ∙ head-stands sound g (sending-head sound is) in
+    let taken : snd.head ∷ held_packets (popped l.buffers g) f ≡ held_packets l.buffers f =
+    held_popped l.buffers snd.head (sending-head sound is) f true test in
+    record {
+      rest = held_packets (popped l.buffers g) f;
+      split =
+          was.split
+          ∙ (ap (λ hs. packets_of f (sent_packets done) ++ hs) (was.held stands ∙ sym taken)
+          ∙ (sym (append_assoc (packets_of f (sent_packets done)) (snd.head ∷ []) (held_packets (popped l.buffers g) f))
+          ∙ ap (λ hs. hs ++ held_packets (popped l.buffers g) f)
+          (sym (sent_more done (sent_of l snd) f
+          ∙ ap (λ b. packets_of f (sent_packets done) ++ (if b then snd.head ∷ [] else [])) test))));
+      held = λ _. refl;
+      fresh = λ above. absurd (omega (arith, head-given sound g (sending-head sound is)));
+    }
+accepted_whole {l = l} sound f hs done snd k is was false test =
+    let g = snd.head.flow in
+    record {
+      rest = was.rest;
+      split =
+          was.split
+          ∙ ap (λ hs. hs ++ was.rest)
+          (sym (sent_more done (sent_of l snd) f
+          ∙ (ap (λ b. packets_of f (sent_packets done) ++ (if b then snd.head ∷ [] else [])) test
+          ∙ append-nil (packets_of f (sent_packets done)))));
+      held =
+          λ stands. was.held
+          (ap (has_number f) (sym (numbers-with_activity g (is_busy (popped l.buffers g) g) l.graph.flows)) ∙ stands)
+          ∙ sym (held_popped l.buffers snd.head (sending-head sound is) f false test);
+      fresh = was.fresh;
+    }
+
+accepted_written : {life : ℕ} {rates : List Rate} (s : State) → Sound life rates s.live → (f : ℕ) (hs : List Packet)
+    (snd : Sending) (k : ℕ) → sending s.live ≡ Some snd → AreAccepted f hs s.live s.done → (b : Bool)
+    → AreAccepted f hs (written_as rates s snd k b).live (written_as rates s snd k b).done
+accepted_written s sound f hs snd k is was true =
+    accepted_whole sound f hs s.done snd k is was (nat_eq f snd.head.flow) refl
+accepted_written s sound f hs snd k is was false =
+    subst (λ ds. AreAccepted f hs (in_part s.live snd k) ds) (sym (append-nil s.done))
+    (accepted_same f hs s.live (in_part s.live snd k) s.done refl refl refl was)
 
 -- each event adds the packet that it accepted
-packets_step : (life : ℕ) (rates : List Rate) (s : State) → SoundState life rates s → (e : Event) → MayCome s.live e
-    → (f : ℕ) → kept_packets f (step rates s e) ≡ kept_packets f s ++ packets_of f (accepted_by e (outcome rates s e))
-packets_step life rates s sound (Commanded c) may f =
-    holds_same s.done f (held_packets s.live.buffers f) (held_packets (command_step rates s.live c).0.buffers f)
-    (command_holds s.live c (command_refusal rates s.live c) f)
-packets_step life rates s sound (Arrived name body) may f =
-    holds_more s.done f (held_packets s.live.buffers f) (held_packets (arrive_step s.live name body).0.buffers f)
-    (packets_of f (accepted_by (Arrived name body) (Replied (arrive_step s.live name body).1)))
-    (arrive_holds s.live name body (flow_named s.live.graph name) f)
-packets_step life rates s sound (Written k) may f =
-    ap (kept_packets f) (step-written rates s k may.frame may.sends.is)
-    ∙ written_packets life rates s may.frame k sound.live may.sends.is (is_whole may.frame k) f
-packets_step life rates s sound Faulted may f =
-    ap (kept_packets f) (step-failed rates s may.frame may.sends.is)
-    ∙ holds_same s.done f (held_packets s.live.buffers f) (held_packets s.live.buffers f) refl
+accepted_step : {life : ℕ} {rates : List Rate} {s : State} → SoundState life rates s → (e : Event)
+    → MayCome s.live e → (f : ℕ) (hs : List Packet) → AreAccepted f hs s.live s.done
+    → AreAccepted f (hs ++ packets_of f (accepted_by e (outcome rates s e))) (step rates s e).live (step rates s e).done
+accepted_step {rates = rates} {s = s} sound (Commanded c) may f hs was =
+    subst (λ ds. AreAccepted f (hs ++ []) (command_step rates s.live c).0 ds) (sym (append-nil s.done))
+    (accepted_none f hs (command_step rates s.live c).0 s.done (accepted_commanded sound.live f hs s.done c was))
+accepted_step {s = s} sound (Arrived name body) may f hs was =
+    subst (λ ds. AreAccepted f
+    (hs ++ packets_of f (accepted_by (Arrived name body) (Replied (arrive_step s.live name body).1)))
+    (arrive_step s.live name body).0 ds) (sym (append-nil s.done))
+    (accepted_arrived sound.live f hs s.done name body (flow_named s.live.graph name) was)
+accepted_step {rates = rates} {s = s} sound (Written k) may f hs was =
+    subst (λ (n : State). AreAccepted f (hs ++ []) n.live n.done) (sym (step-written rates s k may.frame may.sends.is))
+    (accepted_none f hs (written_as rates s may.frame k (is_whole may.frame k)).live
+    (written_as rates s may.frame k (is_whole may.frame k)).done
+    (accepted_written s sound.live f hs may.frame k may.sends.is was (is_whole may.frame k)))
+accepted_step {rates = rates} {s = s} sound Faulted may f hs was =
+    subst (λ (n : State). AreAccepted f (hs ++ []) n.live n.done) (sym (step-failed rates s may.frame may.sends.is))
+    (subst (λ ds. AreAccepted f (hs ++ []) (torn rates s.live may.frame) ds) (sym (append-nil s.done))
+    (accepted_none f hs (torn rates s.live may.frame) s.done
+    (accepted_same f hs s.live (torn rates s.live may.frame) s.done refl refl refl was)))
 
 -- Lists of events
 
-packets_after : (life : ℕ) (rates : List Rate) (s : State) (es : List Event) → AreInRange rates
-    → SoundState life rates s → MayFollow life rates s es → (f : ℕ)
-    → kept_packets f (state_after rates s es) ≡ kept_packets f s ++ packets_of f (accepted rates s es)
+accepted_after : {life : ℕ} {rates : List Rate} (s : State) (es : List Event) → AreInRange rates
+    → SoundState life rates s → MayFollow life rates s es → (f : ℕ) (hs : List Packet)
+    → AreAccepted f hs s.live s.done
+    → AreAccepted f (hs ++ packets_of f (accepted rates s es)) (state_after rates s es).live
+    (state_after rates s es).done
 unfolding MayFollow state_after accepted
-packets_after life rates s [] range sound may f = sym (append-nil (kept_packets f s))
-packets_after life rates s (e ∷ es) range sound may f =
-    packets_after life rates (step rates s e) es range (state-step range sound may.0 e may.1) may.2 f
-    ∙ (ap (λ hs. hs ++ packets_of f (accepted rates (step rates s e) es)) (packets_step life rates s sound e may.1 f)
-    ∙ (append_assoc (kept_packets f s) (packets_of f (accepted_by e (outcome rates s e)))
-    (packets_of f (accepted rates (step rates s e) es))
-    ∙ ap (λ hs. kept_packets f s ++ hs)
-    (sym (filter-append (λ (h : Packet). nat_eq f h.flow) (accepted_by e (outcome rates s e))
-    (accepted rates (step rates s e) es)))))
+accepted_after s [] range sound may f hs was = accepted_none f hs s.live s.done was
+accepted_after {rates = rates} s (e ∷ es) range sound may f hs was =
+    let first : List Packet = accepted_by e (outcome rates s e) in
+    let later : List Packet = accepted rates (step rates s e) es in
+    subst (λ hs. AreAccepted f hs (state_after rates (step rates s e) es).live
+    (state_after rates (step rates s e) es).done)
+    (append_assoc hs (packets_of f first) (packets_of f later)
+    ∙ ap (λ more. hs ++ more) (sym (filter-append (λ (h : Packet). nat_eq f h.flow) first later)))
+    (accepted_after (step rates s e) es range (state-step range sound may.0 e may.1) may.2 f
+    (hs ++ packets_of f first) (accepted_step sound e may.1 f hs was))
 
--- in every run the packets that a flow accepted are, in order, those written whole of it and those in its buffer
+none_accepted : (f : ℕ) → AreAccepted f [] empty_state.live empty_state.done
+none_accepted f = record { rest = []; split = refl; held = λ stands. cc; fresh = λ _. refl }
+
+run_accepted : (life : ℕ) (rates : List Rate) (es : List Event) → AreInRange rates
+    → MayFollow life rates empty_state es → (f : ℕ)
+    → AreAccepted f (packets_of f (accepted rates empty_state es)) (run rates es).live (run rates es).done
+run_accepted life rates es range may f =
+    accepted_after empty_state es range (state-empty life rates) may f [] (none_accepted f)
+
+-- in every run the packets that an open flow accepted are, in order, those written whole of it and those in its buffer
 pub run-accepted : (life : ℕ) (rates : List Rate) (es : List Event) → AreInRange rates
     → MayFollow life rates empty_state es → (f : ℕ)
+    → has_number f (flow_numbers (run rates es).live.graph.flows) ≡ true
     → packets_of f (accepted rates empty_state es)
     ≡ packets_of f (sent_packets (run rates es).done) ++ held_packets (run rates es).live.buffers f
-run-accepted life rates es range may f =
-    sym (packets_after life rates empty_state es range (state-empty life rates) may f)
+run-accepted life rates es range may f stands =
+    let all = run_accepted life rates es range may f in
+    all.split ∙ ap (λ hs. packets_of f (sent_packets (run rates es).done) ++ hs) (all.held stands)
+
+-- and those written whole of any flow are the first of those that it accepted
+pub run-sent_first : (life : ℕ) (rates : List Rate) (es : List Event) → AreInRange rates
+    → MayFollow life rates empty_state es → (f : ℕ)
+    → (rest : List Packet)
+    × (packets_of f (accepted rates empty_state es) ≡ packets_of f (sent_packets (run rates es).done) ++ rest)
+run-sent_first life rates es range may f =
+    let all = run_accepted life rates es range may f in (all.rest, all.split)

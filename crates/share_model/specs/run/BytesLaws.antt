@@ -2,14 +2,13 @@
 use Rattle.std.specs.Prelude.{◌≡◌, ◌≤◌, ◌+◌, ℕ, Bool, true, false, List, [], ◌∷◌, ◌++◌, length, take, drop, flat_map}
 use Rattle.std.specs.Prelude.{Option, None, Some, option_map, option_and_then, if◌then◌else◌}
 use Rattle.std.proofs.Common.{refl, ap, sym, ◌∙◌, arith, append_assoc, length-drop}
-use Rattle.std.proofs.lemmas.Bool.{cond_both, eqb-true}
+use Rattle.std.proofs.lemmas.Bool.{cond_both, eqb-true, eqb-false, ne_eqb}
+use Rattle.std.proofs.lemmas.Option.{same_Some}
 use Rattle.std.proofs.lemmas.List.{append-nil, take-append-drop, take_all}
 use Rattle.std.proofs.lemmas.List.Concat.{flat_map-append}
 use Rattle.std.proofs.Math.Seq.{take-add}
-use Rattle.share_base.specs.declared.refusal.Refusal.{Refusal}
 use Rattle.share_base.specs.declared.refusal.Refusal.TheVariants.{BufferFull}
 use Rattle.share_base.specs.declared.command.Command.{Command}
-use Rattle.share_base.specs.declared.command.Command.TheVariants.{MakeTicket, FundFlow, OpenFlow}
 use Rattle.share_base.specs.declared.command.Reply.{Reply}
 use Rattle.share_base.specs.declared.command.Reply.TheVariants.{Packet as PacketReply, Refused}
 use Rattle.share_base.specs.declared.command.Event.TheVariants.{Commanded, Arrived, Written, Faulted}
@@ -19,108 +18,109 @@ use Rattle.share_model.specs.declared.link.Part.{Part}
 use Rattle.share_model.specs.declared.rates.Rate.{Rate}
 use Rattle.share_model.specs.declared.funding.OpenFlow.{OpenFlow as FlowEntry}
 use Rattle.share_model.specs.link.Frame.{Packet, frame}
-use Rattle.share_model.specs.link.Buffers.{Buffer, buffer_of, is_full, head_of}
-use Rattle.share_model.specs.link.BufferLaws.{head_of-pushed, head_of-opened}
+use Rattle.share_model.specs.link.Buffers.{Buffer, buffer_of, closed, is_full, head_of}
+use Rattle.share_model.specs.link.BufferLaws.{head_of-pushed, head_of-opened, head_of-closed_other}
 use Rattle.share_model.specs.funding.Graph.{NameBytes}
 use Rattle.share_model.specs.funding.Changes.{flow_named}
-use Rattle.share_model.specs.link.Live.{Live, Sending, sending_at, sending_by, sending, selected_flow, rest_of, counted}
-use Rattle.share_model.specs.link.Live.{by_refusal, command_refusal, commanded, command_step, accept, arrive_in}
+use Rattle.share_model.specs.link.CommandLaws.{command-cases}
+use Rattle.share_model.specs.link.Live.{Live, Sending, sending_at, frame_in_part, sending_by, sending, rest_of, counted}
+use Rattle.share_model.specs.link.Live.{is_part_of, open_flow, close_flow, command_step, accept, arrive_in}
 use Rattle.share_model.specs.link.Live.{arrive_by, arrive_step, is_whole, in_part, whole, write_by, fault_by}
 use Rattle.share_model.specs.run.Fold.{Sent, TornFrame, State, tariff_of, finished_by, torn_by, step, beginning, out}
 use Rattle.share_model.specs.run.Sound.{Sound, SoundState, PartIsSound}
+use Rattle.share_model.specs.stride.Moves.{next}
 use Rattle.share_model.specs.run.SoundLaws.{sending-head}
+use Rattle.share_model.specs.run.TornLaws.{torn-none}
 
 -- Events of callers leave the frame in part
 
--- no byte came or went, and each head packet is one still
+-- no byte came or went, and the frame in part is that of before
 pub record KeepsFrames (old new : Live) : Type 0 where
   pub part : new.part ≡ old.part
-  pub heads : (f : ℕ) (h : Packet) → head_of old.buffers f ≡ Some h → head_of new.buffers f ≡ Some h
+  pub frame : frame_in_part new.buffers new.part ≡ frame_in_part old.buffers old.part
   pub broken : new.broken ≡ old.broken
   pub written : new.counts.written ≡ old.counts.written
   pub sent : new.counts.sent ≡ old.counts.sent
 
+-- buffers in which the flow of the frame in part has the head packet that it had
+frame_kept : (bs bs' : List Buffer) (o : Option Part) → PartIsSound bs o
+    → ((p : Part) (h : Packet) → o ≡ Some p → head_of bs p.flow ≡ Some h → head_of bs' p.flow ≡ Some h)
+    → frame_in_part bs' o ≡ frame_in_part bs o
+frame_kept bs bs' None part keeps = refl
+frame_kept bs bs' (Some p) part keeps =
+    ap (option_map (sending_at p.out)) (keeps p part.head refl part.found ∙ sym part.found)
+
 refused_keeps : (l : Live) → KeepsFrames l (counted l)
-refused_keeps l = record { part = refl; heads = λ f h is. is; broken = refl; written = refl; sent = refl }
+refused_keeps l = record { part = refl; frame = refl; broken = refl; written = refl; sent = refl }
 
-allowed_keeps : (l : Live) (c : Command) → KeepsFrames l (commanded l c).0
-allowed_keeps l (MakeTicket amount currency) = record {
-  part = refl;
-  heads = λ f h is. is;
-  broken = refl;
-  written = refl;
-  sent = refl;
-}
-allowed_keeps l (FundFlow ticket flow) = record {
-  part = refl;
-  heads = λ f h is. is;
-  broken = refl;
-  written = refl;
-  sent = refl;
-}
-allowed_keeps l (OpenFlow name limit tariff) = record {
-  part = refl;
-  heads = λ f h is. head_of-opened l.buffers l.graph.next_flow limit f h is;
-  broken = refl;
-  written = refl;
-  sent = refl;
-}
+closed_head : (bs : List Buffer) (g : ℕ) (p : Part) (o : Option Part) (h : Packet) → o ≡ Some p
+    → is_part_of g o ≡ false → head_of bs p.flow ≡ Some h → head_of (closed bs g) p.flow ≡ Some h
+closed_head bs g p o h is unsent found =
+    head_of-closed_other bs g p.flow
+    (ne_eqb p.flow g (λ same. eqb-false g p.flow (sym (ap (is_part_of g) is) ∙ unsent) (sym same))) ∙ found
 
-by_refusal_keeps : (l : Live) (o : Option Refusal) (done : Live × Reply) → KeepsFrames l done.0
-    → KeepsFrames l (by_refusal l o done).0
-by_refusal_keeps l None done allowed = allowed
-by_refusal_keeps l (Some e) done allowed = refused_keeps l
-
-pub keeps-commanded : (rates : List Rate) (l : Live) (c : Command) → KeepsFrames l (command_step rates l c).0
-keeps-commanded rates l c = by_refusal_keeps l (command_refusal rates l c) (commanded l c) (allowed_keeps l c)
-
-arrive_in_keeps : (l : Live) (f : ℕ) (body : List ℕ) (o : Option Buffer) → KeepsFrames l (arrive_in l f body o).0
-arrive_in_keeps l f body None = refused_keeps l
-arrive_in_keeps l f body (Some b) =
-    cond_both (is_full b) (counted l, Refused BufferFull) (accept l f body, PacketReply f b.next)
-    (λ (d : Live × Reply). KeepsFrames l d.0)
-    (λ _. refused_keeps l)
-    (λ _. record {
+pub keeps-commanded : {life : ℕ} {rates : List Rate} {l : Live} → Sound life rates l → (c : Command)
+    → KeepsFrames l (command_step rates l c).0
+keeps-commanded {rates = rates} {l = l} sound c =
+    command-cases (KeepsFrames l) rates l c (refused_keeps l)
+    (λ g funded. record { part = refl; frame = refl; broken = refl; written = refl; sent = refl })
+    (λ name limit tariff allowed. record {
       part = refl;
-      heads = λ g h is. head_of-pushed l.buffers f body g h is;
+      frame =
+          frame_kept l.buffers (open_flow l name limit tariff).buffers l.part sound.part
+          (λ p h is found. head_of-opened l.buffers l.graph.next_flow limit p.flow h found);
+      broken = refl;
+      written = refl;
+      sent = refl;
+    })
+    (λ f may. record {
+      part = refl;
+      frame =
+          frame_kept l.buffers (close_flow l f).buffers l.part sound.part
+          (λ p h is found. closed_head l.buffers f p l.part h is may.unsent found);
       broken = refl;
       written = refl;
       sent = refl;
     })
 
-arrive_by_keeps : (l : Live) (body : List ℕ) (o : Option FlowEntry) → KeepsFrames l (arrive_by l body o).0
-arrive_by_keeps l body None = refused_keeps l
-arrive_by_keeps l body (Some e) = arrive_in_keeps l e.number body (buffer_of l.buffers e.number)
+arrive_in_keeps : (l : Live) → PartIsSound l.buffers l.part → (f : ℕ) (body : List ℕ) (o : Option Buffer)
+    → KeepsFrames l (arrive_in l f body o).0
+arrive_in_keeps l part f body None = refused_keeps l
+arrive_in_keeps l part f body (Some b) =
+    cond_both (is_full b) (counted l, Refused BufferFull) (accept l f body, PacketReply f b.next)
+    (λ (d : Live × Reply). KeepsFrames l d.0)
+    (λ _. refused_keeps l)
+    (λ _. record {
+      part = refl;
+      frame =
+          frame_kept l.buffers (accept l f body).buffers l.part part
+          (λ p h is found. head_of-pushed l.buffers f body p.flow h found);
+      broken = refl;
+      written = refl;
+      sent = refl;
+    })
 
-pub keeps-arrived : (l : Live) (name : NameBytes) (body : List ℕ) → KeepsFrames l (arrive_step l name body).0
-keeps-arrived l name body = arrive_by_keeps l body (flow_named l.graph name)
+arrive_by_keeps : (l : Live) → PartIsSound l.buffers l.part → (body : List ℕ) (o : Option FlowEntry)
+    → KeepsFrames l (arrive_by l body o).0
+arrive_by_keeps l part body None = refused_keeps l
+arrive_by_keeps l part body (Some e) = arrive_in_keeps l part e.number body (buffer_of l.buffers e.number)
+
+pub keeps-arrived : {life : ℕ} {rates : List Rate} {l : Live} → Sound life rates l → (name : NameBytes) (body : List ℕ)
+    → KeepsFrames l (arrive_step l name body).0
+keeps-arrived {l = l} sound name body = arrive_by_keeps l sound.part body (flow_named l.graph name)
 
 -- The frame in part
 
-beginning_none : (o : Option Packet) → beginning None (option_map (sending_at 0) o) ≡ []
-beginning_none None = refl
-beginning_none (Some h) = refl
+beginning_new : (o : Option Packet) (s : Sending) → option_map (sending_at 0) o ≡ Some s
+    → take s.out (frame s.head) ≡ []
+beginning_new None s is = cc
+beginning_new (Some h) s is = ap (λ (s : Sending). take s.out (frame s.head)) (sym (same_Some (sending_at 0 h) s is))
 
-beginning_kept : (l l' : Live) → KeepsFrames l l' → (o : Option Part) → PartIsSound l.buffers o
-    → beginning None (sending_by l' o) ≡ beginning None (sending_by l o)
-beginning_kept l l' kept None part =
-    beginning_none (option_and_then (head_of l'.buffers) (selected_flow l'.graph))
-    ∙ sym (beginning_none (option_and_then (head_of l.buffers) (selected_flow l.graph)))
-beginning_kept l l' kept (Some p) part =
-    ap (λ o. beginning None (option_map (sending_at p.out) o)) (kept.heads p.flow part.head part.found ∙ sym part.found)
-
-torn_kept : (t : Option TornFrame) (l l' : Live) → KeepsFrames l l' → PartIsSound l.buffers l.part
-    → beginning t (sending l') ≡ beginning t (sending l)
-unfolding sending
-torn_kept (Some t) l l' kept part = refl
-torn_kept None l l' kept part =
-    ap (λ o. beginning None (sending_by l' o)) kept.part ∙ beginning_kept l l' kept l.part part
-
-no_part : (l : Live) → l.part ≡ None → beginning None (sending l) ≡ []
-unfolding sending
-no_part l none =
-    ap (λ o. beginning None (sending_by l o)) none
-    ∙ beginning_none (option_and_then (head_of l.buffers) (selected_flow l.graph))
+beginning_sent : (l : Live) (o : Option Part) (s : Sending) → sending_by l o ≡ Some s
+    → beginning None (frame_in_part l.buffers o) ≡ take s.out (frame s.head)
+beginning_sent l None s is =
+    sym (beginning_new (option_and_then (head_of l.buffers) (next l.queue.clients)) s is)
+beginning_sent l (Some p) s is = ap (beginning None) is
 
 -- What each event adds to the bytes
 
@@ -129,24 +129,22 @@ abbrev pub frames_of : List Sent → List ℕ
 frames_of done = flat_map (λ (d : Sent). frame d.head) done
 
 pub kept_bytes : (done : List Sent) (t : Option TornFrame) (l l' : Live) → KeepsFrames l l'
-    → PartIsSound l.buffers l.part
     → out (record { live = l'; done = done ++ []; torn = t }) ≡ out (record { live = l; done = done; torn = t })
 unfolding out
-kept_bytes done t l l' kept part =
-    rw (append-nil done) (ap (λ bytes. flat_map (λ (d : Sent). frame d.head) done ++ bytes)
-    (torn_kept t l l' kept part))
+kept_bytes done t l l' kept =
+    rw (append-nil done) (ap (λ o. flat_map (λ (d : Sent). frame d.head) done ++ beginning t o) kept.frame)
 
 -- a command adds no byte
 pub out-commanded : {life : ℕ} {rates : List Rate} {s : State} → SoundState life rates s → (c : Command)
     → out (step rates s (Commanded c)) ≡ out s
 out-commanded {rates = rates} {s = s} was c =
-    kept_bytes s.done s.torn s.live (command_step rates s.live c).0 (keeps-commanded rates s.live c) was.live.part
+    kept_bytes s.done s.torn s.live (command_step rates s.live c).0 (keeps-commanded was.live c)
 
 -- nor does an arrival
 pub out-arrived : {life : ℕ} {rates : List Rate} {s : State} → SoundState life rates s
     → (name : NameBytes) (body : List ℕ) → out (step rates s (Arrived name body)) ≡ out s
 out-arrived {s = s} was name body =
-    kept_bytes s.done s.torn s.live (arrive_step s.live name body).0 (keeps-arrived s.live name body) was.live.part
+    kept_bytes s.done s.torn s.live (arrive_step s.live name body).0 (keeps-arrived was.live name body)
 
 -- the state after k bytes of a frame were written
 abbrev pub written_state : List Rate → State → ℕ → Option Sending → State
@@ -175,17 +173,18 @@ part_bytes front f at k = rw (take-add, append_assoc) refl
 -- the bytes of a link that is whole and has a frame to send
 pub out-sending : (s : State) (snd : Sending) → s.torn ≡ None → sending s.live ≡ Some snd
     → out s ≡ frames_of s.done ++ take snd.out (frame snd.head)
-unfolding out
+unfolding out sending
 out-sending s snd untorn is =
-    ap (λ t. frames_of s.done ++ beginning t (sending s.live)) untorn
-    ∙ ap (λ o. frames_of s.done ++ beginning None o) is
+    ap (λ t. frames_of s.done ++ beginning t (frame_in_part s.live.buffers s.live.part)) untorn
+    ∙ ap (λ bytes. frames_of s.done ++ bytes) (beginning_sent s.live s.live.part snd is)
 
 -- the bytes of a link that is whole and has no frame in part
 pub out-between : (s : State) → s.torn ≡ None → s.live.part ≡ None → out s ≡ frames_of s.done
 unfolding out
 out-between s untorn none =
-    ap (λ t. frames_of s.done ++ beginning t (sending s.live)) untorn
-    ∙ (ap (λ bytes. frames_of s.done ++ bytes) (no_part s.live none) ∙ append-nil (frames_of s.done))
+    ap (λ t. frames_of s.done ++ beginning t (frame_in_part s.live.buffers s.live.part)) untorn
+    ∙ (ap (λ o. frames_of s.done ++ beginning None (frame_in_part s.live.buffers o)) none
+    ∙ append-nil (frames_of s.done))
 
 -- the packet that is sent, as it stands in the history when it is whole
 abbrev pub sent_of : Live → Sending → Sent
@@ -233,8 +232,9 @@ pub out-written : {life : ℕ} {rates : List Rate} {s : State} {snd : Sending} �
     → out (step rates s (Written k)) ≡ out s ++ take k (rest_of snd)
 out-written {life = life} {rates = rates} {s = s} {snd = snd} was unbroken is k fits =
     ap out (step-written rates s k snd is)
-    ∙ (out_written_by life rates s snd k was (was.torn unbroken) is fits (is_whole snd k) refl
-    ∙ ap (λ bytes. bytes ++ take k (rest_of snd)) (sym (out-sending s snd (was.torn unbroken) is)))
+    ∙ (out_written_by life rates s snd k was (torn-none s.live s.torn unbroken was.torn) is fits (is_whole snd k) refl
+    ∙ ap (λ bytes. bytes ++ take k (rest_of snd))
+    (sym (out-sending s snd (torn-none s.live s.torn unbroken was.torn) is)))
 
 -- the state after the writer failed
 abbrev pub failed_state : List Rate → State → Option Sending → State
@@ -257,4 +257,5 @@ out_failed rates s snd = ap (λ done. frames_of done ++ take snd.out (frame snd.
 pub out-failed : {life : ℕ} {rates : List Rate} {s : State} {snd : Sending} → SoundState life rates s
     → s.live.broken ≡ false → sending s.live ≡ Some snd → out (step rates s Faulted) ≡ out s
 out-failed {rates = rates} {s = s} {snd = snd} was unbroken is =
-    ap out (step-failed rates s snd is) ∙ (out_failed rates s snd ∙ sym (out-sending s snd (was.torn unbroken) is))
+    ap out (step-failed rates s snd is)
+    ∙ (out_failed rates s snd ∙ sym (out-sending s snd (torn-none s.live s.torn unbroken was.torn) is))

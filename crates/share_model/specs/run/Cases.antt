@@ -4,10 +4,8 @@ use Rattle.std.specs.Prelude.{◌≡◌, ◌<◌, ◌+◌, ℕ, Bool, true, fals
 use Rattle.std.proofs.Common.{refl, sym, subst}
 use Rattle.std.proofs.lemmas.Bool.{cond_both, eqb-true}
 use Rattle.std.proofs.lemmas.List.{append-nil}
-use Rattle.share_base.specs.declared.refusal.Refusal.{Refusal}
 use Rattle.share_base.specs.declared.refusal.Refusal.TheVariants.{BufferFull}
 use Rattle.share_base.specs.declared.command.Command.{Command}
-use Rattle.share_base.specs.declared.command.Command.TheVariants.{MakeTicket, FundFlow, OpenFlow}
 use Rattle.share_base.specs.declared.command.Reply.{Reply}
 use Rattle.share_base.specs.declared.command.Reply.TheVariants.{Packet, Refused}
 use Rattle.share_base.specs.declared.command.Event.{Event}
@@ -19,9 +17,11 @@ use Rattle.share_model.specs.link.Tariff.{AreInRange}
 use Rattle.share_model.specs.link.Frame.{frame}
 use Rattle.share_model.specs.link.Buffers.{Buffer, buffer_of, is_full}
 use Rattle.share_model.specs.funding.Graph.{NameBytes, Graph}
-use Rattle.share_model.specs.funding.Changes.{flow_named, make_ticket, fund_flow}
-use Rattle.share_model.specs.link.Live.{Live, Sending, counted, by_refusal, command_refusal, commanded, command_step}
-use Rattle.share_model.specs.link.Live.{with_graph, open_flow, accept, arrive_in, arrive_by, arrive_step, is_whole}
+use Rattle.share_model.specs.funding.Changes.{flow_named}
+use Rattle.share_model.specs.link.CommandLaws.{IsFunded, IsClosable, command-cases}
+use Rattle.share_model.specs.link.Live.{Live, Sending, counted, command_step}
+use Rattle.share_model.specs.link.Live.{with_graph, open_flow_refusal, open_flow, close_flow, accept, arrive_in}
+use Rattle.share_model.specs.link.Live.{arrive_by, arrive_step, is_whole}
 use Rattle.share_model.specs.link.Live.{whole, in_part, torn}
 use Rattle.share_model.specs.run.Fold.{Sent, TornFrame, State, empty_state, torn_by, step, state_after, run}
 use Rattle.share_model.specs.run.Events.{Sends, MayCome, MayFollow}
@@ -32,10 +32,12 @@ use Rattle.share_model.specs.run.BytesLaws.{sent_of, written_as, step-written, s
 -- P of the state after an event, in each case of it
 pub record StepCases (P : State → Type 0) (rates : List Rate) (s : State) : Type 0 where
   pub refused : P (record { live = counted s.live; done = s.done; torn = s.torn })
-  pub funded : (g : Graph) → g.flows ≡ s.live.graph.flows → g.next_flow ≡ s.live.graph.next_flow
+  pub funded : (g : Graph) → IsFunded s.live.graph g
       → P (record { live = with_graph s.live g; done = s.done; torn = s.torn })
-  pub opened : (name : NameBytes) (limit tariff : ℕ)
+  pub opened : (name : NameBytes) (limit tariff : ℕ) → open_flow_refusal rates s.live name limit tariff ≡ None
       → P (record { live = open_flow s.live name limit tariff; done = s.done; torn = s.torn })
+  pub closed : (f : ℕ) → IsClosable s.live f
+      → P (record { live = close_flow s.live f; done = s.done; torn = s.torn })
   pub accepted : (f : ℕ) (body : List ℕ) → IsBody body → (b : Buffer) → buffer_of s.live.buffers f ≡ Some b
       → P (record { live = accept s.live f body; done = s.done; torn = s.torn })
   pub finished : (snd : Sending) (k : ℕ) → Sends s.live snd → snd.out + k ≡ length (frame snd.head)
@@ -50,8 +52,9 @@ pub both-cases : (P Q : State → Type 0) (rates : List Rate) (s : State) → St
     → StepCases (λ s. P s × Q s) rates s
 both-cases P Q rates s p q = record {
   refused = (p.refused, q.refused);
-  funded = λ g flows next. (p.funded g flows next, q.funded g flows next);
-  opened = λ name limit tariff. (p.opened name limit tariff, q.opened name limit tariff);
+  funded = λ g funded. (p.funded g funded, q.funded g funded);
+  opened = λ name limit tariff allowed. (p.opened name limit tariff allowed, q.opened name limit tariff allowed);
+  closed = λ f may. (p.closed f may, q.closed f may);
   accepted = λ f body short b found. (p.accepted f body short b found, q.accepted f body short b found);
   finished = λ snd k sends whole. (p.finished snd k sends whole, q.finished snd k sends whole);
   begun = λ snd k sends. (p.begun snd k sends, q.begun snd k sends);
@@ -63,18 +66,11 @@ at_done : (P : State → Type 0) (l : Live) (done : List Sent) (t : Option TornF
 at_done P l done t is =
     subst (λ (ds : List Sent). P (record { live = l; done = ds; torn = t })) (sym (append-nil done)) is
 
-allowed_case : (P : State → Type 0) (rates : List Rate) (s : State) → StepCases P rates s → (c : Command)
-    → P (record { live = (commanded s.live c).0; done = s.done; torn = s.torn })
-allowed_case P rates s cases (MakeTicket amount currency) =
-    cases.funded (make_ticket s.live.graph amount currency) refl refl
-allowed_case P rates s cases (FundFlow ticket flow) = cases.funded (fund_flow s.live.graph ticket flow) refl refl
-allowed_case P rates s cases (OpenFlow name limit tariff) = cases.opened name limit tariff
-
 command_case : (P : State → Type 0) (rates : List Rate) (s : State) → StepCases P rates s → (c : Command)
-    → (o : Option Refusal)
-    → P (record { live = (by_refusal s.live o (commanded s.live c)).0; done = s.done; torn = s.torn })
-command_case P rates s cases c None = allowed_case P rates s cases c
-command_case P rates s cases c (Some e) = cases.refused
+    → P (record { live = (command_step rates s.live c).0; done = s.done; torn = s.torn })
+command_case P rates s cases c =
+    command-cases (λ (l : Live). P (record { live = l; done = s.done; torn = s.torn })) rates s.live c cases.refused
+    cases.funded cases.opened cases.closed
 
 arrive_in_case : (P : State → Type 0) (rates : List Rate) (s : State) → StepCases P rates s → (f : ℕ) (body : List ℕ)
     → IsBody body → (o : Option Buffer) → buffer_of s.live.buffers f ≡ o
@@ -103,7 +99,7 @@ pub step-cases : (P : State → Type 0) (rates : List Rate) (s : State) (e : Eve
     → StepCases P rates s → P (step rates s e)
 step-cases P rates s (Commanded c) may cases =
     at_done P (command_step rates s.live c).0 s.done s.torn
-    (command_case P rates s cases c (command_refusal rates s.live c))
+    (command_case P rates s cases c)
 step-cases P rates s (Arrived name body) may cases =
     at_done P (arrive_step s.live name body).0 s.done s.torn
     (arrive_case P rates s cases body may.1 (flow_named s.live.graph name))

@@ -8,7 +8,8 @@ use Rattle.share_base.specs.declared.command.Outcome.{Outcome}
 use Rattle.share_model.specs.declared.link.Book.{Book}
 use Rattle.share_model.specs.declared.rates.Rate.{Rate}
 use Rattle.share_model.specs.link.Frame.{Packet, frame}
-use Rattle.share_model.specs.link.Live.{Live, empty_link, Sending, sending, is_book_of, is_whole, live_step}
+use Rattle.share_model.specs.link.Live.{Live, empty_link, Sending, frame_in_part, sending, is_book_of}
+use Rattle.share_model.specs.link.Live.{is_whole, live_step}
 
 -- a packet that was written whole, and the number of its flow's tariff
 pub record Sent : Type 0 where
@@ -83,10 +84,11 @@ run rates events = state_after rates empty_state events
 
 -- the bytes of a frame that is not whole: the torn one's, or those of the frame in part
 abbrev pub beginning : Option TornFrame → Option Sending → List ℕ
-beginning (Some t) sending = take t.out (frame t.head)
+beginning (Some t) o = take t.out (frame t.head)
 beginning None None = []
 beginning None (Some s) = take s.out (frame s.head)
 
 -- the bytes that a run has written: the frames of the packets written whole, and the beginning of one more
 unfoldable pub out : State → List ℕ
-out s = flat_map (λ (d : Sent). frame d.head) s.done ++ beginning s.torn (sending s.live)
+out s = flat_map (λ (d : Sent). frame d.head) s.done
+    ++ beginning s.torn (frame_in_part s.live.buffers s.live.part)

@@ -1,13 +1,11 @@
 -- Each event keeps what holds of every run, is counted, and adds its bytes.
 use Rattle.std.specs.Prelude.{◌≡◌, ◌<◌, ◌≤◌, ◌+◌, ℕ, suc, Bool, true, false, List, [], ◌∷◌, ◌++◌, length, take, Option}
 use Rattle.std.specs.Prelude.{None, Some}
-use Rattle.std.proofs.Common.{refl, ap, sym, ◌∙◌, arith, length-append}
+use Rattle.std.proofs.Common.{inl, refl, ap, sym, ◌∙◌, arith, length-append}
 use Rattle.std.proofs.lemmas.Bool.{cond_both}
 use Rattle.std.proofs.lemmas.List.{append-nil, length-take-le}
-use Rattle.share_base.specs.declared.refusal.Refusal.{Refusal}
 use Rattle.share_base.specs.declared.refusal.Refusal.TheVariants.{BufferFull}
 use Rattle.share_base.specs.declared.command.Command.{Command}
-use Rattle.share_base.specs.declared.command.Command.TheVariants.{MakeTicket, FundFlow, OpenFlow}
 use Rattle.share_base.specs.declared.command.Reply.{Reply}
 use Rattle.share_base.specs.declared.command.Reply.TheVariants.{Packet as PacketReply, Refused}
 use Rattle.share_base.specs.declared.command.Event.{Event}
@@ -21,13 +19,18 @@ use Rattle.share_model.specs.link.Tariff.{AreInRange}
 use Rattle.share_model.specs.link.Buffers.{Buffer, buffer_of, is_full}
 use Rattle.share_model.specs.funding.Graph.{NameBytes}
 use Rattle.share_model.specs.funding.Changes.{flow_named}
-use Rattle.share_model.specs.link.Live.{Live, Sending, sending, rest_of, counted, by_refusal, command_refusal}
-use Rattle.share_model.specs.link.Live.{commanded, command_step, accept, arrive_in, arrive_by, arrive_step, is_whole}
+use Rattle.share_model.specs.link.CommandLaws.{command-cases}
+use Rattle.share_model.specs.link.Live.{Live, Sending, sending, rest_of, counted}
+use Rattle.share_model.specs.link.Live.{command_step, accept, arrive_in, arrive_by, arrive_step, is_whole}
 use Rattle.share_model.specs.link.Live.{in_part, whole, write_step}
 use Rattle.share_model.specs.run.Events.{MayCome, MayFollow, bytes_by, event_bytes}
-use Rattle.share_model.specs.run.Fold.{Sent, State, empty_state, step, outcome, state_after, outcomes, run, out}
-use Rattle.share_model.specs.run.Sound.{Sound, SoundState}
-use Rattle.share_model.specs.run.SoundStepLaws.{sound-empty, sound-commanded, sound-arrived}
+use Rattle.share_model.specs.run.Fold.{Sent, TornFrame, State, empty_state, step, outcome, state_after, outcomes, run}
+use Rattle.share_model.specs.run.Fold.{out}
+use Rattle.share_model.specs.run.Sound.{Sound, TornIsTold, SoundState}
+use Rattle.share_model.specs.run.SoundLaws.{sending-head, head-given}
+use Rattle.share_model.specs.run.TornLaws.{torn-commanded, torn-arrived}
+use Rattle.share_model.specs.run.SoundStepLaws.{sound-empty, sound-arrived}
+use Rattle.share_model.specs.run.SoundCloseLaws.{sound-commanded}
 use Rattle.share_model.specs.run.SoundWriteLaws.{sound-written, sound-failed}
 use Rattle.share_model.specs.run.BytesLaws.{KeepsFrames, keeps-arrived, keeps-commanded, kept_bytes, out-arrived}
 use Rattle.share_model.specs.run.BytesLaws.{out-commanded, out-failed, out-written, sent_of, step-failed}
@@ -40,28 +43,29 @@ done_kept done n m was same = rw (append-nil done) (was ∙ sym same)
 
 pub state-empty : (life : ℕ) (rates : List Rate) → SoundState life rates empty_state
 unfolding out sending
-state-empty life rates = record { live = sound-empty life rates; done = refl; sent = refl; torn = λ _. refl }
+state-empty life rates = record { live = sound-empty life rates; done = refl; sent = refl; torn = (refl, refl) }
 
 state_kept : (life : ℕ) (rates : List Rate) (s : State) (l' : Live) → SoundState life rates s → KeepsFrames s.live l'
-    → Sound life rates l' → SoundState life rates (record { live = l'; done = s.done ++ []; torn = s.torn })
-state_kept life rates s l' was kept sound = record {
+    → Sound life rates l' → TornIsTold l' s.torn
+    → SoundState life rates (record { live = l'; done = s.done ++ []; torn = s.torn })
+state_kept life rates s l' was kept sound torn = record {
   live = sound;
   done = done_kept s.done s.live.counts.written l'.counts.written was.done kept.written;
-  sent = ap length (kept_bytes s.done s.torn s.live l' kept was.live.part) ∙ (was.sent ∙ sym kept.sent);
-  torn = λ unbroken. was.torn (sym kept.broken ∙ unbroken);
+  sent = ap length (kept_bytes s.done s.torn s.live l' kept) ∙ (was.sent ∙ sym kept.sent);
+  torn = torn;
 }
 
 pub state-commanded : {life : ℕ} {rates : List Rate} {s : State} → SoundState life rates s → s.live.counts.events < life
     → (c : Command) → SoundState life rates (step rates s (Commanded c))
 state-commanded {life = life} {rates = rates} {s = s} was few c =
-    state_kept life rates s (command_step rates s.live c).0 was (keeps-commanded rates s.live c)
-    (sound-commanded was.live few c)
+    state_kept life rates s (command_step rates s.live c).0 was (keeps-commanded was.live c)
+    (sound-commanded was.live few c) (torn-commanded was.live c s.torn was.torn)
 
 pub state-arrived : {life : ℕ} {rates : List Rate} {s : State} → SoundState life rates s → s.live.counts.events < life
     → (name : NameBytes) (body : List ℕ) → IsBody body → SoundState life rates (step rates s (Arrived name body))
 state-arrived {life = life} {rates = rates} {s = s} was few name body short =
-    state_kept life rates s (arrive_step s.live name body).0 was (keeps-arrived s.live name body)
-    (sound-arrived was.live few name body short)
+    state_kept life rates s (arrive_step s.live name body).0 was (keeps-arrived was.live name body)
+    (sound-arrived was.live few name body short) (torn-arrived s.live name body s.torn was.torn)
 
 sent_count : (rates : List Rate) (l : Live) (s : Sending) (k : ℕ)
     → (write_step rates l s k).0.counts.sent ≡ l.counts.sent + k
@@ -70,11 +74,14 @@ sent_count rates l s k =
     (in_part l s k, Wrote s.head.flow s.head.seq k false) (λ (d : Live × Turn). d.0.counts.sent ≡ l.counts.sent + k)
     (λ _. refl) (λ _. refl)
 
-write_broken : (rates : List Rate) (l : Live) (s : Sending) (k : ℕ) → (write_step rates l s k).0.broken ≡ l.broken
-write_broken rates l s k =
+-- a link that is whole still is
+write_torn : (rates : List Rate) (l : Live) (s : Sending) (k : ℕ) (o : Option TornFrame) → l.broken ≡ false
+    → TornIsTold l o → TornIsTold (write_step rates l s k).0 o
+write_torn rates l s k (Some t) unbroken was = let b : true ≡ false = sym was.broken ∙ unbroken in cc
+write_torn rates l s k None unbroken was =
     cond_both (is_whole s k) (whole rates l s k, Wrote s.head.flow s.head.seq k true)
-    (in_part l s k, Wrote s.head.flow s.head.seq k false) (λ (d : Live × Turn). d.0.broken ≡ l.broken) (λ _. refl)
-    (λ _. refl)
+    (in_part l s k, Wrote s.head.flow s.head.seq k false) (λ (d : Live × Turn). TornIsTold d.0 None) (λ _. was)
+    (λ _. was)
 
 done_count : (rates : List Rate) (s : State) (snd : Sending) (k : ℕ) → length s.done ≡ s.live.counts.written
     → (b : Bool) → length (written_as rates s snd k b).done ≡ (written_as rates s snd k b).live.counts.written
@@ -97,7 +104,7 @@ state-written {life = life} {rates = rates} {s = s} {snd = snd} range was few un
           ap length (ap out (sym (step-written rates s k snd is)) ∙ out-written was unbroken is k fits)
           ∙ written_length (out s) (rest_of snd) s.live.counts.sent
           (write_step rates s.live snd k).0.counts.sent k was.sent fits (sent_count rates s.live snd k);
-      torn = λ _. was.torn unbroken;
+      torn = write_torn rates s.live snd k s.torn unbroken was.torn;
     })
 
 pub state-failed : {life : ℕ} {rates : List Rate} {s : State} {snd : Sending} → AreInRange rates
@@ -105,10 +112,14 @@ pub state-failed : {life : ℕ} {rates : List Rate} {s : State} {snd : Sending} 
     → SoundState life rates (step rates s Faulted)
 state-failed {life = life} {rates = rates} {s = s} {snd = snd} range was few unbroken is =
     rw (step-failed rates s snd is) (record {
-      live = sound-failed range was.live few is;
+      live = sound-failed range was.live few unbroken is;
       done = done_kept s.done s.live.counts.written s.live.counts.written was.done refl;
       sent = ap length (ap out (sym (step-failed rates s snd is)) ∙ out-failed was unbroken is) ∙ was.sent;
-      torn = λ broken. cc;
+      torn = record {
+        broken = refl;
+        given = head-given was.live snd.head.flow (sending-head was.live is);
+        place = inl (record { named = refl; head = sending-head was.live is });
+      };
     })
 
 -- an event that a link may make
@@ -177,16 +188,6 @@ state-after life rates s (e ∷ es) range was may =
 
 -- Each event is counted
 
-refused_count : (l : Live) (o : Option Refusal) (done : Live × Reply) → done.0.counts.events ≡ l.counts.events + 1
-    → (by_refusal l o done).0.counts.events ≡ l.counts.events + 1
-refused_count l None done count = count
-refused_count l (Some e) done count = refl
-
-commanded_count : (l : Live) (c : Command) → (commanded l c).0.counts.events ≡ l.counts.events + 1
-commanded_count l (MakeTicket amount currency) = refl
-commanded_count l (FundFlow ticket flow) = refl
-commanded_count l (OpenFlow name limit tariff) = refl
-
 arrive_in_count : (l : Live) (f : ℕ) (body : List ℕ) (o : Option Buffer)
     → (arrive_in l f body o).0.counts.events ≡ l.counts.events + 1
 arrive_in_count l f body None = refl
@@ -201,7 +202,9 @@ arrive_by_count l body (Some e) = arrive_in_count l e.number body (buffer_of l.b
 
 pub events-commanded : (rates : List Rate) (l : Live) (c : Command)
     → (command_step rates l c).0.counts.events ≡ l.counts.events + 1
-events-commanded rates l c = refused_count l (command_refusal rates l c) (commanded l c) (commanded_count l c)
+events-commanded rates l c =
+    command-cases (λ (l' : Live). l'.counts.events ≡ l.counts.events + 1) rates l c refl (λ g funded. refl)
+    (λ name limit tariff allowed. refl) (λ f may. refl)
 
 pub events-arrived : (l : Live) (name : NameBytes) (body : List ℕ)
     → (arrive_step l name body).0.counts.events ≡ l.counts.events + 1

@@ -1,5 +1,6 @@
 -- The history of a run: whose packets were accepted and sent, what they cost, and the bytes that tell them.
-use Rattle.std.specs.Prelude.{◌≡◌, ◌<◌, ◌+◌, ◌-◌, ◌*◌, ℕ, List, [], ◌∷◌, ◌++◌, length, take, map, flat_map, filter}
+use Rattle.std.specs.Prelude.{◌≡◌, ◌<◌, ◌+◌, ◌-◌, ◌*◌, ℕ, Bool, not, List, [], ◌∷◌, ◌++◌, length, take, map, flat_map}
+use Rattle.std.specs.Prelude.{filter}
 use Rattle.std.specs.Prelude.{sum_by, nat_eq, Option, None, Some, if◌then◌else◌}
 use Rattle.share_base.specs.declared.command.Reply.TheVariants.{Packet as PacketReply}
 use Rattle.share_base.specs.declared.command.Outcome.{Outcome}
@@ -10,9 +11,10 @@ use Rattle.share_model.specs.declared.rates.Rate.{Rate}
 use Rattle.share_model.specs.link.Tariff.{rate_of, units_of}
 use Rattle.share_model.specs.link.Frame.{Packet, FitsFrame, frame}
 use Rattle.share_model.specs.link.Buffers.{Buffer, buffer_of}
-use Rattle.share_model.specs.link.Live.{Live}
 use Rattle.share_model.specs.run.Fold.{Sent, TornFrame, State, step, outcome}
 use Rattle.share_model.specs.lists.Each.{Each}
+use Rattle.share_model.specs.lists.Laws.{has_number}
+use Rattle.share_model.specs.funding.Graph.{flow_numbers}
 
 -- the packet that an event accepted, as its outcome tells: the payload that came, under the numbers of the answer
 abbrev pub accepted_by : Event → Outcome → List Packet
@@ -61,17 +63,25 @@ abbrev pub sent_cost : List Rate → Sent → ℕ
 sent_cost rates d = cost rates d.tariff (length (frame d.head))
 
 -- a torn frame costs its flow the bytes that are out
-abbrev pub torn_cost : List Rate → ℕ → Option TornFrame → ℕ
-torn_cost rates f None = 0
-torn_cost rates f (Some t) = if nat_eq f t.head.flow then cost rates t.tariff t.out else 0
+abbrev pub torn_cost : List Rate → (ℕ → Bool) → Option TornFrame → ℕ
+torn_cost rates p None = 0
+torn_cost rates p (Some t) = if p t.head.flow then cost rates t.tariff t.out else 0
 
--- what a flow's packets cost: those that were written whole, and the torn one
+-- what the packets of certain flows cost: those that were written whole, and the torn one
+abbrev pub cost_of : List Rate → (ℕ → Bool) → List Sent → Option TornFrame → ℕ
+cost_of rates p done t = sum_by (sent_cost rates) (filter (λ (d : Sent). p d.head.flow) done) + torn_cost rates p t
+
+-- what a flow's packets cost
 abbrev pub bill : List Rate → State → ℕ → ℕ
-bill rates s f = sum_by (sent_cost rates) (sent_by f s.done) + torn_cost rates f s.torn
+bill rates s f = cost_of rates (nat_eq f) s.done s.torn
 
--- the packets in the buffers, a torn one among them
-abbrev pub packets_in : List Buffer → ℕ
-packets_in bs = sum_by (λ (b : Buffer). length b.packets) bs
+-- a flow that is not open: among those with packets, one that was closed
+abbrev pub is_closed : List ℕ → ℕ → Bool
+is_closed flows f = not (has_number f flows)
+
+-- what the packets of closed flows cost
+abbrev pub past_bill : List Rate → State → ℕ
+past_bill rates s = cost_of rates (is_closed (flow_numbers s.live.graph.flows)) s.done s.torn
 
 -- the beginning of a frame, and not the whole
 pub record IsBeginning (x : List ℕ) : Type 0 where
@@ -87,11 +97,3 @@ pub record AreFramesOf (hs : List Packet) (bytes : List ℕ) : Type 0 where
   pub rest : List ℕ
   pub begins : IsBeginning rest
   pub is : bytes ≡ flat_map frame hs ++ rest
-
--- a link's torn packet, if it has one, and the packets in its buffers besides
-abbrev pub torn_packets : Option ℕ → ℕ
-torn_packets None = 0
-torn_packets (Some f) = 1
-
-abbrev pub waiting : Live → ℕ
-waiting l = packets_in l.buffers - torn_packets l.torn

@@ -1,10 +1,9 @@
 -- Laws of the histories of runs: the bytes tell the packets.
-use Rattle.std.specs.Prelude.{◌≡◌, ◌<◌, ◌≤◌, ◌+◌, ◌-◌, ◌^◌, ℕ, suc, true, List, [], ◌∷◌, ◌++◌, length, drop, flat_map}
-use Rattle.std.specs.Prelude.{nat_eq, min, Option, None, Some, option_and_then, is_some}
-use Rattle.std.proofs.Common.{refl, ap, sym, ◌∙◌, subst, arith, inl, inr, append_assoc, length-append, length-take}
-use Rattle.std.proofs.lemmas.Bool.{eqb-true, or_cases}
+use Rattle.std.specs.Prelude.{◌≡◌, ◌<◌, ◌≤◌, ◌+◌, ◌-◌, ◌^◌, ℕ, suc, List, [], ◌∷◌, ◌++◌, length, drop, flat_map}
+use Rattle.std.specs.Prelude.{min, Option, None, Some, option_and_then}
+use Rattle.std.proofs.Common.{refl, ap, sym, ◌∙◌, subst, arith, append_assoc, length-append, length-take}
 use Rattle.std.proofs.lemmas.List.{append-nil, take-append-drop}
-use Rattle.std.proofs.lemmas.Option.{same_Some, option_and_then_some}
+use Rattle.std.proofs.lemmas.Option.{same_Some}
 use Rattle.share_model.specs.declared.rates.Rate.{Rate}
 use Rattle.share_base.specs.declared.command.Event.{Event}
 use Rattle.share_model.specs.link.Fields.{IsBody}
@@ -12,18 +11,15 @@ use Rattle.share_model.specs.link.Tariff.{AreInRange}
 use Rattle.share_model.specs.link.Frame.{Packet, FitsFrame, frame}
 use Rattle.share_model.specs.link.FrameLaws.{length-frame, frame-prefix}
 use Rattle.share_model.specs.link.Buffers.{Buffer, buffer_of, is_buffer_of, head_in, head_of_buffer, head_of}
-use Rattle.share_model.specs.link.BufferLaws.{head_in_flow, head_of-flow}
-use Rattle.share_model.specs.link.Live.{Live, Sending, sending}
+use Rattle.share_model.specs.link.BufferLaws.{head_in_flow}
+use Rattle.share_model.specs.link.Live.{Live, Sending, frame_in_part}
 use Rattle.share_model.specs.run.Fold.{Sent, TornFrame, State, empty_state, run}
 use Rattle.share_model.specs.run.Fold.{beginning, out}
-use Rattle.share_model.specs.funding.Graph.{flow_numbers}
 use Rattle.share_model.specs.run.Events.{MayFollow}
 use Rattle.share_model.specs.lists.Each.{Each}
 use Rattle.share_model.specs.run.Sound.{IsSoundBuffer, Sound, SoundState}
-use Rattle.share_model.specs.lists.Rises.{Rises}
-use Rattle.share_model.specs.lists.Laws.{has_number, each_map, each-append, each-one, each-find}
-use Rattle.share_model.specs.lists.Laws.{is_some-find_number}
-use Rattle.share_model.specs.run.SoundLaws.{sending-head, sending-few}
+use Rattle.share_model.specs.lists.Laws.{each_map, each-append, each-one, each-find}
+use Rattle.share_model.specs.run.SoundLaws.{IsSending, part-sending, sending-head, sending-few, head-given}
 use Rattle.share_model.specs.run.FoldLaws.{run-sound}
 use Rattle.share_model.specs.run.BytesLaws.{sent_of, frames_of}
 use Rattle.share_model.specs.run.Cases.{StepCases, run-cases}
@@ -85,19 +81,8 @@ small-fits n few h small = record {
   payload = small.payload;
 }
 
-below_same : (n m limit : ℕ) → n ≡ m → m < limit → n < limit
-below_same n m limit same below = omega arith
-
 seq_within : (n next k : ℕ) → next ≤ n + 1 → suc k < next → (1 ≤ next - suc k) × (next - suc k ≤ n)
 seq_within n next k few given = (omega arith, omega arith)
-
-rises-below : (limit n : ℕ) (ns : List ℕ) → Rises limit ns → has_number n ns ≡ true → n < limit
-unfolding Rises
-rises-below limit n [] rises has = cc
-rises-below limit n (m ∷ ns) rises has = elim (or_cases (nat_eq n m) (has_number n ns) has) [
-  | inl same ↦ below_same n m limit (eqb-true n m same) rises.0
-  | inr later ↦ rises-below limit n ns rises.2 later
-]
 
 small_in : (n : ℕ) (b : Buffer) (ps : List (List ℕ)) (h : Packet) → b.flow ≤ n → IsSoundBuffer n b → b.packets ≡ ps
     → head_in b ps ≡ Some h → IsSmallPacket n h
@@ -115,19 +100,10 @@ small_by n bs f h all below (Some b) found is =
     small_in n b b.packets h (subst (λ m. m ≤ n) (head_in_flow b b.packets h is) below)
     (each-find (IsSoundBuffer n) (is_buffer_of f) bs b all found) refl is
 
--- a flow that has a head packet is open
-pub head-open : {life : ℕ} {rates : List Rate} {l : Live} {h : Packet} → Sound life rates l → (f : ℕ)
-    → head_of l.buffers f ≡ Some h → h.flow < l.graph.next_flow
-head-open {l = l} {h = h} sound f is = rw (sym (head_of-flow l.buffers f h is)) at
-    (rises-below l.graph.next_flow f (flow_numbers l.graph.flows) sound.numbered
-    (sym (ap (has_number f) sound.buffered)
-    ∙ (sym (is_some-find_number (λ (b : Buffer). b.flow) f l.buffers)
-    ∙ option_and_then_some head_of_buffer (buffer_of l.buffers f) h is (λ b found _. ap is_some found))))
-
 pub head-small : {life : ℕ} {rates : List Rate} {l : Live} {h : Packet} → Sound life rates l → (f : ℕ)
     → head_of l.buffers f ≡ Some h → IsSmallPacket l.counts.events h
 head-small {l = l} {h = h} sound f is =
-    small_by l.counts.events l.buffers f h sound.buffers (omega (arith, head-open sound f is, sound.next_flow))
+    small_by l.counts.events l.buffers f h sound.buffers (omega (arith, head-given sound f is, sound.funding.next_flow))
     (buffer_of l.buffers f) refl is
 
 -- the torn packet, some of whose frame's bytes are out, but not all
@@ -175,8 +151,9 @@ small_cases life rates s sound below was =
     = small_later s.live.counts.events s.done s.torn was in
     record {
       refused = later;
-      funded = λ g flows next. later;
-      opened = λ name limit tariff. later;
+      funded = λ g funded. later;
+      opened = λ name limit tariff allowed. later;
+      closed = λ f may. later;
       accepted = λ f body short b found. later;
       finished = λ snd k sends whole. record {
         sent =
@@ -244,8 +221,8 @@ begins_none = record {
 }
 
 begins_by : (life : ℕ) (rates : List Rate) (l : Live) → Sound life rates l → l.counts.events < 2 ^ 32
-    → (t : Option TornFrame) → TornIsSmall l.counts.events t → (o : Option Sending) → sending l ≡ o
-    → IsBeginning (beginning t o)
+    → (t : Option TornFrame) → TornIsSmall l.counts.events t → (o : Option Sending)
+    → frame_in_part l.buffers l.part ≡ o → IsBeginning (beginning t o)
 begins_by life rates l sound few (Some t) small o is = record {
   head = t.head;
   fits = small-fits l.counts.events few t.head small.head;
@@ -254,13 +231,15 @@ begins_by life rates l sound few (Some t) small o is = record {
   is = refl;
 }
 begins_by life rates l sound few None small None is = begins_none
-begins_by life rates l sound few None small (Some s) is = record {
-  head = s.head;
-  fits = small-fits l.counts.events few s.head (head-small sound s.head.flow (sending-head sound is));
-  at = s.out;
-  few = sending-few sound is;
-  is = refl;
-}
+begins_by life rates l sound few None small (Some s) is =
+    let frame_of : IsSending l.buffers s = part-sending l.buffers l.part s sound.part is in
+    record {
+      head = s.head;
+      fits = small-fits l.counts.events few s.head (head-small sound s.head.flow frame_of.head);
+      at = s.out;
+      few = frame_of.few;
+      is = refl;
+    }
 
 -- bytes are the frames of one list of packets at most
 pub frames-unique : (bytes : List ℕ) (hs gs : List Packet) → AreFramesOf hs bytes → AreFramesOf gs bytes → hs ≡ gs
@@ -271,9 +250,11 @@ state_frames : (life : ℕ) (rates : List Rate) (s : State) → SoundState life 
 unfolding out
 state_frames life rates s sound small few = record {
   fits = heads_fit s.live.counts.events few s.done small.sent;
-  rest = beginning s.torn (sending s.live);
-  begins = begins_by life rates s.live sound.live few s.torn small.torn (sending s.live) refl;
-  is = ap (λ bytes. bytes ++ beginning s.torn (sending s.live)) (frames_of_heads s.done);
+  rest = beginning s.torn (frame_in_part s.live.buffers s.live.part);
+  begins =
+      begins_by life rates s.live sound.live few s.torn small.torn (frame_in_part s.live.buffers s.live.part) refl;
+  is =
+      ap (λ bytes. bytes ++ beginning s.torn (frame_in_part s.live.buffers s.live.part)) (frames_of_heads s.done);
 }
 
 events_few : (n life : ℕ) → n ≤ life → life < 2 ^ 32 → n < 2 ^ 32
@@ -285,4 +266,4 @@ pub run-frames : (life : ℕ) (rates : List Rate) (es : List Event) → life < 2
 run-frames life rates es few range may =
     let sound : SoundState life rates (run rates es) = run-sound life rates es range may in
     state_frames life rates (run rates es) sound (run_small life rates es range may)
-    (events_few (run rates es).live.counts.events life sound.live.events few)
+    (events_few (run rates es).live.counts.events life sound.live.counts.events few)

@@ -3,29 +3,32 @@ use Rattle.std.specs.Prelude.{◌≡◌, ◌<◌, ◌≤◌, ◌+◌, ◌-◌, �
 use Rattle.std.specs.Prelude.{drop, filter, nat_eq, Option, None, Some, option_map, if◌then◌else◌}
 use Rattle.std.specs.Option.{option_or}
 use Rattle.std.proofs.Common.{refl, ap, sym, ◌∙◌, subst, arith, length-append}
-use Rattle.std.proofs.lemmas.Bool.{cond-false, eqb-true, eqb-false, ne_eqb}
+use Rattle.std.proofs.lemmas.Bool.{cond-false, eqb-true, ne_eqb}
 use Rattle.std.proofs.lemmas.List.{append-nil, map-append}
 use Rattle.std.proofs.lemmas.List.Elements.{filter-append}
 use Rattle.std.proofs.lemmas.List.Folds.{find-append}
-use Rattle.std.proofs.lemmas.Option.{same_Some, option_and_then_some}
 use Rattle.share_base.specs.declared.command.Event.{Event}
 use Rattle.share_model.specs.declared.rates.Rate.{Rate}
 use Rattle.share_model.specs.link.Tariff.{AreInRange}
 use Rattle.share_model.specs.link.Frame.{Packet}
 use Rattle.share_model.specs.link.Buffers.{Buffer, is_buffer_of, buffer_of, new_buffer}
-use Rattle.share_model.specs.link.Buffers.{with_packet, pushed, without_head, popped, head_in, head_of_buffer, head_of}
+use Rattle.share_model.specs.link.Buffers.{closed, with_packet, pushed, without_head, popped, head_of}
+use Rattle.share_model.specs.link.BufferLaws.{buffer_flows, other_buffer, IsHeadPacket, IsHeadBuffer, head_buffer}
 use Rattle.share_model.specs.run.Fold.{Sent, State, empty_state, run}
 use Rattle.share_model.specs.run.Events.{MayFollow}
 use Rattle.share_model.specs.lists.Each.{Each}
 use Rattle.share_model.specs.run.Sound.{SoundState}
 use Rattle.share_model.specs.lists.Rises.{Rises}
 use Rattle.share_model.specs.lists.Laws.{find-change_first, find-change_first_other}
+use Rattle.share_model.specs.lists.RemoveLaws.{find-remove_other}
 use Rattle.share_model.specs.run.SoundLaws.{sending-head}
 use Rattle.share_model.specs.lists.Laws.{rises-append}
 use Rattle.share_model.specs.run.BytesLaws.{sent_of}
+use Rattle.share_model.specs.run.TornLaws.{buffers-rise, closed-same}
 use Rattle.share_model.specs.run.Cases.{StepCases, both-cases, run-cases}
 use Rattle.share_model.specs.run.History.{sent_by, sent_numbers}
-use Rattle.share_model.specs.run.BillLaws.{IsBilled, sent_none, billed_cases, billed_empty}
+use Rattle.share_model.specs.run.BillLaws.{IsBilled, billed_cases, billed_empty}
+use Rattle.share_model.specs.run.CostLaws.{sent_none}
 
 -- Sequence numbers
 
@@ -69,15 +72,6 @@ pushed_rise b body ns was =
     let same : b.next - length b.packets ≡ (b.next + 1) - length (b.packets ++ body ∷ []) = omega arith in
     record { few = omega (arith, was.few); rise = subst (λ n. Rises n ns) same was.rise }
 
--- a buffer of one flow is not another's, nor is it after a change that keeps its flow
-pub other_buffer : (change : Buffer → Buffer) → ((b : Buffer) → (change b).flow ≡ b.flow) → (f g : ℕ)
-    → nat_eq f g ≡ false → (b : Buffer) → is_buffer_of g b ≡ true
-    → (is_buffer_of f b ≡ false) × (is_buffer_of f (change b) ≡ false)
-other_buffer change keeps f g test b holds =
-    let e : nat_eq f b.flow ≡ false = ne_eqb f b.flow
-    (λ same. eqb-false f g test (same ∙ sym (eqb-true g b.flow holds))) in
-    (e, ap (nat_eq f) (keeps b) ∙ e)
-
 pushed_numbers : (bs : List Buffer) (f : ℕ) (body : List ℕ) (b : Buffer) → buffer_of bs f ≡ Some b
     → (g : ℕ) (ns : List ℕ) → NumbersRise (buffer_of bs g) ns → (k : Bool) → nat_eq g f ≡ k
     → NumbersRise (buffer_of (pushed bs f body) g) ns
@@ -92,32 +86,6 @@ pushed_numbers bs f body b found g ns was false test =
     subst (λ o. NumbersRise o ns)
     (sym (find-change_first_other (is_buffer_of f) (is_buffer_of g) (with_packet body)
     (other_buffer (with_packet body) (λ b. refl) g f test) bs)) was
-
--- the head packet of a buffer, and those behind it
-pub record IsHeadPacket (b : Buffer) (h : Packet) : Type 0 where
-  pub behind : List (List ℕ)
-  pub packets : b.packets ≡ h.payload ∷ behind
-  pub seq : h.seq ≡ b.next - suc (length behind)
-
-head_packet : (b : Buffer) (ps : List (List ℕ)) (h : Packet) → b.packets ≡ ps → head_in b ps ≡ Some h → IsHeadPacket b h
-head_packet b [] h are is = cc
-head_packet b (p ∷ ps) h are is =
-    subst (λ h. IsHeadPacket b h)
-    (same_Some (record { flow = b.flow; seq = b.next - length (p ∷ ps); payload = p }) h is)
-    (record { behind = ps; packets = are; seq = refl })
-
--- the buffer of a flow that has a head packet
-pub record IsHeadBuffer (bs : List Buffer) (f : ℕ) (h : Packet) : Type 0 where
-  pub buffer : Buffer
-  pub found : buffer_of bs f ≡ Some buffer
-  pub head : IsHeadPacket buffer h
-
-pub head_buffer : (bs : List Buffer) (f : ℕ) (h : Packet) → head_of bs f ≡ Some h → IsHeadBuffer bs f h
-head_buffer bs f h is = option_and_then_some head_of_buffer (buffer_of bs f) h is (λ b found here. record {
-  buffer = b;
-  found = found;
-  head = head_packet b b.packets h refl here;
-})
 
 popped_rise : (b : Buffer) (h : Packet) (ns : List ℕ) → IsHeadPacket b h → BufferNumbers b ns
     → BufferNumbers (without_head b) (ns ++ h.seq ∷ [])
@@ -169,17 +137,34 @@ popped_numbers bs h tariff done is f was false test =
     (sym (find-change_first_other (is_buffer_of h.flow) (is_buffer_of f) without_head
     (other_buffer without_head (λ b. refl) f h.flow test) bs)) was)
 
+numbers_rise : (o : Option Buffer) (ns : List ℕ) → NumbersRise o ns → (limit : ℕ) × Rises limit ns
+numbers_rise None ns was = was
+numbers_rise (Some b) ns was = (b.next - length b.packets, was.rise)
+
+closed_numbers : (limit : ℕ) (bs : List Buffer) (f g : ℕ) (ns : List ℕ) → Rises limit (buffer_flows bs) → (k : Bool)
+    → nat_eq g f ≡ k → NumbersRise (buffer_of bs g) ns → NumbersRise (buffer_of (closed bs f) g) ns
+closed_numbers limit bs f g ns rises true test was =
+    subst (λ o. NumbersRise o ns) (sym (closed-same limit bs g f (eqb-true g f test) rises))
+    (numbers_rise (buffer_of bs g) ns was)
+closed_numbers limit bs f g ns rises false test was =
+    subst (λ o. NumbersRise o ns) (sym (find-remove_other (λ (b : Buffer). b.flow) f g test bs)) was
+
 numbered_cases : (life : ℕ) (rates : List Rate) (s : State) → SoundState life rates s → IsBilled rates s → IsNumbered s
     → StepCases IsNumbered rates s
 numbered_cases life rates s sound billed was = record {
   refused = record { numbered = was.numbered };
-  funded = λ g flows next. record { numbered = was.numbered };
+  funded = λ g funded. record { numbered = was.numbered };
   opened =
-      λ name limit tariff. record {
+      λ name limit tariff allowed. record {
         numbered = λ g. subst (λ o. NumbersRise o (sent_numbers g s.done))
             (sym (find-append (is_buffer_of g) s.live.buffers (new_buffer s.live.graph.next_flow limit ∷ [])))
             (opened_numbers s.live.graph.next_flow limit g s.done (buffer_of s.live.buffers g) billed.given.sent
             (was.numbered g));
+      };
+  closed =
+      λ f may. record {
+        numbered = λ g. closed_numbers s.live.graph.next_flow s.live.buffers f g (sent_numbers g s.done)
+            (buffers-rise sound.live) (nat_eq g f) refl (was.numbered g);
       };
   accepted =
       λ f body short b found. record {
@@ -206,10 +191,6 @@ run_numbered life rates es range may =
     (run-cases (λ s. IsBilled rates s × IsNumbered s) life rates range
     (λ s sound below was. both-cases (IsBilled rates) IsNumbered rates s (billed_cases life rates s sound below was.0)
     (numbered_cases life rates s sound was.0 was.1)) (billed_empty rates, numbered_empty) es may).1
-
-numbers_rise : (o : Option Buffer) (ns : List ℕ) → NumbersRise o ns → (limit : ℕ) × Rises limit ns
-numbers_rise None ns was = was
-numbers_rise (Some b) ns was = (b.next - length b.packets, was.rise)
 
 -- in every run the numbers that a flow sent rise
 pub run-numbers : (life : ℕ) (rates : List Rate) (es : List Event) → AreInRange rates

@@ -1,20 +1,75 @@
--- What holds of every link that events have made: the bounds by which no number leaves its type, and the ties between
--- the funding, the buffers and the books. Callers learn it from each call; the laws say that each event keeps it.
-use Rattle.std.specs.Prelude.{◌≡◌, ◌<◌, ◌≤◌, ◌+◌, ◌-◌, ◌*◌, ◌^◌, ℕ, true, false, List, map, length, Option}
-use Rattle.std.specs.Prelude.{None, Some, IsTrue, is_some}
+-- What holds of every link that events have made, layer by layer: the bounds by which no number leaves its type, and
+-- the ties between the funding, the queue, the buffers and the books. Callers learn it from each call; the laws say
+-- that each event keeps it.
+use Rattle.std.specs.Prelude.{◌≡◌, ◌⊎◌, ◌<◌, ◌≤◌, ◌+◌, ◌-◌, ◌*◌, ◌^◌, ℕ, Bool, true, false, List, map, length, sum_by}
+use Rattle.std.specs.Prelude.{Option, None, Some, IsTrue, is_some}
+use Rattle.std.specs.FinMap as finmap
+use Rattle.std.specs.FinMap.{get}
 use Rattle.share_model.specs.lists.Each.{Each}
+use Rattle.share_model.specs.lists.Laws.{has_number}
 use Rattle.share_model.specs.declared.link.Book.{Book}
+use Rattle.share_model.specs.declared.link.Counts.{Counts}
 use Rattle.share_model.specs.declared.link.Part.{Part}
 use Rattle.share_model.specs.declared.rates.Rate.{Rate}
 use Rattle.share_model.specs.declared.funding.OpenFlow.{OpenFlow}
 use Rattle.share_model.specs.link.Fields.{IsBody}
 use Rattle.share_model.specs.link.Tariff.{rate_at}
 use Rattle.share_model.specs.link.Frame.{Packet, frame}
-use Rattle.share_model.specs.link.Buffers.{Buffer, head_of, is_some_packet}
-use Rattle.share_model.specs.lists.Rises.{Rises}
-use Rattle.share_model.specs.funding.Graph.{NameBytes, flow_numbers}
-use Rattle.share_model.specs.link.Live.{Live}
-use Rattle.share_model.specs.run.Fold.{State, out}
+use Rattle.share_model.specs.link.Buffers.{Buffer, buffer_of, head_of, is_some_packet}
+use Rattle.share_model.specs.link.Totals.{packets_in}
+use Rattle.share_model.specs.funding.Graph.{NameBytes, Graph, flow_numbers}
+use Rattle.share_model.specs.funding.Kept.{IsKept}
+use Rattle.share_model.specs.link.Live.{Live, wants}
+use Rattle.share_model.specs.run.Fold.{TornFrame, State, out}
+use Rattle.share_model.specs.stride.Moves.{Stride}
+use Rattle.share_model.specs.stride.Level.{IsLevel}
+use Rattle.share_model.specs.stride.Bound.{IsSound as IsSoundQueue}
+
+-- ---- Counts
+
+-- 1 where the torn packet's flow was closed, so that the packet is in no buffer
+abbrev pub torn_gone : Bool → Option ℕ → ℕ
+torn_gone true None = 1
+torn_gone true (Some f) = 0
+torn_gone false torn = 0
+
+-- an accepted packet was written whole or dropped, or is in a buffer, or was torn before its flow was closed
+pub record CountsAreSound (life : ℕ) (c : Counts) (held gone : ℕ) : Type 0 where
+  pub events : c.events ≤ life
+  pub accepted : c.accepted ≤ c.events
+  pub sent : c.sent ≤ c.events * 1502
+  pub balance : c.accepted ≡ c.written + c.dropped + held + gone
+
+-- ---- Funding and flows
+
+-- each number that was given was given by an event
+pub record FundingIsSound (events : ℕ) (g : Graph) : Type 0 where
+  pub kept : IsKept g
+  pub next_ticket : g.next_ticket ≤ events + 1
+  pub next_flow : g.next_flow ≤ events + 1
+
+-- each open flow has a buffer and a book, in order of opening, and is active where its buffer holds a packet
+pub record FlowsAreTied (es : List (NameBytes × OpenFlow)) (buffers : List Buffer) (books : List Book) : Type 0 where
+  pub buffered : map (λ (b : Buffer). b.flow) buffers ≡ flow_numbers es
+  pub booked : map (λ (b : Book). b.flow) books ≡ flow_numbers es
+  pub active : map (λ (e : NameBytes × OpenFlow). e.1.active) es
+      ≡ map (λ (b : Buffer). is_some_packet b.packets) buffers
+
+-- ---- The queue
+
+-- the longest life, in events
+abbrev pub max_life : ℕ
+max_life = 2 ^ 24
+
+-- the clients are the open flows, each event charges at most 4026 units, and in a life of at most 2^24 events the queue
+-- is sound
+pub record QueueIsSound (life events : ℕ) (flows : List ℕ) (q : Stride) : Type 0 where
+  pub clients : (f : ℕ) → is_some (get q.clients f) ≡ has_number f flows
+  pub count : finmap.len q.clients ≡ length flows
+  pub clock : q.clock ≤ events * 4026
+  pub sound : life ≤ max_life → IsSoundQueue q
+
+-- ---- Buffers and books
 
 -- flows and packets are numbered from 1, each accepted packet was an event, and each payload is 1 to 1490 bytes
 pub record IsSoundBuffer (events : ℕ) (b : Buffer) : Type 0 where
@@ -23,10 +78,18 @@ pub record IsSoundBuffer (events : ℕ) (b : Buffer) : Type 0 where
   pub numbers : b.next ≤ events + 1
   pub payloads : Each IsBody b.packets
 
--- the tariff is on the shelf, and an event posts less than 2^28
-pub record IsSoundBook (events : ℕ) (rates : List Rate) (b : Book) : Type 0 where
-  pub known : IsTrue (is_some (rate_at rates b.tariff))
-  pub account : b.account ≤ events * (2 ^ 28 - 1)
+abbrev pub IsOnShelf : List Rate → Book → Type 0
+IsOnShelf rates b = IsTrue (is_some (rate_at rates b.tariff))
+
+abbrev pub accounts_in : List Book → ℕ
+accounts_in books = sum_by (λ (b : Book). b.account) books
+
+-- each tariff is on the shelf, and an event posts less than 2^28
+pub record BooksAreSound (rates : List Rate) (c : Counts) (books : List Book) : Type 0 where
+  pub known : Each (IsOnShelf rates) books
+  pub accounts : c.past + accounts_in books ≤ c.events * (2 ^ 28 - 1)
+
+-- ---- The frame in part, and the torn packet
 
 -- the flow of the frame in part has a packet, and some of its frame's bytes are out, but not all
 pub record IsSoundPart (buffers : List Buffer) (p : Part) : Type 0 where
@@ -39,29 +102,60 @@ abbrev pub PartIsSound : List Buffer → Option Part → Type 0
 PartIsSound buffers None = Unit {0}
 PartIsSound buffers (Some p) = IsSoundPart buffers p
 
-pub record Sound (life : ℕ) (rates : List Rate) (l : Live) : Type 0 where
-  pub events : l.counts.events ≤ life
-  pub accepted : l.counts.accepted ≤ l.counts.events
-  pub written : l.counts.written ≤ l.counts.events
-  pub sent : l.counts.sent ≤ l.counts.events * 1502
-  pub next_ticket : l.graph.next_ticket ≤ l.counts.events + 1
-  pub next_flow : l.graph.next_flow ≤ l.counts.events + 1
-  -- flows are numbered from 1, in order of opening
-  pub some_flow : 1 ≤ l.graph.next_flow
-  pub numbered : Rises l.graph.next_flow (flow_numbers l.graph.flows)
-  -- each open flow has a buffer and a book, and is active where its buffer holds a packet
-  pub buffered : map (λ (b : Buffer). b.flow) l.buffers ≡ flow_numbers l.graph.flows
-  pub booked : map (λ (b : Book). b.flow) l.books ≡ flow_numbers l.graph.flows
-  pub active : map (λ (e : NameBytes × OpenFlow). e.1.active) l.graph.flows
-      ≡ map (λ (b : Buffer). is_some_packet b.packets) l.buffers
-  pub buffers : Each (IsSoundBuffer l.counts.events) l.buffers
-  pub books : Each (IsSoundBook l.counts.events rates) l.books
-  pub part : PartIsSound l.buffers l.part
-  pub broken : l.broken ≡ true → l.part ≡ None
+pub record NamesTorn (buffers : List Buffer) (broken : Bool) (f : ℕ) : Type 0 where
+  pub broken_is : broken ≡ true
+  pub head : Packet
+  pub found : head_of buffers f ≡ Some head
 
--- the same of a whole state: the counts are those of its history, and no packet is torn while the link is whole
+abbrev pub TornIsNamed : List Buffer → Bool → Option ℕ → Type 0
+TornIsNamed buffers broken None = Unit {0}
+TornIsNamed buffers broken (Some f) = NamesTorn buffers broken f
+
+-- a flow whose packet was torn is named only while it is open and has a packet, and only of a broken link; and a broken
+-- link has no frame in part
+pub record TornIsSound (buffers : List Buffer) (broken : Bool) (torn : Option ℕ) (part : Option Part) : Type 0 where
+  pub named : TornIsNamed buffers broken torn
+  pub unparted : broken ≡ true → part ≡ None
+
+-- ---- The link
+
+pub record Sound (life : ℕ) (rates : List Rate) (l : Live) : Type 0 where
+  pub counts : CountsAreSound life l.counts (packets_in l.buffers) (torn_gone l.broken l.torn)
+  pub funding : FundingIsSound l.counts.events l.graph
+  pub flows : FlowsAreTied l.graph.flows l.buffers l.books
+  pub queue : QueueIsSound life l.counts.events (flow_numbers l.graph.flows) l.queue
+  -- each open flow competes with as many tickets as it has
+  pub level : IsLevel l.queue (wants l.graph)
+  pub buffers : Each (IsSoundBuffer l.counts.events) l.buffers
+  pub books : BooksAreSound rates l.counts l.books
+  pub part : PartIsSound l.buffers l.part
+  pub torn : TornIsSound l.buffers l.broken l.torn l.part
+
+-- ---- The whole state
+
+-- while its flow is open the torn packet is at its head, and the flow is named
+pub record IsTornHead (buffers : List Buffer) (torn : Option ℕ) (t : TornFrame) : Type 0 where
+  pub named : torn ≡ Some t.head.flow
+  pub head : head_of buffers t.head.flow ≡ Some t.head
+
+-- its flow was closed
+pub record IsTornGone (buffers : List Buffer) (torn : Option ℕ) (t : TornFrame) : Type 0 where
+  pub unnamed : torn ≡ None
+  pub closed : buffer_of buffers t.head.flow ≡ None
+
+pub record IsTornFrame (l : Live) (t : TornFrame) : Type 0 where
+  pub broken : l.broken ≡ true
+  pub given : t.head.flow < l.graph.next_flow
+  pub place : IsTornHead l.buffers l.torn t ⊎ IsTornGone l.buffers l.torn t
+
+-- a frame is torn exactly where the link is broken
+abbrev pub TornIsTold : Live → Option TornFrame → Type 0
+TornIsTold l None = (l.broken ≡ false) × (l.torn ≡ None)
+TornIsTold l (Some t) = IsTornFrame l t
+
+-- the same of a whole state: the counts are those of its history
 pub record SoundState (life : ℕ) (rates : List Rate) (s : State) : Type 0 where
   pub live : Sound life rates s.live
   pub done : length s.done ≡ s.live.counts.written
   pub sent : length (out s) ≡ s.live.counts.sent
-  pub torn : s.live.broken ≡ false → s.torn ≡ None
+  pub torn : TornIsTold s.live s.torn

@@ -3,7 +3,7 @@ use Rattle.std.specs.Prelude.{◌≡◌, ◌<◌, ◌≤◌, ◌+◌, ◌-◌, �
 use Rattle.std.specs.Prelude.{length, find, filter, sum_by, slice_get, unwrap_or, Option, None, Some, option_map}
 use Rattle.std.specs.Prelude.{option_and_then, is_some, IsSome, bytes_eq}
 use Rattle.std.proofs.Common.{refl, ap, sym, ◌∙◌, arith, length-drop}
-use Rattle.std.proofs.lemmas.Bool.{cond_both, cond-false, eqb-true, ltb-true}
+use Rattle.std.proofs.lemmas.Bool.{cond_both, cond-false, eqb-true}
 use Rattle.std.proofs.Math.Nat.{mul-suc, mul-add, mul-le-mul, mul-div-le}
 use Rattle.std.proofs.lemmas.List.Sums.{sum_by-cons}
 use Rattle.std.proofs.lemmas.Option.{same_Some, option_and_then_some}
@@ -24,18 +24,23 @@ use Rattle.share_model.specs.link.Buffers.{is_busy}
 use Rattle.share_model.specs.link.BufferLaws.{AreTied, head_of-flow}
 use Rattle.share_model.specs.link.BufferLaws.{active-busy, head_of-busy}
 use Rattle.share_model.specs.link.BufferLaws.{number-of_named}
-use Rattle.share_model.specs.lists.Laws.{rises-fresh}
+use Rattle.share_model.specs.lists.Laws.{rises-fresh, rises-below}
 use Rattle.share_model.specs.funding.Graph.{NameBytes, Graph, is_active_flow, act, is_active, worth_by, val, worth}
 use Rattle.share_model.specs.funding.Graph.{funding, tickets, is_held_by_flow, is_active_holder}
 use Rattle.share_model.specs.funding.Changes.{flow_named}
-use Rattle.share_model.specs.link.Live.{Live, Sending, sending_at, sending_by, sending, selected_flow, competes}
-use Rattle.share_model.specs.link.Live.{rest_of, charged, is_book_of}
+use Rattle.share_model.specs.link.Live.{Live, Sending, sending_at, frame_in_part, sending_by, sending, rest_of}
+use Rattle.share_model.specs.link.Live.{is_book_of, units_by, units_due, with_units, posted}
 use Rattle.share_model.specs.lists.Each.{Each}
-use Rattle.share_model.specs.run.Sound.{IsSoundBuffer, IsSoundBook, IsSoundPart, PartIsSound}
+use Rattle.share_model.specs.lists.Change.{change_first}
+use Rattle.share_model.specs.lists.Rises.{Rises}
+use Rattle.share_model.specs.stride.Moves.{next}
+use Rattle.share_model.specs.run.Sound.{IsSoundBuffer, IsOnShelf, accounts_in, IsSoundPart, PartIsSound}
 use Rattle.share_model.specs.funding.Graph.{flow_numbers}
 use Rattle.share_model.specs.run.Sound.{Sound}
+use Rattle.share_model.specs.run.QueueLaws.{next-has_tickets}
 use Rattle.share_model.specs.lists.Laws.{has_number}
-use Rattle.share_model.specs.lists.Laws.{each-find, find-holds}
+use Rattle.share_model.specs.lists.Laws.{each-find}
+use Rattle.share_model.specs.lists.PartLaws.{sum_by-found}
 use Rattle.share_model.specs.lists.Laws.{is_some-find_number}
 
 -- Bounds
@@ -75,14 +80,47 @@ rate_of-in_range rates zero range = record {
 }
 rate_of-in_range rates (suc n) range = in_range_at rates n range
 
+units_by_few : (rates : List Rate) (n : ℕ) (o : Option Book) → AreInRange rates → n ≤ 1502 → units_by rates n o ≤ 4026
+units_by_few rates n None range few = omega arith
+units_by_few rates n (Some b) range few =
+    units-few (rate_of rates b.tariff) n (rate_of-in_range rates b.tariff range) few
+
+-- an event charges a flow at most 4026 units
+pub units_due-few : (rates : List Rate) (books : List Book) (f n : ℕ) → AreInRange rates → n ≤ 1502
+    → units_due rates books f n ≤ 4026
+units_due-few rates books f n range few = units_by_few rates n (find (is_book_of f) books) range few
+
 -- the account grows by less than 2^28
-pub post-few : (rates : List Rate) (events n : ℕ) (b : Book) → AreInRange rates → n ≤ 1502
-    → b.account ≤ events * (2 ^ 28 - 1) → (charged rates n b).account ≤ (events + 1) * (2 ^ 28 - 1)
-post-few rates events n b range few before =
+pub with_units-few : (rates : List Rate) (units : ℕ) (b : Book) → AreInRange rates → units ≤ 4026
+    → (with_units rates units b).account ≤ b.account + (2 ^ 28 - 1)
+with_units-few rates units b range few =
     let r : IsInRange (rate_of rates b.tariff) = rate_of-in_range rates b.tariff range in
-    let u : units_of (rate_of rates b.tariff) n ≤ 4026 = units-few (rate_of rates b.tariff) n r few in
-    let p : (rate_of rates b.tariff).price * units_of (rate_of rates b.tariff) n < 2 ^ 28 = posted-few _ _ r.price u in
+    let p : (rate_of rates b.tariff).price * units < 2 ^ 28 = posted-few _ _ r.price few in
     omega arith
+
+-- and so do all together
+pub posted-few_more : (rates : List Rate) (f units : ℕ) (books : List Book) → AreInRange rates → units ≤ 4026
+    → accounts_in (posted rates books f units) ≤ accounts_in books + (2 ^ 28 - 1)
+unfolding change_first
+posted-few_more rates f units [] range few = omega arith
+posted-few_more rates f units (b ∷ bs) range few =
+    cond_both (is_book_of f b) (with_units rates units b ∷ bs) (b ∷ posted rates bs f units)
+    (λ cs. accounts_in cs ≤ accounts_in (b ∷ bs) + (2 ^ 28 - 1))
+    (λ _. omega (
+      arith,
+      before,
+      sum_by-cons (λ (b : Book). b.account) (with_units rates units b) bs,
+      with_units-few rates units b range few,
+    ))
+    (λ _. omega (
+      arith,
+      before,
+      sum_by-cons (λ (b : Book). b.account) b (posted rates bs f units),
+      posted-few_more rates f units bs range few,
+    ))
+  where
+    before : accounts_in (b ∷ bs) ≡ b.account + accounts_in bs
+    before = sum_by-cons (λ (b : Book). b.account) b bs
 
 -- The tickets of a flow that is not active
 
@@ -149,11 +187,17 @@ sending_by_next : (l : Live) (o : Option ℕ) (s : Sending)
 sending_by_next l None s is = cc
 sending_by_next l (Some f) s is = sending_from l.buffers f 0 (head_of l.buffers f) s refl is (λ h _. some_out h)
 
+-- the frame in part is of such a flow
+pub part-sending : (bs : List Buffer) (o : Option Part) (s : Sending) → PartIsSound bs o → frame_in_part bs o ≡ Some s
+    → IsSending bs s
+part-sending bs None s part is = cc
+part-sending bs (Some p) s part is =
+    sending_from bs p.flow p.out (head_of bs p.flow) s refl is (part_few bs p part)
+
 sending_by_part : (l : Live) (o : Option Part) (s : Sending) → PartIsSound l.buffers o → sending_by l o ≡ Some s
     → IsSending l.buffers s
-sending_by_part l None s part is = sending_by_next l (selected_flow l.graph) s is
-sending_by_part l (Some p) s part is =
-    sending_from l.buffers p.flow p.out (head_of l.buffers p.flow) s refl is (part_few l.buffers p part)
+sending_by_part l None s part is = sending_by_next l (next l.queue.clients) s is
+sending_by_part l (Some p) s part is = part-sending l.buffers (Some p) s part is
 
 pub sending-is : {life : ℕ} {rates : List Rate} {l : Live} {s : Sending} → Sound life rates l → sending l ≡ Some s
     → IsSending l.buffers s
@@ -205,28 +249,38 @@ rest-short {s = s} sound is = omega (arith, sending-few sound is, length-drop s.
 -- Open flows, their buffers and their books
 
 pub sound-tied : {life : ℕ} {rates : List Rate} {l : Live} → Sound life rates l → AreTied l.graph.flows l.buffers
-sound-tied sound = record { numbers = sound.buffered; active = sound.active }
+sound-tied sound = record { numbers = sound.flows.buffered; active = sound.flows.active }
+
+-- flows are numbered from 1, in order of opening
+pub sound-numbered : {life : ℕ} {rates : List Rate} {l : Live} → Sound life rates l
+    → Rises l.graph.next_flow (flow_numbers l.graph.flows)
+unfolding Rises
+sound-numbered sound = sound.funding.kept.numbered.flows.2
+
+pub sound-some_flow : {life : ℕ} {rates : List Rate} {l : Live} → Sound life rates l → 1 ≤ l.graph.next_flow
+unfolding Rises
+sound-some_flow sound = let some = sound.funding.kept.numbered.flows.0 in omega arith
 
 -- a flow with a name has a buffer
 pub flow-buffered : {life : ℕ} {rates : List Rate} {l : Live} {e : FlowEntry} → Sound life rates l → (name : NameBytes)
     → flow_named l.graph name ≡ Some e → IsSome (buffer_of l.buffers e.number)
 flow-buffered {l = l} {e = e} sound name found =
     is_some-find_number (λ (b : Buffer). b.flow) e.number l.buffers
-    ∙ (ap (has_number e.number) sound.buffered ∙ number-of_named (bytes_eq name) l.graph.flows e found)
+    ∙ (ap (has_number e.number) sound.flows.buffered ∙ number-of_named (bytes_eq name) l.graph.flows e found)
 
 -- and a book
 pub flow-booked : {life : ℕ} {rates : List Rate} {l : Live} {e : FlowEntry} → Sound life rates l → (name : NameBytes)
     → flow_named l.graph name ≡ Some e → IsSome (find (is_book_of e.number) l.books)
 flow-booked {l = l} {e = e} sound name found =
     is_some-find_number (λ (b : Book). b.flow) e.number l.books
-    ∙ (ap (has_number e.number) sound.booked ∙ number-of_named (bytes_eq name) l.graph.flows e found)
+    ∙ (ap (has_number e.number) sound.flows.booked ∙ number-of_named (bytes_eq name) l.graph.flows e found)
 
 -- a flow that has a head packet has a book
 pub head-booked : {life : ℕ} {rates : List Rate} {l : Live} {h : Packet} → Sound life rates l → (f : ℕ)
     → head_of l.buffers f ≡ Some h → IsSome (find (is_book_of f) l.books)
 head-booked {l = l} {h = h} sound f is =
     is_some-find_number (λ (b : Book). b.flow) f l.books
-    ∙ (ap (has_number f) (sound.booked ∙ sym sound.buffered)
+    ∙ (ap (has_number f) (sound.flows.booked ∙ sym sound.flows.buffered)
     ∙ (sym (is_some-find_number (λ (b : Buffer). b.flow) f l.buffers)
     ∙ option_and_then_some head_of_buffer (buffer_of l.buffers f) h is (λ b found _. ap is_some found)))
 
@@ -234,52 +288,72 @@ none_from : {A : Type 0} (o : Option A) → is_some o ≡ false → o ≡ None
 none_from None is = refl
 none_from (Some x) is = cc
 
+-- and is open
+pub head-stands : {life : ℕ} {rates : List Rate} {l : Live} {h : Packet} → Sound life rates l → (f : ℕ)
+    → head_of l.buffers f ≡ Some h → has_number f (flow_numbers l.graph.flows) ≡ true
+head-stands {l = l} {h = h} sound f is =
+    sym (ap (has_number f) sound.flows.buffered)
+    ∙ (sym (is_some-find_number (λ (b : Buffer). b.flow) f l.buffers)
+    ∙ option_and_then_some head_of_buffer (buffer_of l.buffers f) h is (λ b found _. ap is_some found))
+
+-- under a number that was given
+pub head-given : {life : ℕ} {rates : List Rate} {l : Live} {h : Packet} → Sound life rates l → (f : ℕ)
+    → head_of l.buffers f ≡ Some h → h.flow < l.graph.next_flow
+head-given {l = l} {h = h} sound f is = rw (sym (head_of-flow l.buffers f h is)) at
+    (rises-below l.graph.next_flow f (flow_numbers l.graph.flows) (sound-numbered sound) (head-stands sound f is))
+
 -- the number of the next flow is no buffer's, and no book's
 pub next-unbuffered : {life : ℕ} {rates : List Rate} {l : Live} → Sound life rates l
     → buffer_of l.buffers l.graph.next_flow ≡ None
 next-unbuffered {l = l} sound =
     none_from (buffer_of l.buffers l.graph.next_flow)
     (is_some-find_number (λ (b : Buffer). b.flow) l.graph.next_flow l.buffers
-    ∙ (ap (has_number l.graph.next_flow) sound.buffered
-    ∙ rises-fresh l.graph.next_flow (flow_numbers l.graph.flows) sound.numbered))
+    ∙ (ap (has_number l.graph.next_flow) sound.flows.buffered
+    ∙ rises-fresh l.graph.next_flow (flow_numbers l.graph.flows) (sound-numbered sound)))
 
 pub next-unbooked : {life : ℕ} {rates : List Rate} {l : Live} → Sound life rates l
     → find (is_book_of l.graph.next_flow) l.books ≡ None
 next-unbooked {l = l} sound =
     none_from (find (is_book_of l.graph.next_flow) l.books)
     (is_some-find_number (λ (b : Book). b.flow) l.graph.next_flow l.books
-    ∙ (ap (has_number l.graph.next_flow) sound.booked
-    ∙ rises-fresh l.graph.next_flow (flow_numbers l.graph.flows) sound.numbered))
+    ∙ (ap (has_number l.graph.next_flow) sound.flows.booked
+    ∙ rises-fresh l.graph.next_flow (flow_numbers l.graph.flows) (sound-numbered sound)))
 
--- a book's tariff is on the shelf, and its account is small
-pub book-sound : {life : ℕ} {rates : List Rate} {l : Live} {b : Book} → Sound life rates l → (f : ℕ)
-    → find (is_book_of f) l.books ≡ Some b → IsSoundBook l.counts.events rates b
-book-sound {rates = rates} {l = l} {b = b} sound f found =
-    each-find (IsSoundBook l.counts.events rates) (is_book_of f) l.books b sound.books found
+-- a book's tariff is on the shelf
+pub book-known : {life : ℕ} {rates : List Rate} {l : Live} {b : Book} → Sound life rates l → (f : ℕ)
+    → find (is_book_of f) l.books ≡ Some b → IsOnShelf rates b
+book-known {rates = rates} {l = l} {b = b} sound f found =
+    each-find (IsOnShelf rates) (is_book_of f) l.books b sound.books.known found
+
+-- and its account is small
+pub book-account : {life : ℕ} {rates : List Rate} {l : Live} {b : Book} → Sound life rates l → (f : ℕ)
+    → find (is_book_of f) l.books ≡ Some b → b.account ≤ l.counts.events * (2 ^ 28 - 1)
+book-account {l = l} {b = b} sound f found =
+    omega (arith, sound.books.accounts, sum_by-found (λ (b : Book). b.account) (is_book_of f) b l.books found)
 
 -- a flow is active exactly where its buffer holds a packet
 pub flow-active : {life : ℕ} {rates : List Rate} {l : Live} → Sound life rates l → (f : ℕ)
     → is_active_flow l.graph f ≡ is_busy l.buffers f
-flow-active {l = l} sound f = active-busy l.graph.next_flow f l.graph.flows l.buffers (sound-tied sound) sound.numbered
-
-next_competes : (g : Graph) (o : Option (NameBytes × FlowEntry)) (f : ℕ)
-    → ((e : NameBytes × FlowEntry) → o ≡ Some e → competes g e ≡ true)
-    → option_map (λ (e : NameBytes × FlowEntry). e.1.number) o ≡ Some f → 0 < tickets g f
-next_competes g None f holds is = cc
-next_competes g (Some e) f holds is =
-    rw (same_Some e.1.number f is) at (ltb-true 0 (tickets g e.1.number) (holds e refl))
-
--- the next flow has tickets
-pub next-funded : (g : Graph) (f : ℕ) → selected_flow g ≡ Some f → 0 < tickets g f
-next-funded g f is = next_competes g (find (competes g) g.flows) f (find-holds (competes g) g.flows) is
+flow-active {l = l} sound f =
+    active-busy l.graph.next_flow f l.graph.flows l.buffers (sound-tied sound) (sound-numbered sound)
 
 funded_active : (g : Graph) (f : ℕ) (b : Bool) → is_active_flow g f ≡ b → 0 < tickets g f → b ≡ true
 funded_active g f true is funded = refl
 funded_active g f false is funded = absurd (omega (arith, tickets-idle g f is))
 
--- the next flow has a packet
+-- the next flow is open, and has tickets
+pub next-funded : {life : ℕ} {rates : List Rate} {l : Live} {f : ℕ} → Sound life rates l
+    → next l.queue.clients ≡ Some f → (has_number f (flow_numbers l.graph.flows) ≡ true) × (0 < tickets l.graph f)
+next-funded {l = l} {f = f} sound is = next-has_tickets l.graph f sound.queue sound.level is
+
+-- it has a packet
 pub next-buffered : {life : ℕ} {rates : List Rate} {l : Live} {f : ℕ} → Sound life rates l
-    → selected_flow l.graph ≡ Some f → (h : Packet) × (head_of l.buffers f ≡ Some h)
+    → next l.queue.clients ≡ Some f → (h : Packet) × (head_of l.buffers f ≡ Some h)
 next-buffered {l = l} {f = f} sound is =
     head_of-busy l.buffers f (sym (flow-active sound f)
-    ∙ funded_active l.graph f (is_active_flow l.graph f) refl (next-funded l.graph f is))
+    ∙ funded_active l.graph f (is_active_flow l.graph f) refl (next-funded sound is).1)
+
+-- and a book
+pub next-booked : {life : ℕ} {rates : List Rate} {l : Live} {f : ℕ} → Sound life rates l
+    → next l.queue.clients ≡ Some f → IsSome (find (is_book_of f) l.books)
+next-booked sound is = let h = next-buffered sound is in head-booked sound _ h.1

@@ -13,10 +13,10 @@ use Rattle.std.specs.FinMap.{get-entries, len-entries, len-insert, len-remove, e
 use Rattle.std.specs.FinMap.{nat_cmp-IsAntisymmetric}
 use Rattle.std.specs.FinMap.Entries.{by_order, below_all}
 
-tied_same : (k : ℕ) → eq_by_cmp nat_cmp k k ≡ true
+pub tied_same : (k : ℕ) → eq_by_cmp nat_cmp k k ≡ true
 tied_same k = grind (arith, rules)
 
-tied_other : (j k : ℕ) → j ≢ k → eq_by_cmp nat_cmp j k ≡ false
+pub tied_other : (j k : ℕ) → j ≢ k → eq_by_cmp nat_cmp j k ≡ false
 tied_other j k apart = grind (arith, rules)
 
 pub and_left : (a b : Bool) → T (a && b) → T a
@@ -34,7 +34,7 @@ before j k h = elim (nat_cmp j k) as (λ r. r ≡ nat_cmp j k → T (is_lt r) �
   | Greater ↦ λ _ h. absurd h
 ] refl h
 
-by_key : (P : Bool → Type 0) (j k : ℕ) → (j ≡ k → P true) → (j ≢ k → P false) → P (eq_by_cmp nat_cmp j k)
+pub by_key : (P : Bool → Type 0) (j k : ℕ) → (j ≡ k → P true) → (j ≢ k → P false) → P (eq_by_cmp nat_cmp j k)
 by_key P j k same apart =
     elim (cases_eq j k) [
       | inl e ↦ subst P (sym (ap (λ n. eq_by_cmp nat_cmp n k) e ∙ tied_same k)) (same e)
@@ -88,6 +88,28 @@ module _ {X : Type 0} where
       ∙ by_key (λ b. cond b (Some w) (cond b None (get m q)) ≡ cond b (Some w) (get m q)) q k (λ _. refl) (λ _. refl)
       ∙ sym (get-insert nat_cmp_total m k w q))
 
+  pub insert-remove_other : (m : FinMap nat_cmp X) (j k : ℕ) (v : X) → j ≢ k
+      → insert (remove m j) k v ≡ remove (insert m k v) j
+  insert-remove_other m j k v apart =
+      same_map nat_cmp_total nat_cmp-IsAntisymmetric _ _ (λ q.
+      get-insert nat_cmp_total (remove m j) k v q
+      ∙ ap (cond (eq_by_cmp nat_cmp q k) (Some v)) (get-remove nat_cmp_total m j q)
+      ∙ by_key
+      (λ b. cond b (Some v) (cond (eq_by_cmp nat_cmp q j) None (get m q))
+      ≡ cond (eq_by_cmp nat_cmp q j) None (cond b (Some v) (get m q)))
+      q k
+      (λ e. sym (ap (λ b. cond b None (Some v)) (tied_other q j (λ is. apart (sym is ∙ e)))))
+      (λ _. refl)
+      ∙ ap (cond (eq_by_cmp nat_cmp q j) None) (sym (get-insert nat_cmp_total m k v q))
+      ∙ sym (get-remove nat_cmp_total (insert m k v) j q))
+
+  -- there is nothing to remove
+  pub remove_absent : (m : FinMap nat_cmp X) (k : ℕ) → get m k ≡ None → remove m k ≡ m
+  remove_absent m k absent =
+      same_map nat_cmp_total nat_cmp-IsAntisymmetric _ _ (λ q.
+      get-remove nat_cmp_total m k q
+      ∙ by_key (λ b. cond b None (get m q) ≡ get m q) q k (λ e. sym (ap (get m) e ∙ absent)) (λ _. refl))
+
   pub insert_found : (m : FinMap nat_cmp X) (k : ℕ) (v : X) → get m k ≡ Some v → insert m k v ≡ m
   insert_found m k v found =
       same_map nat_cmp_total nat_cmp-IsAntisymmetric _ _ (λ q.
@@ -99,6 +121,9 @@ module _ {X : Type 0} where
 
   pub len-insert_found : (m : FinMap nat_cmp X) (k : ℕ) (v w : X) → get m k ≡ Some v → len (insert m k w) ≡ len m
   len-insert_found m k v w found = len-insert nat_cmp_total m k w ∙ ap (λ o. cond (is_some o) (len m) (len m + 1)) found
+
+  pub len-remove_found : (m : FinMap nat_cmp X) (k : ℕ) (v : X) → get m k ≡ Some v → len (remove m k) ≡ len m - 1
+  len-remove_found m k v found = len-remove nat_cmp_total m k ∙ ap (λ o. cond (is_some o) (len m - 1) (len m)) found
 
   pub len-remove_le : (m : FinMap nat_cmp X) (k : ℕ) → len (remove m k) ≤ len m
   len-remove_le m k =

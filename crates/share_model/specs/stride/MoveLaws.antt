@@ -1,5 +1,6 @@
 -- Laws of the tickets that compete, and of moves between which no time passes.
-use Rattle.std.proofs.Common.{◌≡◌, ◌≢◌, ℕ, ◌+◌, ◌-◌, ◌*◌, ◌/◌, ◌≤◌, None, Some, unwrap_or, refl, sym, ap, ◌∙◌, arith}
+use Rattle.std.proofs.Common.{◌≡◌, ◌≢◌, ℕ, ◌+◌, ◌-◌, ◌*◌, ◌/◌, ◌≤◌, None, Some, unwrap_or, IsSome, refl}
+use Rattle.std.proofs.Common.{sym, ap, ◌∙◌, arith}
 use Rattle.std.specs.Ordering.{nat_cmp}
 use Rattle.std.specs.FinMap.{FinMap, get, insert, remove, empty, len, get-empty}
 use Rattle.share_model.specs.declared.stride.Client.{Client}
@@ -58,6 +59,17 @@ pub update-shift : (change : ℕ → Client → Client) (s : Stride) (f : ℕ) �
 update-shift change s f =
     ap (λ n. record (shift change s f) { pass = n }) (still (update s).pass (global_stride (shift change s f)) s.clock)
 
+-- the client of a flow that has one
+pub client_is : (s : Stride) (f : ℕ) (c : Client) → Some c ≡ get s.clients f → client s f ≡ c
+client_is s f c found = sym (ap (λ o. unwrap_or o new_client) found)
+
+pub is_there : (s : Stride) (f : ℕ) → IsSome (get s.clients f) → Some (client s f) ≡ get s.clients f
+is_there s f there =
+    elim (get s.clients f) as (λ o. IsSome o → Some (unwrap_or o new_client) ≡ o) [
+      | None ↦ λ none. absurd (cc)
+      | Some c ↦ λ _. refl
+    ] there
+
 pub client-with_client_same : (s : Stride) (f : ℕ) (c : Client) → client (with_client s f c) f ≡ c
 client-with_client_same s f c = ap (λ o. unwrap_or o new_client) (get-insert_same s.clients f c)
 
@@ -100,11 +112,21 @@ moves_commute s f g a b apart =
     ∙ ap (λ n. shift (change_of a) n f) (sym (moved_is s g b))
     ∙ sym (moved_is (moved s g b) f a)
 
+pub client-moved_same : (s : Stride) (f : ℕ) (move : Move)
+    → client (moved s f move) f ≡ change_of move (update s).pass (client s f)
+client-moved_same s f move =
+    ap (λ (n : Stride). client n f) (moved_is s f move)
+    ∙ client-with_client_same (update s) f (change_of move (update s).pass (client s f))
+
 -- what a move or a charge of one flow leaves of another's client
+pub get-moved_other : (s : Stride) (f : ℕ) (move : Move) (g : ℕ) → g ≢ f
+    → get (moved s f move).clients g ≡ get s.clients g
+get-moved_other s f move g apart =
+    ap (λ (n : Stride). get n.clients g) (moved_is s f move)
+    ∙ get-insert_other s.clients f (change_of move (update s).pass (client s f)) g apart
+
 pub client-moved_other : (s : Stride) (f : ℕ) (move : Move) (g : ℕ) → g ≢ f → client (moved s f move) g ≡ client s g
-client-moved_other s f move g apart =
-    ap (λ (n : Stride). client n g) (moved_is s f move)
-    ∙ client-with_client_other (update s) f (change_of move (update s).pass (client s f)) g apart
+client-moved_other s f move g apart = ap (λ o. unwrap_or o new_client) (get-moved_other s f move g apart)
 
 pub client-remove_other : (s : Stride) (f g : ℕ) → g ≢ f → client (remove_flow s f) g ≡ client s g
 client-remove_other s f g apart = ap (λ o. unwrap_or o new_client) (get-remove_other s.clients f g apart)

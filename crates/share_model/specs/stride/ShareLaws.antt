@@ -45,13 +45,13 @@ competes-charge s f units g =
       | inr apart ↦ ap (λ (c : Client). c.competes) (client-charge_other s f units g apart)
     ]
 
-pass-charge_same : (s : Stride) (f units g : ℕ) → f ≡ g → (client s g).competes ≡ true
+pub pass-charge_same : (s : Stride) (f units g : ℕ) → f ≡ g → (client s g).competes ≡ true
     → (client (charge s f units) g).pass ≡ (client s g).pass +ℤ pos (share (client s g) units)
 pass-charge_same s f units g same competes =
     ap (λ n. (client (charge s n units) g).pass) same ∙ ap (λ (c : Client). c.pass) (client-charge_same s g units)
     ∙ charged-pass (client s g) units competes
 
-pass-charge_other : (s : Stride) (f units g : ℕ) → g ≢ f → (client (charge s f units) g).pass ≡ (client s g).pass
+pub pass-charge_other : (s : Stride) (f units g : ℕ) → g ≢ f → (client (charge s f units) g).pass ≡ (client s g).pass
 pass-charge_other s f units g apart = ap (λ (c : Client). c.pass) (client-charge_other s f units g apart)
 
 from_passes : (p q a b : ℤ) (charges : List Charge) → a ≡ p → b ≡ q → ChargesLeast a b charges

@@ -71,7 +71,7 @@ below_life n life most other = grind (arith, nat_tests)
 
 module _ (life : ℕ) (rates : List Rate) (s : State) (sound : SoundState life rates s) where
   living : life_is_spent life s.live ≡ false → s.live.counts.events < life
-  living below = below_life s.live.counts.events life sound.live.events below
+  living below = below_life s.live.counts.events life sound.live.counts.events below
 
   -- a call makes its event where the life is not over and memory was found
   may_call : (over lacks : Bool) → life_is_spent life s.live ≡ over → (e : Event) (a b : Outcome) → MayCome s.live e

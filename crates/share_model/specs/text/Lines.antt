@@ -13,7 +13,11 @@ use Rattle.share_base.specs.declared.refusal.Refusal.TheVariants.{NoFlow, NoTari
 use Rattle.share_base.specs.declared.refusal.Refusal.TheVariants.{Unfunded, Crowded, Cycle, Deep, TableFull, Sending}
 use Rattle.share_base.specs.declared.refusal.Refusal.TheVariants.{BufferFull, Broken}
 use Rattle.share_base.specs.declared.command.Command.{Command}
-use Rattle.share_base.specs.declared.command.Command.TheVariants.{MakeTicket, FundFlow, OpenFlow}
+use Rattle.share_base.specs.declared.command.Command.TheVariants.{MakeCurrency, RemoveCurrency, MakeTicket}
+use Rattle.share_base.specs.declared.command.Command.TheVariants.{RemoveTicket, FundCurrency, FundFlow, Unfund}
+use Rattle.share_base.specs.declared.command.Command.TheVariants.{OpenFlow, CloseFlow}
+use Rattle.share_model.specs.declared.line.HolderKind.{HolderKind}
+use Rattle.share_model.specs.declared.line.HolderKind.TheVariants.{Currency as CurrencyKind, Flow as FlowKind}
 use Rattle.share_model.specs.declared.line.Line.{Line}
 use Rattle.share_model.specs.declared.line.Line.TheVariants.{Change, Send, Turn, Torn}
 use Rattle.share_model.specs.link.Fields.{max_payload}
@@ -49,9 +53,15 @@ from_pairs (c ∷ d ∷ cs) = (hex_value c * 16 + hex_value d) ∷ from_pairs cs
 -- How each line is spelled
 
 abbrev pub command_words : Command → List (List ℕ)
-command_words (OpenFlow name limit tariff) = codes "open" ∷ name ∷ decimal limit ∷ decimal tariff ∷ []
+command_words (MakeCurrency name) = codes "mkcur" ∷ name ∷ []
+command_words (RemoveCurrency name) = codes "rmcur" ∷ name ∷ []
 command_words (MakeTicket amount currency) = codes "mktkt" ∷ decimal amount ∷ currency ∷ []
+command_words (RemoveTicket ticket) = codes "rmtkt" ∷ decimal ticket ∷ []
+command_words (FundCurrency ticket currency) = codes "fund" ∷ decimal ticket ∷ codes "cur" ∷ currency ∷ []
 command_words (FundFlow ticket flow) = codes "fund" ∷ decimal ticket ∷ codes "flow" ∷ flow ∷ []
+command_words (Unfund ticket) = codes "unfund" ∷ decimal ticket ∷ []
+command_words (OpenFlow name limit tariff) = codes "open" ∷ name ∷ decimal limit ∷ decimal tariff ∷ []
+command_words (CloseFlow name) = codes "close" ∷ name ∷ []
 
 abbrev pub words : Line → List (List ℕ)
 words (Change c) = command_words c
@@ -123,9 +133,17 @@ abbrev pub field : {A : Type 0} → (List ℕ → Option A) → List (List ℕ) 
 field f [] = None
 field f (w ∷ ws) = with_rest ws (f w)
 
--- this very word
-abbrev pub keyword_of : List ℕ → List ℕ → Option (List ℕ)
-keyword_of keyword w = if bytes_eq w keyword then Some w else None
+-- the word for what a ticket funds
+abbrev pub kind_of : List ℕ → Option HolderKind
+kind_of w =
+    if bytes_eq w (codes "cur") then Some CurrencyKind
+    else if bytes_eq w (codes "flow") then Some FlowKind
+    else None
+
+-- a ticket funds a currency or a flow of this name
+abbrev pub funding_of : HolderKind → ℕ → List ℕ → Command
+funding_of CurrencyKind ticket name = FundCurrency ticket name
+funding_of FlowKind ticket name = FundFlow ticket name
 
 -- the line, where no word is left
 abbrev pub ended : List (List ℕ) → Line → Option Line
@@ -139,6 +157,17 @@ open_of ws = do
   tariff ← field number_of limit.1
   ended tariff.1 (Change (OpenFlow name.0 limit.0 tariff.0))
 
+-- a command of a name alone, and one of a number
+abbrev pub named_of : (List ℕ → Command) → List (List ℕ) → Option Line
+named_of command ws = do
+  name ← field name_of ws
+  ended name.1 (Change (command name.0))
+
+abbrev pub numbered_of : (ℕ → Command) → List (List ℕ) → Option Line
+numbered_of command ws = do
+  number ← field number_of ws
+  ended number.1 (Change (command number.0))
+
 abbrev pub mktkt_of : List (List ℕ) → Option Line
 mktkt_of ws = do
   amount ← field number_of ws
@@ -148,9 +177,9 @@ mktkt_of ws = do
 abbrev pub fund_of : List (List ℕ) → Option Line
 fund_of ws = do
   ticket ← field number_of ws
-  kind ← field (keyword_of (codes "flow")) ticket.1
-  flow ← field name_of kind.1
-  ended flow.1 (Change (FundFlow ticket.0 flow.0))
+  kind ← field kind_of ticket.1
+  name ← field name_of kind.1
+  ended name.1 (Change (funding_of kind.0 ticket.0 name.0))
 
 abbrev pub send_of : List (List ℕ) → Option Line
 send_of ws = do
@@ -171,8 +200,13 @@ line_by w ws =
     if bytes_eq w (codes "send") then send_of ws
     else if bytes_eq w (codes "turn") then turn_of ws
     else if bytes_eq w (codes "open") then open_of ws
+    else if bytes_eq w (codes "close") then named_of CloseFlow ws
     else if bytes_eq w (codes "mktkt") then mktkt_of ws
     else if bytes_eq w (codes "fund") then fund_of ws
+    else if bytes_eq w (codes "unfund") then numbered_of Unfund ws
+    else if bytes_eq w (codes "rmtkt") then numbered_of RemoveTicket ws
+    else if bytes_eq w (codes "mkcur") then named_of MakeCurrency ws
+    else if bytes_eq w (codes "rmcur") then named_of RemoveCurrency ws
     else if bytes_eq w (codes "torn") then torn_of ws
     else None
 

@@ -10,16 +10,23 @@ use Rattle.std.proofs.lemmas.Slice.Eq.{bytes_eq-Decides}
 use Rattle.std.proofs.lemmas.Bool.Decides.{nat_tests}
 use Rattle.share_base.specs.declared.refusal.Refusal.{Refusal}
 use Rattle.share_base.specs.declared.refusal.Refusal.TheVariants.{Syntax, Range}
-use Rattle.share_base.specs.declared.command.Command.TheVariants.{MakeTicket, FundFlow, OpenFlow}
+use Rattle.share_base.specs.declared.command.Command.{Command}
+use Rattle.share_base.specs.declared.command.Command.TheVariants.{MakeCurrency, RemoveCurrency, MakeTicket}
+use Rattle.share_base.specs.declared.command.Command.TheVariants.{RemoveTicket, FundCurrency, FundFlow, Unfund}
+use Rattle.share_base.specs.declared.command.Command.TheVariants.{OpenFlow, CloseFlow}
+use Rattle.share_model.specs.declared.line.HolderKind.{HolderKind}
+use Rattle.share_model.specs.declared.line.HolderKind.TheVariants.{Currency as CurrencyKind, Flow as FlowKind}
 use Rattle.share_model.specs.declared.line.Line.{Line}
 use Rattle.share_model.specs.declared.line.Line.TheVariants.{Change, Send, Turn, Torn}
 use Rattle.share_model.specs.text.Lines.{hex, words, spelled}
 use Rattle.share_model.specs.text.Lines.{IsName, IsNumber, IsPayload, HasFields, IsLine, is_in_range, is_space}
-use Rattle.share_model.specs.text.Lines.{words_of, name_of, number_of, payload_of, field, with_rest, ◌>>=◌, keyword_of}
-use Rattle.share_model.specs.text.Lines.{ended, open_of, mktkt_of, fund_of, send_of, turn_of, torn_of, line_by, line_of}
+use Rattle.share_model.specs.text.Lines.{words_of, name_of, number_of, payload_of, field, with_rest, ◌>>=◌}
+use Rattle.share_model.specs.text.Lines.{kind_of, funding_of, ended}
+use Rattle.share_model.specs.text.Lines.{HasCommandFields, named_of, numbered_of, mktkt_of, fund_of, open_of}
+use Rattle.share_model.specs.text.Lines.{send_of, turn_of, torn_of, line_by, line_of}
 use Rattle.share_model.specs.text.Lines.{ranged, reading, IsReading, IsUnread}
 use Rattle.share_model.specs.text.WordLaws.{NoSpace, no_space-name_bytes, no_space-name, no_space-decimal, no_space-hex}
-use Rattle.share_model.specs.text.WordLaws.{bytes_eq-same, name_of-name, payload_of-hex, name_of-only}
+use Rattle.share_model.specs.text.WordLaws.{name_of-name, payload_of-hex, name_of-only}
 pub use Rattle.share_model.specs.text.WordLaws.{number_of-decimal, number_of-only, payload_of-only, hex-from_pairs}
 
 -- Words that are joined by one space are read as these words
@@ -35,8 +42,13 @@ join-words_of bs = join_with_byte-slice_split 32 bs
 
 -- Each line is read from its words
 
-keyword_of-same : (k : List ℕ) → keyword_of k k ≡ Some k
-keyword_of-same k = rw (bytes_eq-same k) refl
+named_of-words : (command : List ℕ → Command) (name : List ℕ) → IsName name
+    → named_of command (name ∷ []) ≡ Some (Change (command name))
+named_of-words command name n = rw (name_of-name name n) refl
+
+numbered_of-words : (command : ℕ → Command) (number : ℕ) → IsNumber number
+    → numbered_of command (decimal number ∷ []) ≡ Some (Change (command number))
+numbered_of-words command number n = rw (number_of-decimal number n) refl
 
 open_of-words : (name : List ℕ) (limit tariff : ℕ) → IsName name → IsNumber limit → IsNumber tariff
     → open_of (name ∷ decimal limit ∷ decimal tariff ∷ []) ≡ Some (Change (OpenFlow name limit tariff))
@@ -47,9 +59,13 @@ mktkt_of-words : (amount : ℕ) (currency : List ℕ) → IsNumber amount → Is
     → mktkt_of (decimal amount ∷ currency ∷ []) ≡ Some (Change (MakeTicket amount currency))
 mktkt_of-words amount currency a c = rw (number_of-decimal amount a, name_of-name currency c) refl
 
-fund_of-words : (ticket : ℕ) (flow : List ℕ) → IsNumber ticket → IsName flow
+fund_of-currency : (ticket : ℕ) (currency : List ℕ) → IsNumber ticket → IsName currency
+    → fund_of (decimal ticket ∷ codes "cur" ∷ currency ∷ []) ≡ Some (Change (FundCurrency ticket currency))
+fund_of-currency ticket currency t c = rw (number_of-decimal ticket t, name_of-name currency c) refl
+
+fund_of-flow : (ticket : ℕ) (flow : List ℕ) → IsNumber ticket → IsName flow
     → fund_of (decimal ticket ∷ codes "flow" ∷ flow ∷ []) ≡ Some (Change (FundFlow ticket flow))
-fund_of-words ticket flow t f = rw (number_of-decimal ticket t, name_of-name flow f) refl
+fund_of-flow ticket flow t f = rw (number_of-decimal ticket t, name_of-name flow f) refl
 
 send_of-words : (flow payload : List ℕ) → IsName flow → IsPayload payload
     → send_of (flow ∷ hex payload ∷ []) ≡ Some (Send flow payload)
@@ -60,14 +76,31 @@ turn_of-words most m = rw (number_of-decimal most m) refl
 
 line_of-words : (l : Line) → HasFields l → line_of (words l) ≡ Some l
 unfolding line_by
-line_of-words (Change (OpenFlow name limit tariff)) h = open_of-words name limit tariff h.0 h.1 h.2
+line_of-words (Change (MakeCurrency name)) h = named_of-words MakeCurrency name h
+line_of-words (Change (RemoveCurrency name)) h = named_of-words RemoveCurrency name h
 line_of-words (Change (MakeTicket amount currency)) h = mktkt_of-words amount currency h.0 h.1
-line_of-words (Change (FundFlow ticket flow)) h = fund_of-words ticket flow h.0 h.1
+line_of-words (Change (RemoveTicket ticket)) h = numbered_of-words RemoveTicket ticket h
+line_of-words (Change (FundCurrency ticket currency)) h = fund_of-currency ticket currency h.0 h.1
+line_of-words (Change (FundFlow ticket flow)) h = fund_of-flow ticket flow h.0 h.1
+line_of-words (Change (Unfund ticket)) h = numbered_of-words Unfund ticket h
+line_of-words (Change (OpenFlow name limit tariff)) h = open_of-words name limit tariff h.0 h.1 h.2
+line_of-words (Change (CloseFlow name)) h = named_of-words CloseFlow name h
 line_of-words (Send flow payload) h = send_of-words flow payload h.0 h.1
 line_of-words (Turn most) h = turn_of-words most h
 line_of-words Torn h = refl
 
 words_of-spelled : (l : Line) → HasFields l → words_of (spelled l) ≡ words l
+words_of-spelled (Change (MakeCurrency name)) h =
+    words_of-join _ _ (no_space-name_bytes (codes "mkcur") refl) (no_space-name _ h, tt)
+words_of-spelled (Change (RemoveCurrency name)) h =
+    words_of-join _ _ (no_space-name_bytes (codes "rmcur") refl) (no_space-name _ h, tt)
+words_of-spelled (Change (RemoveTicket ticket)) h =
+    words_of-join _ _ (no_space-name_bytes (codes "rmtkt") refl) (no_space-decimal _ h, tt)
+words_of-spelled (Change (FundCurrency ticket currency)) h =
+    words_of-join _ _ (no_space-name_bytes (codes "fund") refl)
+    (no_space-decimal _ h.0, (no_space-name_bytes (codes "cur") refl, (no_space-name _ h.1, tt)))
+words_of-spelled (Change (Unfund ticket)) h =
+    words_of-join _ _ (no_space-name_bytes (codes "unfund") refl) (no_space-decimal _ h, tt)
 words_of-spelled (Change (OpenFlow name limit tariff)) h =
     words_of-join _ _ (no_space-name_bytes (codes "open") refl)
     (no_space-name _ h.0, (no_space-decimal _ h.1, (no_space-decimal _ h.2, tt)))
@@ -76,6 +109,8 @@ words_of-spelled (Change (MakeTicket amount currency)) h =
 words_of-spelled (Change (FundFlow ticket flow)) h =
     words_of-join _ _ (no_space-name_bytes (codes "fund") refl)
     (no_space-decimal _ h.0, (no_space-name_bytes (codes "flow") refl, (no_space-name _ h.1, tt)))
+words_of-spelled (Change (CloseFlow name)) h =
+    words_of-join _ _ (no_space-name_bytes (codes "close") refl) (no_space-name _ h, tt)
 words_of-spelled (Send flow payload) h =
     words_of-join _ _ (no_space-name_bytes (codes "send") refl) (no_space-name _ h.0, (no_space-hex payload, tt))
 words_of-spelled (Turn most) h = words_of-join _ _ (no_space-name_bytes (codes "turn") refl) (no_space-decimal _ h, tt)
@@ -126,12 +161,22 @@ ended-only : (ws : List (List ℕ)) (l m : Line) → ended ws l ≡ Some m → (
 ended-only [] l m e = (refl, cc)
 ended-only (w ∷ ws) l m e = cc
 
-keyword_by : (k w : List ℕ) (b : Bool) → bytes_eq w k ≡ b → (v : List ℕ) → cond b (Some w) None ≡ Some v → w ≡ k
-keyword_by k w true e v h = (bytes_eq-Decides w k).0 e
-keyword_by k w false e v h = cc
+-- the word of what a ticket funds
+abbrev kind_word : HolderKind → List ℕ
+kind_word CurrencyKind = codes "cur"
+kind_word FlowKind = codes "flow"
 
-keyword_of-only : (k w v : List ℕ) → keyword_of k w ≡ Some v → w ≡ k
-keyword_of-only k w v e = keyword_by k w _ refl v e
+kind_by : (w : List ℕ) (kind : HolderKind) (cur flow : Bool) → bytes_eq w (codes "cur") ≡ cur
+    → bytes_eq w (codes "flow") ≡ flow
+    → cond cur (Some CurrencyKind) (cond flow (Some FlowKind) None) ≡ Some kind → w ≡ kind_word kind
+kind_by w CurrencyKind true flow is_cur is_flow e = (bytes_eq-Decides w (codes "cur")).0 is_cur
+kind_by w FlowKind true flow is_cur is_flow e = cc
+kind_by w FlowKind false true is_cur is_flow e = (bytes_eq-Decides w (codes "flow")).0 is_flow
+kind_by w CurrencyKind false true is_cur is_flow e = cc
+kind_by w kind false false is_cur is_flow e = cc
+
+kind_of-only : (w : List ℕ) (kind : HolderKind) → kind_of w ≡ Some kind → w ≡ kind_word kind
+kind_of-only w kind e = kind_by w kind _ _ refl refl e
 
 took_name : (ws : List (List ℕ)) (p : List ℕ × List (List ℕ)) → field name_of ws ≡ Some p
     → IsName p.0 × (ws ≡ p.0 ∷ p.1)
@@ -154,10 +199,10 @@ took_payload ws p e =
     let x = payload_of-only _ _ t.reads in
     (x.0, t.begins ∙ ap (λ (w : List ℕ). w ∷ p.1) x.1)
 
-took_keyword : (k : List ℕ) (ws : List (List ℕ)) (p : List ℕ × List (List ℕ)) → field (keyword_of k) ws ≡ Some p
-    → ws ≡ k ∷ p.1
-took_keyword k ws p e =
-    let t = took (keyword_of k) ws p e in t.begins ∙ ap (λ (w : List ℕ). w ∷ p.1) (keyword_of-only _ _ _ t.reads)
+took_kind : (ws : List (List ℕ)) (p : HolderKind × List (List ℕ)) → field kind_of ws ≡ Some p
+    → ws ≡ kind_word p.0 ∷ p.1
+took_kind ws p e =
+    let t = took kind_of ws p e in t.begins ∙ ap (λ (w : List ℕ). w ∷ p.1) (kind_of-only _ _ t.reads)
 
 -- words before words
 before : (w : List ℕ) (ws vs xs : List (List ℕ)) → ws ≡ w ∷ vs → vs ≡ xs → ws ≡ w ∷ xs
@@ -190,6 +235,38 @@ mktkt_of-only ws l e =
     let b = took_name n.value.1 m.value m.first in
     are_words _ ws _ l _ refl (a.0, b.0) (before _ _ _ _ a.1 (before _ _ _ _ b.1 z.0)) z.1
 
+named_of-only : (k : List ℕ) (command : List ℕ → Command)
+    → ((name : List ℕ) → words (Change (command name)) ≡ k ∷ name ∷ [])
+    → ((name : List ℕ) → IsName name → HasCommandFields (command name)) → (ws : List (List ℕ)) (l : Line)
+    → named_of command ws ≡ Some l → AreWords (k ∷ ws) l
+named_of-only k command spells fields ws l e =
+    let n = bound _ _ _ e in
+    let z = ended-only _ _ _ n.then in
+    let a = took_name ws n.value n.first in
+    are_words k ws _ l (Change (command n.value.0)) (spells n.value.0) (fields n.value.0 a.0)
+    (before _ _ _ _ a.1 z.0) z.1
+
+numbered_of-only : (k : List ℕ) (command : ℕ → Command)
+    → ((number : ℕ) → words (Change (command number)) ≡ k ∷ decimal number ∷ [])
+    → ((number : ℕ) → IsNumber number → HasCommandFields (command number)) → (ws : List (List ℕ)) (l : Line)
+    → numbered_of command ws ≡ Some l → AreWords (k ∷ ws) l
+numbered_of-only k command spells fields ws l e =
+    let n = bound _ _ _ e in
+    let z = ended-only _ _ _ n.then in
+    let a = took_number ws n.value n.first in
+    are_words k ws _ l (Change (command n.value.0)) (spells n.value.0) (fields n.value.0 a.0)
+    (before _ _ _ _ a.1 z.0) z.1
+
+funding_fields : (kind : HolderKind) (ticket : ℕ) (name : List ℕ) → IsNumber ticket → IsName name
+    → HasFields (Change (funding_of kind ticket name))
+funding_fields CurrencyKind ticket name t n = (t, n)
+funding_fields FlowKind ticket name t n = (t, n)
+
+funding_words : (kind : HolderKind) (ticket : ℕ) (name : List ℕ)
+    → words (Change (funding_of kind ticket name)) ≡ codes "fund" ∷ decimal ticket ∷ kind_word kind ∷ name ∷ []
+funding_words CurrencyKind ticket name = refl
+funding_words FlowKind ticket name = refl
+
 fund_of-only : (ws : List (List ℕ)) (l : Line) → fund_of ws ≡ Some l → AreWords (codes "fund" ∷ ws) l
 fund_of-only ws l e =
     let n = bound _ _ _ e in
@@ -197,9 +274,11 @@ fund_of-only ws l e =
     let t = bound _ _ _ m.then in
     let z = ended-only _ _ _ t.then in
     let a = took_number ws n.value n.first in
-    let b = took_keyword _ n.value.1 m.value m.first in
+    let b = took_kind n.value.1 m.value m.first in
     let c = took_name m.value.1 t.value t.first in
-    are_words _ ws _ l _ refl (a.0, c.0) (before _ _ _ _ a.1 (before _ _ _ _ b (before _ _ _ _ c.1 z.0))) z.1
+    are_words _ ws _ l _ (funding_words m.value.0 n.value.0 t.value.0)
+    (funding_fields m.value.0 n.value.0 t.value.0 a.0 c.0)
+    (before _ _ _ _ a.1 (before _ _ _ _ b (before _ _ _ _ c.1 z.0))) z.1
 
 send_of-only : (ws : List (List ℕ)) (l : Line) → send_of ws ≡ Some l → AreWords (codes "send" ∷ ws) l
 send_of-only ws l e =
@@ -232,10 +311,16 @@ line_by-only w ws l e =
     by_keyword w _ ws _ _ l (send_of-only ws l)
     (by_keyword w _ ws _ _ l (turn_of-only ws l)
     (by_keyword w _ ws _ _ l (open_of-only ws l)
+    (by_keyword w _ ws _ _ l (named_of-only _ CloseFlow (λ n. refl) (λ n h. h) ws l)
     (by_keyword w _ ws _ _ l (mktkt_of-only ws l)
     (by_keyword w _ ws _ _ l (fund_of-only ws l)
+    (by_keyword w _ ws _ _ l (numbered_of-only _ Unfund (λ n. refl) (λ n h. h) ws l)
+    (by_keyword w _ ws _ _ l (numbered_of-only _ RemoveTicket (λ n. refl) (λ n h. h) ws l)
+    (by_keyword w _ ws _ _ l (named_of-only _ MakeCurrency (λ n. refl) (λ n h. h) ws l)
+    (by_keyword w _ ws _ _ l (named_of-only _ RemoveCurrency (λ n. refl) (λ n h. h) ws l)
     (by_keyword w _ ws _ _ l (torn_of-only ws l)
-    (λ (h : None ≡ Some l). cc) _ refl) _ refl) _ refl) _ refl) _ refl) _ refl e
+    (λ (h : None ≡ Some l). cc)
+    _ refl) _ refl) _ refl) _ refl) _ refl) _ refl) _ refl) _ refl) _ refl) _ refl) _ refl e
 
 line_of-only : (ws : List (List ℕ)) (l : Line) → line_of ws ≡ Some l → AreWords ws l
 line_of-only [] l e = cc

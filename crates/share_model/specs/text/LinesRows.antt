@@ -3,7 +3,9 @@ use Rattle.std.specs.Prelude.{◌≡◌, ℕ, List, [], ◌∷◌, ◌++◌, map
 use Rattle.std.specs.Fmt.{digits}
 use Rattle.share_base.specs.declared.refusal.Refusal.{Refusal}
 use Rattle.share_base.specs.declared.refusal.Refusal.TheVariants.{Syntax, Range}
-use Rattle.share_base.specs.declared.command.Command.TheVariants.{MakeTicket, FundFlow, OpenFlow}
+use Rattle.share_base.specs.declared.command.Command.TheVariants.{MakeCurrency, RemoveCurrency, MakeTicket}
+use Rattle.share_base.specs.declared.command.Command.TheVariants.{RemoveTicket, FundCurrency, FundFlow, Unfund}
+use Rattle.share_base.specs.declared.command.Command.TheVariants.{OpenFlow, CloseFlow}
 use Rattle.share_model.specs.declared.line.Line.{Line}
 use Rattle.share_model.specs.declared.line.Line.TheVariants.{Change, Send, Turn, Torn}
 use Rattle.share_model.specs.text.Lines.{number_of, line_by, reading, spelled}
@@ -13,11 +15,19 @@ read lines = map reading lines
 
 lines_are_read : read (
     codes "open a 4 1" ∷ codes "mktkt 10 base" ∷ codes "fund 1 flow a"
-    ∷ codes "send a 6869" ∷ codes "turn 65535" ∷ codes "torn" ∷ [])
+    ∷ codes "send a 6869" ∷ codes "turn 65535" ∷ codes "torn" ∷ codes "close a" ∷ [])
     ≡ Ok (Change (OpenFlow (codes "a") 4 1)) ∷ Ok (Change (MakeTicket 10 (codes "base")))
-    ∷ Ok (Change (FundFlow 1 (codes "a"))) ∷ Ok (Send (codes "a") (104 ∷ 105 ∷ [])) ∷ Ok (Turn 65535) ∷ Ok Torn ∷ []
+    ∷ Ok (Change (FundFlow 1 (codes "a"))) ∷ Ok (Send (codes "a") (104 ∷ 105 ∷ [])) ∷ Ok (Turn 65535) ∷ Ok Torn
+    ∷ Ok (Change (CloseFlow (codes "a"))) ∷ []
 unfolding read reading line_by number_of digits
 lines_are_read = refl
+
+funding_is_read : read (
+    codes "mkcur x" ∷ codes "rmcur x" ∷ codes "rmtkt 7" ∷ codes "fund 1 cur x" ∷ codes "unfund 2" ∷ [])
+    ≡ Ok (Change (MakeCurrency (codes "x"))) ∷ Ok (Change (RemoveCurrency (codes "x")))
+    ∷ Ok (Change (RemoveTicket 7)) ∷ Ok (Change (FundCurrency 1 (codes "x"))) ∷ Ok (Change (Unfund 2)) ∷ []
+unfolding read reading line_by number_of digits
+funding_is_read = refl
 
 limits_are_read : read (codes "open a-1_z 0 18446744073709551615" ∷ codes "send z 00ff" ∷ [])
     ≡ Ok (Change (OpenFlow (codes "a-1_z") 0 18446744073709551615)) ∷ Ok (Send (codes "z") (0 ∷ 255 ∷ [])) ∷ []
@@ -25,13 +35,14 @@ unfolding read reading line_by number_of digits
 limits_are_read = refl
 
 -- a number of 2^64, a leading zero, a sign, an upper-case digit, an odd number of digits, a missing payload, spaces
--- that are too many, an empty line, a carriage return, a NUL
+-- that are too many, an empty line, a carriage return, a NUL, names and kinds that are none, words too many
 faults_are_syntax : read (
     codes "turn 18446744073709551616" ∷ codes "fund 01 flow a" ∷ codes "turn +1" ∷ codes "send a 6A" ∷ codes "send a 6"
     ∷ codes "send a " ∷ codes "send a" ∷ codes "open  a 4 1" ∷ codes "open a 4 1 " ∷ codes " torn"
     ∷ codes "torn torn" ∷ [] ∷ codes "torn\r" ∷ (codes "torn" ++ 0 ∷ [])
-    ∷ codes "open A 4 1" ∷ codes "fund 1 cow a" ∷ [])
-    ≡ replicate 16 (Err Syntax)
+    ∷ codes "open A 4 1" ∷ codes "fund 1 cow a" ∷ codes "mkcur X" ∷ codes "mkcur x y" ∷ codes "rmcur"
+    ∷ codes "rmtkt x" ∷ codes "unfund 1 x" ∷ codes "fund 1 currency x" ∷ codes "close" ∷ codes "close a 1" ∷ [])
+    ≡ replicate 24 (Err Syntax)
 unfolding read reading line_by number_of digits
 faults_are_syntax = refl
 
@@ -41,8 +52,10 @@ unfolding read reading line_by number_of digits
 turns_out_of_range = refl
 
 lines_are_spelled : map spelled (
-    Change (OpenFlow (codes "a") 4 1) ∷ Change (FundFlow 1 (codes "a"))
-    ∷ Send (codes "a") (104 ∷ 255 ∷ []) ∷ Torn ∷ [])
-    ≡ codes "open a 4 1" ∷ codes "fund 1 flow a" ∷ codes "send a 68ff" ∷ codes "torn" ∷ []
+    Change (OpenFlow (codes "a") 4 1) ∷ Change (FundFlow 1 (codes "a")) ∷ Change (FundCurrency 1 (codes "x"))
+    ∷ Change (MakeCurrency (codes "x")) ∷ Change (RemoveCurrency (codes "x")) ∷ Change (RemoveTicket 1)
+    ∷ Change (Unfund 1) ∷ Change (CloseFlow (codes "a")) ∷ Send (codes "a") (104 ∷ 255 ∷ []) ∷ Torn ∷ [])
+    ≡ codes "open a 4 1" ∷ codes "fund 1 flow a" ∷ codes "fund 1 cur x" ∷ codes "mkcur x" ∷ codes "rmcur x"
+    ∷ codes "rmtkt 1" ∷ codes "unfund 1" ∷ codes "close a" ∷ codes "send a 68ff" ∷ codes "torn" ∷ []
 unfolding digits
 lines_are_spelled = refl

@@ -138,6 +138,17 @@ impl Plain {
         );
     }
 
+    fn level(&mut self, flow: u32, tickets: i128) {
+        let row = self.row(flow);
+        let stands = row.competes && row.tickets == tickets;
+        if row.competes && !stands {
+            self.leave(flow);
+        }
+        if !stands && tickets > 0 {
+            self.join(flow, tickets);
+        }
+    }
+
     fn charge(&mut self, flow: u32, units: i128) {
         let row = self.row(flow);
         let share = rounded_down(stride(row.tickets).wrapping_mul(units), 1024);
@@ -157,7 +168,7 @@ impl Plain {
         let there = row.flow == flow;
         let ready = match step {
             Move::Add => !there,
-            Move::Charge(_) => there,
+            Move::Charge(_) | Move::Level(_) => there,
             Move::Join(_) | Move::Remove => there && !row.competes,
             Move::Leave | Move::Modify(_) => there && row.competes,
         };
@@ -170,6 +181,7 @@ impl Plain {
                     self.leave(flow);
                     self.join(flow, i128::from(tickets));
                 }
+                Move::Level(tickets) => self.level(flow, i128::from(tickets)),
                 Move::Charge(units) => self.charge(flow, i128::from(units)),
                 Move::Remove => self.remove(flow),
             }

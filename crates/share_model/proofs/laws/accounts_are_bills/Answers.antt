@@ -1,5 +1,8 @@
-use Rattle.share_model.specs.run.BillLaws.{run-billed}
+use Rattle.share_model.specs.run.BillLaws.{run-billed, run-past}
 use Rattle.share_model.proofs.laws.accounts_are_bills.Goals as goal
 
-pub returns : goal.returns
-returns c = run-billed
+pub returns-clause-account : goal.returns-clause-account
+returns-clause-account c = run-billed
+
+pub returns-clause-past : goal.returns-clause-past
+returns-clause-past c = run-past

@@ -1,19 +1,20 @@
-use Rattle.std.proofs.Common.{◌<◌, ◌+◌, ◌*◌, ◌∙◌, ap, arith, length, max, refl, sym}
-use Rattle.stridelink.proofs.DigitLemmas.{not_decoded, decodes_none, decodes_more, decoded_all, length_of_pairs}
+use Rattle.std.proofs.Common.{◌≡◌, ◌+◌, ◌*◌, ◌/◌, arith, length, subst, sym, ℕ}
+use Rattle.stridelink.specs.Digits.{DecodesUpTo}
+use Rattle.stridelink.proofs.DigitLemmas.{not_decoded}
 use Rattle.stridelink.proofs.payload.decode.Goals as goal
 
-pub returns-then-not-has_pairs : goal.returns-then-not-has_pairs
-returns-then-not-has_pairs c =
-    record { payload = not_decoded c.args.word.now (sym c.if-not-has_pairs.ensures); half = tt; some = tt }
+pub returns-then-not-has_pairs-clause-payload : goal.returns-then-not-has_pairs-clause-payload
+returns-then-not-has_pairs-clause-payload c = not_decoded c.args.word.now (sym c.if-not-has_pairs.ensures)
 
-pub loop-place-init : goal.loop-place-init
-loop-place-init c = decodes_none _ _
+pub loop-block-preserved : goal.loop-block-preserved
+loop-block-preserved c =
+    let next : 16 * c.loop-block.block + 16 ≡ 16 * (c.loop-block.block + 1) = omega arith in
+    let P : ℕ → Type 0 = λ n.
+    DecodesUpTo c.args.word.now c.decode_block-greatest.new.bytes n c.decode_block-greatest.result in
+    subst P next c.decode_block-greatest.ensures
 
-pub loop-place-preserved : goal.loop-place-preserved
-loop-place-preserved c =
-    let pairs = length_of_pairs c.args.word.now (sym c.if-not-has_pairs.ensures) in
-    let inside : 2 * c.loop-place.place + 1 < length c.args.word.now = omega (arith, pairs.1) in
-    let room : c.loop-place.place < length c.loop-place.bytes = omega arith in
-    decodes_more c.args.word.now c.loop-place.bytes c.loop-place.place c.digit-high.result c.digit-low.result
-    c.loop-place.greatest c.max-greatest.result _ c.loop-place.invariant inside room c.digit-high.ensures
-    c.digit-low.ensures (c.max-greatest.ensures ∙ ap (λ n. max n c.loop-place.greatest) c.max.ensures) refl
+pub decode_rest-greatest-requires-clause-before : goal.decode_rest-greatest-requires-clause-before
+decode_rest-greatest-requires-clause-before c =
+    let end : 16 * c.loop-block.block ≡ 16 * (length c.args.word.now / 2 / 16) = omega arith in
+    let P : ℕ → Type 0 = λ n. DecodesUpTo c.args.word.now c.loop-block.bytes n c.loop-block.greatest in
+    subst P end c.loop-block.invariant

@@ -1,5 +1,6 @@
-use Rattle.stridelink.proofs.DigitLemmas.{DecodesUpTo}
+use Rattle.std.proofs.Common.{◌*◌}
+use Rattle.stridelink.specs.Digits.{DecodesUpTo}
 use Rattle.stridelink.proofs.payload.decode.Given as goal
 
-abbrev pub invariant-loop-place : goal.invariant-loop-place
-invariant-loop-place l = DecodesUpTo l.word l.bytes l.place l.greatest
+abbrev pub invariant-loop-block : goal.invariant-loop-block
+invariant-loop-block l = DecodesUpTo l.word l.bytes (16 * l.block) l.greatest

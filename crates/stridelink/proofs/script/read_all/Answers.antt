@@ -1,6 +1,7 @@
 use Rattle.std.proofs.lemmas.Result.{err_from_is_err_and}
-use Rattle.std.proofs.Common.{arith}
-use Rattle.share_model.specs.io.Calls.{no_reads, one_read, read_failed, reading}
+use Rattle.std.proofs.Common.{◌≡◌, ℕ, arith, subst}
+use Rattle.share_model.specs.io.Calls.{Reads, no_reads, one_read, read_failed, too_many_reads, reading}
+use Rattle.stridelink.specs.declared.script.TheConstants.{MAX_READS}
 use Rattle.stridelink.proofs.RunLemmas.{running_none, running_more, running_kept, running_part, running_broke}
 use Rattle.stridelink.proofs.StopLemmas.{wrote_none, wrote_more, stopped}
 use Rattle.stridelink.proofs.script.read_all.Goals as goal
@@ -33,6 +34,12 @@ returns-in-Failed-clause-calls g c =
 
 pub returns-clause-fed : goal.returns-clause-fed
 returns-clause-fed g c = running_part _ _ _ _ _ c.args.engine.now _ _ c.loop-reads.invariant.0
+
+pub returns-clause-calls : goal.returns-clause-calls
+returns-clause-calls g c =
+    let all : c.loop-reads.reads ≡ MAX_READS = omega arith in
+    let P : ℕ → Type 0 = λ n. Reads g.I.Source.gives c.args.input.now n c.loop-reads.input in
+    (too_many_reads (subst P all c.loop-reads.invariant.1), c.loop-reads.invariant.2.offers)
 
 pub loop-reads-preserved : goal.loop-reads-preserved
 loop-reads-preserved g c = elim c.match-take_bytes.branch [

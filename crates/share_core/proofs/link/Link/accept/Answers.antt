@@ -1,25 +1,30 @@
-use Rattle.std.proofs.Common.{◌<◌, Option, subst, sym, arith}
-use Rattle.share_model.specs.link.Buffers.{Buffer, is_buffer_of}
-use Rattle.share_model.specs.lists.Laws.{each-find}
-use Rattle.share_model.specs.run.Sound.{IsSoundBuffer}
-use Rattle.share_model.specs.run.SoundStepLaws.{sound-accept}
-use Rattle.share_core.specs.Held.{IfFound}
+use Rattle.std.proofs.Common.{◌∙◌, sym, subst, true, IsSome}
+use Rattle.share_model.specs.link.Buffers.{buffer_of}
+use Rattle.share_model.specs.link.Seen.{Seen}
+use Rattle.share_model.specs.run.QueueLaws.{queue-later}
+use Rattle.share_core.proofs.Activities.{stays-active, can-settle}
+use Rattle.share_core.proofs.Arrivals.{few_numbers, sound-came}
 use Rattle.share_core.proofs.Living.{living}
 use Rattle.share_core.proofs.link.Link.accept.Goals as goal
 
 pub push-seq-requires-clause-numbers : goal.push-seq-requires-clause-numbers
-push-seq-requires-clause-numbers g c =
-    let sound = c.self.invariant.1 in
-    let buffer = each-find (IsSoundBuffer c.self.inside.events)
-    (is_buffer_of c.args.flow) c.self.inside.buffers c.in-Some.ring.now sound.buffers (sym c.in-Some.ensures) in
-    let few : c.in-Some.ring.now.next < 4294967295 = omega (arith, buffer.numbers, sound.events, c.self.invariant.0) in
-    subst (λ (o : Option Buffer). IfFound o (λ b. b.next < 4294967295)) c.in-Some.ensures few
+push-seq-requires-clause-numbers g c = few_numbers c.self.invariant.1 c.self.invariant.0 c.args.flow
+
+pub settle-requires-clause-stands : goal.settle-requires-clause-stands
+settle-requires-clause-stands g c =
+    λ busy. stays-active c.self.invariant.1 c.args.flow (sym c.is_busy-busy.ensures ∙ busy)
+
+pub settle-requires-clause-can : goal.settle-requires-clause-can
+settle-requires-clause-can g c =
+    can-settle c.self.invariant.1 c.self.inside.queue (queue-later c.self.invariant.1.queue) c.args.flow true
 
 pub invariant_of-self : goal.invariant_of-self
 invariant_of-self g c =
-    let sound = c.self.invariant.1 in (
+    let sound = c.self.invariant.1 in
+    let there = subst (λ (k : Seen (Unit {0})). IsSome (buffer_of k.live.buffers c.args.flow)) (sym c.self.view_is)
+    c.requires.there in (
       c.self.invariant.0,
-      rw (c.set_active.ensures, c.push-seq.ensures.after)
-          (sound-accept sound (living _ _ c.self.view_is c.requires.living sound) c.args.flow c.args.body
-          c.requires.body),
+      rw (c.settle.ensures.queue, c.settle.ensures.ledger, c.push-seq.ensures.after)
+          (sound-came sound (living _ _ c.self.view_is c.requires.living sound) c.args.flow c.args.body
+          c.requires.body there),
     )

@@ -1,10 +1,10 @@
 use Rattle.std.proofs.Common.{◌<◌, ◌^◌, sym, arith}
-use Rattle.share_model.specs.run.SoundLaws.{book-sound}
+use Rattle.share_model.specs.run.SoundLaws.{book-account}
 use Rattle.share_core.proofs.link.Link.account.Goals as goal
 
 pub returns-clause-small : goal.returns-clause-small
 returns-clause-small g c =
     let sound = c.self.invariant.1 in
-    let book = book-sound sound c.args.flow (sym c.in_ok-book.ensures) in
+    let account = book-account sound c.args.flow (sym c.in_ok-book.ensures) in
     let small : c.in_ok-book.book.now.account < 2 ^ 52
-    = omega (arith, book.account, sound.events, c.self.invariant.0) in small
+    = omega (arith, account, sound.counts.events, c.self.invariant.0) in small

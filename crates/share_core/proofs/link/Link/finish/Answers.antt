@@ -1,36 +1,87 @@
+use Rattle.std.proofs.Common.{◌≡◌, ◌≤◌, ◌∙◌, true, false, ap, subst, sym}
+use Rattle.share_model.specs.link.Seen.{Seen}
+use Rattle.share_model.specs.run.SoundLaws.{units_due-few}
+use Rattle.share_model.specs.funding.Changes.{set_active}
+use Rattle.share_core.proofs.Activities.{stays-active}
 use Rattle.share_core.proofs.Living.{living}
-use Rattle.share_core.proofs.Writes.{sent, within, booked, known, posts, short, held, sound-finish}
+use Rattle.share_core.proofs.Writes.{sent, within, booked, known, posts, short, joined, clock, held, busy}
+use Rattle.share_core.proofs.Writes.{charged-level, charged-can, sound-finish}
 use Rattle.share_core.proofs.link.Link.finish.Goals as goal
 
-pub post-requires-clause-there : goal.post-requires-clause-there
-post-requires-clause-there g c =
+pub charge-units-requires-clause-there : goal.charge-units-requires-clause-there
+charge-units-requires-clause-there g c =
     booked _ _ _ c.args.place c.self.invariant.1 (sent _ _ c.args.place c.self.view_is c.requires.place)
 
-pub post-requires-clause-known : goal.post-requires-clause-known
-post-requires-clause-known g c =
+pub charge-units-requires-clause-known : goal.charge-units-requires-clause-known
+charge-units-requires-clause-known g c =
     known _ _ _ c.args.place c.self.invariant.1 (sent _ _ c.args.place c.self.view_is c.requires.place)
 
-pub post-requires-clause-account : goal.post-requires-clause-account
-post-requires-clause-account g c =
+pub charge-units-requires-clause-account : goal.charge-units-requires-clause-account
+charge-units-requires-clause-account g c =
     posts _ _ _ c.args.place c.self.invariant.1
     (sent _ _ c.args.place c.self.view_is c.requires.place) c.self.invariant.0
 
-pub post-requires-clause-few : goal.post-requires-clause-few
-post-requires-clause-few g c =
+pub charge-units-requires-clause-few : goal.charge-units-requires-clause-few
+charge-units-requires-clause-few g c =
     short _ _ _ c.args.place c.self.invariant.1 (sent _ _ c.args.place c.self.view_is c.requires.place)
+
+pub charge-requires-clause-there : goal.charge-requires-clause-there
+charge-requires-clause-there g c =
+    joined _ _ _ c.args.place c.self.invariant.1 (sent _ _ c.args.place c.self.view_is c.requires.place)
+
+pub charge-requires-clause-clock : goal.charge-requires-clause-clock
+charge-requires-clause-clock g c =
+    let sound = c.self.invariant.1 in
+    let t = sent _ _ c.args.place c.self.view_is c.requires.place in
+    rw (c.charge-units.ensures.units)
+    (clock _ _ _ c.args.place sound t (g.met.S.Rates.in_range c.self.inside.shelf) c.self.invariant.0
+    (living _ _ c.self.view_is c.requires.living sound) _ (short _ _ _ c.args.place sound t))
 
 pub pop-requires : goal.pop-requires
 pop-requires g c = record {
   there = held _ _ _ c.args.place c.self.invariant.1 (sent _ _ c.args.place c.self.view_is c.requires.place);
 }
 
+pub settle-requires-clause-stands : goal.settle-requires-clause-stands
+settle-requires-clause-stands g c =
+    let sound = c.self.invariant.1 in
+    let t = sent _ _ c.args.place c.self.view_is c.requires.place in
+    λ left. ap (set_active c.self.inside.ledger c.args.place.flow) left
+    ∙ stays-active sound c.args.place.flow (busy _ _ _ c.args.place sound t)
+
+pub settle-requires-clause-level : goal.settle-requires-clause-level
+settle-requires-clause-level g c =
+    let t = sent _ _ c.args.place c.self.view_is c.requires.place in
+    λ left. rw (c.charge.ensures) (charged-level _ _ _ c.args.place c.self.invariant.1 t c.charge-units.result)
+
+pub settle-requires-clause-can : goal.settle-requires-clause-can
+settle-requires-clause-can g c =
+    let sound = c.self.invariant.1 in
+    let t = sent _ _ c.args.place c.self.view_is c.requires.place in
+    let few = subst (λ units. units ≤ 4026) (sym c.charge-units.ensures.units)
+    (units_due-few _ _ c.args.place.flow _ (g.met.S.Rates.in_range c.self.inside.shelf)
+    (short _ _ _ c.args.place sound t)) in
+    rw (c.charge.ensures)
+    (charged-can _ _ _ c.args.place sound t c.charge-units.result
+    (living _ _ c.self.view_is c.requires.living sound) few c.is_busy-busy.result)
+
 pub invariant_of-self : goal.invariant_of-self
 invariant_of-self g c =
     let sound = c.self.invariant.1 in
     let t = sent _ _ c.args.place c.self.view_is c.requires.place in
-    let fits = within _ _ c.args.place c.args.k c.self.view_is t c.requires.within in (
+    let fits = within _ _ c.args.place c.args.k c.self.view_is t c.requires.within in
+    let unbroken = subst (λ (k : Seen (Unit {0})). k.live.broken ≡ false) (sym c.self.view_is) c.requires.unbroken in (
       c.self.invariant.0,
-      rw (c.set_active.ensures, c.is_busy-busy.ensures, c.pop.ensures, c.post.ensures, c.from.ensures)
+      rw (
+        c.settle.ensures.queue,
+        c.settle.ensures.ledger,
+        c.is_busy-busy.ensures,
+        c.pop.ensures,
+        c.charge.ensures,
+        c.charge-units.ensures.posted,
+        c.charge-units.ensures.units,
+        c.from.ensures,
+      )
           (sound-finish _ _ _ c.args.place sound t (g.met.S.Rates.in_range c.self.inside.shelf)
-          (living _ _ c.self.view_is c.requires.living sound) c.args.k fits.1),
+          (living _ _ c.self.view_is c.requires.living sound) unbroken c.args.k fits.1),
     )

@@ -1,15 +1,14 @@
-use Rattle.std.proofs.Common.{ap, arith}
-use Rattle.share_model.specs.funding.Graph.{Graph}
-use Rattle.share_model.specs.run.SoundStepLaws.{sound-with_tickets}
+use Rattle.std.proofs.Common.{refl}
+use Rattle.share_base.specs.declared.command.Command.TheVariants.{MakeTicket}
+use Rattle.share_core.proofs.Fundings.{sound-done, can-level}
 use Rattle.share_core.proofs.Living.{living}
 use Rattle.share_core.proofs.link.Link.make_ticket.Goals as goal
 
+pub level-requires : goal.level-requires
+level-requires g c = can-level c.self.invariant.1 _ _ c.in-Ok.ensures.done.2 refl
+
 pub invariant_of-self-in-Ok : goal.invariant_of-self-in-Ok
 invariant_of-self-in-Ok g c =
-    let made = c.in-Ok.ensures.done.2 in
-    let next = ap (λ (g : Graph). g.next_ticket) made in (
-      c.self.invariant.0,
-      sound-with_tickets c.self.invariant.1
-          (living _ _ c.self.view_is c.requires c.self.invariant.1) _ (ap (λ (g : Graph). g.flows) made)
-          (ap (λ (g : Graph). g.next_flow) made) (omega (arith, next)),
-    )
+    let done = sound-done c.self.invariant.1 (living _ _ c.self.view_is c.requires c.self.invariant.1)
+    (MakeTicket c.args.amount c.args.currency) c.in-Ok.ensures.done.0 in
+    (c.self.invariant.0, rw (c.level.ensures, c.in-Ok.ensures.done.2) done)

@@ -3,5 +3,13 @@ use Rattle.share_model.specs.run.SoundStepLaws.{sound-empty}
 use Rattle.share_core.proofs.link.Link.new.Goals as goal
 
 pub invariant_of-result : goal.invariant_of-result
-invariant_of-result g c =
-    (omega arith, rw (c.in_ok-funding.ensures, c.new-3.ensures, c.in_ok-books.ensures) (sound-empty _ _))
+invariant_of-result g c = (
+  omega arith,
+  rw (
+    c.in_ok-ledger.ensures.made,
+    c.in_ok-queue.ensures.ok,
+    c.in_ok-buffers.ensures,
+    c.in_ok-books.ensures,
+  )
+      (sound-empty _ _),
+)

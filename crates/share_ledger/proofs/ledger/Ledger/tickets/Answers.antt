@@ -1,12 +1,19 @@
-use Rattle.std.proofs.Common.{◌≡◌, ◌^◌, ℕ, min, sum_by, ap, ◌∙◌, arith}
-use Rattle.share_model.specs.funding.Graph.{Graph, funding, worth, tickets}
+use Rattle.std.proofs.Common.{◌≡◌, Some, map, nat_eq, position, sym, ◌∙◌, subst}
+use Rattle.share_model.specs.declared.funding.OpenFlow.{OpenFlow}
+use Rattle.share_model.specs.funding.Graph.{NameBytes, Graph, tickets}
+use Rattle.share_ledger.proofs.FlowShares.{tickets-found, tickets-missing}
 use Rattle.share_ledger.proofs.ledger.Ledger.tickets.Goals as goal
 
-min_comm : (n : ℕ) → min n (2 ^ 20) ≡ min (2 ^ 20) n
-min_comm n = omega arith
+pub returns-in-Some : goal.returns-in-Some
+returns-in-Some c =
+    let stands_at : Graph → Type 0 = λ g.
+    position (λ (o : OpenFlow). nat_eq c.args.flow o.number) (map (λ (e : NameBytes × OpenFlow). e.1) g.flows)
+    ≡ Some c.in-Some.place in
+    tickets-found c.args.self.now c.args.flow c.in-Some.place c.tickets_at.result
+    (subst stands_at c.self.view_is (sym c.place_of_flow.ensures ∙ c.in-Some.is)) c.tickets_at.ensures
 
-pub returns : goal.returns
-unfolding tickets
-returns c =
-    c.min.ensures ∙ ap (λ n. min n (2 ^ 20)) c.worth_of_flow.ensures ∙ min_comm _
-    ∙ ap (λ (g : Graph). min (2 ^ 20) (sum_by (worth g 9) (funding g.tickets c.args.flow))) c.self.view_is
+pub returns-in-None : goal.returns-in-None
+returns-in-None c =
+    let none : Graph → Type 0 = λ g. 0 ≡ tickets g c.args.flow in
+    subst none c.self.view_is
+    (tickets-missing c.self.inside.tables c.args.flow (sym c.place_of_flow.ensures ∙ c.in-None.is))

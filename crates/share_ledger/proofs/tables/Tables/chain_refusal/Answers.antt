@@ -8,12 +8,12 @@ use Rattle.share_ledger.specs.declared.rounds.Target.TheVariants.{Asleep}
 use Rattle.share_ledger.specs.declared.rounds.Link.{Link}
 use Rattle.share_ledger.proofs.LinkChains.{find-none, chain-within_links, chain-from, chain-meets, chain-long}
 use Rattle.share_ledger.proofs.LinkChains.{chain-written_within}
-use Rattle.share_model.proofs.FundingChanged.{stands}
+use Rattle.share_model.specs.funding.ChangeLaws.{stands}
 use Rattle.share_ledger.proofs.Positions.{position-first, position-none}
 use Rattle.share_ledger.proofs.tables.Tables.chain_refusal.Goals as goal
 
 abbrev idle : Link
-idle = record { from = 0; to = Asleep; amount = 0 }
+idle = record { from = 0; to = Asleep }
 
 pub returns-in_default : goal.returns-in_default
 returns-in_default c = λ found.

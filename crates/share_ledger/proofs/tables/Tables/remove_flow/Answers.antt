@@ -3,7 +3,7 @@ use Rattle.share_model.specs.declared.funding.OpenFlow.{OpenFlow}
 use Rattle.share_model.specs.funding.Graph.{NameBytes, Graph}
 use Rattle.share_model.specs.funding.Changes.{is_open_as, released, remove_flow}
 use Rattle.share_model.specs.funding.Kept.{IsKept}
-use Rattle.share_model.proofs.FundingFlows.{kept-remove_flow}
+use Rattle.share_model.specs.funding.FlowLaws.{kept-remove_flow}
 use Rattle.share_ledger.proofs.Lays.{lay, written-whole}
 use Rattle.share_ledger.proofs.Positions.{position-first, position-none, flow-first, flow-none, remove-first}
 use Rattle.share_ledger.proofs.Positions.{remove-none}

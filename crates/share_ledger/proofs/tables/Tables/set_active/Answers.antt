@@ -4,7 +4,8 @@ use Rattle.share_model.specs.declared.funding.OpenFlow.{OpenFlow}
 use Rattle.share_model.specs.funding.Graph.{NameBytes, Graph}
 use Rattle.share_model.specs.funding.Changes.{is_open_as, active_as, set_active}
 use Rattle.share_model.specs.funding.Kept.{IsKept}
-use Rattle.share_model.proofs.FundingFlows.{kept-set_active}
+use Rattle.share_model.specs.funding.FlowLaws.{kept-set_active}
+use Rattle.share_ledger.proofs.FlowShares.{stands-so, activity-left}
 use Rattle.share_ledger.proofs.Lays.{lay}
 use Rattle.share_ledger.proofs.Positions.{position-first, position-none, flow-first, flow-none, activity-first}
 use Rattle.share_ledger.proofs.Positions.{changed-none}
@@ -34,8 +35,8 @@ invariant_of-self c =
     subst (λ es. IsKept (record tables { flows = es })) (sym written)
     (kept-set_active _ c.self.invariant c.args.flow c.args.active)
 
-pub returns-in-Some-get_index_mut : goal.returns-in-Some-get_index_mut
-returns-in-Some-get_index_mut c =
+pub returns-in-Some-get_index_mut-clause-change : goal.returns-in-Some-get_index_mut-clause-change
+returns-in-Some-get_index_mut-clause-change c =
     let tables =
     lay c.self.inside.currencies.keys c.self.inside.tickets.items c.self.inside.next_ticket
     c.self.inside.flows.entries c.self.inside.next_flow in
@@ -58,11 +59,34 @@ returns-in-Some-get_index_mut c =
     ap (λ es. record tables { flows = es }) written
     ∙ ap (λ g. set_active g c.args.flow c.args.active) c.self.view_is
 
-pub returns-in_default : goal.returns-in_default
-returns-in_default c =
+pub returns-in_default-clause-change : goal.returns-in_default-clause-change
+returns-in_default-clause-change c =
     let test = λ (o : OpenFlow). nat_eq c.args.flow o.number in
     let none =
     flow-none c.args.flow c.args.self.now.flows
     (position-none test _ (sym c.place_of_flow.ensures ∙ c.in_default.is)) in
     ap (λ es. record c.args.self.now { flows = es })
     (sym (changed-none (is_open_as c.args.flow) (active_as c.args.active) c.args.self.now.flows none))
+
+pub returns-in-Some-get_index_mut-clause-still : goal.returns-in-Some-get_index_mut-clause-still
+returns-in-Some-get_index_mut-clause-still c = λ still.
+    let tables =
+    lay c.self.inside.currencies.keys c.self.inside.tickets.items c.self.inside.next_ticket
+    c.self.inside.flows.entries c.self.inside.next_flow in
+    let test = λ (o : OpenFlow). nat_eq c.args.flow o.number in
+    let found =
+    subst (λ (g : Graph). position test (map (λ (e : NameBytes × OpenFlow). e.1) g.flows) ≡ Some c.in-Some.place)
+    (sym c.self.view_is) (sym c.place_of_flow.ensures ∙ c.in-Some.is) in
+    let first =
+    flow-first c.args.flow c.self.inside.flows.entries c.in-Some.place
+    (position-first test _ c.in-Some.place found) in
+    let source =
+    sym
+    (get_or_from_slice_get
+    (map (λ (e : NameBytes × OpenFlow). e.1) c.self.inside.flows.entries) c.in-Some.place
+    c.in-Some-get_index_mut.open.now c.in-Some-get_index_mut.open.now (sym c.in-Some-get_index_mut.ensures.value))
+    in
+    ap (λ es. record tables { flows = es })
+    (activity-left c.self.inside.flows.entries c.in-Some.place c.in-Some-get_index_mut.open.now (is_open_as c.args.flow)
+    c.args.active first source (stands-so c.in-Some-get_index_mut.open.now.active c.args.active still))
+    ∙ c.self.view_is

@@ -1,27 +1,47 @@
-use Rattle.std.proofs.Common.{ap, sym, ◌∙◌, arith}
-use Rattle.std.specs.FinMap.{len}
-use Rattle.share_stride.proofs.TableLaws.{AreDistinct-add, client_map-add, len-client_map}
+use Rattle.std.proofs.Common.{ap, sym, ◌∙◌, ◌+◌, arith}
+use Rattle.std.specs.FinMap.{get, insert, len}
+use Rattle.share_model.specs.stride.MapLaws.{len-insert_new}
+use Rattle.share_stride.specs.Table.{Clients}
+use Rattle.share_stride.proofs.TableLaws.{distinct, len-client_map, keyless_of_absent, IsIndexed-add, client_map-add}
 use Rattle.share_stride.proofs.table.Table.add.Goals as goal
 
-pub insert_reserved-requires : goal.insert_reserved-requires
-insert_reserved-requires c =
-    let count = sym (len-client_map c.self.inside.slots.slots c.self.invariant.distinct) ∙ ap len c.self.view_is in
+pub insert_reserved-key-requires : goal.insert_reserved-key-requires
+insert_reserved-key-requires c =
+    let count =
+    sym (len-client_map c.self.inside.slots.slots (distinct _ _ c.self.invariant.indexed))
+    ∙ ap (λ (clients : Clients). len clients.by_flow) c.self.view_is in
     let room = c.self.invariant.room in
     omega (arith, c.requires.room)
 
+pub insert-requires-clause-absent : goal.insert-requires-clause-absent
+insert-requires-clause-absent c =
+    keyless_of_absent _ _ c.args.flow c.self.invariant.indexed
+    (ap (λ (clients : Clients). get clients.by_flow c.args.flow) c.self.view_is ∙ c.requires.absent)
+
 pub invariant_of-self : goal.invariant_of-self
 invariant_of-self c =
-    let u = c.insert_reserved.ensures.updates in
-    record {
-      distinct = AreDistinct-add c.self.inside.slots.slots c.insert_reserved.new.self.slots c.args.self.now
-          c.insert_reserved.result (record { flow = c.args.flow; client = c.args.client }) c.self.invariant.distinct
-          c.self.view_is c.requires.absent (record { changed = u.changed; others = u.others });
-      room = rw c.insert_reserved.ensures.capacity c.self.invariant.room;
-    }
+    let u = c.insert_reserved-key.ensures.updates in
+    let absent = ap (λ (clients : Clients). get clients.by_flow c.args.flow) c.self.view_is ∙ c.requires.absent in
+    let keyless = keyless_of_absent _ _ c.args.flow c.self.invariant.indexed absent in
+    let vacant = c.insert_reserved-key.ensures.was_vacant in
+    rw c.insert.ensures (record {
+      indexed = IsIndexed-add c.self.inside.slots.slots c.insert_reserved-key.new.self.slots c.self.inside.index
+          c.insert_reserved-key.result (record { flow = c.args.flow; client = c.args.client }) c.self.invariant.indexed
+          vacant keyless (record { changed = u.changed; others = u.others });
+      count = len-insert_new _ c.args.flow c.insert_reserved-key.result keyless
+          ∙ ap (λ n. n + 1) c.self.invariant.count
+          ∙ sym (len-insert_new _ c.args.flow c.args.client absent)
+          ∙ ap len (sym (client_map-add c.self.inside.slots.slots c.insert_reserved-key.new.self.slots
+          c.self.inside.index c.insert_reserved-key.result (record { flow = c.args.flow; client = c.args.client })
+          c.self.invariant.indexed absent vacant (record { changed = u.changed; others = u.others })));
+      room = rw c.insert_reserved-key.ensures.capacity c.self.invariant.room;
+    })
 
 pub returns : goal.returns
 returns c =
-    let u = c.insert_reserved.ensures.updates in
-    client_map-add c.self.inside.slots.slots c.insert_reserved.new.self.slots c.args.self.now c.insert_reserved.result
-    (record { flow = c.args.flow; client = c.args.client }) c.self.invariant.distinct c.self.view_is c.requires.absent
-    c.insert_reserved.ensures.was_vacant (record { changed = u.changed; others = u.others })
+    let u = c.insert_reserved-key.ensures.updates in
+    client_map-add c.self.inside.slots.slots c.insert_reserved-key.new.self.slots c.self.inside.index
+    c.insert_reserved-key.result (record { flow = c.args.flow; client = c.args.client }) c.self.invariant.indexed
+    (ap (λ (clients : Clients). get clients.by_flow c.args.flow) c.self.view_is ∙ c.requires.absent)
+    c.insert_reserved-key.ensures.was_vacant (record { changed = u.changed; others = u.others })
+    ∙ ap (λ (clients : Clients). insert clients.by_flow c.args.flow c.args.client) c.self.view_is

@@ -1,35 +1,48 @@
-use Rattle.std.proofs.Common.{sym, ap, ◌∙◌, unwrap_or}
-use Rattle.std.specs.FinMap.{insert}
-use Rattle.share_model.specs.stride.Moves.{new_client, charged}
-use Rattle.share_stride.proofs.TableLaws.{lacking_never, found_in_view, AreDistinct-set, client_map-set}
+use Rattle.std.proofs.Common.{sym, ap, subst, ◌∙◌, ◌≤◌, ◌^◌}
+use Rattle.share_model.specs.declared.stride.Client.{Client}
+use Rattle.share_model.specs.stride.Moves.{charged, position}
+use Rattle.share_stride.specs.Fits.{IsWithin}
+use Rattle.share_stride.specs.Table.{with_client_at}
+use Rattle.share_stride.proofs.TableLaws.{place_filled, client_is_at, indexed_written, count_written, view_written}
 use Rattle.share_stride.proofs.table.Table.charge.Goals as goal
+use Rattle.share_stride.proofs.table.Table.charge.Goals.{in-None, in-Some}
 
 pub charged-slot-requires-clause-stride : goal.charged-slot-requires-clause-stride
 charged-slot-requires-clause-stride c =
-    c.requires.stride _ (sym (found_in_view _ _ _ _ _ c.self.invariant.distinct c.self.view_is c.in-Some.ensures.found
-    c.in-Some-get_mut.ensures.value))
+    subst (λ (k : Client). k.stride ≤ 2 ^ 40)
+    (sym (client_is_at _ _ _ c.self.invariant.indexed c.self.view_is c.args.place c.requires.place _
+    c.in-Some.ensures.value)) c.requires.stride
 
 pub charged-slot-requires-clause-place : goal.charged-slot-requires-clause-place
 charged-slot-requires-clause-place c =
-    c.requires.place _ (sym (found_in_view _ _ _ _ _ c.self.invariant.distinct c.self.view_is c.in-Some.ensures.found
-    c.in-Some-get_mut.ensures.value))
+    subst (λ (k : Client). IsWithin (position k).place (2 ^ 83))
+    (sym (client_is_at _ _ _ c.self.invariant.indexed c.self.view_is c.args.place c.requires.place _
+    c.in-Some.ensures.value)) c.requires.fits
 
-pub invariant_of-self-in-Some-get_mut : goal.invariant_of-self-in-Some-get_mut
-invariant_of-self-in-Some-get_mut c =
-    record {
-      distinct = AreDistinct-set _ _ _ _ _ c.self.invariant.distinct c.in-Some.ensures.found
-          (sym c.in-Some-get_mut.ensures.value);
-      room = c.self.invariant.room;
-    }
+pub invariant_of-self : goal.invariant_of-self
+invariant_of-self c =
+    elim c.match-get_mut.branch [
+      | in-None w ↦ rw w.self-inside-is c.self.invariant
+      | in-Some w ↦ rw w.self-inside-is (record {
+        indexed = indexed_written _ _ _ c.self.invariant.indexed c.self.view_is c.args.place c.requires.place _
+            w.in-Some.ensures.value w.charged-slot.result;
+        count = count_written _ _ _ c.self.invariant.indexed c.self.view_is c.args.place c.requires.place _
+            w.in-Some.ensures.value w.charged-slot.result c.self.invariant.count;
+        room = c.self.invariant.room;
+      })
+    ]
 
-pub returns-in-None : goal.returns-in-None
-returns-in-None c = absurd (lacking_never _ _ _ c.self.view_is c.in-None.ensures.absent c.requires.there)
-
-pub returns-in-Some-get_mut : goal.returns-in-Some-get_mut
-returns-in-Some-get_mut c =
-    let found = found_in_view _ _ _ _ _ c.self.invariant.distinct c.self.view_is c.in-Some.ensures.found
-    c.in-Some-get_mut.ensures.value in
-    client_map-set _ _ _ _ _ c.charged-slot.result c.self.invariant.distinct c.self.view_is c.in-Some.ensures.found
-    (sym c.in-Some-get_mut.ensures.value)
-    ∙ ap (insert c.args.self.now c.args.flow)
-    (c.charged-slot.ensures ∙ ap (λ o. charged (unwrap_or o new_client) c.args.units) found)
+pub returns : goal.returns
+returns c =
+    elim c.match-get_mut.branch [
+      | in-None w ↦ absurd (place_filled _ _ _ c.self.invariant.indexed c.self.view_is c.args.place c.requires.place
+          w.in-None.ensures.value)
+      | in-Some w ↦
+          let is = client_is_at _ _ _ c.self.invariant.indexed c.self.view_is c.args.place c.requires.place _
+          w.in-Some.ensures.value in
+          rw w.self-inside-is
+          (view_written _ _ _ c.self.invariant.indexed c.self.view_is c.args.place c.requires.place _
+          w.in-Some.ensures.value w.charged-slot.result
+          ∙ ap (with_client_at c.args.self.now c.args.place)
+          (w.charged-slot.ensures ∙ ap (λ (k : Client). charged k c.args.units) is))
+    ]

@@ -1,59 +1,54 @@
-use Rattle.std.proofs.Common.{sym, ap, ◌∙◌, unwrap_or}
-use Rattle.std.specs.FinMap.{insert}
+use Rattle.std.proofs.Common.{sym, ap, subst, ◌∙◌, ◌^◌}
 use Rattle.share_model.specs.declared.stride.Client.{Client}
-use Rattle.share_model.specs.stride.Moves.{new_client, left}
-use Rattle.share_stride.proofs.TableLaws.{lacking_never, found_in_view, AreDistinct-set, client_map-set}
+use Rattle.share_model.specs.stride.Moves.{left}
+use Rattle.std.specs.Prelude.{pos, ◌-ℤ◌}
+use Rattle.share_stride.specs.Fits.{IsWithin}
+use Rattle.share_stride.specs.Table.{with_client_at}
+use Rattle.share_stride.proofs.TableLaws.{place_filled, client_is_at, indexed_written, count_written, view_written}
 use Rattle.share_stride.proofs.table.Table.leave.Goals as goal
-use Rattle.share_stride.proofs.table.Table.leave.Goals.{in-None-get_mut, in-Some-get_mut}
+use Rattle.share_stride.proofs.table.Table.leave.Goals.{in-None, in-Some}
 
 pub left-slot-requires-clause-distance : goal.left-slot-requires-clause-distance
 left-slot-requires-clause-distance c =
-    c.requires.distance _
-    (sym (found_in_view _ _ _ _ _ c.self.invariant.distinct c.self.view_is c.in-Some.ensures.found
-    c.in-Some-get_mut.ensures.value))
+    subst (λ (k : Client). IsWithin (k.pass -ℤ pos c.args.global_pass) (2 ^ 81))
+    (sym (client_is_at _ _ _ c.self.invariant.indexed c.self.view_is c.args.place c.requires.place _
+    c.in-Some.ensures.value)) c.requires.distance
 
 pub invariant_of-self : goal.invariant_of-self
 invariant_of-self c =
     elim c.match-get_mut.branch [
-      | in-None-get_mut w ↦ rw w.self-inside-is c.self.invariant
-      | in-Some-get_mut w ↦ rw w.self-inside-is (record {
-        distinct = AreDistinct-set _ _ _ _ _ c.self.invariant.distinct c.in-Some.ensures.found
-            (sym w.in-Some-get_mut.ensures.value);
+      | in-None w ↦ rw w.self-inside-is c.self.invariant
+      | in-Some w ↦ rw w.self-inside-is (record {
+        indexed = indexed_written _ _ _ c.self.invariant.indexed c.self.view_is c.args.place c.requires.place _
+            w.in-Some.ensures.value w.left-slot.result;
+        count = count_written _ _ _ c.self.invariant.indexed c.self.view_is c.args.place c.requires.place _
+            w.in-Some.ensures.value w.left-slot.result c.self.invariant.count;
         room = c.self.invariant.room;
       })
     ]
 
-pub returns-in-None : goal.returns-in-None
-returns-in-None c = absurd (lacking_never _ _ _ c.self.view_is c.in-None.ensures.absent c.requires.there)
-
-pub returns-after-get_mut-clause-tickets : goal.returns-after-get_mut-clause-tickets
-returns-after-get_mut-clause-tickets c =
+pub returns-clause-tickets : goal.returns-clause-tickets
+returns-clause-tickets c =
     elim c.match-get_mut.branch [
-      | in-None-get_mut w ↦
-          let found = c.in-Some.ensures.found.found in
-          let none = w.in-None-get_mut.ensures.value in
-          absurd (cc)
-      | in-Some-get_mut w ↦
-          let found = found_in_view _ _ _ _ _ c.self.invariant.distinct c.self.view_is c.in-Some.ensures.found
-          w.in-Some-get_mut.ensures.value in
-          w.result-is
-          ∙ ap (λ (k : Client). k.tickets) w.left-slot.ensures
-          ∙ ap (λ o. (unwrap_or o new_client).tickets) found
+      | in-None w ↦ absurd (place_filled _ _ _ c.self.invariant.indexed c.self.view_is c.args.place c.requires.place
+          w.in-None.ensures.value)
+      | in-Some w ↦
+          let is = client_is_at _ _ _ c.self.invariant.indexed c.self.view_is c.args.place c.requires.place _
+          w.in-Some.ensures.value in
+          w.result-is ∙ ap (λ (k : Client). k.tickets) w.left-slot.ensures ∙ ap (λ (k : Client). k.tickets) is
     ]
 
-pub returns-after-get_mut-clause-left : goal.returns-after-get_mut-clause-left
-returns-after-get_mut-clause-left c =
+pub returns-clause-left : goal.returns-clause-left
+returns-clause-left c =
     elim c.match-get_mut.branch [
-      | in-None-get_mut w ↦
-          let found = c.in-Some.ensures.found.found in
-          let none = w.in-None-get_mut.ensures.value in
-          absurd (cc)
-      | in-Some-get_mut w ↦
-          let found = found_in_view _ _ _ _ _ c.self.invariant.distinct c.self.view_is c.in-Some.ensures.found
-          w.in-Some-get_mut.ensures.value in
+      | in-None w ↦ absurd (place_filled _ _ _ c.self.invariant.indexed c.self.view_is c.args.place c.requires.place
+          w.in-None.ensures.value)
+      | in-Some w ↦
+          let is = client_is_at _ _ _ c.self.invariant.indexed c.self.view_is c.args.place c.requires.place _
+          w.in-Some.ensures.value in
           rw w.self-inside-is
-          (client_map-set _ _ _ _ _ w.left-slot.result c.self.invariant.distinct c.self.view_is c.in-Some.ensures.found
-          (sym w.in-Some-get_mut.ensures.value)
-          ∙ ap (insert c.args.self.now c.args.flow)
-          (w.left-slot.ensures ∙ ap (λ o. left c.args.global_pass (unwrap_or o new_client)) found))
+          (view_written _ _ _ c.self.invariant.indexed c.self.view_is c.args.place c.requires.place _
+          w.in-Some.ensures.value w.left-slot.result
+          ∙ ap (with_client_at c.args.self.now c.args.place)
+          (w.left-slot.ensures ∙ ap (left c.args.global_pass) is))
     ]

@@ -1,76 +1,74 @@
-use Rattle.std.proofs.Common.{sym, ap, ◌∙◌, unwrap_or, arith}
-use Rattle.std.specs.FinMap.{insert}
-use Rattle.share_model.specs.stride.Moves.{new_client, joined, left}
-use Rattle.share_stride.proofs.TableLaws.{lacking_never, found_in_view, AreDistinct-set, client_map-set}
+use Rattle.std.proofs.Common.{sym, ap, subst, ◌∙◌, ◌≤◌, ◌*◌, ◌^◌, arith}
+use Rattle.share_model.specs.declared.stride.Client.{Client}
+use Rattle.share_model.specs.stride.Moves.{joined, left}
+use Rattle.std.specs.Prelude.{pos, ◌-ℤ◌}
+use Rattle.share_stride.specs.Fits.{IsWithin}
+use Rattle.share_stride.specs.Table.{with_client_at}
+use Rattle.share_stride.proofs.TableLaws.{place_filled, client_is_at, indexed_written, count_written, view_written}
 use Rattle.share_stride.proofs.table.Table.modify.Goals as goal
-use Rattle.share_stride.proofs.table.Table.modify.Goals.{in-None-get_mut, in-Some-get_mut}
+use Rattle.share_stride.proofs.table.Table.modify.Goals.{in-None, in-Some}
 
 pub left-client-requires-clause-distance : goal.left-client-requires-clause-distance
 left-client-requires-clause-distance c =
-    let found = sym (found_in_view _ _ _ _ _ c.self.invariant.distinct c.self.view_is c.in-Some.ensures.found
-    c.in-Some-get_mut.ensures.value) in
-    let stride = c.requires.stride _ found in
-    let distance = c.requires.distance _ found in
+    let is = client_is_at _ _ _ c.self.invariant.indexed c.self.view_is c.args.place c.requires.place _
+    c.in-Some.ensures.value in
+    let stride = subst (λ (k : Client). k.stride ≤ 2 ^ 40) (sym is) c.requires.stride in
+    let distance =
+    subst (λ (k : Client). IsWithin (k.pass -ℤ pos c.args.global_pass) (k.stride * 2 ^ 41)) (sym is)
+    c.requires.distance in
     record { below = omega (arith, distance.below); above = omega (arith, distance.above) }
 
 pub joined-slot-requires-clause-stride : goal.joined-slot-requires-clause-stride
 joined-slot-requires-clause-stride c =
     rw c.left-client.ensures
-    (c.requires.stride _
-    (sym (found_in_view _ _ _ _ _ c.self.invariant.distinct c.self.view_is c.in-Some.ensures.found
-    c.in-Some-get_mut.ensures.value)))
+    (subst (λ (k : Client). k.stride ≤ 2 ^ 40)
+    (sym (client_is_at _ _ _ c.self.invariant.indexed c.self.view_is c.args.place c.requires.place _
+    c.in-Some.ensures.value)) c.requires.stride)
 
 pub joined-slot-requires-clause-remain : goal.joined-slot-requires-clause-remain
 joined-slot-requires-clause-remain c =
     rw c.left-client.ensures
-    (c.requires.distance _
-    (sym (found_in_view _ _ _ _ _ c.self.invariant.distinct c.self.view_is c.in-Some.ensures.found
-    c.in-Some-get_mut.ensures.value)))
+    (subst (λ (k : Client). IsWithin (k.pass -ℤ pos c.args.global_pass) (k.stride * 2 ^ 41))
+    (sym (client_is_at _ _ _ c.self.invariant.indexed c.self.view_is c.args.place c.requires.place _
+    c.in-Some.ensures.value)) c.requires.distance)
 
 pub invariant_of-self : goal.invariant_of-self
 invariant_of-self c =
     elim c.match-get_mut.branch [
-      | in-None-get_mut w ↦ rw w.self-inside-is c.self.invariant
-      | in-Some-get_mut w ↦ rw w.self-inside-is (record {
-        distinct = AreDistinct-set _ _ _ _ _ c.self.invariant.distinct c.in-Some.ensures.found
-            (sym w.in-Some-get_mut.ensures.value);
+      | in-None w ↦ rw w.self-inside-is c.self.invariant
+      | in-Some w ↦ rw w.self-inside-is (record {
+        indexed = indexed_written _ _ _ c.self.invariant.indexed c.self.view_is c.args.place c.requires.place _
+            w.in-Some.ensures.value w.joined-slot.result;
+        count = count_written _ _ _ c.self.invariant.indexed c.self.view_is c.args.place c.requires.place _
+            w.in-Some.ensures.value w.joined-slot.result c.self.invariant.count;
         room = c.self.invariant.room;
       })
     ]
 
-pub returns-in-None : goal.returns-in-None
-returns-in-None c = absurd (lacking_never _ _ _ c.self.view_is c.in-None.ensures.absent c.requires.there)
-
-pub returns-after-get_mut-clause-tickets : goal.returns-after-get_mut-clause-tickets
-returns-after-get_mut-clause-tickets c =
+pub returns-clause-tickets : goal.returns-clause-tickets
+returns-clause-tickets c =
     elim c.match-get_mut.branch [
-      | in-None-get_mut w ↦
-          let found = c.in-Some.ensures.found.found in
-          let none = w.in-None-get_mut.ensures.value in
-          absurd (cc)
-      | in-Some-get_mut w ↦
-          let found = found_in_view _ _ _ _ _ c.self.invariant.distinct c.self.view_is c.in-Some.ensures.found
-          w.in-Some-get_mut.ensures.value in
-          w.result-is ∙ ap (λ o. (unwrap_or o new_client).tickets) found
+      | in-None w ↦ absurd (place_filled _ _ _ c.self.invariant.indexed c.self.view_is c.args.place c.requires.place
+          w.in-None.ensures.value)
+      | in-Some w ↦
+          let is = client_is_at _ _ _ c.self.invariant.indexed c.self.view_is c.args.place c.requires.place _
+          w.in-Some.ensures.value in
+          w.result-is ∙ ap (λ (k : Client). k.tickets) is
     ]
 
-pub returns-after-get_mut-clause-modified : goal.returns-after-get_mut-clause-modified
-returns-after-get_mut-clause-modified c =
+pub returns-clause-modified : goal.returns-clause-modified
+returns-clause-modified c =
     elim c.match-get_mut.branch [
-      | in-None-get_mut w ↦
-          let found = c.in-Some.ensures.found.found in
-          let none = w.in-None-get_mut.ensures.value in
-          absurd (cc)
-      | in-Some-get_mut w ↦
-          let found = found_in_view _ _ _ _ _ c.self.invariant.distinct c.self.view_is c.in-Some.ensures.found
-          w.in-Some-get_mut.ensures.value in
+      | in-None w ↦ absurd (place_filled _ _ _ c.self.invariant.indexed c.self.view_is c.args.place c.requires.place
+          w.in-None.ensures.value)
+      | in-Some w ↦
+          let is = client_is_at _ _ _ c.self.invariant.indexed c.self.view_is c.args.place c.requires.place _
+          w.in-Some.ensures.value in
           rw w.self-inside-is
-          (client_map-set _ _ _ _ _ w.joined-slot.result c.self.invariant.distinct c.self.view_is
-          c.in-Some.ensures.found
-          (sym w.in-Some-get_mut.ensures.value)
-          ∙ ap (insert c.args.self.now c.args.flow)
+          (view_written _ _ _ c.self.invariant.indexed c.self.view_is c.args.place c.requires.place _
+          w.in-Some.ensures.value w.joined-slot.result
+          ∙ ap (with_client_at c.args.self.now c.args.place)
           (w.joined-slot.ensures
-          ∙ ap (λ k. joined c.args.global_pass k c.args.tickets) w.left-client.ensures
-          ∙ ap (λ o. joined c.args.global_pass (left c.args.global_pass (unwrap_or o new_client)) c.args.tickets)
-          found))
+          ∙ ap (λ (k : Client). joined c.args.global_pass k c.args.tickets) w.left-client.ensures
+          ∙ ap (λ (k : Client). joined c.args.global_pass (left c.args.global_pass k) c.args.tickets) is))
     ]

@@ -1,23 +1,47 @@
-use Rattle.std.proofs.Common.{ap, ◌∙◌}
-use Rattle.std.specs.FinMap.{remove}
-use Rattle.share_stride.proofs.TableLaws.{lacking_never, client_map-removal, AreDistinct-removal}
+use Rattle.std.proofs.Common.{◌≡◌, ap, sym, ◌∙◌, ◌-◌}
+use Rattle.std.specs.FinMap.{get, remove, len}
+use Rattle.share_model.specs.stride.MapLaws.{len-remove_found}
+use Rattle.share_stride.specs.Table.{Clients, client_map}
+use Rattle.share_stride.proofs.TableLaws.{distinct, key_holds, absent_in_view, IsIndexed-removal, client_map-removal}
+use Rattle.share_stride.proofs.TableLaws.{client_of_slot}
 use Rattle.share_stride.proofs.table.Table.remove.Goals as goal
-
-pub returns-in-None : goal.returns-in-None
-returns-in-None c = absurd (lacking_never _ _ _ c.self.view_is c.in-None.ensures.absent c.requires)
 
 pub invariant_of-self : goal.invariant_of-self
 invariant_of-self c =
+    absurd (absent_in_view _ _ _ c.args.flow c.self.invariant.indexed c.self.view_is c.in-None.ensures.key
+    c.requires.there)
+
+pub returns-in-None : goal.returns-in-None
+returns-in-None c =
+    absurd (absent_in_view _ _ _ c.args.flow c.self.invariant.indexed c.self.view_is c.in-None.ensures.key
+    c.requires.there)
+
+map_removed : (c : goal.After-try_remove)
+    → client_map c.try_remove.new.self.slots ≡ remove (client_map c.self.inside.slots.slots) c.args.flow
+map_removed c =
     let u = c.try_remove.ensures.updates in
-    record {
-      distinct = AreDistinct-removal c.self.inside.slots.slots _ c.in-Some.key c.self.invariant.distinct
-          (record { changed = u.changed; others = u.others });
+    let indexed = c.self.invariant.indexed in
+    client_map-removal c.self.inside.slots.slots c.try_remove.new.self.slots c.args.flow c.in-Some.key
+    (distinct _ _ indexed) (key_holds _ _ _ _ indexed (sym c.in-Some.ensures.key))
+    (record { changed = u.changed; others = u.others })
+
+pub invariant_of-self-in-Some : goal.invariant_of-self-in-Some
+invariant_of-self-in-Some c =
+    let u = c.try_remove.ensures.updates in
+    let indexed = c.self.invariant.indexed in
+    let holds = key_holds _ _ _ _ indexed (sym c.in-Some.ensures.key) in
+    let found =
+    ap (get (client_map c.self.inside.slots.slots)) (sym holds.has)
+    ∙ client_of_slot _ (distinct _ _ indexed) c.in-Some.key holds.slot holds.found in
+    rw c.remove.ensures.removed (record {
+      indexed = IsIndexed-removal c.self.inside.slots.slots c.try_remove.new.self.slots c.self.inside.index c.args.flow
+          c.in-Some.key indexed (sym c.in-Some.ensures.key) (record { changed = u.changed; others = u.others });
+      count = len-remove_found _ c.args.flow c.in-Some.key (sym c.in-Some.ensures.key)
+          ∙ ap (λ n. n - 1) c.self.invariant.count
+          ∙ sym (len-remove_found _ c.args.flow holds.slot.client found)
+          ∙ ap len (sym (map_removed c));
       room = rw c.try_remove.ensures.capacity c.self.invariant.room;
-    }
+    })
 
 pub returns-in-Some : goal.returns-in-Some
-returns-in-Some c =
-    let u = c.try_remove.ensures.updates in
-    client_map-removal c.self.inside.slots.slots c.try_remove.new.self.slots c.args.flow c.in-Some.key
-    c.self.invariant.distinct c.in-Some.ensures.found (record { changed = u.changed; others = u.others })
-    ∙ ap (λ m. remove m c.args.flow) c.self.view_is
+returns-in-Some c = map_removed c ∙ ap (λ (clients : Clients). remove clients.by_flow c.args.flow) c.self.view_is

@@ -1,0 +1,179 @@
+"""The scripts that are measured."""
+from collections.abc import Callable
+from dataclasses import dataclass
+
+LONGEST_LIFE = 1 << 24
+FLOWS = 64
+TURN = "turn 65535\n"
+
+
+@dataclass
+class Script:
+    """A script: its beginning, and lines that are repeated so many times, or that are made of the number of the round,
+    from 0, and are as many in each; and the life that it is run with."""
+    name: str
+    beginning: str
+    lines: str | Callable[[int], str]
+    count: int
+    life: int = LONGEST_LIFE
+
+    def round(self, number):
+        """The lines of a round."""
+        return self.lines if isinstance(self.lines, str) else self.lines(number)
+
+    def write(self, path, times):
+        """Writes it piece by piece, with `times` as many lines: a process starts with its parent's peak of memory."""
+        with open(path, "w") as sink:
+            sink.write(self.beginning)
+            sink.writelines(self.round(number) for number in range(self.count * times))
+
+    def length(self, times):
+        """How many lines there are."""
+        return self.beginning.count("\n") + self.round(0).count("\n") * self.count * times
+
+
+def opening(limit):
+    """A flow with this limit of its buffer, and what funds it."""
+    return "open a %d 1\nmktkt 10 base\nfund 1 flow a\n" % limit
+
+
+def send(size, flow="a"):
+    """A packet of so many bytes for a flow."""
+    return "send %s %s\n" % (flow, "".join("%02x" % (i * 7 % 256) for i in range(size)))
+
+
+class Funding:
+    """Lines that make currencies, flows and tickets, with the number of the last ticket."""
+
+    def __init__(self):
+        self.lines = []
+        self.tickets = 0
+
+    def currency(self, name):
+        self.lines.append("mkcur %s\n" % name)
+
+    def flow(self, number):
+        self.lines.append("open f%d 1000 1\n" % number)
+
+    def ticket(self, amount, currency, holder):
+        """A ticket that funds a holder, as `flow f1` or `cur c1`."""
+        self.tickets += 1
+        self.lines.append("mktkt %d %s\nfund %d %s\n" % (amount, currency, self.tickets, holder))
+
+    def text(self):
+        return "".join(self.lines)
+
+
+def weight(flow):
+    """How many packets a backlogged flow sends a round, and its share of the link."""
+    return 1 + flow % 4
+
+
+def turns_of(sends):
+    """A turn after each of these lines."""
+    return "".join(line + TURN for line in sends)
+
+
+def backlog(size, flows):
+    """Some flows with base tickets, and a backlog; and a round, which leaves the backlog as it is. A flow begins a
+    stride of 1024 units from the pass of the link, so those of many tickets are served for many rounds first."""
+    funding = Funding()
+    for flow in range(flows):
+        funding.flow(flow)
+        funding.ticket(100 * weight(flow), "base", "flow f%d" % flow)
+    sends = [send(size, "f%d" % flow) for turn in range(4) for flow in range(flows) if turn < weight(flow)]
+    rounds = 4 + 1024 // (12 + size)
+    return funding.text() + "".join(sends) * rounds, sends
+
+
+def backlogged(name, size, count):
+    """All flows always have packets that wait."""
+    beginning, sends = backlog(size, FLOWS)
+    return Script(name, beginning, turns_of(sends), count)
+
+
+def toggling(name, count):
+    """All flows but one always have packets that wait; that one has most of the tickets, and one packet at a time."""
+    beginning, sends = backlog(1, FLOWS - 1)
+    heavy = "open heavy 1000 1\nmktkt 1048576 base\nfund %d flow heavy\n" % FLOWS
+    return Script(name, beginning + heavy, turns_of(line for each in sends for line in (send(1, "heavy"), each)), count)
+
+
+def waking(name, funding, count):
+    """Each packet wakes a flow, and each turn rests one: the flows wake one after the other and are served then."""
+    sends = "".join(send(1, "f%d" % flow) for flow in range(FLOWS))
+    return Script(name, funding.text(), sends + TURN * FLOWS, count)
+
+
+def layers():
+    """16 currencies in four layers, each but those of the first backed by two of the layer before, and all flows
+    funded by two of the last."""
+    funding = Funding()
+    for place in range(16):
+        funding.currency("c%d" % place)
+        for part in range(2):
+            backing = "base" if place < 4 else "c%d" % (place // 4 * 4 - 4 + (place + part) % 4)
+            funding.ticket(1000 + 100 * place + part, backing, "cur c%d" % place)
+    for flow in range(FLOWS):
+        funding.flow(flow)
+        for part in range(2):
+            funding.ticket(100 + flow, "c%d" % (12 + (flow + part) % 4), "flow f%d" % flow)
+    return funding
+
+
+def deep_graph():
+    """Eight currencies, each backed by the one before through sixteen tickets, and all flows funded by fourteen tickets
+    of the last: 1024 tickets, and more paths than can be walked."""
+    funding = Funding()
+    below = "base"
+    for depth in range(8):
+        funding.currency("c%d" % depth)
+        for _ in range(16):
+            funding.ticket(1000, below, "cur c%d" % depth)
+        below = "c%d" % depth
+    for flow in range(FLOWS):
+        funding.flow(flow)
+        for _ in range(14):
+            funding.ticket(1000, below, "flow f%d" % flow)
+    return funding
+
+
+def commands(name, count):
+    """Currencies and tickets that are made, fund, fund no longer and are removed, where all flows have a packet."""
+    funding = layers()
+    sends = "".join(send(1, "f%d" % flow) for flow in range(FLOWS))
+
+    def round_of(number):
+        first = funding.tickets + 1 + 48 * number
+        tickets = range(first, first + 48)
+        names = ["d%d" % place for place in range(4)]
+        lines = ["mkcur %s" % currency for currency in names]
+        lines += ["mktkt %d %s" % (10 + ticket % 7, (["base"] + names)[ticket % 3]) for ticket in tickets]
+        lines += ["fund %d %s" % (ticket, "cur %s" % names[ticket % 3] if ticket < first + 12
+                                  else "flow f%d" % (ticket * 5 % FLOWS)) for ticket in tickets]
+        lines += ["unfund %d" % ticket for ticket in tickets]
+        lines += ["rmtkt %d" % ticket for ticket in tickets]
+        lines += ["rmcur %s" % currency for currency in names]
+        return "".join(line + "\n" for line in lines)
+
+    return Script(name, funding.text() + sends, round_of, count)
+
+
+SCRIPTS = [
+    Script("pairs of 700 bytes", opening(1000), send(700) + TURN, 100_000),
+    Script("pairs of 2 bytes", opening(1000), send(2) + TURN, 500_000),
+    Script("a byte at a time", opening(1000), send(2) + "turn 1\n" * 14, 200_000),
+    Script("backlog of 1000 packets", opening(1000), send(1000) * 1000 + TURN * 1000, 60),
+    Script("full buffer", opening(1) + send(2), send(2), 1_000_000),
+    Script("no such flow", opening(1), "send b 6869\n", 1_000_000),
+    Script("idle turns", opening(1), TURN, 1_000_000),
+    Script("no such line", opening(1), "frobnicate 1\n", 1_000_000),
+    Script("ticket in use of 1024", opening(1) + "mktkt 1 base\n" * 1023, "fund 1 flow a\n", 1_000_000),
+    Script("spent life", opening(1), TURN, 1_000_000, life=3),
+    backlogged("64 backlogged, 1 byte", 1, 1500),
+    backlogged("64 backlogged, 1000 bytes", 1000, 200),
+    waking("churn of 16 currencies", layers(), 400),
+    toggling("one toggles beside 63", 300),
+    commands("commands only", 600),
+    waking("deep graph", deep_graph(), 100),
+]

@@ -1,0 +1,23 @@
+-- Links after commands that are not refused, and their queues before they are levelled.
+use Rattle.std.proofs.Common.{◌≡◌, ◌<◌, ◌+◌, ◌∙◌, ℕ, List, None, ap, sym, subst}
+use Rattle.share_base.specs.declared.command.Command.{Command}
+use Rattle.share_model.specs.declared.rates.Rate.{Rate}
+use Rattle.share_model.specs.funding.Graph.{Graph, flow_numbers}
+use Rattle.share_model.specs.link.Live.{Live, by_refusal, command_refusal, commanded, wants}
+use Rattle.share_model.specs.run.QueueLaws.{wants-can_level}
+use Rattle.share_model.specs.run.Sound.{Sound, QueueIsSound}
+use Rattle.share_model.specs.run.SoundCloseLaws.{sound-commanded}
+use Rattle.share_model.specs.stride.Level.{CanLevel}
+
+-- a command that nothing refuses
+pub sound-done : {life : ℕ} {rates : List Rate} {l : Live} → Sound life rates l → l.counts.events < life
+    → (c : Command) → command_refusal rates l c ≡ None → Sound life rates (commanded l c).0
+sound-done {life = life} {rates = rates} {l = l} was few c allowed =
+    subst (λ o. Sound life rates (by_refusal l o (commanded l c)).0) allowed (sound-commanded was few c)
+
+-- the flows are clients also after a change of currencies and tickets
+pub can-level : {life : ℕ} {rates : List Rate} {l : Live} → Sound life rates l → (now made : Graph) → now ≡ made
+    → made.flows ≡ l.graph.flows → CanLevel l.queue (wants now)
+can-level {life = life} {l = l} was now made is flows =
+    wants-can_level now (subst (λ ns. QueueIsSound life l.counts.events ns l.queue)
+    (ap flow_numbers (sym flows ∙ ap (λ (g : Graph). g.flows) (sym is))) was.queue)

@@ -1,0 +1,81 @@
+-- A flow that is opened, and the queue to which its client is added.
+use Rattle.std.proofs.Common.{◌≡◌, ◌<◌, ◌+◌, ◌∙◌, ℕ, Bool, true, false, List, length, nat_le, Option, None, Some}
+use Rattle.std.proofs.Common.{Result}
+use Rattle.std.proofs.Common.{Ok, Err, OnOk, IfErr, is_some, refl, sym, ap, subst, arith}
+use Rattle.std.proofs.lemmas.Bool.Decides.{nat_tests}
+use Rattle.std.proofs.lemmas.List.{length-map}
+use Rattle.std.specs.FinMap.{get, len}
+use Rattle.share_base.specs.declared.refusal.Refusal.{Refusal}
+use Rattle.share_base.specs.declared.refusal.Refusal.TheVariants.{TableFull}
+use Rattle.share_base.specs.Refusal.{first_refusal}
+use Rattle.share_model.specs.declared.funding.OpenFlow.{OpenFlow}
+use Rattle.share_model.specs.declared.rates.Rate.{Rate}
+use Rattle.share_model.specs.funding.Graph.{NameBytes, flow_numbers}
+use Rattle.share_model.specs.funding.Changes.{add_flow}
+use Rattle.share_model.specs.link.Live.{Live, open_flow_refusal, wants}
+use Rattle.share_model.specs.link.Seen.{Seen}
+use Rattle.share_model.specs.lists.Laws.{has_number, rises-fresh}
+use Rattle.share_model.specs.run.QueueLaws.{queue-added, wants-can_level}
+use Rattle.share_model.specs.run.Sound.{Sound, QueueIsSound}
+use Rattle.share_model.specs.run.SoundLaws.{sound-numbered}
+use Rattle.share_model.specs.run.SoundStepLaws.{numbers-added, openable}
+use Rattle.share_model.specs.stride.Moves.{Stride, add, add_refusal}
+use Rattle.share_model.specs.stride.Level.{CanLevel}
+
+none_of : {A : Type 0} (o : Option A) → is_some o ≡ false → o ≡ None
+none_of None is = refl
+none_of (Some x) is = cc
+
+-- a queue with room refuses no client
+has_room : (q : Stride) → len q.clients < 64 → add_refusal q ≡ None
+has_room q few = by_test (nat_le 64 (len q.clients)) refl
+  where
+    by_test : (b : Bool) → nat_le 64 (len q.clients) ≡ b → add_refusal q ≡ None
+    by_test true is = absurd (grind (arith, nat_tests, few))
+    by_test false is = rw is refl
+
+pub added : (old new : Stride) (f : ℕ) (r : Result (Unit {0}) Refusal)
+    → OnOk r ((new ≡ add old f) × (add_refusal old ≡ None))
+    → IfErr r (λ e. (new ≡ old) × (add_refusal old ≡ Some e)) → add_refusal old ≡ None → new ≡ add old f
+added old new f (Ok u) done refused room = done.0
+added old new f (Err e) done refused room = absurd (no_refusal (sym refused.1 ∙ room))
+  where
+    no_refusal : Some e ≡ None → ⊥
+    no_refusal is = cc
+
+module _ {life : ℕ} {rates : List Rate} {l : Live} (sound : Sound life rates l) where
+  fresh : has_number l.graph.next_flow (flow_numbers l.graph.flows) ≡ false
+  fresh = rises-fresh l.graph.next_flow (flow_numbers l.graph.flows) (sound-numbered sound)
+
+  -- the next flow is no client yet, and there is room for it
+  pub next-unjoined : get l.queue.clients l.graph.next_flow ≡ None
+  next-unjoined =
+      none_of (get l.queue.clients l.graph.next_flow) (sound.queue.clients l.graph.next_flow ∙ fresh)
+
+  client_count : len l.queue.clients ≡ length l.graph.flows
+  client_count = sound.queue.count ∙ length-map l.graph.flows (λ (e : NameBytes × OpenFlow). e.1.number)
+
+  -- all can be levelled once it is open
+  pub can-open : length l.graph.flows < 64 → (name : NameBytes)
+      → CanLevel (add l.queue l.graph.next_flow) (wants (add_flow l.graph name))
+  can-open room name =
+      wants-can_level (add_flow l.graph name)
+      (subst (λ ns. QueueIsSound life (l.counts.events + 1) ns (add l.queue l.graph.next_flow))
+      (sym (numbers-added l.graph name))
+      (queue-added l.graph.next_flow fresh (omega (arith, room, sym sound.queue.count ∙ client_count)) sound.queue))
+
+  -- there is room for a flow that may be opened
+  pub allowed-room : (name : NameBytes) (limit tariff : ℕ) → open_flow_refusal rates l name limit tariff ≡ None
+      → length l.graph.flows < 64
+  allowed-room name limit tariff allowed = (openable rates l name limit tariff allowed).space
+
+  pub queue-room : (name : NameBytes) (limit tariff : ℕ) → open_flow_refusal rates l name limit tariff ≡ None
+      → add_refusal l.queue ≡ None
+  queue-room name limit tariff allowed =
+      has_room l.queue (omega (arith, client_count, allowed-room name limit tariff allowed))
+
+pub allowed_of : (k n : Seen (Unit {0})) (name : NameBytes) (limit tariff : ℕ) → k ≡ n
+    → open_flow_refusal n.rates n.live name limit tariff ≡ None
+    → open_flow_refusal k.rates k.live name limit tariff ≡ None
+allowed_of k n name limit tariff same allowed =
+    subst (λ (k : Seen (Unit {0})). open_flow_refusal k.rates k.live name limit tariff ≡ None) (sym same) allowed

@@ -1,0 +1,68 @@
+-- How many packets wait, in one buffer and in all.
+use Rattle.std.proofs.Common.{◌≡◌, ◌+◌, ◌-◌, ◌≤◌, ◌^◌, ℕ, Bool, true, false, List, length, Option, None, Some, refl}
+use Rattle.std.proofs.Common.{arith, true≢false, sym, ap, ◌∙◌}
+use Rattle.std.proofs.lemmas.Bool.{eqb-true}
+use Rattle.share_model.specs.declared.rates.Rate.{Rate}
+use Rattle.share_model.specs.link.Buffers.{Buffer, buffer_of, is_buffer_of, count_by, count_in, head_of}
+use Rattle.share_model.specs.link.Live.{Live, is_torn_of}
+use Rattle.share_model.specs.link.Totals.{packets_in, torn_packets, torn_count, waiting}
+use Rattle.share_model.specs.lists.Laws.{each-find}
+use Rattle.share_model.specs.run.CountLaws.{some-held, count-within}
+use Rattle.share_model.specs.run.Sound.{Sound, IsSoundBuffer, TornIsNamed, torn_gone}
+
+-- no buffer holds more packets than there were events
+pub few_held : {life : ℕ} {rates : List Rate} {l : Live} → Sound life rates l → life ≤ 2 ^ 24 → (f : ℕ)
+    → count_in l.buffers f ≤ 2 ^ 24
+few_held {l = l} sound short f = by_buffer (buffer_of l.buffers f) refl
+  where
+    by_buffer : (o : Option Buffer) → buffer_of l.buffers f ≡ o → count_by o ≤ 2 ^ 24
+    by_buffer None found = omega arith
+    by_buffer (Some b) found =
+        let is = each-find (IsSoundBuffer l.counts.events) (is_buffer_of f) l.buffers b sound.buffers found in
+        omega (arith, is.given, is.numbers, sound.counts.events, short)
+
+-- a torn packet is in the buffer of its flow
+pub torn_held : {life : ℕ} {rates : List Rate} {l : Live} → Sound life rates l → (f : ℕ)
+    → is_torn_of f l.torn ≡ true → 1 ≤ count_in l.buffers f
+torn_held {l = l} sound f = by_torn l.torn sound.torn.named
+  where
+    by_torn : (o : Option ℕ) → TornIsNamed l.buffers l.broken o → is_torn_of f o ≡ true → 1 ≤ count_in l.buffers f
+    by_torn None named is = absurd (true≢false (sym is))
+    by_torn (Some g) named is =
+        some-held l.buffers f named.head (ap (λ n. head_of l.buffers n) (eqb-true f g is) ∙ named.found)
+
+-- what was accepted, and neither written, nor dropped, nor torn, waits
+record AreWaiting (accepted written dropped held : ℕ) (broken : Bool) (torn : Option ℕ) : Type 0 where
+  torn_is : torn_count broken ≤ accepted - written - dropped
+  rest : accepted - written - dropped - torn_count broken ≡ held - torn_packets torn
+
+are_waiting : (accepted written dropped : ℕ) (bs : List Buffer) (broken : Bool) (torn : Option ℕ)
+    → TornIsNamed bs broken torn → accepted ≡ written + dropped + packets_in bs + torn_gone broken torn
+    → AreWaiting accepted written dropped (packets_in bs) broken torn
+are_waiting accepted written dropped bs false None named balance = record {
+  torn_is = omega arith;
+  rest = omega (arith, balance);
+}
+are_waiting accepted written dropped bs false (Some f) named balance = absurd (true≢false (sym named.broken_is))
+are_waiting accepted written dropped bs true None named balance = record {
+  torn_is = omega (arith, balance);
+  rest = omega (arith, balance);
+}
+are_waiting accepted written dropped bs true (Some f) named balance =
+    let some = some-held bs f named.head named.found in
+    record {
+      torn_is = omega (arith, balance, some, count-within bs f);
+      rest = omega (arith, balance, some, count-within bs f);
+    }
+
+module _ {life : ℕ} {rates : List Rate} {l : Live} (sound : Sound life rates l) where
+  all_waiting : AreWaiting l.counts.accepted l.counts.written l.counts.dropped (packets_in l.buffers) l.broken l.torn
+  all_waiting =
+      are_waiting l.counts.accepted l.counts.written l.counts.dropped l.buffers l.broken l.torn sound.torn.named
+      sound.counts.balance
+
+  pub torn_within : torn_count l.broken ≤ l.counts.accepted - l.counts.written - l.counts.dropped
+  torn_within = all_waiting.torn_is
+
+  pub waiting_is : l.counts.accepted - l.counts.written - l.counts.dropped - torn_count l.broken ≡ waiting l
+  waiting_is = all_waiting.rest

@@ -1,0 +1,55 @@
+use Rattle.std.proofs.Common.{◌≡◌, None, sym, subst, arith}
+use Rattle.std.specs.FinMap.{get}
+use Rattle.share_model.specs.run.SoundStepLaws.{sound-open_flow}
+use Rattle.share_core.proofs.Arrivals.{buffer_count, book_count}
+use Rattle.share_core.proofs.Living.{living}
+use Rattle.share_core.proofs.Openings.{added, next-unjoined, can-open, allowed-room, queue-room, allowed_of}
+use Rattle.share_core.proofs.link.Link.open_allowed.Goals as goal
+
+pub add-requires : goal.add-requires
+add-requires g c =
+    let flow = c.in-Ok-add_flow.ensures.done.1 in
+    subst (λ n. get c.self.inside.queue.clients n ≡ None) (sym flow) (next-unjoined c.self.invariant.1)
+
+pub open-requires : goal.open-requires
+open-requires g c =
+    let allowed = allowed_of _ _ c.args.name c.args.limit c.args.tariff c.self.view_is c.requires.allowed in
+    let room = allowed-room c.self.invariant.1 c.args.name c.args.limit c.args.tariff allowed in
+    omega (arith, room, buffer_count c.self.invariant.1)
+
+pub open-requires-in-Ok-add_flow : goal.open-requires-in-Ok-add_flow
+open-requires-in-Ok-add_flow g c =
+    let allowed = allowed_of _ _ c.args.name c.args.limit c.args.tariff c.self.view_is c.requires.allowed in
+    let room = allowed-room c.self.invariant.1 c.args.name c.args.limit c.args.tariff allowed in
+    omega (arith, room, book_count c.self.invariant.1)
+
+pub level-requires : goal.level-requires
+level-requires g c =
+    let sound = c.self.invariant.1 in
+    let allowed = allowed_of _ _ c.args.name c.args.limit c.args.tariff c.self.view_is c.requires.allowed in
+    let room = allowed-room c.self.invariant.1 c.args.name c.args.limit c.args.tariff allowed in
+    let joined = added _ _ _ _ c.add.ensures.ok c.add.ensures.refused
+    (queue-room sound c.args.name c.args.limit c.args.tariff allowed) in
+    rw (joined, c.in-Ok-add_flow.ensures.done.1, c.in-Ok-add_flow.ensures.done.2)
+    (can-open sound room c.args.name)
+
+pub invariant_of-self-in-Ok-add_flow : goal.invariant_of-self-in-Ok-add_flow
+invariant_of-self-in-Ok-add_flow g c =
+    let sound = c.self.invariant.1 in
+    let allowed = allowed_of _ _ c.args.name c.args.limit c.args.tariff c.self.view_is c.requires.allowed in
+    let joined = added _ _ _ _ c.add.ensures.ok c.add.ensures.refused
+    (queue-room sound c.args.name c.args.limit c.args.tariff allowed) in (
+      c.self.invariant.0,
+      rw (
+        c.level.ensures,
+        joined,
+        c.open-in-Ok-add_flow.ensures,
+        c.open.ensures,
+        c.in-Ok.ensures,
+        c.next_flow.ensures,
+        c.in-Ok-add_flow.ensures.done.1,
+        c.in-Ok-add_flow.ensures.done.2,
+      )
+          (sound-open_flow sound (living _ _ c.self.view_is c.requires.living sound) c.args.name c.args.limit
+          c.args.tariff allowed),
+    )

@@ -1,0 +1,7 @@
+use Rattle.std.proofs.Common.{◌≤◌, ◌-◌, sym, subst}
+use Rattle.share_core.proofs.Tallies.{torn_within}
+use Rattle.share_core.proofs.link.Link.waiting.Goals as goal
+
+pub overflow_sub-result-3 : goal.overflow_sub-result-3
+overflow_sub-result-3 g c =
+    let sound = c.self.invariant.1 in rw (c.torn_count.ensures) (torn_within sound)

@@ -1,0 +1,146 @@
+//! Flows that are opened and closed.
+ghost use Rattle.std.specs.Prelude.{◌≡◌, false, None, if◌then◌else◌};
+ghost use Rattle.share_base.specs.declared.command.Command.TheVariants.{OpenFlow, CloseFlow};
+ghost use Rattle.share_model.specs.link.CommandLaws.{IsClosable};
+ghost use Rattle.share_model.specs.link.Did.{is_spent, Stepped, Steps, CommandDid};
+ghost use Rattle.share_model.specs.link.Live.{command_step, open_flow_refusal, is_part_of, is_torn_of, waiting_of};
+ghost use Rattle.share_model.specs.link.Live.{close_flow, closed_reply};
+
+use super::Link;
+use super::levelling::level;
+use crate::ring::Ring;
+use share_base::{FlowNo, Name, Refusal, Reply};
+use share_model::Rates;
+
+/// The greatest limit of a buffer, in packets.
+const MAX_LIMIT: u64 = 1024;
+
+impl<S: Rates> Link<S> {
+    // Why a flow would not be opened, memory aside.
+    fn open_flow_refusal(&self, name: &Name, limit: u64, tariff: u64) -> Option<Refusal>
+        ensures { result ≡ open_flow_refusal self.now.rates self.now.live name.now limit tariff }
+    {
+        if limit < 1 || limit > MAX_LIMIT {
+            Some(Refusal::Range)
+        } else if !self.shelf.has(tariff) {
+            Some(Refusal::NoTariff)
+        } else {
+            self.ledger.add_flow_refusal(*name)
+        }
+    }
+
+    pub fn open_flow(&mut self, name: Name, limit: u64, tariff: u64) -> Reply
+        requires { is_spent self.old ≡ false }
+        ensures { CommandDid self.old (OpenFlow name limit tariff) result self.new }
+    {
+        match self.open_flow_refusal(&name, limit, tariff) {
+            Some(refusal) => self.refuse(refusal),
+            None => self.open_allowed(name, limit, tariff),
+        }
+    }
+
+    // Opens a flow that nothing but want of memory refuses.
+    fn open_allowed(&mut self, name: Name, limit: u64, tariff: u64) -> Reply
+        requires living { is_spent self.old ≡ false }
+        requires allowed { open_flow_refusal self.old.rates self.old.live name limit tariff ≡ None }
+        ensures { CommandDid self.old (OpenFlow name limit tariff) result self.new }
+    {
+        let flow = FlowNo(self.ledger.next_flow());
+        let Ok(ring) = Ring::new(self.alloc, flow, limit as u32) else {
+            return Reply::Refused(Refusal::NoMemory);
+        };
+        match self.ledger.add_flow(name) {
+            Err(_) => Reply::Refused(Refusal::NoMemory),
+            Ok(flow) => {
+                let _ = self.queue.add(flow);
+                self.buffers.open(ring);
+                self.books.open(flow, tariff);
+                self.counts.events += 1;
+                level(&mut self.queue, &self.ledger);
+                Reply::Flow(flow)
+            }
+        }
+    }
+
+    // Whether the frame in part is of this flow.
+    fn is_in_part(&self, flow: FlowNo) -> bool
+        ensures { result ≡ is_part_of flow self.now.live.part }
+    {
+        match self.part {
+            None => false,
+            Some(part) => flow.number() == part.flow.number(),
+        }
+    }
+
+    // Whether the torn packet is the head of this flow.
+    fn is_torn(&self, flow: FlowNo) -> bool
+        ensures { result ≡ is_torn_of flow self.now.live.torn }
+    {
+        match self.torn {
+            None => false,
+            Some(torn) => flow.number() == torn.number(),
+        }
+    }
+
+    // The packets that wait in the buffer of a flow: a torn head is none of them.
+    pub fn waiting_of(&self, flow: FlowNo) -> u32
+        ensures { result ≡ waiting_of self.now.live flow }
+    {
+        let held = self.buffers.count(flow) as u32;
+        if self.is_torn(flow) { held - 1 } else { held }
+    }
+
+    pub fn close_flow(&mut self, name: Name) -> Reply
+        requires { is_spent self.old ≡ false }
+        ensures { Steps (λ rates l. command_step rates l (CloseFlow name)) self.old result self.new }
+    {
+        match self.ledger.flow(name) {
+            None => self.refuse(Refusal::NoFlow),
+            Some(flow) => {
+                if self.is_in_part(flow) {
+                    self.refuse(Refusal::Sending)
+                } else {
+                    self.close(flow)
+                }
+            }
+        }
+    }
+
+    // Closes an open flow of which no frame is in part.
+    fn close(&mut self, flow: FlowNo) -> Reply
+        requires living { is_spent self.old ≡ false }
+        requires may { IsClosable self.old.live flow }
+        ensures { Stepped (close_flow self.old.live flow, closed_reply self.old.live flow)
+            self.old result self.new }
+    {
+        let dropped = self.waiting_of(flow);
+        let account = self.books.account(flow);
+        self.torn = without_torn(self.torn, flow);
+        self.queue.level(flow, 0);
+        self.queue.remove(flow);
+        self.ledger.remove_flow(flow);
+        self.buffers.close(flow);
+        self.books.close(flow);
+        self.counts.events += 1;
+        self.counts.dropped += u64::from(dropped);
+        self.counts.past += account;
+        level(&mut self.queue, &self.ledger);
+        Reply::Closed {
+            flow,
+            dropped,
+            account,
+        }
+    }
+}
+
+// The flow whose head packet was torn, where it is not the one that is closed.
+fn without_torn(torn: Option<FlowNo>, closed: FlowNo) -> Option<FlowNo>
+    ensures { result ≡ (if is_torn_of closed torn then None else torn) }
+{
+    let flow = torn?;
+    if closed.number() == flow.number() {
+        None
+    } else {
+        Some(flow)
+    }
+}

@@ -1,0 +1,149 @@
+//! What is read of a link.
+ghost use Rattle.std.specs.Prelude.{◌≡◌, ◌<◌, ◌≤◌, ◌^◌, find, option_map, IfSome};
+ghost use Rattle.std.specs.FinMap.{get};
+ghost use Rattle.share_model.specs.funding.Changes.{flow_named};
+ghost use Rattle.share_model.specs.funding.Graph.{tickets};
+ghost use Rattle.share_model.specs.link.Did.{is_spent};
+ghost use Rattle.share_model.specs.link.Live.{is_book_of};
+ghost use Rattle.share_model.specs.link.Tariff.{AreInRange};
+ghost use Rattle.share_model.specs.link.Totals.{torn_count, waiting, state_by, totals, row};
+ghost use Rattle.share_model.specs.run.Sound.{Sound};
+ghost use Rattle.share_model.specs.stride.Moves.{global_part};
+ghost use Rattle.share_model.specs.stride.Moves.{position as position_of};
+
+use super::Link;
+use share_base::{FlowNo, Name};
+use share_model::{GlobalPart, LinkState, Position, Rates, Row, Totals};
+
+impl<S: Rates> Link<S> {
+    /// How many events were made. A link is sound after whatever events.
+    pub fn events(&self) -> u64
+        ensures events { result ≡ self.now.live.counts.events }
+        ensures life { self.now.life ≤ 2 ^ 24 }
+        ensures sound { Sound self.now.life self.now.rates self.now.live }
+        ensures range { AreInRange self.now.rates }
+    {
+        self.counts.events
+    }
+
+    /// Whether as many events were made as the life allows.
+    pub fn spent(&self) -> bool
+        ensures over { result ≡ is_spent self.now }
+        ensures sound { Sound self.now.life self.now.rates self.now.live }
+    {
+        self.counts.events == self.life
+    }
+
+    /// Whether a fault broke the link.
+    pub fn broken(&self) -> bool
+        ensures { result ≡ self.now.live.broken }
+    {
+        self.broken
+    }
+
+    /// The account of an open flow.
+    pub fn account(&self, flow: FlowNo) -> Option<u64>
+        ensures account { result
+            ≡ option_map (λ b. b.account) (find (is_book_of flow) self.now.live.books) }
+        ensures small { IfSome result (λ account. account < 2 ^ 52) }
+    {
+        let book = self.books.book(flow)?;
+        Some(book.account)
+    }
+
+    /// The number of the open flow of a name.
+    pub fn flow(&self, name: &Name) -> Option<FlowNo>
+        ensures { result ≡ option_map (λ f. f.number) (flow_named self.now.live.graph name.now) }
+    {
+        self.ledger.flow(*name)
+    }
+
+    /// The tickets of an open flow.
+    pub fn tickets(&self, flow: FlowNo) -> Option<u32>
+        ensures { result
+            ≡ option_map (λ _. tickets self.now.live.graph flow)
+            (find (is_book_of flow) self.now.live.books) }
+    {
+        let _ = self.books.book(flow)?;
+        Some(self.ledger.tickets(flow))
+    }
+
+    /// Where an open flow stands in the queue.
+    pub fn position(&self, flow: FlowNo) -> Option<Position>
+        ensures { result ≡ option_map position_of (get self.now.live.queue.clients flow) }
+    {
+        if self.queue.contains(flow) {
+            Some(self.queue.position(flow))
+        } else {
+            None
+        }
+    }
+
+    /// What the flows share in the queue.
+    pub fn global(&self) -> GlobalPart
+        ensures { result ≡ global_part self.now.live.queue }
+    {
+        self.queue.global()
+    }
+
+    /// The n-th open flow.
+    pub fn row(&self, n: u32) -> Option<Row>
+        ensures { result ≡ row self.now.live n }
+    {
+        let (name, flow) = self.ledger.flow_at(n as usize)?;
+        Some(Row {
+            flow: flow.number,
+            name,
+            waiting: self.waiting_of(flow.number),
+        })
+    }
+
+    /// What the link counted, and what it holds.
+    pub fn totals(&self) -> Totals
+        ensures { result ≡ totals self.now.live }
+    {
+        let global = self.queue.global();
+        let counts = self.counts;
+        Totals {
+            clock: global.clock,
+            accepted: counts.accepted,
+            written: counts.written,
+            torn: torn_count(self.broken),
+            waiting: self.waiting(),
+            dropped: counts.dropped,
+            bytes: counts.sent,
+            past: counts.past,
+            tickets: global.tickets,
+            pass: global.pass,
+            link: self.state(),
+        }
+    }
+
+    // The packets in all buffers, but for a torn one: those that were accepted and neither written, nor dropped, nor
+    // torn.
+    fn waiting(&self) -> u64
+        ensures { result ≡ waiting self.now.live }
+    {
+        let counts = self.counts;
+        counts.accepted - counts.written - counts.dropped - torn_count(self.broken)
+    }
+
+    fn state(&self) -> LinkState
+        ensures { result ≡ state_by self.now.live.broken self.now.live.part }
+    {
+        if self.broken {
+            LinkState::Torn
+        } else if self.part.is_some() {
+            LinkState::InPart
+        } else {
+            LinkState::Free
+        }
+    }
+}
+
+// How many packets were torn.
+fn torn_count(broken: bool) -> u64
+    ensures { result ≡ torn_count broken }
+{
+    if broken { 1 } else { 0 }
+}

@@ -1,0 +1,372 @@
+//! Long runs of events, drawn by a generator, of a link and of the plain link beside it.
+
+mod draws;
+
+use super::plain::{Plain, Told};
+use super::{name, shelf};
+use crate::{Engine, Shelf};
+use draws::{Asked, World};
+use share_base::{Body, FlowNo, Outcome, Refusal, Reply, Turn};
+use share_model::{Answer, Scripted};
+use std::alloc::{AllocError, Global};
+use std::process::Abort;
+use std::test::Fail;
+
+/// The link, the plain link beside it, and the state of the generator.
+#[derive(Drop)]
+struct Pair {
+    engine: Engine<Scripted, Shelf>,
+    plain: Plain,
+    state: u64,
+}
+
+/// What a run met: refusals by their numbers, and how many flows were closed, frames sent whole and in part, and events
+/// made.
+#[derive(Clone, Copy, Debug)]
+struct Met {
+    refusals: u64,
+    closed: u32,
+    dropped: u64,
+    whole: u32,
+    parts: u32,
+    again: u32,
+    torn: u32,
+    broken: u32,
+    events: u64,
+}
+
+const NOTHING: Met = Met {
+    refusals: 0,
+    closed: 0,
+    dropped: 0,
+    whole: 0,
+    parts: 0,
+    again: 0,
+    torn: 0,
+    broken: 0,
+    events: 0,
+};
+
+fn bit_of(refusal: &Refusal) -> u64 {
+    1_u64.wrapping_shl(refusal.number())
+}
+
+impl Met {
+    fn add_reply(&mut self, reply: Reply) {
+        match reply {
+            Reply::Refused(refusal) => self.refusals |= bit_of(&refusal),
+            Reply::Closed { dropped, .. } => {
+                self.closed = self.closed.saturating_add(1);
+                self.dropped = self.dropped.saturating_add(u64::from(dropped));
+            }
+            _ => {}
+        }
+    }
+
+    fn add(&mut self, outcome: Outcome) {
+        match outcome {
+            Outcome::Replied(reply) => self.add_reply(reply),
+            Outcome::Turned(Turn::Wrote { whole: true, .. }) => {
+                self.whole = self.whole.saturating_add(1);
+            }
+            Outcome::Turned(Turn::Wrote { whole: false, .. }) => {
+                self.parts = self.parts.saturating_add(1);
+            }
+            Outcome::Turned(Turn::Again) => self.again = self.again.saturating_add(1),
+            Outcome::Turned(Turn::Torn { .. }) => self.torn = self.torn.saturating_add(1),
+            Outcome::Turned(Turn::Broken) => self.broken = self.broken.saturating_add(1),
+            _ => {}
+        }
+    }
+}
+
+fn begun(rt: &impl Abort, alloc: Global, world: &World) -> Result<Pair, Fail> {
+    let mut state = world.seed;
+    let answers = draws::answers(alloc, &mut state, world)?;
+    let writer = Scripted::new(alloc, answers.as_slice().to_vec(alloc)?);
+    let engine = Engine::new(alloc, shelf(rt, alloc), world.life, writer)?;
+    let plain = Plain::new(alloc, name(rt, "base"), world.life, answers)?;
+    Ok(Pair {
+        engine,
+        plain,
+        state,
+    })
+}
+
+// Asks both the same.
+fn answers(
+    rt: &impl Abort,
+    alloc: Global,
+    pair: &mut Pair,
+    asked: Asked,
+) -> Result<(Outcome, Outcome), AllocError> {
+    match asked {
+        Asked::Command(command) => {
+            let same = command;
+            let ours = pair.engine.command(command);
+            let plain = pair.plain.command(same)?;
+            Ok((Outcome::Replied(ours), Outcome::Replied(plain)))
+        }
+        Asked::Arrive(flow, count) => {
+            let payload = draws::payload(alloc, &mut pair.state, count)?;
+            let body = Body::new(alloc, payload.as_slice()).expect(rt, "a payload");
+            let ours = pair.engine.arrive(flow, body);
+            let plain = pair.plain.arrive(flow, payload.as_slice())?;
+            Ok((Outcome::Replied(ours), Outcome::Replied(plain)))
+        }
+        Asked::Turn(most) => {
+            let ours = pair.engine.turn(most.max(1));
+            let plain = pair.plain.turn(most.max(1))?;
+            Ok((Outcome::Turned(ours), Outcome::Turned(plain)))
+        }
+        Asked::Tear => {
+            let ours = pair.engine.tear();
+            let plain = pair.plain.tear()?;
+            Ok((Outcome::Turned(ours), Outcome::Turned(plain)))
+        }
+    }
+}
+
+// Asks both the same, and compares the answers.
+fn ask(
+    rt: &impl Abort,
+    alloc: Global,
+    pair: &mut Pair,
+    asked: Asked,
+) -> Result<Outcome, AllocError> {
+    let (ours, plain) = answers(rt, alloc, pair, asked)?;
+    assert_eq!(rt; ours, plain, "to {asked:?}");
+    Ok(plain)
+}
+
+// The link shows nothing of a flow with this number.
+fn is_gone(rt: &impl Abort, engine: &Engine<Scripted, Shelf>, flow: FlowNo) {
+    assert_eq!(rt; engine.account(flow), None);
+    assert_eq!(rt; engine.tickets(flow), None);
+    assert_eq!(rt; engine.position(flow), None);
+}
+
+// The link shows the same of an open flow, which is the n-th.
+fn shows(rt: &impl Abort, engine: &Engine<Scripted, Shelf>, n: u32, told: &Told) {
+    let row = engine.row(n).expect(rt, "a flow");
+    assert_eq!(rt;
+        (row.flow, row.name, row.waiting),
+        (told.flow, told.name, told.waiting)
+    );
+    assert_eq!(rt; engine.flow(told.name), Some(told.flow));
+    assert_eq!(rt; engine.account(told.flow), Some(told.account));
+    assert_eq!(rt; engine.tickets(told.flow), Some(told.tickets));
+    assert_eq!(rt; engine.position(told.flow), Some(told.position));
+}
+
+// The link shows the same of all flows.
+fn shows_flows(rt: &impl Abort, pair: &Pair) {
+    let mut n: u32 = 0;
+    for place in 0..pair.plain.flows() {
+        if let Some(told) = pair.plain.told(place) {
+            shows(rt, &pair.engine, n, &told);
+            n = n.saturating_add(1);
+        }
+    }
+    assert!(rt; pair.engine.row(n).is_none(), "{n} flows are open");
+}
+
+// Both show the same, and wrote the same bytes after the first so many.
+fn agree(rt: &impl Abort, pair: &Pair, written: usize) {
+    assert_eq!(rt; pair.engine.events(), pair.plain.events());
+    assert_eq!(rt; pair.engine.spent(), pair.plain.spent());
+    assert_eq!(rt; pair.engine.totals(), pair.plain.totals());
+    assert_eq!(rt; pair.engine.global(), pair.plain.global());
+    shows_flows(rt, pair);
+    let ours = pair.engine.writer().bytes();
+    let plain = pair.plain.bytes();
+    assert_eq!(rt; ours.len(), plain.len());
+    assert_eq!(rt; ours.get(written..), plain.get(written..));
+}
+
+// The flow that was closed, if one was.
+fn closed_by(outcome: &Outcome) -> Option<FlowNo> {
+    match outcome {
+        Outcome::Replied(Reply::Closed { flow, .. }) => Some(*flow),
+        Outcome::Replied(_) | Outcome::Turned(_) => None,
+    }
+}
+
+// Runs both through a world, and compares them after each event.
+fn run(rt: &impl Abort, alloc: Global, world: &World) -> Result<Met, Fail> {
+    let mut pair = begun(rt, alloc, world)?;
+    let mut met = NOTHING;
+    let mut after: u32 = 0;
+    for step in 0..world.steps {
+        let written = pair.plain.bytes().len();
+        let issued = pair.plain.next_ticket();
+        let asked = draws::drawn(rt, &mut pair.state, world, step, issued);
+        let outcome = ask(rt, alloc, &mut pair, asked)?;
+        let closed = closed_by(&outcome);
+        met.add(outcome);
+        agree(rt, &pair, written);
+        if let Some(flow) = closed {
+            is_gone(rt, &pair.engine, flow);
+        }
+        if pair.plain.broken() {
+            after = after.saturating_add(1);
+        }
+        if after > world.after {
+            break;
+        }
+    }
+    assert_eq!(rt; pair.engine.writer().bytes(), pair.plain.bytes());
+    met.events = pair.plain.events();
+    Ok(met)
+}
+
+fn has_met(rt: &impl Abort, met: &Met, refusals: &[Refusal]) {
+    for refusal in refusals {
+        assert!(rt;
+            met.refusals & bit_of(refusal) != 0,
+            "the run never met {refusal:?}"
+        );
+    }
+}
+
+/// Few names, so that most is tried on the same flows and currencies.
+const FEW_NAMES: World = World {
+    seed: 88_172_645_463_325_252,
+    steps: 10000,
+    life: 65536,
+    flows: 6,
+    currencies: 9,
+    making: 0,
+    closing: 3,
+    fault: usize::MAX,
+    tear: u32::MAX,
+    after: 0,
+};
+
+#[test]
+fn few_names(rt: HostRuntime) -> Result<(), Fail> {
+    let met = run(&rt, rt.alloc(), &FEW_NAMES)?;
+    has_met(
+        &rt,
+        &met,
+        &[
+            Refusal::Range,
+            Refusal::NoCurrency,
+            Refusal::NoTicket,
+            Refusal::NoFlow,
+            Refusal::NoTariff,
+            Refusal::Taken,
+            Refusal::Base,
+            Refusal::InUse,
+            Refusal::Funding,
+            Refusal::Unfunded,
+            Refusal::Crowded,
+            Refusal::Cycle,
+            Refusal::Sending,
+            Refusal::BufferFull,
+        ],
+    );
+    assert!(rt; met.events > 8000 && met.again > 100, "{met:?}");
+    assert!(rt; met.whole > 500 && met.parts > 300, "{met:?}");
+    assert!(rt; met.closed > 80 && met.dropped > 80, "{met:?}");
+    Ok(())
+}
+
+#[test]
+fn long_chains(rt: HostRuntime) -> Result<(), Fail> {
+    let world = World {
+        seed: 2_463_534_242,
+        steps: 5000,
+        flows: 3,
+        currencies: 13,
+        closing: 1,
+        ..FEW_NAMES
+    };
+    let met = run(&rt, rt.alloc(), &world)?;
+    has_met(&rt, &met, &[Refusal::Cycle, Refusal::Deep]);
+    assert!(rt; met.events > 4000 && met.whole > 300, "{met:?}");
+    Ok(())
+}
+
+#[test]
+fn many_flows(rt: HostRuntime) -> Result<(), Fail> {
+    let world = World {
+        seed: 1_181_783_497_276_652_981,
+        steps: 3000,
+        flows: 90,
+        currencies: 4,
+        closing: 1,
+        ..FEW_NAMES
+    };
+    let met = run(&rt, rt.alloc(), &world)?;
+    has_met(&rt, &met, &[Refusal::TableFull, Refusal::BufferFull]);
+    assert!(rt; met.events > 2500 && met.whole > 200, "{met:?}");
+    Ok(())
+}
+
+#[test]
+fn full_tables(rt: HostRuntime) -> Result<(), Fail> {
+    let world = World {
+        seed: 7_046_029_254_386_353_131,
+        steps: 4000,
+        currencies: 90,
+        making: 2000,
+        ..FEW_NAMES
+    };
+    let met = run(&rt, rt.alloc(), &world)?;
+    has_met(&rt, &met, &[Refusal::TableFull]);
+    assert!(rt; met.events > 3000 && met.whole > 100, "{met:?}");
+    Ok(())
+}
+
+#[test]
+fn failing_writer(rt: HostRuntime) -> Result<(), Fail> {
+    for (seed, fault) in [(521_288_629, 500), (362_436_069, 350), (88_675_123, 0)] {
+        let world = World {
+            seed,
+            steps: 4000,
+            fault,
+            after: 250,
+            ..FEW_NAMES
+        };
+        let met = run(&rt, rt.alloc(), &world)?;
+        assert!(rt;
+            met.torn == 1 && met.broken > 20 && met.closed > 5,
+            "{met:?}"
+        );
+    }
+    Ok(())
+}
+
+#[test]
+fn declared_faults(rt: HostRuntime) -> Result<(), Fail> {
+    for (seed, tear) in [(123_456_789, 1500), (987_654_321, 500), (5_783_321, 50)] {
+        let world = World {
+            seed,
+            steps: 4000,
+            tear,
+            after: 250,
+            ..FEW_NAMES
+        };
+        let met = run(&rt, rt.alloc(), &world)?;
+        assert!(rt;
+            met.torn == 1 && met.broken > 20 && met.closed > 5,
+            "{met:?}"
+        );
+    }
+    Ok(())
+}
+
+#[test]
+fn spent_life(rt: HostRuntime) -> Result<(), Fail> {
+    let world = World {
+        seed: 6_616_326_155_283,
+        steps: 1200,
+        life: 1000,
+        ..FEW_NAMES
+    };
+    let met = run(&rt, rt.alloc(), &world)?;
+    has_met(&rt, &met, &[Refusal::Spent]);
+    assert_eq!(rt; met.events, 1000);
+    Ok(())
+}

@@ -1,0 +1,201 @@
+-- Joining passes, and splitting them again, keeps the rule of the queue.
+use Rattle.std.proofs.Common.{◌≡◌, ◌≢◌, ℕ, ◌+◌, ◌<◌, true, ◌||◌, nat_eq}
+use Rattle.std.proofs.Common.{List, [], ◌∷◌, ◌++◌, length, set, arith, refl, sym, ap, ◌∙◌, subst, ⊎_elim}
+use Rattle.std.proofs.lemmas.List.{length-append}
+use mathlib.Core.Option.{some}
+use lib.ListN.{get_elem?}
+use Rattle.crossbeam_queue.specs.Fifo.{Forks, Merges, Learns}
+use Rattle.share_model.specs.declared.ingress.Offer.{Offer}
+use Rattle.share_model.specs.declared.ingress.QueueView.{QueueView}
+use Rattle.share_model.specs.ingress.Queue.{of_worker, Begins, an_end, an_intake, a_host, spent, IsEnd}
+use Rattle.share_model.specs.ingress.Queue.{IsIntake, KeepsOrder, Behind}
+use Rattle.share_ingress.proofs.Offers.{same_or_not, other_test}
+use Rattle.share_ingress.proofs.Offers.{views_set}
+use Rattle.share_ingress.proofs.Offers.{views_snoc, length_set, none_long}
+use Rattle.crossbeam_queue.proofs.Lists.{at_set}
+use Rattle.share_ingress.proofs.Moves.{not_true, moved, moved_here, moved_else}
+
+-- An end joined to the intake
+
+module _ (pass made : ℕ) (popped ahead : List Offer) (closed : List ℕ) (other w : ℕ) (pushed : List Offer) where
+  end_was : (views : List QueueView) (now : QueueView) → ¬ (other ≡ pass)
+      → get_elem? (set views pass now) other ≡ some (an_end w pushed) → get_elem? views other ≡ some (an_end w pushed)
+  end_was views now two at' = ⊎_elim (λ x. absurd (two x.0)) (λ x. x.1) (at_set views pass other now (an_end w pushed) at')
+
+  joins_end : length pushed ≡ length (of_worker w popped)
+      → Merges KeepsOrder pass (an_intake made popped ahead closed) other (an_end w pushed)
+      (an_intake made popped ahead (w ∷ closed)) spent
+  joins_end even items views h at two at' =
+      let was = h.intake pass (an_intake made popped ahead closed) at refl in
+      let now = an_intake made popped ahead (w ∷ closed) in
+      let theirs = h.ends other (an_end w pushed) (end_was views now two at') refl in
+      let long : length (of_worker w popped) ≡ length (of_worker w h.got) = ap (λ t. length (of_worker w t)) was.popped in
+      let all : length pushed ≡ length (of_worker w h.got) + length (of_worker w items) =
+      ap (λ t. length t) theirs.pushed ∙ length-append (of_worker w h.got) (of_worker w items) in
+      let none : of_worker w items ≡ [] = none_long (of_worker w items) (omega (arith, even, long, all)) in
+      record {
+        reader = h.reader;
+        seat = h.seat;
+        got = h.got;
+        made = h.made;
+        shut = λ u. nat_eq w u || h.shut u;
+        below = h.below;
+        numbered = h.numbered;
+        emptied = λ u s. ⊎_elim
+            (λ (e : w ≡ u). let P : ℕ → Type 0 = λ n. (n < h.made) × (of_worker n items ≡ []) in
+            subst P e (theirs.known, none))
+            (λ (e : w ≢ u). h.emptied u (rw (other_test w u e) at s)) (same_or_not w u);
+        ends = views_set (λ j v. v.sends ≡ true → IsEnd h.seat h.got items h.made (λ u. nat_eq w u || h.shut u) j v)
+            (set views pass now) other spent (λ s. absurd (not_true s))
+            (λ j v apart e. views_set
+            (λ j v. j ≢ other → v.sends ≡ true → IsEnd h.seat h.got items h.made (λ u. nat_eq w u || h.shut u) j v)
+            views pass now (λ _ s. absurd (not_true s)) (λ j v _ e apart s. let old = h.ends j v e s in
+            let else : w ≢ v.worker = λ f. apart (old.alone ∙ ap h.seat (sym f) ∙ sym theirs.alone) in
+            record {
+              alone = old.alone;
+              known = old.known;
+              still = rw (other_test w v.worker else) old.still;
+              pushed = old.pushed;
+            }) j v e apart);
+        intake = views_set
+            (λ j v. v.gets ≡ true → IsIntake h.reader h.got items h.made (λ u. nat_eq w u || h.shut u) j v)
+            (set views pass now) other spent (λ s. absurd (not_true s))
+            (λ j v apart e. views_set
+            (λ j v. v.gets ≡ true → IsIntake h.reader h.got items h.made (λ u. nat_eq w u || h.shut u) j v) views pass
+            now (λ s. record {
+              alone = was.alone;
+              popped = was.popped;
+              made_is = was.made_is;
+              closed = λ u. ap (λ b. nat_eq w u || b) (was.closed u);
+              ahead = was.ahead;
+            })
+            (λ j v apart e s. absurd (apart ((h.intake j v e s).alone ∙ sym was.alone))) j v e);
+      }
+
+  -- An end laid beside the intake
+
+  lays_end : Merges KeepsOrder pass (an_intake made popped ahead closed) other (an_end w pushed)
+      (a_host (an_intake made popped ahead closed) (an_end w pushed)) spent
+  lays_end items views h at two at' =
+      let was = h.intake pass (an_intake made popped ahead closed) at refl in
+      let now = a_host (an_intake made popped ahead closed) (an_end w pushed) in
+      let theirs = h.ends other (an_end w pushed) (end_was views now two at') refl in
+      record {
+        reader = h.reader;
+        seat = moved h.seat w pass;
+        got = h.got;
+        made = h.made;
+        shut = h.shut;
+        below = h.below;
+        numbered = h.numbered;
+        emptied = h.emptied;
+        ends = views_set (λ j v. v.sends ≡ true → IsEnd (moved h.seat w pass) h.got items h.made h.shut j v)
+            (set views pass now) other spent (λ s. absurd (not_true s))
+            (λ j v apart e. views_set
+            (λ j v. j ≢ other → v.sends ≡ true → IsEnd (moved h.seat w pass) h.got items h.made h.shut j v)
+            views pass now (λ _ s. record {
+              alone = moved_here h.seat w pass w refl;
+              known = theirs.known;
+              still = theirs.still;
+              pushed = theirs.pushed;
+            }) (λ j v _ e apart s. let old = h.ends j v e s in
+            record {
+              alone = old.alone ∙ moved_else h.seat w pass v.worker
+                  (λ f. apart (old.alone ∙ ap h.seat f ∙ sym theirs.alone));
+              known = old.known;
+              still = old.still;
+              pushed = old.pushed;
+            }) j v e apart);
+        intake = views_set (λ j v. v.gets ≡ true → IsIntake h.reader h.got items h.made h.shut j v)
+            (set views pass now) other spent (λ s. absurd (not_true s))
+            (λ j v apart e. views_set (λ j v. v.gets ≡ true → IsIntake h.reader h.got items h.made h.shut j v) views
+            pass now (λ s. record {
+              alone = was.alone;
+              popped = was.popped;
+              made_is = was.made_is;
+              closed = was.closed;
+              ahead = was.ahead;
+            })
+            (λ j v apart e s. absurd (apart ((h.intake j v e s).alone ∙ sym was.alone))) j v e);
+      }
+
+module _ (pass made : ℕ) (popped ahead : List Offer) (closed : List ℕ) (w : ℕ) (pushed : List Offer) where
+  abbrev host : QueueView
+  host = a_host (an_intake made popped ahead closed) (an_end w pushed)
+
+  compares_host : Learns KeepsOrder pass host (Behind host)
+  compares_host items views h at =
+      rw (h.intake pass host at refl).popped (h.ends pass host at refl).pushed
+
+  parts_host : Forks KeepsOrder pass host (an_intake made popped ahead closed) (an_end w pushed)
+  parts_host items views h at =
+      let was = h.intake pass host at refl in
+      let theirs = h.ends pass host at refl in
+      let now = an_intake made popped ahead closed in
+      record {
+        reader = h.reader;
+        seat = moved h.seat w (length views);
+        got = h.got;
+        made = h.made;
+        shut = h.shut;
+        below = h.below;
+        numbered = h.numbered;
+        emptied = h.emptied;
+        ends = views_snoc
+            (λ j v. v.sends ≡ true → IsEnd (moved h.seat w (length views)) h.got items h.made h.shut j v)
+            (set views pass now) (an_end w pushed)
+            (views_set _ views pass now (λ s. absurd (not_true s)) (λ j v apart e s. let old = h.ends j v e s in
+            record {
+              alone = old.alone ∙ moved_else h.seat w (length views) v.worker
+                  (λ f. apart (old.alone ∙ ap h.seat f ∙ sym theirs.alone));
+              known = old.known;
+              still = old.still;
+              pushed = old.pushed;
+            }))
+            (λ s. record {
+              alone = length_set views pass now ∙ moved_here h.seat w (length views) w refl;
+              known = theirs.known;
+              still = theirs.still;
+              pushed = theirs.pushed;
+            });
+        intake = views_snoc (λ j v. v.gets ≡ true → IsIntake h.reader h.got items h.made h.shut j v)
+            (set views pass now) (an_end w pushed)
+            (views_set _ views pass now
+            (λ s. record {
+              alone = was.alone;
+              popped = was.popped;
+              made_is = was.made_is;
+              closed = was.closed;
+              ahead = was.ahead;
+            })
+            (λ j v apart e s. absurd (apart ((h.intake j v e s).alone ∙ sym was.alone)))) (λ s. absurd (not_true s));
+      }
+
+module _ (pass : ℕ) (v i e : QueueView) (made : ℕ) (popped ahead : List Offer) (closed : List ℕ) (w : ℕ)
+    (pushed : List Offer) (intake : i ≡ an_intake made popped ahead closed) (end : e ≡ an_end w pushed) where
+  pub lays : (other : ℕ) → Merges KeepsOrder pass i other e (a_host i e) spent
+  lays other =
+      subst (λ (y : QueueView × QueueView). Merges KeepsOrder pass y.0 other y.1 (a_host y.0 y.1) spent)
+      (λ k. (sym intake k, sym end k)) (lays_end pass made popped ahead closed other w pushed)
+
+  hosted : v ≡ a_host i e → v ≡ host pass made popped ahead closed w pushed
+  hosted is = is ∙ λ k. a_host (intake k) (end k)
+
+  pub compares : v ≡ a_host i e → Learns KeepsOrder pass v (Behind v)
+  compares is =
+      subst (λ u. Learns KeepsOrder pass u (Behind u)) (sym (hosted is))
+      (compares_host pass made popped ahead closed w pushed)
+
+  pub parts : v ≡ a_host i e
+      → Forks KeepsOrder pass v (an_intake v.made v.popped v.ahead v.closed) (an_end v.worker v.pushed)
+  parts is =
+      subst (λ u. Forks KeepsOrder pass u (an_intake u.made u.popped u.ahead u.closed) (an_end u.worker u.pushed))
+      (sym (hosted is)) (parts_host pass made popped ahead closed w pushed)
+
+-- what was popped of an end beside the intake is the front of what it pushed
+pub front_of : (v i e : QueueView) (w : ℕ) (items : List Offer) → v ≡ a_host i e → e ≡ an_end w e.pushed → Behind v items
+    → Begins e.pushed (of_worker w i.popped)
+front_of v i e w items is end behind =
+    let worker : e.worker ≡ w = ap (λ (u : QueueView). u.worker) end in
+    let all : e.pushed ≡ of_worker e.worker i.popped ++ of_worker e.worker items = rw is at behind in
+    (of_worker e.worker items, all ∙ ap (λ n. of_worker n i.popped ++ of_worker e.worker items) worker)

@@ -1,0 +1,96 @@
+-- Jobs that are begun from the last to the first, and joined from the first to the last.
+use Rattle.std.proofs.Common.{◌≡◌, List, [], ◌∷◌, ◌++◌, length, reverse, Result, Ok, Err, MatchResult, arith}
+use Rattle.std.proofs.Common.{refl, sym, ap, ◌∙◌, subst}
+use Rattle.std.proofs.lemmas.List.{append_assoc, append-nil, reverse-append}
+use Rattle.share_ingress.specs.Threads.{Matches}
+
+-- all after these jobs were begun, the last one first
+pub record Begun {A B : Type 0} (all jobs : List A) (slots : List B) (P : A → B → Type 0) : Type 0 where
+  pub rest : List A
+  pub split : all ≡ jobs ++ rest
+  pub begun : Matches P rest (reverse slots)
+
+-- what was begun and not joined stands after what was joined
+pub record Joined {A B C : Type 0} (all : List A) (slots : List B) (dones : List C) (P : A → B → Type 0)
+    (Q : A → C → Type 0) : Type 0 where
+  pub front : List A
+  pub rest : List A
+  pub split : all ≡ front ++ rest
+  pub joined : Matches Q front dones
+  pub begun : Matches P rest (reverse slots)
+
+pub begun_none : {A B : Type 0} (all : List A) (P : A → B → Type 0) → Begun all all [] P
+begun_none all P = record { rest = []; split = sym (append-nil all); begun = tt }
+
+pub begun_more : {A B : Type 0} (all jobs before : List A) (slots after : List B) (P : A → B → Type 0) (x : A) (y : B)
+    → Begun all jobs slots P → jobs ≡ before ++ x ∷ [] → after ≡ slots ++ y ∷ [] → P x y → Begun all before after P
+begun_more all jobs before slots after P x y f e g p =
+    record {
+      rest = x ∷ f.rest;
+      split = f.split ∙ ap (λ t. t ++ f.rest) e ∙ append_assoc before (x ∷ []) f.rest;
+      begun = let back : reverse after ≡ y ∷ reverse slots =
+          ap (λ t. reverse t) g ∙ reverse-append slots (y ∷ []) in
+          subst (λ t. Matches P (x ∷ f.rest) t) (sym back) (p, f.begun);
+    }
+
+matches_last : {A C : Type 0} (Q : A → C → Type 0) (xs : List A) (zs : List C) (x : A) (z : C) → Matches Q xs zs → Q x z
+    → Matches Q (xs ++ x ∷ []) (zs ++ z ∷ [])
+matches_last Q [] [] x z f q = (q, tt)
+matches_last Q [] (w ∷ zs) x z f q = absurd f
+matches_last Q (v ∷ xs) [] x z f q = absurd f
+matches_last Q (v ∷ xs) (w ∷ zs) x z f q = (f.0, matches_last Q xs zs x z f.1 q)
+
+matches_none : {A B : Type 0} (P : A → B → Type 0) (xs : List A) → Matches P xs [] → xs ≡ []
+matches_none P [] f = refl
+matches_none P (x ∷ xs) f = absurd f
+
+pub joined_none : {A B C : Type 0} (all jobs : List A) (slots : List B) (dones : List C) (P : A → B → Type 0)
+    (Q : A → C → Type 0) → Begun all jobs slots P → jobs ≡ [] → dones ≡ [] → Joined all slots dones P Q
+joined_none all jobs slots dones P Q f none first =
+    record {
+      front = [];
+      rest = f.rest;
+      split = f.split ∙ ap (λ t. t ++ f.rest) none;
+      joined = subst (λ t. Matches Q [] t) (sym first) tt;
+      begun = f.begun;
+    }
+
+pub nil_of : {A : Type 0} (xs : List A) → length xs ≡ 0 → xs ≡ []
+nil_of [] e = refl
+nil_of (x ∷ xs) e = absurd (omega (arith, e))
+
+module _ {A B C : Type 0} (all : List A) (slots before : List B) (dones after : List C) (P : A → B → Type 0)
+    (Q : A → C → Type 0) (y : B) (z : C) (last : slots ≡ before ++ y ∷ []) (more : after ≡ dones ++ z ∷ [])
+    (did : (x : A) → P x y → Q x z) where
+  joins : (front rest : List A) → all ≡ front ++ rest → Matches Q front dones → Matches P rest (y ∷ reverse before)
+      → Joined all before after P Q
+  joins front [] split joined begun = absurd begun
+  joins front (x ∷ rest) split joined begun =
+      record {
+        front = front ++ x ∷ [];
+        rest = rest;
+        split = split ∙ sym (append_assoc front (x ∷ []) rest);
+        joined = subst (λ t. Matches Q (front ++ x ∷ []) t) (sym more)
+            (matches_last Q front dones x z joined (did x begun.0));
+        begun = begun.1;
+      }
+
+  pub joined_more : Joined all slots dones P Q → Joined all before after P Q
+  joined_more f =
+      let back : reverse slots ≡ y ∷ reverse before =
+      ap (λ t. reverse t) last ∙ reverse-append before (y ∷ []) in
+      joins f.front f.rest f.split f.joined (subst (λ t. Matches P f.rest t) back f.begun)
+
+pub joined_all : {A B C : Type 0} (all : List A) (slots : List B) (dones : List C) (P : A → B → Type 0)
+    (Q : A → C → Type 0) → Joined all slots dones P Q → slots ≡ [] → Matches Q all dones
+joined_all all slots dones P Q f e =
+    let none : Matches P f.rest [] = subst (λ t. Matches P f.rest (reverse t)) e f.begun in
+    let is : all ≡ f.front =
+    f.split ∙ ap (λ t. f.front ++ t) (matches_none P f.rest none) ∙ append-nil f.front in
+    subst (λ t. Matches Q t dones) (sym is) f.joined
+
+-- what one joined leaves is that of its job
+pub finished : {A H D : Type 0} (y : Result H D) (r : D) (Q : A → D → Type 0) (job_of : H → A)
+    → MatchResult y (λ h. Q (job_of h) r) (λ d. r ≡ d) → (x : A) → MatchResult y (λ h. job_of h ≡ x) (λ d. Q x d) → Q x r
+finished (Ok h) r Q job_of f x g = subst (λ a. Q a r) g f
+finished (Err d) r Q job_of f x g = subst (λ e. Q x e) (sym f) g

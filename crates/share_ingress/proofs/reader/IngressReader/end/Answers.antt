@@ -1,0 +1,14 @@
+use Rattle.std.proofs.Common.{Some}
+use Rattle.share_ingress.proofs.ReaderSteps.{stands_ended}
+use Rattle.share_ingress.proofs.reader.IngressReader.end.Goals as goal
+
+pub invariant_of-self : goal.invariant_of-self
+invariant_of-self g c = (
+  c.self.invariant.0,
+  stands_ended g.R.Source.gives g.R.Source.left c.args.ended (record {
+    reader = c.self.inside.reader;
+    held = c.self.inside.held.items;
+    turns = c.self.inside.turns;
+    ended = c.self.inside.ended;
+  }) (Some c.args.ended) (rw (← c.self.view_is) at c.requires),
+)

@@ -1,0 +1,9 @@
+use Rattle.std.proofs.Common.{◌≡◌}
+use Rattle.share_ingress.proofs.workers.put.Given as goal
+
+abbrev pub invariant-loop : goal.invariant-loop
+invariant-loop g l = record {
+  end : l.end ≡ l.initial.end;
+  reader : l.reader ≡ record l.initial.reader { turns = l.reader.turns };
+  parcel : l.parcel ≡ l.fn.parcel;
+}

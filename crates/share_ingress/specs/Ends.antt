@@ -1,0 +1,71 @@
+-- What a contract sees of the two sides of the queue, and what their calls do.
+use Rattle.std.specs.Prelude.{◌≡◌, ◌⊎◌, ◌<◌, ◌^◌, ℕ, suc, zero, Bool, false, not, ◌&&◌, ◌||◌, nat_le, List, [], ◌∷◌}
+use Rattle.std.specs.Prelude.{◌++◌, length, Option}
+use Rattle.atomic_table.specs.Seated.{TableId}
+use Rattle.crossbeam_queue.specs.Fifo.{Held}
+use Rattle.share_base.specs.declared.refusal.Refusal.{Refusal}
+use Rattle.share_base.specs.declared.refusal.Refusal.TheVariants.{Range}
+use Rattle.share_base.specs.Refusal.{first_refusal}
+use Rattle.share_model.specs.declared.ingress.Offer.{Offer}
+use Rattle.share_model.specs.ingress.Queue.{offer, of_worker, has, Begins}
+use Rattle.share_ingress.specs.declared.ends.Offered.{Offered}
+use Rattle.share_ingress.specs.declared.ends.Offered.TheVariants.{Queued, Full}
+
+-- the queue by its name, how many offers it holds at most, the worker, and what this end pushed
+pub record EndView : Type 0 where
+  pub link : TableId
+  pub capacity : ℕ
+  pub worker : ℕ
+  pub pushed : List Offer
+
+-- the queue by its name, how many workers it has, what was popped, what it held just after the last pop, and the
+-- workers whose ends were joined to the intake
+pub record IntakeView : Type 0 where
+  pub link : TableId
+  pub workers : ℕ
+  pub popped : List Offer
+  pub ahead : List Offer
+  pub closed : List ℕ
+
+-- A new queue
+
+abbrev pub is_out_of_range : ℕ → ℕ → Bool
+is_out_of_range most n = not (nat_le 1 n && nat_le n most)
+
+-- what is answered where a queue is made, memory aside: it has 1 to 1024 places, and 1 or 2 workers
+abbrev pub queue_refusal : ℕ → ℕ → Option Refusal
+queue_refusal capacity workers =
+    first_refusal ((is_out_of_range 1024 capacity || is_out_of_range 2 workers, Range) ∷ [])
+
+abbrev pub new_end : TableId → ℕ → ℕ → EndView
+new_end link capacity worker = record { link = link; capacity = capacity; worker = worker; pushed = [] }
+
+-- the ends of the workers from 0 on
+abbrev pub new_ends : TableId → ℕ → ℕ → List EndView
+new_ends link capacity zero = []
+new_ends link capacity (suc n) = new_ends link capacity n ++ new_end link capacity n ∷ []
+
+abbrev pub new_intake : TableId → ℕ → IntakeView
+new_intake link workers = record { link = link; workers = workers; popped = []; ahead = []; closed = [] }
+
+-- What a call did
+
+abbrev pub with_offer : EndView → List ℕ → List ℕ → EndView
+with_offer e name parcel =
+    record e { pushed = e.pushed ++ offer e.worker (suc (length e.pushed)) name parcel ∷ [] }
+
+-- it was queued as the next offer of this worker; or it came back, where the queue was full at some moment, with what
+-- it held of this worker the last of what this end pushed, or where the end has pushed 2^40
+abbrev pub Offers : EndView → List ℕ → List ℕ → Offered → EndView → Type 0
+Offers old name parcel (Queued n) new = (n ≡ suc (length old.pushed)) × (new ≡ with_offer old name parcel)
+Offers old name parcel (Full back) new =
+    (back ≡ parcel) × (new ≡ old) × ((length old.pushed ≡ 2 ^ 40)
+    ⊎ Held old.capacity (λ items. (before : List Offer) × (old.pushed ≡ before ++ of_worker old.worker items)))
+
+-- the first of what was ahead was popped: from a worker of the queue that is not closed, with its next number
+pub record IsTake (old : IntakeView) (o : Offer) (new : IntakeView) : Type 0 where
+  pub popped : new ≡ record old { popped = old.popped ++ o ∷ []; ahead = new.ahead }
+  pub front : Begins (o ∷ new.ahead) old.ahead
+  pub known : o.worker < old.workers
+  pub number : o.n ≡ suc (length (of_worker o.worker old.popped))
+  pub still : has o.worker old.closed ≡ false

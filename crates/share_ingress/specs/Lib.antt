@@ -1,0 +1,5 @@
+pub mod Ends
+pub mod Found
+pub mod Reader
+pub mod Threads
+pub mod Workers

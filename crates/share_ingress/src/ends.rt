@@ -1,0 +1,228 @@
+//! The queue from the workers to the link.
+ghost use Rattle.std.specs.Prelude.{◌≡◌, ◌≤◌, ◌^◌, suc, [], length, None, IfOk, IfErr, IfSome, IfNone};
+ghost use Rattle.std.specs.Arc.{arc_value};
+ghost use Rattle.crossbeam_queue.specs.Passes.{view, IsPassOf, ruled_capacity};
+ghost use Rattle.share_base.specs.Refusal.{IsRefused};
+ghost use Rattle.share_model.specs.ingress.Queue.{an_intake, of_worker, Begins};
+ghost use Rattle.share_ingress.specs.Ends.{queue_refusal, new_end, new_ends, new_intake, Offers, IsTake, is_out_of_range};
+
+use crate::held::{Beside, Ends, Line, Puts, Takes, Token};
+use share_base::{Name, Parcel, Refusal};
+use share_model::Offer;
+use std::alloc::{AllocError, Global};
+use std::marker::Model;
+use std::sync::{Arc, Wait};
+
+/// How many offers a queue holds at most.
+const MAX_CAPACITY: usize = 1024;
+
+/// How many workers a queue has at most.
+const MAX_WORKERS: usize = 2;
+
+/// How many offers an end queues at most.
+const MAX_OFFERS: u64 = 1 << 40;
+
+/// What an end answers to an offer.
+#[derive(Drop)]
+pub enum Offered {
+    /// It is queued, and is the n-th offer that this end queued.
+    Queued(u64),
+    /// It is not, and here is the parcel: the queue was full, or the end has queued 2^40 offers.
+    Full(Parcel),
+}
+
+/// A worker's end of the queue, which alone queues this worker's offers. A contract sees the queue by its name, how many
+/// offers it holds at most, the worker, counted from 0, and what the end pushed.
+#[derive(Drop)]
+pub struct IngressEnd {
+    queue: Arc<Line, Global>,
+    token: Token,
+    worker: u64,
+    count: u64,
+}
+
+impl Model for IngressEnd {
+    ghost use Rattle.std.specs.Prelude.{◌≡◌, ◌≤◌, ◌^◌, length};
+    ghost use Rattle.std.specs.Arc.{arc_value};
+    ghost use Rattle.crossbeam_queue.specs.Passes.{view as known, IsPassOf, ruled_capacity};
+    ghost use Rattle.share_model.specs.ingress.Queue.{an_end};
+    ghost use Rattle.share_ingress.specs.Ends.{EndView};
+
+    ghost Value = { EndView };
+
+    ghost view = { λ e. record {
+      link = e.token.table_id;
+      capacity = ruled_capacity (arc_value e.queue);
+      worker = e.worker;
+      pushed = (known e.token).pushed;
+    } };
+
+    ghost invariant = { λ e.
+        IsPassOf (arc_value e.queue) e.token
+        × (known e.token ≡ an_end e.worker (known e.token).pushed)
+        × (e.count ≡ length (known e.token).pushed)
+        × (e.count ≤ 2 ^ 40) };
+}
+
+/// The link's side of the queue, which alone pops. A contract sees the queue by its name, how many workers it has, what
+/// was popped, what the queue held just after the last pop, and the workers whose ends were joined to the intake.
+#[derive(Drop)]
+pub struct Intake {
+    queue: Arc<Line, Global>,
+    token: Token,
+    workers: u64,
+}
+
+impl Model for Intake {
+    ghost use Rattle.std.specs.Prelude.{◌≡◌};
+    ghost use Rattle.std.specs.Arc.{arc_value};
+    ghost use Rattle.crossbeam_queue.specs.Passes.{view as known, IsPassOf};
+    ghost use Rattle.share_model.specs.ingress.Queue.{an_intake};
+    ghost use Rattle.share_ingress.specs.Ends.{IntakeView};
+
+    ghost Value = { IntakeView };
+
+    ghost view = { λ i. record {
+      link = i.token.table_id;
+      workers = i.workers;
+      popped = (known i.token).popped;
+      ahead = (known i.token).ahead;
+      closed = (known i.token).closed;
+    } };
+
+    ghost invariant = { λ i.
+        IsPassOf (arc_value i.queue) i.token
+        × (known i.token
+        ≡ an_intake i.workers (known i.token).popped (known i.token).ahead (known i.token).closed) };
+}
+
+/// A new queue of so many places, 1 to 1024, with an end for each of so many workers, 1 or 2, in their order. Refusals:
+/// `Range` where a number is none of these, `NoMemory` where a growth was refused.
+pub fn queue(
+    alloc: Global,
+    capacity: usize,
+    workers: usize,
+) -> Result<(Intake, Vec<IngressEnd>), Refusal>
+    ensures ok { IfOk result (λ made. (made.0 ≡ new_intake made.0.link workers)
+        × (made.1.items ≡ new_ends made.0.link capacity workers)
+        × (queue_refusal capacity workers ≡ None)) }
+    ensures refused { IfErr result (IsRefused (queue_refusal capacity workers)) }
+{
+    if is_out_of_range(MAX_CAPACITY, capacity) || is_out_of_range(MAX_WORKERS, workers) {
+        return Err(Refusal::Range);
+    }
+    let mut ends = Vec::with_capacity(alloc, workers)?;
+    let (line, mut token) = Line::ruled(alloc, capacity)?;
+    let queue = Arc::new(alloc, line)?;
+    for worker in 0..workers {
+        ends.push(another_end(&queue, &mut token, worker as u64)?)?;
+    }
+    let intake = Intake {
+        queue,
+        token,
+        workers: workers as u64,
+    };
+    Ok((intake, ends))
+}
+
+fn is_out_of_range(most: usize, number: usize) -> bool
+    ensures { result ≡ is_out_of_range most number }
+{
+    number == 0 || number > most
+}
+
+// The end of one more worker.
+fn another_end(
+    queue: &Arc<Line, Global>,
+    token: &mut Token,
+    worker: u64,
+) -> Result<IngressEnd, AllocError>
+    requires queue { IsPassOf (arc_value queue.now) token.old }
+    requires known { view token.old ≡ an_intake worker [] [] [] }
+    ensures end { IfOk result (λ end. end
+        ≡ new_end token.old.table_id (ruled_capacity (arc_value queue.now)) worker) }
+    ensures queue { IfOk result (λ _. IsPassOf (arc_value queue.now) token.new) }
+    ensures link { IfOk result (λ _. token.new.table_id ≡ token.old.table_id) }
+    ensures known { IfOk result (λ _. view token.new ≡ an_intake (suc worker) [] [] []) }
+{
+    let theirs = Arc::try_clone(queue)?;
+    let own = queue.another::<Ends>(token);
+    Ok(IngressEnd {
+        queue: theirs,
+        token: own,
+        worker,
+        count: 0,
+    })
+}
+
+impl IngressEnd {
+    /// How many offers this end queued.
+    pub fn queued(&self) -> u64
+        ensures count { result ≡ length self.now.pushed }
+        ensures most { result ≤ 2 ^ 40 }
+    {
+        self.count
+    }
+
+    /// Offers a record to the queue. It is queued as this worker's next offer, or comes back: only where the queue was
+    /// full at some moment of the call, or this end has queued 2^40 offers. It takes no memory, and may spin while
+    /// another thread is in the middle of a push or a pop.
+    pub fn offer<R: Wait>(&mut self, rt: &R, name: Name, parcel: Parcel) -> Offered
+        ensures { Offers self.old name parcel result self.new }
+    {
+        if self.count == MAX_OFFERS {
+            return Offered::Full(parcel);
+        }
+        let offer = Offer {
+            worker: self.worker,
+            n: self.count + 1,
+            name,
+            parcel,
+        };
+        match self.queue.push_as::<Puts, R>(rt, &mut self.token, offer) {
+            Ok(()) => {
+                self.count += 1;
+                Offered::Queued(self.count)
+            }
+            Err(back) => {
+                let Offer { parcel, .. } = back;
+                Offered::Full(parcel)
+            }
+        }
+    }
+}
+
+impl Intake {
+    /// Takes the offer in front, or `None` where the queue was empty at some moment of the call. It takes no memory, and
+    /// may spin while another thread is in the middle of a push.
+    pub fn take<R: Wait>(&mut self, rt: &R) -> Option<Offer>
+        ensures some { IfSome result (λ offer. IsTake self.old offer self.new) }
+        ensures none { IfNone result ((self.new ≡ self.old) × (self.old.ahead ≡ [])) }
+    {
+        self.queue.pop_as::<Takes, R>(rt, &mut self.token)
+    }
+
+    /// Lays an end of this queue beside the intake and gives it back: what was popped of its worker is, in order, the
+    /// beginning of what it pushed. It takes no memory.
+    pub fn compare(&mut self, end: IngressEnd) -> IngressEnd
+        requires { end.link ≡ self.old.link }
+        ensures same { (self.new ≡ self.old) × (result ≡ end) }
+        ensures front { Begins end.pushed (of_worker end.worker self.old.popped) }
+    {
+        let IngressEnd {
+            queue,
+            token,
+            worker,
+            count,
+        } = end;
+        self.queue.absorb::<Beside>(&mut self.token, token);
+        self.queue.learn_as::<Beside>(&mut self.token);
+        let token = self.queue.another::<Beside>(&mut self.token);
+        IngressEnd {
+            queue,
+            token,
+            worker,
+            count,
+        }
+    }
+}

@@ -1,0 +1,17 @@
+//! The ingress side of a link: readers of records, the queue from the workers to the link, and the workers.
+#![tactic(auto)]
+
+mod ends;
+mod held;
+mod reader;
+mod record;
+#[cfg(test)]
+mod tests;
+mod threads;
+mod workers;
+
+pub use ends::{IngressEnd, Intake, Offered, queue};
+pub use reader::{IngressReader, Next};
+pub use share_model::{Ended, Offer};
+pub use threads::{Job, run_workers};
+pub use workers::{Done, Gate, Why, run_worker};

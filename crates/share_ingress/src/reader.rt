@@ -1,0 +1,187 @@
+//! Readers of records.
+ghost use Rattle.std.specs.Prelude.{◌≡◌, ◌<◌, ◌-◌, [], None, Some, IfOk, IfSome, MatchResult, MatchBool};
+ghost use Rattle.share_ingress.specs.Found.{BeginsWhole, NeedsMore};
+ghost use Rattle.share_ingress.specs.declared.reader.Next.TheVariants.{Ended as Over};
+ghost use Rattle.share_ingress.specs.Reader.{Answers, HasReason, Stands, Stops, ReadsOn, EndsInput};
+
+use crate::record::{FRAMING, Found, first_record};
+use bytes::BytesMut;
+use share_base::{Name, Parcel, Refusal};
+use share_model::{Ended, Got, Source};
+use std::alloc::{AllocError, Global};
+use std::marker::Model;
+
+/// How many bytes are read in one call, at most.
+const CHUNK: usize = 65536;
+
+/// How many bytes of a part of a record may stand before those of a read.
+const CARRIED: usize = 2048;
+
+/// What a reader answers.
+#[derive(Drop)]
+pub enum Next {
+    /// The item of the next record.
+    Item { name: Name, parcel: Parcel },
+    /// There is none, for this reason.
+    Ended(Ended),
+}
+
+/// A reader of records over a reader of bytes. It holds at most the bytes of one read and a part of a record.
+#[derive(Drop)]
+pub struct IngressReader<R: Source> {
+    alloc: Global,
+    reader: R,
+    // Read and not yet given.
+    held: BytesMut,
+    // What one read fills.
+    chunk: Vec<u8>,
+    turns: u64,
+    ended: Option<Ended>,
+}
+
+impl<R: Source> Model for IngressReader<R> {
+    ghost use Rattle.std.specs.Prelude.{◌≡◌, ◌<◌, ℕ, length, Option, None, IfSome};
+    ghost use Rattle.share_ingress.specs.Reader.{Reading, Stands};
+
+    ghost Value = { Reading R };
+
+    ghost view = { λ r. record { reader = r.reader; held = r.held.items; turns = r.turns; ended = r.ended } };
+
+    ghost invariant = { λ r. (length r.chunk.items ≡ 65536)
+        × IfSome r.ended (Stands R.gives
+        (record { reader = r.reader; held = r.held.items; turns = r.turns; ended = r.ended })) };
+}
+
+impl<R: Source + Drop> IngressReader<R> {
+    /// A reader that makes at most so many read calls. `NoMemory` where no buffer was to be had; the reader is
+    /// dropped then.
+    pub fn new(alloc: Global, reader: R, bound: u64) -> Result<IngressReader<R>, Refusal>
+        ensures ok { IfOk result (λ r. r ≡ record { reader = reader; held = []; turns = bound; ended = None }) }
+    {
+        let held = BytesMut::with_capacity(alloc, CHUNK + CARRIED)?;
+        let chunk = vec![in alloc; 0u8; CHUNK]?;
+        Ok(IngressReader {
+            alloc,
+            reader,
+            held,
+            chunk,
+            turns: bound,
+            ended: None,
+        })
+    }
+}
+
+impl<R: Source> IngressReader<R> {
+    /// The next item of the stream, or why there is none: `End` after a whole record or where the stream is empty,
+    /// `Cut` inside a record, `BadRecord` at a field out of its range, `Fault` where a read failed, `NoMemory` where a
+    /// growth was refused, `Bound` where all reads were used up and another one was needed. What is answered after the
+    /// items is answered for good, and nothing is read then.
+    ///
+    /// A record is the length of a name in one byte, the name, the length of a payload in two bytes, the greater part
+    /// first, and the payload. An interrupted read is made again; each read is counted.
+    pub fn next(&mut self) -> Next
+        ensures again { IfSome self.old.ended (λ ended. (result ≡ Over ended) × (self.new ≡ self.old)) }
+        ensures first { self.old.ended ≡ None → Answers R.gives R.left self.old result self.new }
+        ensures reason { HasReason R.gives result self.new }
+    {
+        match self.ended {
+            Some(ended) => Next::Ended(ended),
+            None => self.read_on(),
+        }
+    }
+
+    /// Uses up a turn without a read, where one is left.
+    pub(crate) fn turn(&mut self) -> bool
+        requires { self.old.ended ≡ None }
+        ensures { MatchBool result (self.new ≡ record self.old { turns = self.old.turns - 1 })
+            ((self.new ≡ self.old) × (self.old.turns ≡ 0)) }
+    {
+        if self.turns == 0 {
+            return false;
+        }
+        self.turns -= 1;
+        true
+    }
+
+    // Reads up to the end of a record, or of the stream.
+    fn read_on(&mut self) -> Next
+        requires { self.old.ended ≡ None }
+        ensures { Answers R.gives R.left self.old result self.new }
+    {
+        'record: loop {
+            match first_record(self.held.as_slice()) {
+                Found::Whole(name, size) => return self.give(name, size),
+                Found::Bad => return self.end(Ended::BadRecord),
+                Found::Part => (),
+            }
+            if let Err(ended) = self.read() {
+                return self.end(ended);
+            }
+        }
+    }
+
+    // Gives the item of the record in front.
+    fn give(&mut self, name: Name, size: usize) -> Next
+        requires still { self.old.ended ≡ None }
+        requires whole { BeginsWhole self.old.held name size }
+        ensures { Answers R.gives R.left self.old result self.new }
+    {
+        let start = FRAMING + name.as_bytes().len();
+        match Parcel::new(self.alloc, &self.held.as_slice()[start..start + size]) {
+            Err(_) => self.end(Ended::NoMemory),
+            Ok(parcel) => {
+                self.held.advance(start + size);
+                Next::Item { name, parcel }
+            }
+        }
+    }
+
+    // The answer from here on.
+    fn end(&mut self, ended: Ended) -> Next
+        requires { Stands R.gives self.old ended }
+        ensures answer { result ≡ Over ended }
+        ensures same { self.new ≡ record self.old { ended = Some ended } }
+    {
+        self.ended = Some(ended);
+        Next::Ended(ended)
+    }
+
+    // Makes one read.
+    fn read(&mut self) -> Result<(), Ended>
+        requires still { self.old.ended ≡ None }
+        requires more { NeedsMore self.old.held }
+        ensures still { self.new.ended ≡ None }
+        ensures read { MatchResult result (λ _. ReadsOn R.gives R.left self.old self.new)
+            (λ ended. Stops R.gives R.left self.old ended self.new) }
+        ensures turn { IfOk result (λ _. self.new.turns < self.old.turns) }
+    {
+        if self.turns == 0 {
+            return Err(Ended::Bound);
+        }
+        if self.held.reserve(CHUNK).is_err() {
+            return Err(Ended::NoMemory);
+        }
+        self.turns -= 1;
+        match self.reader.take_bytes(self.chunk.as_mut_slice()) {
+            Got::Bytes(count) => {
+                self.held.extend_reserved(&self.chunk[..count]);
+                Ok(())
+            }
+            Got::Interrupted => Ok(()),
+            Got::End => Err(end_of_input(self.held.as_slice())),
+            Got::Failed => Err(Ended::Fault),
+        }
+    }
+}
+
+// How a stream ends whose reader below has no more, and of which this much is held.
+fn end_of_input(held: &[u8]) -> Ended
+    requires { NeedsMore held.now }
+    ensures { EndsInput held.now result }
+{
+    if held.is_empty() {
+        Ended::End
+    } else {
+        Ended::Cut
+    }
+}

@@ -1,0 +1,63 @@
+//! What the bytes of a stream begin with.
+ghost use Rattle.std.specs.Prelude.{◌≡◌, ◌∷◌, ◌++◌, true, length};
+ghost use Rattle.share_base.specs.Name.{is_name};
+ghost use Rattle.share_ingress.specs.Found.{IsFound};
+
+use share_base::Name;
+
+/// The longest name, in bytes.
+const MAX_NAME: usize = 16;
+
+/// The longest payload, in bytes.
+const MAX_PAYLOAD: usize = 1490;
+
+/// How many bytes a record has beside its name and its payload.
+pub(crate) const FRAMING: usize = 3;
+
+/// What bytes begin with.
+pub(crate) enum Found {
+    /// A whole record with this name, and so many bytes of payload.
+    Whole(Name, usize),
+    /// A whole field that is out of its range.
+    Bad,
+    /// Nothing, or a part of a record.
+    Part,
+}
+
+/// What bytes begin with. Fields are read one after the other, and each is checked when it is whole.
+pub(crate) fn first_record(bytes: &[u8]) -> Found
+    ensures { IsFound bytes.now result }
+{
+    let Some(first) = bytes.first() else {
+        return Found::Part;
+    };
+    let length = usize::from(*first);
+    if length == 0 || length > MAX_NAME {
+        return Found::Bad;
+    }
+    if bytes.len() < 1 + length {
+        return Found::Part;
+    }
+    match Name::read(&bytes[1..1 + length]) {
+        None => Found::Bad,
+        Some(name) => after_name(name, &bytes[1 + length..]),
+    }
+}
+
+// What a name, with its length before it, and the bytes after it begin with.
+fn after_name(name: Name, tail: &[u8]) -> Found
+    requires { is_name name ≡ true }
+    ensures { IsFound ((length name ∷ name) ++ tail.now) result }
+{
+    if tail.len() < 2 {
+        return Found::Part;
+    }
+    let size = usize::from(tail[0]) * 256 + usize::from(tail[1]);
+    if size == 0 || size > MAX_PAYLOAD {
+        return Found::Bad;
+    }
+    if tail.len() < 2 + size {
+        return Found::Part;
+    }
+    Found::Whole(name, size)
+}

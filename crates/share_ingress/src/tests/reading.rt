@@ -1,0 +1,247 @@
+//! Streams of records: whole, cut, out of range, and from readers that fail or interrupt.
+
+use crate::{Ended, IngressReader, Next};
+use share_model::{Got, PlainReader, Source};
+use std::alloc::{AllocError, Global};
+use std::process::Abort;
+use std::test::Fail;
+
+/// Two records for the flow a, with the payloads `b` and `cd`.
+const TWO: &[u8] = &[1, 97, 0, 1, 98, 1, 97, 0, 2, 99, 100];
+
+/// More items than any stream here has.
+const MANY: usize = 1000000;
+
+/// Gives its bytes one a read, fails in place of the byte at a place, and interrupts each other read where it is to.
+#[derive(Drop)]
+pub struct Dripping<'a> {
+    bytes: &'a [u8],
+    given: usize,
+    failing: usize,
+    interrupts: bool,
+    ready: bool,
+}
+
+impl<'a> Dripping<'a> {
+    pub fn new(bytes: &'a [u8], failing: usize, interrupts: bool) -> Dripping<'a> {
+        Dripping {
+            bytes,
+            given: 0,
+            failing,
+            interrupts,
+            ready: false,
+        }
+    }
+}
+
+impl<'a> Source for Dripping<'a> {
+    ghost use Rattle.std.specs.Prelude.{None};
+    ghost use Rattle.share_model.specs.io.Given.{Gives};
+
+    ghost left = { λ _. None };
+
+    ghost gives = { λ _ buffer got _. Gives None buffer got None };
+
+    ghost tells = { λ before buffer got after given. given };
+
+    fn take_bytes(&mut self, buffer: &mut [u8]) -> Got {
+        if self.given == self.failing {
+            return Got::Failed;
+        }
+        if self.interrupts && !self.ready {
+            self.ready = true;
+            return Got::Interrupted;
+        }
+        self.ready = false;
+        match self.bytes.get(self.given) {
+            None => Got::End,
+            Some(byte) => {
+                buffer[0] = *byte;
+                self.given += 1;
+                Got::Bytes(1)
+            }
+        }
+    }
+}
+
+/// How many items a reader gives, and how it ends.
+fn count<R: Source>(reader: &mut IngressReader<R>) -> (usize, Ended) {
+    for items in 0..MANY {
+        match reader.next() {
+            Next::Item { .. } => (),
+            Next::Ended(ended) => return (items, ended),
+        }
+    }
+    (MANY, Ended::Bound)
+}
+
+/// The same of bytes that are read as a whole, and one a read.
+fn counts_of(alloc: Global, bytes: &[u8]) -> Option<[(usize, Ended); 2]> {
+    let mut whole = IngressReader::new(alloc, PlainReader(bytes), 2).ok()?;
+    let mut drops = IngressReader::new(alloc, Dripping::new(bytes, MANY, false), 100).ok()?;
+    Some([count(&mut whole), count(&mut drops)])
+}
+
+#[test]
+fn streams_end_as_their_fields_say(rt: HostRuntime) {
+    let rows: [(&[u8], usize, Ended); 9] = [
+        (&[], 0, Ended::End),
+        (&[1, 97, 0, 1, 97, 1, 97, 0, 2, 98], 1, Ended::Cut),
+        (&[1, 97, 0, 1, 97, 0], 1, Ended::BadRecord),
+        (&[1, 97, 0, 1, 97, 1, 97, 5, 211], 1, Ended::BadRecord),
+        (&[1, 65], 0, Ended::BadRecord),
+        (&[17], 0, Ended::BadRecord),
+        (&[0], 0, Ended::BadRecord),
+        (&[1, 97, 0], 0, Ended::Cut),
+        (&[1, 97, 0, 0], 0, Ended::BadRecord),
+    ];
+    for (bytes, items, ended) in rows {
+        let expected = (items, ended);
+        assert_eq!(rt; counts_of(rt.alloc(), bytes), Some([expected, expected]));
+    }
+}
+
+#[test]
+fn a_stream_is_cut_at_each_byte(rt: HostRuntime) {
+    for length in 0..=TWO.len() {
+        let expected = match length {
+            0 => (0, Ended::End),
+            1..=4 => (0, Ended::Cut),
+            5 => (1, Ended::End),
+            6..=10 => (1, Ended::Cut),
+            _ => (2, Ended::End),
+        };
+        assert_eq!(rt;
+            counts_of(rt.alloc(), &TWO[..length]),
+            Some([expected, expected])
+        );
+    }
+}
+
+#[test]
+fn an_item_is_the_name_and_the_payload(rt: HostRuntime) -> Result<(), Fail> {
+    let mut reader = IngressReader::new(rt.alloc(), PlainReader(TWO), 10)
+        .ok()
+        .ok_or("reader")?;
+    for payload in [b"b".as_slice(), b"cd".as_slice()] {
+        let Next::Item { name, parcel } = reader.next() else {
+            return Err("item".into());
+        };
+        assert_eq!(rt; name.as_bytes(), b"a".as_slice());
+        let (sending, audit) = parcel.split();
+        assert_eq!(rt; sending.as_slice(), payload);
+        assert_eq!(rt; audit.as_slice(), payload);
+    }
+    Ok(())
+}
+
+#[test]
+fn a_read_fails_at_each_byte(rt: HostRuntime) -> Result<(), Fail> {
+    for failing in 0..TWO.len() {
+        let dripping = Dripping::new(TWO, failing, true);
+        let mut reader = IngressReader::new(rt.alloc(), dripping, 1000)
+            .ok()
+            .ok_or("reader")?;
+        let items = if failing < 5 { 0 } else { 1 };
+        assert_eq!(rt; count(&mut reader), (items, Ended::Fault));
+        assert_eq!(rt; count(&mut reader), (0, Ended::Fault));
+    }
+    Ok(())
+}
+
+#[test]
+fn each_read_is_counted(rt: HostRuntime) -> Result<(), Fail> {
+    for bound in 0..14 {
+        let expected = match bound {
+            0..=4 => (0, Ended::Bound),
+            5..=10 => (1, Ended::Bound),
+            11 => (2, Ended::Bound),
+            _ => (2, Ended::End),
+        };
+        let mut reader = IngressReader::new(rt.alloc(), Dripping::new(TWO, MANY, false), bound)
+            .ok()
+            .ok_or("reader")?;
+        assert_eq!(rt; count(&mut reader), expected);
+        assert_eq!(rt; count(&mut reader), (0, expected.1));
+    }
+    Ok(())
+}
+
+#[test]
+fn an_interrupted_read_is_made_again(rt: HostRuntime) -> Result<(), Fail> {
+    let dripping = Dripping::new(TWO, MANY, true);
+    let mut reader = IngressReader::new(rt.alloc(), dripping, 1000)
+        .ok()
+        .ok_or("reader")?;
+    assert_eq!(rt; count(&mut reader), (2, Ended::End));
+    Ok(())
+}
+
+/// Gives a pattern again and again, some 100 MB of it.
+#[derive(Drop)]
+struct Flood {
+    pattern: Vec<u8>,
+    at: usize,
+    chunks: usize,
+}
+
+impl Source for Flood {
+    ghost use Rattle.std.specs.Prelude.{None};
+    ghost use Rattle.share_model.specs.io.Given.{Gives};
+
+    ghost left = { λ _. None };
+
+    ghost gives = { λ _ buffer got _. Gives None buffer got None };
+
+    ghost tells = { λ before buffer got after given. given };
+
+    fn take_bytes(&mut self, buffer: &mut [u8]) -> Got {
+        if self.chunks == 0 {
+            return Got::End;
+        }
+        self.chunks -= 1;
+        for byte in buffer.iter_mut() {
+            *byte = *self.pattern.get(self.at).unwrap_or(&0);
+            self.at = self.at.saturating_add(1);
+            if self.at >= self.pattern.len() {
+                self.at = 0;
+            }
+        }
+        Got::Bytes(buffer.len())
+    }
+}
+
+fn flooded(alloc: Global, pattern: &[u8]) -> Result<Flood, AllocError> {
+    Ok(Flood {
+        pattern: Vec::from_slice(alloc, pattern)?,
+        at: 0,
+        chunks: 1600,
+    })
+}
+
+#[test]
+fn a_flood_of_garbage_ends_at_its_first_field(rt: HostRuntime) -> Result<(), Fail> {
+    for garbage in [0, 65, 255] {
+        let mut reader = IngressReader::new(rt.alloc(), flooded(rt.alloc(), &[garbage])?, 1 << 40)
+            .ok()
+            .ok_or("reader")?;
+        assert_eq!(rt; count(&mut reader), (0, Ended::BadRecord));
+    }
+    Ok(())
+}
+
+#[test]
+fn a_flood_of_records_is_read_to_its_end(rt: HostRuntime) -> Result<(), Fail> {
+    let mut pattern = Vec::new(rt.alloc());
+    pattern.extend_from_slice(&[1, 97, 2, 188])?;
+    pattern.extend_from_slice(&[b'x'; 700])?;
+    let mut reader = IngressReader::new(
+        rt.alloc(),
+        flooded(rt.alloc(), pattern.as_slice())?,
+        1 << 40,
+    )
+    .ok()
+    .ok_or("reader")?;
+    assert_eq!(rt; count(&mut reader), (148945, Ended::Cut));
+    Ok(())
+}

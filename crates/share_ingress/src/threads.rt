@@ -1,0 +1,147 @@
+//! Workers in threads of their own.
+ghost use Rattle.std.specs.Prelude.{◌≡◌, ◌<◌, ◌≤◌, ◌+◌, ◌++◌, ◌∷◌, [], IfOk, IfErr, MatchResult, vec_len, vec_capacity};
+ghost use Rattle.share_ingress.specs.Threads.{IsJobDone, Matches};
+
+use crate::ends::IngressEnd;
+use crate::reader::IngressReader;
+use crate::workers::{Done, Gate, Why, run_worker};
+use share_model::Source;
+use std::alloc::Global;
+use std::snapshot::Snapshot;
+use std::sync::atomic::{AtomicU64, Ordering};
+use std::sync::{Arc, Wait};
+use std::thread;
+use std::thread::{Promise, PromisedHandle, Threads};
+
+/// What a worker is to do: whose records it queues, where, and its gate.
+#[derive(Drop)]
+pub struct Job<R: Source, G> {
+    pub reader: IngressReader<R>,
+    pub end: IngressEnd,
+    pub gate: G,
+}
+
+// That a worker did its job.
+#[derive(Drop)]
+struct WorkOf<R: Source, G>(Snapshot<Job<R, G>>);
+
+impl<R: Source, G> Promise<Done<G>> for WorkOf<R, G> {
+    ghost use Rattle.share_ingress.specs.Threads.{IsJobDone};
+
+    ghost kept_by = { λ p done. IsJobDone R.gives R.left p.0.value done };
+}
+
+// A worker at work, or one that was not started.
+type Begun<R, G> = Result<PromisedHandle<Done<G>, WorkOf<R, G>>, Done<G>>;
+
+/// Runs each job in a thread of its own, joins all, and answers what they leave, in the order of the jobs. A job whose
+/// thread was not to be had is not started: its reader is dropped. The jobs come back where no room for their results
+/// was to be had, before any was started.
+pub fn run_workers<T, R, G>(
+    rt: &T,
+    alloc: Global,
+    jobs: Vec<Job<R, G>>,
+) -> Result<Vec<Done<G>>, Vec<Job<R, G>>>
+where
+    T: Threads + Wait + Copy + Send + 'static,
+    R: Source + Send + Drop + 'static,
+    G: Gate + Send + Drop + 'static,
+    ensures each { IfOk result (λ all. Matches (IsJobDone R.gives R.left) jobs.items all.items) }
+    ensures back { IfErr result (λ back. back ≡ jobs) }
+{
+    let mut jobs = jobs;
+    let Ok(mut begun) = Vec::with_capacity(alloc, jobs.len()) else {
+        return Err(jobs);
+    };
+    let Ok(mut all) = Vec::with_capacity(alloc, jobs.len()) else {
+        return Err(jobs);
+    };
+    while let Some(job) = jobs.pop() {
+        put_last(&mut begun, start(rt, alloc, job));
+    }
+    while let Some(one) = begun.pop() {
+        put_last(&mut all, finish(rt, one));
+    }
+    Ok(all)
+}
+
+fn put_last<A: Drop>(list: &mut Vec<A>, item: A)
+    requires { vec_len list.old < vec_capacity list.old }
+    ensures items { list.new.items ≡ list.old.items ++ item ∷ [] }
+    ensures capacity { vec_capacity list.old ≤ vec_capacity list.new }
+    ensures len { vec_len list.new ≡ vec_len list.old + 1 }
+{
+    let Ok(()) = list.push(item) else {
+        unreachable!();
+    };
+}
+
+// Starts a job in a thread of its own. Where there is none, the thread's function is called here, and finds by its word
+// that it is not to start the job.
+fn start<T, R, G>(rt: &T, alloc: Global, job: Job<R, G>) -> Begun<R, G>
+where
+    T: Threads + Wait + Copy + Send + 'static,
+    R: Source + Send + Drop + 'static,
+    G: Gate + Send + Drop + 'static,
+    ensures { MatchResult result (λ handle. handle.promise.0.value ≡ job) (λ done. IsJobDone R.gives R.left job done) }
+{
+    let Ok(word) = Arc::new(alloc, AtomicU64::new(0)) else {
+        return Err(not_started(job));
+    };
+    let Ok(theirs) = Arc::try_clone(&word) else {
+        return Err(not_started(job));
+    };
+    let promise = WorkOf(Snapshot::of(&job));
+    let own = *rt;
+    match thread::spawn_with(rt, promise, move || {
+        let mine = job;
+        work_unless(&own, &theirs, mine)
+    }) {
+        Ok(handle) => Ok(handle),
+        Err(refused) => {
+            word.store(1, Ordering::SeqCst);
+            Err((refused.value)())
+        }
+    }
+}
+
+// Does a job, unless the word is set.
+fn work_unless<T, R, G>(rt: &T, word: &AtomicU64, job: Job<R, G>) -> Done<G>
+where
+    T: Wait,
+    R: Source + Drop,
+    G: Gate + Drop,
+    ensures { IsJobDone R.gives R.left job result }
+{
+    if word.load(Ordering::SeqCst) != 0 {
+        return not_started(job);
+    }
+    let Job { reader, end, gate } = job;
+    run_worker(rt, reader, end, gate)
+}
+
+fn not_started<R: Source + Drop, G: Drop>(job: Job<R, G>) -> Done<G>
+    ensures { IsJobDone R.gives R.left job result }
+{
+    let Job {
+        reader: _,
+        end,
+        gate,
+    } = job;
+    Done {
+        end,
+        gate,
+        why: Why::NotStarted,
+        tally: 0,
+    }
+}
+
+fn finish<T: Threads, R: Source, G>(rt: &T, begun: Begun<R, G>) -> Done<G>
+    ensures { MatchResult begun (λ handle. IsJobDone R.gives R.left handle.promise.0.value result)
+        (λ done. result ≡ done) }
+{
+    match begun {
+        Ok(handle) => handle.join(rt),
+        Err(done) => done,
+    }
+}

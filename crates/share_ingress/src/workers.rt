@@ -1,0 +1,127 @@
+//! Workers, which queue the records that they read.
+ghost use Rattle.std.specs.Prelude.{◌≡◌, None, MatchResult};
+ghost use Rattle.share_ingress.specs.Ends.{with_offer};
+ghost use Rattle.share_ingress.specs.Reader.{left_of};
+ghost use Rattle.share_ingress.specs.Workers.{Worked, IsReason, IsDropped};
+
+use crate::ends::{IngressEnd, Offered};
+use crate::reader::{IngressReader, Next};
+use share_base::{Name, Parcel};
+use share_model::{Ended, Source};
+use std::sync::Wait;
+
+/// What a worker tells of its work, and who may stop it where the queue is full. Items are counted from 1 in each run of
+/// a worker.
+pub trait Gate {
+    /// The n-th item is about to be offered for the first time.
+    fn before(&mut self, n: u64);
+
+    /// The n-th item is queued.
+    fn offered(&mut self, n: u64);
+
+    /// The queue was full. Whether the item is to be offered again: the worker stops where it is not.
+    fn full(&mut self) -> bool;
+}
+
+/// Why a worker stopped.
+#[derive(Clone, Copy, Debug, PartialEq, Eq)]
+pub enum Why {
+    /// This was the reader's last answer; or all turns were used up while the queue was full, which is `Bound`.
+    Ended(Ended),
+    /// The gate stopped it. The item in hand was dropped.
+    Stopped,
+    /// It was not started. Nothing was read, and the reader was dropped.
+    NotStarted,
+}
+
+/// What a worker leaves: its end and its gate, why it stopped, and how many items it queued.
+#[derive(Drop)]
+pub struct Done<G> {
+    pub end: IngressEnd,
+    pub gate: G,
+    pub why: Why,
+    pub tally: u64,
+}
+
+/// Reads records and queues their items, in order, until the reader ends or the gate stops it. While the queue is full,
+/// the item in hand is offered again and again, each time for a turn of the reader's bound; an item that is not queued
+/// at the end is dropped. The reader is dropped.
+pub fn run_worker<T: Wait, R: Source + Drop, G: Gate>(
+    rt: &T,
+    reader: IngressReader<R>,
+    end: IngressEnd,
+    gate: G,
+) -> Done<G>
+    ensures worked { Worked (left_of R.left reader) end result.end result.tally result.why }
+    ensures reason { IsReason R.gives result.why }
+{
+    let mut reader = reader;
+    let mut end = end;
+    let mut gate = gate;
+    let (why, tally) = work(rt, &mut reader, &mut end, &mut gate);
+    Done {
+        end,
+        gate,
+        why,
+        tally,
+    }
+}
+
+// Works until the reader ends or the gate stops it: why, and how many items were queued.
+fn work<T: Wait, R: Source, G: Gate>(
+    rt: &T,
+    reader: &mut IngressReader<R>,
+    end: &mut IngressEnd,
+    gate: &mut G,
+) -> (Why, u64)
+    ensures worked { Worked (left_of R.left reader.old) end.old end.new result.1 result.0 }
+    ensures reason { IsReason R.gives result.0 }
+{
+    let first = end.queued();
+    for _ in rt.forever() {
+        match reader.next() {
+            Next::Ended(ended) => return (Why::Ended(ended), end.queued() - first),
+            Next::Item { name, parcel } => {
+                let n = end.queued() - first + 1;
+                gate.before(n);
+                if let Err(why) = put(rt, reader, end, gate, name, parcel) {
+                    return (why, n - 1);
+                }
+                gate.offered(n);
+            }
+        }
+    }
+    unreachable!()
+}
+
+// Offers an item until it is queued, the gate stops the worker, or no turn is left.
+fn put<T: Wait, R: Source, G: Gate>(
+    rt: &T,
+    reader: &mut IngressReader<R>,
+    end: &mut IngressEnd,
+    gate: &mut G,
+    name: Name,
+    parcel: Parcel,
+) -> Result<(), Why>
+    requires { reader.old.ended ≡ None }
+    ensures end { MatchResult result (λ _. end.new ≡ with_offer end.old name parcel)
+        (λ why. (end.new ≡ end.old) × IsDropped why) }
+    ensures reader { reader.new ≡ record reader.old { turns = reader.new.turns } }
+{
+    let mut parcel = parcel;
+    for _ in rt.forever() {
+        match end.offer(rt, name, parcel) {
+            Offered::Queued(_) => return Ok(()),
+            Offered::Full(back) => {
+                if !gate.full() {
+                    return Err(Why::Stopped);
+                }
+                if !reader.turn() {
+                    return Err(Why::Ended(Ended::Bound));
+                }
+                parcel = back;
+            }
+        }
+    }
+    unreachable!()
+}

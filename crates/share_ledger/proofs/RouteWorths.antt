@@ -1,0 +1,367 @@
+-- Rounds over the routes of the tickets give the activity, the values and the worths of the definitions.
+use Rattle.std.proofs.Common.{◌≡◌, ◌≤◌, ◌<◌, ◌+◌, ◌*◌, ◌/◌, ◌^◌, ℕ, zero, suc, Bool, true, false, cond, ◌&&◌, ◌||◌}
+use Rattle.std.proofs.Common.{List, [], ◌∷◌, filter, sum_by, length, bytes_eq, nat_eq, refl, sym, ap, ◌∙◌, arith}
+use Rattle.std.specs.List.{list_any}
+use Rattle.std.proofs.lemmas.List.Sums.{sum_by-cons}
+use Rattle.std.proofs.lemmas.Bool.Decides.{nat_tests}
+use Rattle.std.proofs.lemmas.Nat.{mul-le}
+use Rattle.share_model.specs.declared.funding.Holder.{Holder}
+use Rattle.share_model.specs.declared.funding.Holder.TheVariants.{Nobody, Currency, Flow}
+use Rattle.share_model.specs.declared.funding.Ticket.{Ticket}
+use Rattle.share_model.specs.declared.funding.OpenFlow.{OpenFlow}
+use Rattle.share_model.specs.funding.Graph.{NameBytes, base, Graph, is_held_by_currency, is_held_by_flow, funding}
+use Rattle.share_model.specs.funding.Graph.{issued, backing, is_active_flow, is_active_holder, act, is_active, active}
+use Rattle.share_model.specs.funding.Graph.{worth_by, val, worth}
+use Rattle.share_model.specs.lists.Each.{Each}
+use Rattle.share_model.specs.lists.Laws.{each_map}
+use Rattle.share_model.specs.funding.Kept.{names_of, times, times_open, IsHolderKnown, IsKept}
+use Rattle.share_model.specs.lists.CountLaws.{any-filter}
+use Rattle.share_model.specs.lists.SumLaws.{sum_by-filter, sum_by-le_of, sum_by-same_of}
+use Rattle.share_model.proofs.FundingShares.{active_amount, active-is, active-within, worths-within, vals-within}
+use Rattle.share_ledger.specs.declared.routes.Route.{Route}
+use Rattle.share_ledger.specs.Places.{place}
+use Rattle.share_ledger.specs.Routes.{flow_place, holder_place, route_of, is_kind, routes_of, reaches, awake, gathered}
+use Rattle.share_ledger.specs.Routes.{carried, poured, valued}
+use Rattle.share_ledger.proofs.LinkPlaces.{place-below, place-same, place-base, any-map, sum_by-map, IsPlaced, placed}
+
+-- Two tests, or two sums, that together make up one
+two-any : (P : Ticket → Type 0) (p q r : Ticket → Bool) (ts : List Ticket) → Each P ts
+    → ((t : Ticket) → P t → (p t || q t) ≡ r t) → (list_any p ts || list_any q ts) ≡ list_any r ts
+two-any P p q r [] each same = refl
+two-any P p q r (t ∷ ts) each same =
+    shuffle (p t) (q t) (list_any p ts) (list_any q ts)
+    ∙ ap (λ b. b || (list_any p ts || list_any q ts)) (same t each.0)
+    ∙ ap (λ b. r t || b) (two-any P p q r ts each.1 same)
+  where
+    shuffle : (a b c d : Bool) → ((a || c) || (b || d)) ≡ ((a || b) || (c || d))
+    shuffle true b c d = refl
+    shuffle false true true d = refl
+    shuffle false true false d = refl
+    shuffle false false c d = refl
+
+two-sum : (P : Ticket → Type 0) (v w u : Ticket → ℕ) (ts : List Ticket) → Each P ts
+    → ((t : Ticket) → P t → v t + w t ≡ u t) → sum_by v ts + sum_by w ts ≡ sum_by u ts
+two-sum P v w u [] each same = refl
+two-sum P v w u (t ∷ ts) each same =
+    let rest = two-sum P v w u ts each.1 same in
+    let here = same t each.0 in
+    omega (arith, sum_by-cons v t ts, sum_by-cons w t ts, sum_by-cons u t ts)
+
+or_false : (b : Bool) → (b || false) ≡ b
+or_false true = refl
+or_false false = refl
+
+and_false : (b : Bool) → (b && false) ≡ false
+and_false true = refl
+and_false false = refl
+
+cond_nothing : (b : Bool) → ◌≡◌ {A = ℕ} (cond b 0 0) 0
+cond_nothing true = refl
+cond_nothing false = refl
+
+cond_and : (a b : Bool) (n : ℕ) → cond (a && b) n 0 ≡ cond a (cond b n 0) 0
+cond_and true b n = refl
+cond_and false b n = refl
+
+-- places of flows
+pub flow-place-same : (f k : ℕ) (es : List (NameBytes × OpenFlow)) → 1 ≤ times_open f es
+    → nat_eq (flow_place es f) (flow_place es k) ≡ nat_eq f k
+unfolding flow_place
+flow-place-same f k [] known = absurd (omega arith)
+flow-place-same f k (e ∷ es) known =
+    by (nat_eq f e.1.number) (nat_eq k e.1.number) refl refl (flow-place-same f k es)
+  where
+    more : times_open f (e ∷ es) ≡ cond (nat_eq e.1.number f) 1 0 + times_open f es
+    more = sum_by-cons (λ (x : NameBytes × OpenFlow). cond (nat_eq x.1.number f) 1 0) e es
+
+    turned : nat_eq f e.1.number ≡ false → nat_eq e.1.number f ≡ false
+    turned o = grind (arith, nat_tests)
+
+    by : (a b : Bool) → nat_eq f e.1.number ≡ a → nat_eq k e.1.number ≡ b
+        → (1 ≤ times_open f es → nat_eq (flow_place es f) (flow_place es k) ≡ nat_eq f k)
+        → nat_eq (cond a 0 (suc (flow_place es f))) (cond b 0 (suc (flow_place es k))) ≡ nat_eq f k
+    by true true x y rest = grind (arith, nat_tests)
+    by true false x y rest = grind (arith, nat_tests)
+    by false true x y rest = grind (arith, nat_tests)
+    by false false x y rest =
+        let here = ap {B = ℕ} (λ b. cond b 1 0) (turned x) in
+        let same = rest (omega (arith, more)) in
+        grind (arith, nat_tests)
+
+pub flow-place-below : (f : ℕ) (es : List (NameBytes × OpenFlow)) → 1 ≤ times_open f es → flow_place es f < length es
+unfolding flow_place
+flow-place-below f [] known = absurd (omega arith)
+flow-place-below f (e ∷ es) known = by (nat_eq f e.1.number) refl (flow-place-below f es)
+  where
+    more : times_open f (e ∷ es) ≡ cond (nat_eq e.1.number f) 1 0 + times_open f es
+    more = sum_by-cons (λ (x : NameBytes × OpenFlow). cond (nat_eq x.1.number f) 1 0) e es
+
+    turned : nat_eq f e.1.number ≡ false → nat_eq e.1.number f ≡ false
+    turned o = grind (arith, nat_tests)
+
+    by : (a : Bool) → nat_eq f e.1.number ≡ a → (1 ≤ times_open f es → flow_place es f < length es)
+        → cond a 0 (suc (flow_place es f)) < length (e ∷ es)
+    by true x rest = omega arith
+    by false x rest =
+        let here = ap {B = ℕ} (λ b. cond b 1 0) (turned x) in
+        let inside = rest (omega (arith, more)) in
+        omega arith
+
+module _ (g : Graph) (ok : IsKept g) (lit begun held : ℕ → Bool)
+    (flows : (f : ℕ) → 1 ≤ times_open f g.flows → lit (flow_place g.flows f) ≡ is_active_flow g f)
+    (first : (p : ℕ) → p < 65 → begun p ≡ reaches (routes_of g false g.tickets) lit p)
+    (rounds : (p : ℕ) → p < 65 → held p ≡ awake (routes_of g true g.tickets) begun 8 p) where
+  any-routes : (F : Route → Bool) (b : Bool)
+      → list_any F (routes_of g b g.tickets)
+      ≡ list_any (λ (t : Ticket). is_kind b t.holder && F (route_of g t)) g.tickets
+  unfolding routes_of
+  any-routes F b =
+      any-map F (route_of g) (filter (λ (t : Ticket). is_kind b t.holder) g.tickets)
+      ∙ any-filter (λ (t : Ticket). is_kind b t.holder) (λ (t : Ticket). F (route_of g t)) g.tickets
+
+  sum-routes : (F : Route → ℕ) (b : Bool)
+      → sum_by F (routes_of g b g.tickets)
+      ≡ sum_by (λ (t : Ticket). cond (is_kind b t.holder) (F (route_of g t)) 0) g.tickets
+  unfolding routes_of
+  sum-routes F b =
+      sum_by-map F (route_of g) (filter (λ (t : Ticket). is_kind b t.holder) g.tickets)
+      ∙ sum_by-filter (λ (t : Ticket). F (route_of g t)) (λ (t : Ticket). is_kind b t.holder) g.tickets
+
+  below : (c : NameBytes) → 1 ≤ times c (names_of g) → place (names_of g) c < 65
+  below c known = let under = place-below c (names_of g) known in let few = ok.few_currencies in omega arith
+
+  -- Activity
+  step-is : (flag : ℕ → Bool) (n : ℕ)
+      → ((c : NameBytes) → 1 ≤ times c (names_of g)
+      → flag (place (names_of g) c) ≡ list_any (act g n) (issued g.tickets c))
+      → (c : NameBytes) → 1 ≤ times c (names_of g)
+      → (reaches (routes_of g false g.tickets) lit (place (names_of g) c)
+      || reaches (routes_of g true g.tickets) flag (place (names_of g) c))
+      ≡ list_any (act g (suc n)) (issued g.tickets c)
+  unfolding reaches issued act
+  step-is flag n same c known =
+      ap
+      (λ b. b || list_any (λ (r : Route). nat_eq (place (names_of g) c) r.from && flag r.to)
+      (routes_of g true g.tickets))
+      (any-routes (λ (r : Route). nat_eq (place (names_of g) c) r.from && lit r.to) false)
+      ∙ ap
+      (λ b. list_any
+      (λ (t : Ticket). is_kind false t.holder && (nat_eq (place (names_of g) c) (place (names_of g) t.denomination)
+      && lit (holder_place g t.holder))) g.tickets || b)
+      (any-routes (λ (r : Route). nat_eq (place (names_of g) c) r.from && flag r.to) true)
+      ∙ two-any (IsPlaced g)
+      (λ (t : Ticket). is_kind false t.holder && (nat_eq (place (names_of g) c) (place (names_of g) t.denomination)
+      && lit (holder_place g t.holder)))
+      (λ (t : Ticket). is_kind true t.holder && (nat_eq (place (names_of g) c) (place (names_of g) t.denomination)
+      && flag (holder_place g t.holder)))
+      (λ (t : Ticket). bytes_eq c t.denomination && is_active_holder g (act g n) t.holder) g.tickets (placed g ok)
+      (λ t ok. ap
+      (λ b. (is_kind false t.holder && (b && lit (holder_place g t.holder)))
+      || (is_kind true t.holder && (b && flag (holder_place g t.holder))))
+      (place-same c t.denomination (names_of g) known)
+      ∙ by (bytes_eq c t.denomination) t.holder ok.holder_known)
+      ∙ sym (any-filter (λ (t : Ticket). bytes_eq c t.denomination) (act g (suc n)) g.tickets)
+    where
+      by : (b : Bool) (o : Holder) → IsHolderKnown g o
+          → ((is_kind false o && (b && lit (holder_place g o))) || (is_kind true o && (b && flag (holder_place g o))))
+          ≡ (b && is_active_holder g (act g n) o)
+      by b Nobody there = sym (and_false b)
+      by b (Currency d) there = ap (λ a. b && a) (same d there)
+      by b (Flow f) there = or_false (b && lit (flow_place g.flows f)) ∙ ap (λ a. b && a) (flows f there)
+
+  awake-is : (n : ℕ) (c : NameBytes) → 1 ≤ times c (names_of g)
+      → awake (routes_of g true g.tickets) begun n (place (names_of g) c) ≡ list_any (act g n) (issued g.tickets c)
+  unfolding awake act
+  awake-is zero c known = none (issued g.tickets c)
+    where
+      none : (ts : List Ticket) → false ≡ list_any (λ (t : Ticket). false) ts
+      none [] = refl
+      none (t ∷ ts) = none ts
+  awake-is (suc n) c known =
+      ap (λ b. b || reaches (routes_of g true g.tickets) (awake (routes_of g true g.tickets) begun n)
+      (place (names_of g) c)) (first (place (names_of g) c) (below c known))
+      ∙ step-is (awake (routes_of g true g.tickets) begun n) n (awake-is n) c known
+
+  held-is : (c : NameBytes) → 1 ≤ times c (names_of g)
+      → held (place (names_of g) c) ≡ list_any (act g 8) (issued g.tickets c)
+  held-is c known = rounds (place (names_of g) c) (below c known) ∙ awake-is 8 c known
+
+  -- Amounts
+  pub whole-is : (whole some : ℕ → ℕ)
+      → ((p : ℕ) → p < 65 → some p ≡ 0 + gathered (routes_of g true g.tickets) held p)
+      → ((p : ℕ) → p < 65 → whole p ≡ some p + gathered (routes_of g false g.tickets) lit p)
+      → (c : NameBytes) → 1 ≤ times c (names_of g) → whole (place (names_of g) c) ≡ active g c
+  unfolding gathered issued is_active act
+  whole-is whole some one two c known =
+      two (place (names_of g) c) (below c known)
+      ∙ ap (λ n. n + gathered (routes_of g false g.tickets) lit (place (names_of g) c))
+      (one (place (names_of g) c) (below c known) ∙ zero_add _)
+      ∙ ap (λ n. n + gathered (routes_of g false g.tickets) lit (place (names_of g) c))
+      (sum-routes (λ (r : Route). cond (nat_eq (place (names_of g) c) r.from && held r.to) r.amount 0) true)
+      ∙ ap (λ n. sum_by (part true held) g.tickets + n)
+      (sum-routes (λ (r : Route). cond (nat_eq (place (names_of g) c) r.from && lit r.to) r.amount 0) false)
+      ∙ two-sum (IsPlaced g) (part true held) (part false lit)
+      (λ (t : Ticket). cond (bytes_eq c t.denomination) (active_amount g t) 0) g.tickets (placed g ok)
+      (λ t ok. ap
+      (λ b. cond (is_kind true t.holder) (cond (b && held (holder_place g t.holder)) t.amount 0) 0
+      + cond (is_kind false t.holder) (cond (b && lit (holder_place g t.holder)) t.amount 0) 0)
+      (place-same c t.denomination (names_of g) known)
+      ∙ by (bytes_eq c t.denomination) t.amount t.holder ok.holder_known)
+      ∙ sym (sum_by-filter (active_amount g) (λ (t : Ticket). bytes_eq c t.denomination) g.tickets)
+      ∙ sym (active-is g c)
+    where
+      part : Bool → (ℕ → Bool) → Ticket → ℕ
+      part b flag t =
+          cond (is_kind b t.holder)
+          (cond (nat_eq (place (names_of g) c) (place (names_of g) t.denomination) && flag (holder_place g t.holder))
+          t.amount 0) 0
+
+      zero_add : (n : ℕ) → 0 + n ≡ n
+      zero_add n = omega arith
+
+      add_zero : (n : ℕ) → n + 0 ≡ n
+      add_zero n = omega arith
+
+      by : (b : Bool) (n : ℕ) (o : Holder) → IsHolderKnown g o
+          → cond (is_kind true o) (cond (b && held (holder_place g o)) n 0) 0
+          + cond (is_kind false o) (cond (b && lit (holder_place g o)) n 0) 0
+          ≡ cond b (cond (is_active_holder g (act g 8) o) n 0) 0
+      by b n Nobody there = sym (cond_nothing b)
+      by b n (Currency d) there =
+          add_zero _ ∙ ap (λ a. cond (b && a) n 0) (held-is d there)
+          ∙ cond_and b (list_any (act g 8) (issued g.tickets d)) n
+      by b n (Flow f) there =
+          zero_add _ ∙ ap (λ a. cond (b && a) n 0) (flows f there) ∙ cond_and b (is_active_flow g f) n
+
+  -- Worths and values
+  module _ (whole : ℕ → ℕ)
+      (wholes : (c : NameBytes) → 1 ≤ times c (names_of g) → whole (place (names_of g) c) ≡ active g c) where
+    -- what the ticket would be worth if it were active
+    abbrev weight : (NameBytes → ℕ) → Ticket → ℕ
+    weight w t = cond (bytes_eq t.denomination base) t.amount (w t.denomination * t.amount / active g t.denomination)
+
+    carried-is : (v : ℕ → ℕ) (w : NameBytes → ℕ)
+        → ((c : NameBytes) → 1 ≤ times c (names_of g) → v (place (names_of g) c) ≡ w c) → (t : Ticket) → IsPlaced g t
+        → carried v whole (route_of g t) ≡ weight w t
+    carried-is v w value t ok =
+        let p = place (names_of g) t.denomination in
+        ap (λ b. cond b t.amount (v p * t.amount / whole p)) (place-base g t.denomination)
+        ∙ ap (λ n. cond (bytes_eq t.denomination base) t.amount (n * t.amount / whole p))
+        (value t.denomination ok.denomination_known)
+        ∙ ap (λ n. cond (bytes_eq t.denomination base) t.amount (w t.denomination * t.amount / n))
+        (wholes t.denomination ok.denomination_known)
+
+    poured-currency : (v : ℕ → ℕ) (w : NameBytes → ℕ)
+        → ((c : NameBytes) → 1 ≤ times c (names_of g) → v (place (names_of g) c) ≡ w c)
+        → (c : NameBytes) → 1 ≤ times c (names_of g)
+        → poured (routes_of g true g.tickets) held (carried v whole) (place (names_of g) c)
+        ≡ sum_by (worth_by g w) (backing g.tickets c)
+    unfolding poured backing worth_by is_active act
+    poured-currency v w value c known =
+        sum-routes
+        (λ (r : Route). cond (nat_eq (place (names_of g) c) r.to && held r.to) (carried v whole r) 0) true
+        ∙ sum_by-same_of (IsPlaced g)
+        (λ (t : Ticket). cond (is_kind true t.holder)
+        (cond (nat_eq (place (names_of g) c) (holder_place g t.holder) && held (holder_place g t.holder))
+        (carried v whole (route_of g t)) 0) 0)
+        (λ (t : Ticket). cond (is_held_by_currency c t.holder) (worth_by g w t) 0) g.tickets (placed g ok)
+        (λ t ok. ap
+        (λ n. cond (is_kind true t.holder)
+        (cond (nat_eq (place (names_of g) c) (holder_place g t.holder) && held (holder_place g t.holder)) n 0) 0)
+        (carried-is v w value t ok)
+        ∙ by (weight w t) t.holder ok.holder_known)
+        ∙ sym (sum_by-filter (worth_by g w) (λ (t : Ticket). is_held_by_currency c t.holder) g.tickets)
+      where
+        by : (n : ℕ) (o : Holder) → IsHolderKnown g o
+            → cond (is_kind true o) (cond (nat_eq (place (names_of g) c) (holder_place g o) && held (holder_place g
+            o)) n 0)
+            0
+            ≡ cond (is_held_by_currency c o) (cond (is_active_holder g (act g 8) o) n 0) 0
+        by n Nobody there = refl
+        by n (Flow f) there = refl
+        by n (Currency d) there =
+            ap (λ b. cond (b && held (place (names_of g) d)) n 0) (place-same c d (names_of g) known)
+            ∙ ap (λ b. cond (bytes_eq c d && b) n 0) (held-is d there)
+            ∙ cond_and (bytes_eq c d) (list_any (act g 8) (issued g.tickets d)) n
+
+    pub valued-is : (n : ℕ) (c : NameBytes) → 1 ≤ times c (names_of g)
+        → valued (routes_of g true g.tickets) held whole n (place (names_of g) c) ≡ val g n c
+    unfolding valued val
+    valued-is zero c known = refl
+    valued-is (suc n) c known =
+        poured-currency (valued (routes_of g true g.tickets) held whole n) (val g n) (valued-is n) c known
+
+    pub poured-flow : (v : ℕ → ℕ)
+        → ((c : NameBytes) → 1 ≤ times c (names_of g) → v (place (names_of g) c) ≡ val g 9 c)
+        → (f : ℕ) → 1 ≤ times_open f g.flows
+        → poured (routes_of g false g.tickets) lit (carried v whole) (flow_place g.flows f)
+        ≡ sum_by (worth g 9) (funding g.tickets f)
+    unfolding poured funding worth worth_by is_active act
+    poured-flow v value f known =
+        sum-routes
+        (λ (r : Route). cond (nat_eq (flow_place g.flows f) r.to && lit r.to) (carried v whole r) 0) false
+        ∙ sum_by-same_of (IsPlaced g)
+        (λ (t : Ticket). cond (is_kind false t.holder)
+        (cond (nat_eq (flow_place g.flows f) (holder_place g t.holder) && lit (holder_place g t.holder))
+        (carried v whole (route_of g t)) 0) 0)
+        (λ (t : Ticket). cond (is_held_by_flow f t.holder) (worth_by g (val g 9) t) 0) g.tickets (placed g ok)
+        (λ t ok. ap
+        (λ n. cond (is_kind false t.holder)
+        (cond (nat_eq (flow_place g.flows f) (holder_place g t.holder) && lit (holder_place g t.holder)) n 0) 0)
+        (carried-is v (val g 9) value t ok)
+        ∙ by (weight (val g 9) t) t.holder ok.holder_known)
+        ∙ sym (sum_by-filter (worth_by g (val g 9)) (λ (t : Ticket). is_held_by_flow f t.holder) g.tickets)
+      where
+        by : (n : ℕ) (o : Holder) → IsHolderKnown g o
+            → cond (is_kind false o) (cond (nat_eq (flow_place g.flows f) (holder_place g o) && lit (holder_place g
+            o)) n 0)
+            0
+            ≡ cond (is_held_by_flow f o) (cond (is_active_holder g (act g 8) o) n 0) 0
+        by n Nobody there = refl
+        by n (Currency d) there = refl
+        by n (Flow k) there =
+            ap (λ b. cond (b && lit (flow_place g.flows k)) n 0) (flow-place-same f k g.flows known)
+            ∙ ap (λ b. cond (nat_eq f k && b) n 0) (flows k there)
+            ∙ cond_and (nat_eq f k) (is_active_flow g k) n
+
+    -- what one place gets is within what all tickets are worth
+    poured-within : (v : ℕ → ℕ) (w : NameBytes → ℕ)
+        → ((c : NameBytes) → 1 ≤ times c (names_of g) → v (place (names_of g) c) ≡ w c) → (p : ℕ)
+        → poured (routes_of g true g.tickets) held (carried v whole) p ≤ sum_by (worth_by g w) g.tickets
+    unfolding poured worth_by is_active act
+    poured-within v w value p =
+        let same = sum-routes (λ (r : Route). cond (nat_eq p r.to && held r.to) (carried v whole r) 0) true in
+        let less =
+        sum_by-le_of (IsPlaced g)
+        (λ (t : Ticket). cond (is_kind true t.holder)
+        (cond (nat_eq p (holder_place g t.holder) && held (holder_place g t.holder)) (carried v whole (route_of g
+        t)) 0) 0)
+        (worth_by g w) g.tickets (placed g ok)
+        (λ t ok. rw (carried-is v w value t ok) (by (weight w t) t.holder ok.holder_known)) in
+        omega arith
+      where
+        at_most : (a b : Bool) (n : ℕ) → cond (a && b) n 0 ≤ cond b n 0
+        at_most true b n = omega arith
+        at_most false true n = omega arith
+        at_most false false n = omega arith
+
+        by : (n : ℕ) (o : Holder) → IsHolderKnown g o
+            → cond (is_kind true o) (cond (nat_eq p (holder_place g o) && held (holder_place g o)) n 0) 0
+            ≤ cond (is_active_holder g (act g 8) o) n 0
+        by n Nobody there = omega arith
+        by n (Flow f) there = omega arith
+        by n (Currency d) there =
+            rw (held-is d there) (at_most (nat_eq p (place (names_of g) d)) (list_any (act g 8) (issued g.tickets d)) n)
+
+    pub valued-bound : (n p : ℕ) → n ≤ 9 → p < 65 → valued (routes_of g true g.tickets) held whole n p ≤ 9 * 2 ^ 30
+    unfolding valued
+    valued-bound zero p few lt = omega arith
+    valued-bound (suc n) p few lt =
+        let here = poured-within (valued (routes_of g true g.tickets) held whole n) (val g n) (valued-is n) p in
+        let worths = worths-within g (val g n) ok.sound in
+        let values = vals-within g n ok.sound in
+        let some =
+        active-within g base
+        (each_map _ (λ (t : Ticket). t.amount ≤ 2 ^ 20) (λ t e. e.1) g.tickets ok.amounts) ok.few_tickets in
+        let product = mul-le n (active g base) 8 (2 ^ 30) (omega arith) some in
+        omega arith

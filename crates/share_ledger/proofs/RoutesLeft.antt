@@ -1,0 +1,202 @@
+-- What leaves the routes of the tickets.
+use Rattle.std.proofs.Common.{◌≡◌, ◌≤◌, ◌+◌, ℕ, suc, Bool, true, false, not, cond, List, [], ◌∷◌, ◌++◌, take, find}
+use Rattle.std.proofs.Common.{None, Some, length, bytes_eq, nat_eq, is_some, refl, sym, ap, ◌∙◌, arith}
+use Rattle.std.specs.Set.{remove_key}
+use Rattle.std.proofs.lemmas.List.Sums.{sum_by-cons}
+use Rattle.std.proofs.lemmas.Bool.Decides.{nat_tests}
+use Rattle.share_base.specs.declared.refusal.Refusal.TheVariants.{NoTicket, Funding}
+use Rattle.share_model.specs.declared.funding.Holder.{Holder}
+use Rattle.share_model.specs.declared.funding.Holder.TheVariants.{Nobody, Currency, Flow}
+use Rattle.share_model.specs.declared.funding.Ticket.{Ticket}
+use Rattle.share_model.specs.declared.funding.OpenFlow.{OpenFlow}
+use Rattle.share_model.specs.funding.Graph.{NameBytes, Graph, empty_graph, tickets}
+use Rattle.share_model.specs.funding.Changes.{is_numbered, ticket_of, is_held, is_found_held, is_open_as, active_as}
+use Rattle.share_model.specs.funding.Changes.{with_activity, added_flow, make_currency, make_ticket, made_ticket}
+use Rattle.share_model.specs.funding.Changes.{remove_ticket_refusal, remove_ticket, add_flow, set_active}
+use Rattle.share_model.specs.lists.Change.{change_first}
+use Rattle.share_model.specs.lists.Each.{Each}
+use Rattle.share_model.specs.funding.Kept.{names_of, times, times_open, IsHolderKnown, IsKept}
+use Rattle.share_model.specs.lists.SumLaws.{name_sym}
+use Rattle.share_model.specs.funding.ChangeLaws.{not-refused}
+use Rattle.share_ledger.specs.declared.routes.Route.{Route}
+use Rattle.share_ledger.specs.Places.{place}
+use Rattle.share_ledger.specs.Routes.{flow_place, holder_place, route_of, is_kind, routes_of}
+use Rattle.share_ledger.specs.Shares.{AreListed, AreKept}
+use Rattle.share_ledger.proofs.FlowShares.{shares-left, shares-opened}
+use Rattle.share_ledger.proofs.LinkPlaces.{IsPlaced, placed}
+use Rattle.share_ledger.proofs.RouteLists.{routes-cons, routes-append}
+
+-- what is kept of a graph fits another with the same routes and the same tickets of the same flows
+pub kept-left : (backs funds : List Route) (shares : List ℕ) (g h : Graph)
+    → ((b : Bool) → routes_of g b g.tickets ≡ routes_of h b h.tickets) → g.flows ≡ h.flows
+    → ((f : ℕ) → tickets g f ≡ tickets h f) → AreKept backs funds shares g → AreKept backs funds shares h
+kept-left backs funds shares g h routes flows same kept = record {
+  listed = record { backing = kept.listed.backing ∙ routes true; funding = kept.listed.funding ∙ routes false };
+  of_flows = shares-left shares g h flows same kept.of_flows;
+}
+
+pub listed-left : (backs funds : List Route) (g h : Graph)
+    → ((b : Bool) → routes_of g b g.tickets ≡ routes_of h b h.tickets) → AreListed backs funds g
+    → AreListed backs funds h
+listed-left backs funds g h routes listed = record {
+  backing = listed.backing ∙ routes true;
+  funding = listed.funding ∙ routes false;
+}
+
+pub kept-empty_graph : (backs funds : List Route) (shares : List ℕ) → backs ≡ [] → funds ≡ []
+    → AreKept backs funds shares empty_graph
+unfolding routes_of
+kept-empty_graph backs funds shares p q = record {
+  listed = record { backing = p; funding = q };
+  of_flows = refl;
+}
+
+-- routes of the same tickets
+routes-same : (g h : Graph) (b : Bool) (P : Ticket → Type 0) (ts : List Ticket) → Each P ts
+    → ((t : Ticket) → P t → route_of g t ≡ route_of h t) → routes_of g b ts ≡ routes_of h b ts
+unfolding routes_of
+routes-same g h b P [] each same = refl
+routes-same g h b P (t ∷ ts) each same =
+    routes-cons g b t ts
+    ∙ ap (λ r. cond (is_kind b t.holder) (r ∷ []) [] ++ routes_of g b ts) (same t each.0)
+    ∙ ap (λ rs. cond (is_kind b t.holder) (route_of h t ∷ []) [] ++ rs) (routes-same g h b P ts each.1 same)
+    ∙ sym (routes-cons h b t ts)
+
+route-same : (g h : Graph) (t : Ticket) → place (names_of g) t.denomination ≡ place (names_of h) t.denomination
+    → holder_place g t.holder ≡ holder_place h t.holder → route_of g t ≡ route_of h t
+route-same g h t from to =
+    ap {B = Route} (λ p. record { from = p; to = holder_place g t.holder; amount = t.amount }) from
+    ∙ ap {B = Route} (λ p. record { from = place (names_of h) t.denomination; to = p; amount = t.amount }) to
+
+-- a name keeps its place where others are put behind
+place-append : (c : NameBytes) (cs ds : List NameBytes) → 1 ≤ times c cs → place cs c ≡ place (cs ++ ds) c
+unfolding place
+place-append c [] ds known = absurd (omega arith)
+place-append c (x ∷ cs) ds known = by (bytes_eq c x) refl (place-append c cs ds)
+  where
+    more : times c (x ∷ cs) ≡ cond (bytes_eq x c) 1 0 + times c cs
+    more = sum_by-cons (λ d. cond (bytes_eq d c) 1 0) x cs
+
+    by : (b : Bool) → bytes_eq c x ≡ b → (1 ≤ times c cs → place cs c ≡ place (cs ++ ds) c)
+        → cond b 0 (suc (place cs c)) ≡ cond b 0 (suc (place (cs ++ ds) c))
+    by true e rest = refl
+    by false e rest =
+        let here = ap {B = ℕ} (λ b. cond b 1 0) (name_sym x c ∙ e) in
+        ap suc (rest (omega (arith, more)))
+
+flow-place-append : (f : ℕ) (es ds : List (NameBytes × OpenFlow)) → 1 ≤ times_open f es
+    → flow_place es f ≡ flow_place (es ++ ds) f
+unfolding flow_place
+flow-place-append f [] ds known = absurd (omega arith)
+flow-place-append f (e ∷ es) ds known = by (nat_eq f e.1.number) refl (flow-place-append f es ds)
+  where
+    more : times_open f (e ∷ es) ≡ cond (nat_eq e.1.number f) 1 0 + times_open f es
+    more = sum_by-cons (λ (x : NameBytes × OpenFlow). cond (nat_eq x.1.number f) 1 0) e es
+
+    turned : nat_eq f e.1.number ≡ false → nat_eq e.1.number f ≡ false
+    turned o = grind (arith, nat_tests)
+
+    by : (b : Bool) → nat_eq f e.1.number ≡ b
+        → (1 ≤ times_open f es → flow_place es f ≡ flow_place (es ++ ds) f)
+        → cond b 0 (suc (flow_place es f)) ≡ cond b 0 (suc (flow_place (es ++ ds) f))
+    by true x rest = refl
+    by false x rest =
+        let here = ap {B = ℕ} (λ b. cond b 1 0) (turned x) in
+        ap suc (rest (omega (arith, more)))
+
+flow-place-changed : (f : ℕ) (a : Bool) (k : ℕ) (es : List (NameBytes × OpenFlow))
+    → flow_place es k ≡ flow_place (with_activity f a es) k
+unfolding flow_place change_first
+flow-place-changed f a k [] = refl
+flow-place-changed f a k (e ∷ es) = by (is_open_as f e) (flow-place-changed f a k es)
+  where
+    by : (b : Bool) → flow_place es k ≡ flow_place (with_activity f a es) k
+        → cond (nat_eq k e.1.number) 0 (suc (flow_place es k))
+        ≡ flow_place (cond b (active_as a e ∷ es) (e ∷ with_activity f a es)) k
+    by true rest = refl
+    by false rest = ap (λ n. cond (nat_eq k e.1.number) 0 (suc n)) rest
+
+-- Commands
+pub routes-make_currency : (g : Graph) → IsKept g → (c : NameBytes) (b : Bool)
+    → routes_of g b g.tickets ≡ routes_of (make_currency g c) b g.tickets
+routes-make_currency g ok c b =
+    routes-same g (make_currency g c) b (IsPlaced g) g.tickets (placed g ok)
+    (λ t at. route-same g (make_currency g c) t
+    (place-append t.denomination (names_of g) (c ∷ []) at.denomination_known) (spot t.holder at.holder_known))
+  where
+    spot : (h : Holder) → IsHolderKnown g h → holder_place g h ≡ holder_place (make_currency g c) h
+    spot Nobody known = refl
+    spot (Currency d) known = place-append d (names_of g) (c ∷ []) known
+    spot (Flow f) known = refl
+
+pub routes-add_flow : (g : Graph) → IsKept g → (name : NameBytes) (b : Bool)
+    → routes_of g b g.tickets ≡ routes_of (add_flow g name) b g.tickets
+routes-add_flow g ok name b =
+    routes-same g (add_flow g name) b (IsPlaced g) g.tickets (placed g ok)
+    (λ t at. route-same g (add_flow g name) t refl (spot t.holder at.holder_known))
+  where
+    spot : (h : Holder) → IsHolderKnown g h → holder_place g h ≡ holder_place (add_flow g name) h
+    spot Nobody known = refl
+    spot (Currency d) known = refl
+    spot (Flow f) known = flow-place-append f g.flows ((name, added_flow g) ∷ []) known
+
+pub routes-set_active : (g : Graph) → IsKept g → (f : ℕ) (a b : Bool)
+    → routes_of g b g.tickets ≡ routes_of (set_active g f a) b g.tickets
+routes-set_active g ok f a b =
+    routes-same g (set_active g f a) b (IsPlaced g) g.tickets (placed g ok)
+    (λ t at. route-same g (set_active g f a) t refl (spot t.holder))
+  where
+    spot : (h : Holder) → holder_place g h ≡ holder_place (set_active g f a) h
+    spot Nobody = refl
+    spot (Currency d) = refl
+    spot (Flow k) = flow-place-changed f a k g.flows
+
+append-none : {X : Type 0} (xs : List X) → xs ≡ xs ++ []
+append-none [] = refl
+append-none (x ∷ xs) = ap (λ l. x ∷ l) (append-none xs)
+
+pub routes-make_ticket : (g : Graph) (amount : ℕ) (c : NameBytes) (b : Bool)
+    → routes_of g b g.tickets ≡ routes_of (make_ticket g amount c) b (make_ticket g amount c).tickets
+unfolding routes_of
+routes-make_ticket g amount c b =
+    append-none (routes_of g b g.tickets) ∙ sym (routes-append g b g.tickets (made_ticket g amount c))
+
+pub routes-remove_ticket : (g : Graph) (n : ℕ) → remove_ticket_refusal g n ≡ None → (b : Bool)
+    → routes_of g b g.tickets ≡ routes_of (remove_ticket g n) b (remove_ticket g n).tickets
+unfolding routes_of
+routes-remove_ticket g n none b =
+    let one = not-refused (not (is_some (ticket_of g n))) NoTicket _ none in
+    let two = not-refused (is_found_held (ticket_of g n)) Funding _ one.1 in
+    removed (is_numbered n) g.tickets two.0
+  where
+    unheld : (h : Holder) → is_held h ≡ false → is_kind b h ≡ false
+    unheld Nobody e = refl
+    unheld (Currency d) e = absurd cc
+    unheld (Flow f) e = absurd cc
+
+    removed : (p : Ticket → Bool) (ts : List Ticket) → is_found_held (find p ts) ≡ false
+        → routes_of g b ts ≡ routes_of g b (remove_key p ts)
+    removed p [] e = refl
+    removed p (t ∷ ts) e = by (p t) e (removed p ts)
+      where
+        by : (k : Bool) → is_found_held (cond k (Some t) (find p ts)) ≡ false
+            → (is_found_held (find p ts) ≡ false → routes_of g b ts ≡ routes_of g b (remove_key p ts))
+            → routes_of g b (t ∷ ts) ≡ routes_of g b (cond k ts (t ∷ remove_key p ts))
+        by true e rest =
+            routes-cons g b t ts
+            ∙ ap (λ k. cond k (route_of g t ∷ []) [] ++ routes_of g b ts) (unheld t.holder e)
+        by false e rest =
+            routes-cons g b t ts ∙ ap (λ rs. cond (is_kind b t.holder) (route_of g t ∷ []) [] ++ rs) (rest e)
+            ∙ sym (routes-cons g b t (remove_key p ts))
+
+pub kept-opened : (backs funds backs_after funds_after : List Route) (before after : List ℕ) (g : Graph)
+    (name : NameBytes) (n : ℕ) → IsKept g → n ≡ length g.flows → backs_after ≡ backs → funds_after ≡ funds
+    → take (n + 1) after ≡ take n before ++ 0 ∷ [] → AreKept backs funds before g
+    → AreKept backs_after funds_after after (add_flow g name)
+kept-opened backs funds backs_after funds_after before after g name n ok at p q more kept = record {
+  listed = record {
+    backing = p ∙ kept.listed.backing ∙ routes-add_flow g ok name true;
+    funding = q ∙ kept.listed.funding ∙ routes-add_flow g ok name false;
+  };
+  of_flows = shares-opened before after g name n ok at more kept.of_flows;
+}

@@ -1,0 +1,5 @@
+use Rattle.share_model.proofs.FundingHeld.{leaves-tickets}
+use Rattle.share_ledger.proofs.ledger.Ledger.leaves_tickets.Goals as goal
+
+pub returns : goal.returns
+returns c = leaves-tickets c.args.self.now

@@ -1,0 +1,72 @@
+-- Routes: what the tickets that have a holder do between places, and rounds over them.
+use Rattle.std.specs.Prelude.{◌≤◌, ◌<◌, ℕ, ◌*◌, ◌/◌, ◌^◌, zero, suc, Bool, false, not, ◌&&◌, ◌||◌, List, [], ◌∷◌, map}
+use Rattle.std.specs.Prelude.{filter, sum_by, nat_eq, if◌then◌else◌}
+use Rattle.std.specs.List.{list_any}
+use Rattle.share_ledger.specs.declared.routes.Route.{Route}
+use Rattle.share_ledger.specs.Places.{place}
+use Rattle.share_model.specs.declared.funding.Holder.{Holder}
+use Rattle.share_model.specs.declared.funding.Holder.TheVariants.{Nobody, Currency, Flow}
+use Rattle.share_model.specs.declared.funding.Ticket.{Ticket}
+use Rattle.share_model.specs.declared.funding.OpenFlow.{OpenFlow}
+use Rattle.share_model.specs.funding.Graph.{NameBytes, Graph}
+use Rattle.share_model.specs.funding.Kept.{names_of}
+
+-- where the flow of a number stands, or the number of flows
+unfoldable pub flow_place : List (NameBytes × OpenFlow) → ℕ → ℕ
+flow_place [] f = 0
+flow_place (e ∷ es) f = if nat_eq f e.1.number then 0 else suc (flow_place es f)
+
+-- the place of a holder, among the currencies or among the flows
+abbrev pub holder_place : Graph → Holder → ℕ
+holder_place g Nobody = 0
+holder_place g (Currency c) = place (names_of g) c
+holder_place g (Flow f) = flow_place g.flows f
+
+abbrev pub route_of : Graph → Ticket → Route
+route_of g t = record {
+  from = place (names_of g) t.denomination;
+  to = holder_place g t.holder;
+  amount = t.amount;
+}
+
+-- a holder is a currency, or it is a flow
+abbrev pub is_kind : Bool → Holder → Bool
+is_kind backing Nobody = false
+is_kind backing (Currency c) = backing
+is_kind backing (Flow f) = not backing
+
+-- the routes of the tickets that back currencies, or of those that fund flows
+unfoldable pub routes_of : Graph → Bool → List Ticket → List Route
+routes_of g backing ts = map (route_of g) (filter (λ t. is_kind backing t.holder) ts)
+
+-- there are 65 places of currencies, and 64 of flows
+pub record IsRouteWithin (r : Route) : Type 0 where
+  pub from_place : r.from < 65
+  pub to_place : r.to < 65
+  pub small : r.amount ≤ 2 ^ 20
+
+-- some route from a place leads to a flagged place
+unfoldable pub reaches : List Route → (ℕ → Bool) → ℕ → Bool
+reaches rs flag p = list_any (λ r. nat_eq p r.from && flag r.to) rs
+
+-- what is awake after n rounds, where some places have routes to active flows
+unfoldable pub awake : List Route → (ℕ → Bool) → ℕ → ℕ → Bool
+awake rs begun zero p = false
+awake rs begun (suc n) p = begun p || reaches rs (awake rs begun n) p
+
+-- the amounts of the routes from a place to flagged places
+unfoldable pub gathered : List Route → (ℕ → Bool) → ℕ → ℕ
+gathered rs flag p = sum_by (λ r. if nat_eq p r.from && flag r.to then r.amount else 0) rs
+
+-- what a route carries: its amount from the place of `base`, else its share of the value of its place
+abbrev pub carried : (ℕ → ℕ) → (ℕ → ℕ) → Route → ℕ
+carried value whole r = if nat_eq r.from 0 then r.amount else value r.from * r.amount / whole r.from
+
+-- what the routes carry to a place, if it is flagged
+unfoldable pub poured : List Route → (ℕ → Bool) → (Route → ℕ) → ℕ → ℕ
+poured rs flag carry p = sum_by (λ r. if nat_eq p r.to && flag r.to then carry r else 0) rs
+
+-- the values of places after n rounds
+unfoldable pub valued : List Route → (ℕ → Bool) → (ℕ → ℕ) → ℕ → ℕ → ℕ
+valued rs flag whole zero p = 0
+valued rs flag whole (suc n) p = poured rs flag (carried (valued rs flag whole n) whole) p

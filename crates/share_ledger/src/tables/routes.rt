@@ -1,0 +1,117 @@
+//! The routes of the tickets that have a holder, and the tickets of each open flow that follow from them.
+ghost use Rattle.std.specs.Prelude.{◌≡◌, ℕ, ◌≤◌, ◌<◌, length, map, take, slice_get, option_map, Some, true, false};
+ghost use Rattle.share_model.specs.funding.Kept.{names_of, times, times_open, IsHolderKnown};
+ghost use Rattle.share_model.specs.funding.Laws.{uncapped};
+ghost use Rattle.share_ledger.specs.Rounds.{numbers_of};
+ghost use Rattle.share_ledger.specs.Routes.{flow_place, holder_place, route_of, routes_of};
+ghost use Rattle.share_ledger.specs.Shares.{shares_of};
+
+use super::{MAX_AMOUNT, MAX_FLOWS, MAX_TICKETS, Tables};
+use crate::holders;
+use crate::rounds::PLACES;
+use crate::routes::{self, Route};
+use share_model::{Holder, Ticket};
+
+impl Tables {
+    // The place of a holder, among the currencies or among the flows.
+    fn holder_place(&self, holder: &Holder) -> usize
+        requires { IsHolderKnown self.now holder.now }
+        ensures { result ≡ holder_place self.now holder.now }
+    {
+        match holder {
+            Holder::Nobody => 0,
+            Holder::Currency(name) => self.place_of(*name),
+            Holder::Flow(flow) => match self.place_of_flow(*flow) {
+                Some(place) => place,
+                None => 0,
+            },
+        }
+    }
+
+    fn route(&self, ticket: &Ticket) -> Route
+        requires denomination { 1 ≤ times ticket.now.denomination (names_of self.now) }
+        requires holder { IsHolderKnown self.now ticket.now.holder }
+        ensures { result ≡ route_of self.now ticket.now }
+    {
+        Route {
+            from: self.place_of(ticket.denomination),
+            to: self.holder_place(&ticket.holder),
+            amount: ticket.amount,
+        }
+    }
+
+    /// Lists the routes of the tickets that back currencies, or of those that fund flows, and says how many they are.
+    pub(crate) fn list_routes(&self, backing: bool, routes: &mut [Route; MAX_TICKETS]) -> usize
+        ensures listed { take result routes.new ≡ routes_of self.now backing self.now.tickets }
+        ensures few { result ≤ 1024 }
+    {
+        self.is_kept();
+        let mut count = 0;
+        for i in 0..self.tickets.len() {
+            let ticket = &self.tickets[i];
+            if holders::is_kind(&ticket.holder, backing) {
+                routes[count] = self.route(ticket);
+                count += 1;
+            }
+        }
+        count
+    }
+
+    fn is_active_at(&self, place: usize) -> bool
+        requires { place < length self.now.flows }
+        ensures { option_map (λ e. e.1.active) (slice_get self.now.flows place) ≡ Some result }
+    {
+        match self.flow_at(place) {
+            Some((_, open)) => open.active,
+            None => false,
+        }
+    }
+
+    // Whether each open flow is active, by its place.
+    fn activity(&self) -> [bool; PLACES]
+        ensures { take (length self.now.flows) result ≡ map (λ e. e.1.active) self.now.flows }
+    {
+        self.is_kept();
+        let mut active = [false; PLACES];
+        for place in 0..self.flows.len() {
+            active[place] = self.is_active_at(place);
+        }
+        active
+    }
+
+    // What the tickets that fund each open flow are worth together, by its place.
+    fn worths(&self, backing: &[Route], funding: &[Route]) -> [u64; PLACES]
+        requires backing { backing.now ≡ routes_of self.now true self.now.tickets }
+        requires funding { funding.now ≡ routes_of self.now false self.now.tickets }
+        ensures { (f : ℕ) → 1 ≤ times_open f self.now.flows
+            → numbers_of result (flow_place self.now.flows f) ≡ uncapped self.now f }
+    {
+        self.is_kept();
+        let active = self.activity();
+        let begun = routes::reach(funding, &active, &[false; PLACES]);
+        let flags = routes::awake(backing, &begun);
+        let mut totals = [0; PLACES];
+        routes::gather(backing, &flags, &mut totals);
+        routes::gather(funding, &active, &mut totals);
+        let values = routes::values(backing, &flags, &totals);
+        routes::pour(funding, &active, &values, &totals)
+    }
+
+    /// The tickets of each open flow, in the order of opening.
+    pub(crate) fn refresh(
+        &self,
+        backing: &[Route],
+        funding: &[Route],
+        shares: &mut [u32; MAX_FLOWS],
+    )
+        requires backing { backing.now ≡ routes_of self.now true self.now.tickets }
+        requires funding { funding.now ≡ routes_of self.now false self.now.tickets }
+        ensures { take (length self.now.flows) shares.new ≡ shares_of self.now }
+    {
+        self.is_kept();
+        let worths = self.worths(backing, funding);
+        for place in 0..self.flows.len() {
+            shares[place] = worths[place].min(MAX_AMOUNT) as u32;
+        }
+    }
+}

@@ -1,0 +1,9 @@
+use Rattle.share_model.specs.run.Fold.{run}
+use Rattle.share_model.specs.run.FoldLaws.{run-sound}
+use Rattle.share_model.proofs.FundingShares.{shares-within}
+use Rattle.share_model.proofs.laws.shares_are_within_of_runs.Goals as goal
+
+pub returns : goal.returns
+returns c =
+    λ life rates events range may. shares-within (run rates events).live.graph
+    (run-sound life rates events range may).live.funding.kept.sound

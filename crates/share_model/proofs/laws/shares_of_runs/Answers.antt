@@ -1,0 +1,5 @@
+use Rattle.share_model.specs.run.ShareLaws.{run-shares}
+use Rattle.share_model.proofs.laws.shares_of_runs.Goals as goal
+
+pub returns : goal.returns
+returns c = run-shares

@@ -1,0 +1,143 @@
+-- The rule of the queue from the workers to the link: of each worker, what its end pushed is what the intake popped of
+-- it and then what the queue holds of it.
+use Rattle.std.specs.Prelude.{◌≡◌, ◌≤◌, ◌<◌, ◌+◌, ℕ, suc, Bool, true, false, ◌||◌, nat_eq, List, [], ◌∷◌, ◌++◌, length}
+use mathlib.Core.Option.{some}
+use lib.ListN.{get_elem?}
+use Rattle.share_model.specs.lists.Each.{Each}
+use Rattle.share_model.specs.declared.ingress.Offer.{Offer}
+use Rattle.share_model.specs.declared.ingress.QueueView.{QueueView}
+
+abbrev pub offer : ℕ → ℕ → List ℕ → List ℕ → Offer
+offer worker n name parcel = record { worker = worker; n = n; name = name; parcel = parcel }
+
+abbrev pub keep : Bool → Offer → List Offer → List Offer
+keep true o os = o ∷ os
+keep false o os = os
+
+-- the offers of one worker
+abbrev pub of_worker : ℕ → List Offer → List Offer
+of_worker w [] = []
+of_worker w (o ∷ os) = keep (nat_eq o.worker w) o (of_worker w os)
+
+-- numbered from k + 1 on, one after the other
+abbrev pub Numbered : ℕ → List Offer → Type 0
+Numbered k [] = Unit {0}
+Numbered k (o ∷ os) = (o.n ≡ suc k) × Numbered (suc k) os
+
+abbrev pub Begins : List Offer → List Offer → Type 0
+Begins os front = (rest : List Offer) × (os ≡ front ++ rest)
+
+abbrev pub has : ℕ → List ℕ → Bool
+has w [] = false
+has w (v ∷ vs) = nat_eq v w || has w vs
+
+-- What the intake and the ends know
+
+abbrev pub an_end : ℕ → List Offer → QueueView
+an_end worker pushed = record {
+  gets = false;
+  sends = true;
+  worker = worker;
+  pushed = pushed;
+  popped = [];
+  ahead = [];
+  made = 0;
+  closed = [];
+}
+
+abbrev pub an_intake : ℕ → List Offer → List Offer → List ℕ → QueueView
+an_intake made popped ahead closed = record {
+  gets = true;
+  sends = false;
+  worker = 0;
+  pushed = [];
+  popped = popped;
+  ahead = ahead;
+  made = made;
+  closed = closed;
+}
+
+-- an intake, with an end laid beside it
+abbrev pub a_host : QueueView → QueueView → QueueView
+a_host intake end = record {
+  gets = true;
+  sends = true;
+  worker = end.worker;
+  pushed = end.pushed;
+  popped = intake.popped;
+  ahead = intake.ahead;
+  made = intake.made;
+  closed = intake.closed;
+}
+
+abbrev pub spent : QueueView
+spent = record {
+  gets = false;
+  sends = false;
+  worker = 0;
+  pushed = [];
+  popped = [];
+  ahead = [];
+  made = 0;
+  closed = [];
+}
+
+-- The rule
+
+-- an end is that of its worker, which is one of those made and not closed; what it pushed was popped or is held
+pub record IsEnd (seat : ℕ → ℕ) (got items : List Offer) (made : ℕ) (shut : ℕ → Bool) (pass : ℕ) (v : QueueView) : Type 0
+  where
+    pub alone : pass ≡ seat v.worker
+    pub known : v.worker < made
+    pub still : shut v.worker ≡ false
+    pub pushed : v.pushed ≡ of_worker v.worker got ++ of_worker v.worker items
+
+-- there is one intake, which has all that was popped; what it saw ahead is still in front
+pub record IsIntake (reader : ℕ) (got items : List Offer) (made : ℕ) (shut : ℕ → Bool) (pass : ℕ) (v : QueueView)
+    : Type 0 where
+  pub alone : pass ≡ reader
+  pub popped : v.popped ≡ got
+  pub made_is : v.made ≡ made
+  pub closed : (w : ℕ) → shut w ≡ has w v.closed
+  pub ahead : Begins items v.ahead
+
+pub record KeepsOrder (items : List Offer) (views : List QueueView) : Type 0 where
+  -- the pass of the intake, and that of each worker's end
+  pub reader : ℕ
+  pub seat : ℕ → ℕ
+  pub got : List Offer
+  pub made : ℕ
+  pub shut : ℕ → Bool
+  pub below : Each (λ o. o.worker < made) (got ++ items)
+  pub numbered : (w : ℕ) → Numbered 0 (of_worker w got ++ of_worker w items)
+  pub emptied : (w : ℕ) → shut w ≡ true → (w < made) × (of_worker w items ≡ [])
+  pub ends : (pass : ℕ) (v : QueueView) → get_elem? views pass ≡ some v → v.sends ≡ true
+      → IsEnd seat got items made shut pass v
+  pub intake : (pass : ℕ) (v : QueueView) → get_elem? views pass ≡ some v → v.gets ≡ true
+      → IsIntake reader got items made shut pass v
+
+-- What a step tells
+
+-- the end pushed x
+abbrev pub Put : QueueView → Offer → QueueView → Type 0
+Put v x w = w ≡ an_end v.worker (v.pushed ++ x ∷ [])
+
+-- what the queue holds of this worker is the last of what its end pushed
+abbrev pub OwnLast : QueueView → List Offer → Type 0
+OwnLast v items = (before : List Offer) × (v.pushed ≡ before ++ of_worker v.worker items)
+
+-- the intake popped x: the first of what was ahead, from a worker of the queue that is not closed, with the next number
+pub record Taken (v : QueueView) (x : Offer) (w : QueueView) : Type 0 where
+  pub view_is : w ≡ an_intake v.made (v.popped ++ x ∷ []) w.ahead v.closed
+  pub front : Begins (x ∷ w.ahead) v.ahead
+  pub known : x.worker < v.made
+  pub number : x.n ≡ suc (length (of_worker x.worker v.popped))
+  pub still : has x.worker v.closed ≡ false
+
+-- what was ahead at the last pop is still in front
+abbrev pub Seen : QueueView → List Offer → Type 0
+Seen v items = Begins items v.ahead
+
+-- what an end beside the intake pushed begins with what was popped of it
+abbrev pub Behind : QueueView → List Offer → Type 0
+Behind v items = v.pushed ≡ of_worker v.worker v.popped ++ of_worker v.worker items

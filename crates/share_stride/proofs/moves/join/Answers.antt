@@ -1,0 +1,53 @@
+use Rattle.std.proofs.Common.{sym, subst, arith}
+use Rattle.share_model.specs.stride.MoveLaws.{is_there}
+use Rattle.share_model.specs.stride.SoundLaws.{total_small}
+use Rattle.share_stride.specs.Table.{client_at}
+use Rattle.share_stride.specs.Queue.{AreKept, state_of}
+use Rattle.share_stride.proofs.Soundness.{AreKept-updated, IsKept-joined, pass_fits, stride_fits, remain_fits}
+use Rattle.share_stride.proofs.moves.join.Goals as goal
+
+pub enter-requires-clause-pass : goal.enter-requires-clause-pass
+enter-requires-clause-pass c =
+    let kept =
+    subst (AreKept c.args.clients.now) (sym c.update.ensures)
+    (AreKept-updated c.args.clients.now c.args.global.now c.requires.kept) in
+    let s = state_of c.args.clients.now c.update.new.global in
+    pass_fits s kept.sound
+
+pub enter-requires-clause-stride : goal.enter-requires-clause-stride
+enter-requires-clause-stride c =
+    let kept =
+    subst (AreKept c.args.clients.now) (sym c.update.ensures)
+    (AreKept-updated c.args.clients.now c.args.global.now c.requires.kept) in
+    let s = state_of c.args.clients.now c.update.new.global in
+    stride_fits s c.args.place.flow (client_at c.args.clients.now c.args.place) kept.sound
+    (is_there s c.args.place.flow c.requires.there)
+
+pub enter-requires-clause-remain : goal.enter-requires-clause-remain
+enter-requires-clause-remain c =
+    let kept =
+    subst (AreKept c.args.clients.now) (sym c.update.ensures)
+    (AreKept-updated c.args.clients.now c.args.global.now c.requires.kept) in
+    let s = state_of c.args.clients.now c.update.new.global in
+    remain_fits s c.args.place.flow (client_at c.args.clients.now c.args.place) kept.sound
+    (is_there s c.args.place.flow c.requires.there) c.requires.idle
+
+pub overflow_add-global : goal.overflow_add-global
+overflow_add-global c =
+    let kept =
+    subst (AreKept c.args.clients.now) (sym c.update.ensures)
+    (AreKept-updated c.args.clients.now c.args.global.now c.requires.kept) in
+    let s = state_of c.args.clients.now c.update.new.global in
+    let total = kept.total in
+    omega (arith, total_small s kept.sound, c.from.ensures, c.requires.few)
+
+pub returns-clause-kept : goal.returns-clause-kept
+returns-clause-kept c =
+    let kept =
+    subst (AreKept c.args.clients.now) (sym c.update.ensures)
+    (AreKept-updated c.args.clients.now c.args.global.now c.requires.kept) in
+    let s = state_of c.args.clients.now c.update.new.global in
+    rw (c.enter.ensures, c.from.ensures)
+    (IsKept-joined c.update.new.global.tickets s c.args.place.flow
+    (client_at c.args.clients.now c.args.place) c.args.tickets kept
+    (is_there s c.args.place.flow c.requires.there) c.requires.idle c.requires.some c.requires.few)

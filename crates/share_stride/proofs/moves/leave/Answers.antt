@@ -1,0 +1,46 @@
+use Rattle.std.proofs.Common.{sym, subst, arith}
+use Rattle.share_model.specs.stride.MoveLaws.{is_there}
+use Rattle.share_model.specs.stride.SoundLaws.{tickets_le_total}
+use Rattle.share_stride.specs.Table.{client_at}
+use Rattle.share_stride.specs.Queue.{AreKept, state_of}
+use Rattle.share_stride.proofs.Soundness.{AreKept-updated, IsKept-left, pass_fits, ahead_fits}
+use Rattle.share_stride.proofs.moves.leave.Goals as goal
+
+pub leave-requires-clause-pass : goal.leave-requires-clause-pass
+leave-requires-clause-pass c =
+    let kept =
+    subst (AreKept c.args.clients.now) (sym c.update.ensures)
+    (AreKept-updated c.args.clients.now c.args.global.now c.requires.kept) in
+    let s = state_of c.args.clients.now c.update.new.global in
+    pass_fits s kept.sound
+
+pub leave-requires-clause-distance : goal.leave-requires-clause-distance
+leave-requires-clause-distance c =
+    let kept =
+    subst (AreKept c.args.clients.now) (sym c.update.ensures)
+    (AreKept-updated c.args.clients.now c.args.global.now c.requires.kept) in
+    let s = state_of c.args.clients.now c.update.new.global in
+    ahead_fits s c.args.place.flow (client_at c.args.clients.now c.args.place) kept.sound
+    (is_there s c.args.place.flow c.requires.there) c.requires.competes
+
+pub overflow_sub-global : goal.overflow_sub-global
+overflow_sub-global c =
+    let kept =
+    subst (AreKept c.args.clients.now) (sym c.update.ensures)
+    (AreKept-updated c.args.clients.now c.args.global.now c.requires.kept) in
+    let s = state_of c.args.clients.now c.update.new.global in
+    let total = kept.total in
+    let le = tickets_le_total s.clients c.args.place.flow (client_at c.args.clients.now c.args.place) (sym
+    (is_there s c.args.place.flow c.requires.there))
+    c.requires.competes in
+    omega (arith, c.from.ensures, c.leave.ensures.tickets)
+
+pub returns-clause-kept : goal.returns-clause-kept
+returns-clause-kept c =
+    let kept =
+    subst (AreKept c.args.clients.now) (sym c.update.ensures)
+    (AreKept-updated c.args.clients.now c.args.global.now c.requires.kept) in
+    let s = state_of c.args.clients.now c.update.new.global in
+    rw (c.leave.ensures.left, c.from.ensures, c.leave.ensures.tickets)
+    (IsKept-left c.update.new.global.tickets s c.args.place.flow (client_at c.args.clients.now c.args.place) kept
+    (is_there s c.args.place.flow c.requires.there) c.requires.competes)

@@ -1,0 +1,87 @@
+//! The keys of a slab by flow number.
+ghost use Rattle.std.specs.Prelude.{◌≡◌, ◌<◌, None, IfOk, IfErr};
+ghost use Rattle.std.specs.FinMap as map;
+ghost use Rattle.share_stride.specs.Index.{IsRising, IsAt, IsGapFor};
+
+use crate::table::MAX_CLIENTS;
+use share_base::FlowNo;
+use std::alloc::{AllocError, Global};
+use std::marker::Model;
+
+/// Keys by flow number, in a vector in the order of these. A contract sees a finite map.
+#[derive(Drop)]
+pub(crate) struct Index {
+    pairs: Vec<(FlowNo, usize)>,
+}
+
+impl Model for Index {
+    ghost use Rattle.std.specs.Prelude.{ℕ, ◌≤◌, vec_capacity};
+    ghost use Rattle.std.specs.Ordering.{nat_cmp};
+    ghost use Rattle.std.specs.Coded.{coded_ℕ};
+    ghost use Rattle.std.specs.FinMap as map;
+
+    ghost Value = { map.FinMap nat_cmp ℕ };
+
+    ghost coded = { map.code coded_ℕ coded_ℕ };
+
+    ghost use Rattle.share_stride.specs.Index.{key_map, IsRising};
+
+    ghost view = { λ index. key_map index.pairs.items };
+
+    ghost invariant = { λ index. IsRising index.pairs.items × (64 ≤ vec_capacity index.pairs) };
+}
+
+impl Index {
+    /// An empty index with room for the keys of 64 flows. An error where that memory was refused.
+    pub(crate) fn new(alloc: Global) -> Result<Index, AllocError>
+        ensures { IfOk result (λ index. index ≡ map.empty) }
+    {
+        Ok(Index {
+            pairs: Vec::with_capacity(alloc, MAX_CLIENTS)?,
+        })
+    }
+
+    /// The key of a flow, if it is there.
+    pub(crate) fn get(&self, flow: FlowNo) -> Option<usize>
+        ensures { result ≡ map.get self.now flow }
+    {
+        match place_of(&self.pairs, flow) {
+            Err(_) => None,
+            Ok(place) => Some(self.pairs[place].1),
+        }
+    }
+
+    /// Inserts the key of a flow that has none, where there are fewer than 64.
+    pub(crate) fn insert(&mut self, flow: FlowNo, key: usize)
+        requires absent { map.get self.old flow ≡ None }
+        requires room { map.len self.old < 64 }
+        ensures { self.new ≡ map.insert self.old flow key }
+    {
+        match place_of(&self.pairs, flow) {
+            Ok(_) => {}
+            Err(place) => {
+                let _ = self.pairs.insert(place, (flow, key));
+            }
+        }
+    }
+
+    /// Removes the key of a flow, and answers it.
+    pub(crate) fn remove(&mut self, flow: FlowNo) -> Option<usize>
+        ensures key { result ≡ map.get self.old flow }
+        ensures removed { self.new ≡ map.remove self.old flow }
+    {
+        match place_of(&self.pairs, flow) {
+            Err(_) => None,
+            Ok(place) => Some(self.pairs.remove(place).1),
+        }
+    }
+}
+
+// Where the pair of a flow is, or where it would go.
+fn place_of(pairs: &[(FlowNo, usize)], flow: FlowNo) -> Result<usize, usize>
+    requires { IsRising pairs.now }
+    ensures found { IfOk result (IsAt pairs.now flow) }
+    ensures absent { IfErr result (IsGapFor pairs.now flow) }
+{
+    pairs.binary_search_by_key(&flow, |pair| pair.0)
+}

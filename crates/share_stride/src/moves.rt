@@ -1,0 +1,87 @@
+//! The moves of the client at a place. Each changes the client and what all clients share.
+ghost use Rattle.std.specs.Prelude.{◌≡◌, ◌+◌, ◌^◌, ◌<◌, ◌≤◌, false, IsTrue, IsSome};
+ghost use Rattle.std.specs.FinMap as map;
+ghost use Rattle.share_model.specs.stride.Moves.{join as model_join, leave as model_leave, modify as model_modify};
+ghost use Rattle.share_model.specs.stride.Moves.{charge as model_charge};
+ghost use Rattle.share_stride.specs.Table.{IsPlaceIn, client_at};
+ghost use Rattle.share_stride.specs.Queue.{state_of, AreKept, updated};
+
+use crate::client;
+use crate::table::{Place, Table};
+use share_model::GlobalPart;
+
+// Moves the global pass on by what was charged since the last update.
+fn update(global: &mut GlobalPart)
+    requires time { global.old.last ≤ global.old.clock }
+    requires pass { global.old.pass ≤ 2 ^ 80 }
+    ensures { global.new ≡ updated global.old }
+{
+    let share = client::share(
+        client::stride_of(global.tickets),
+        global.clock - global.last,
+    );
+    global.pass += share;
+    global.last = global.clock;
+}
+
+/// Lets a client that does not compete join with so many tickets.
+pub(crate) fn join(clients: &mut Table, global: &mut GlobalPart, place: Place, tickets: u32)
+    requires place { IsPlaceIn clients.old place }
+    requires there { IsSome (map.get clients.old.by_flow place.flow) }
+    requires kept { AreKept clients.old global.old }
+    requires idle { (client_at clients.old place).competes ≡ false }
+    requires some { 0 < tickets }
+    requires few { tickets ≤ 2 ^ 20 }
+    ensures kept { AreKept clients.new global.new }
+    ensures joined { state_of clients.new global.new
+        ≡ model_join (state_of clients.old global.old) place.flow tickets }
+{
+    update(global);
+    clients.enter(place, global.pass, tickets);
+    global.tickets += u64::from(tickets);
+}
+
+/// Lets a client that competes leave.
+pub(crate) fn leave(clients: &mut Table, global: &mut GlobalPart, place: Place)
+    requires place { IsPlaceIn clients.old place }
+    requires there { IsSome (map.get clients.old.by_flow place.flow) }
+    requires kept { AreKept clients.old global.old }
+    requires competes { IsTrue (client_at clients.old place).competes }
+    ensures kept { AreKept clients.new global.new }
+    ensures left { state_of clients.new global.new
+        ≡ model_leave (state_of clients.old global.old) place.flow }
+{
+    update(global);
+    global.tickets -= u64::from(clients.leave(place, global.pass));
+}
+
+/// Gives a client that competes other tickets.
+pub(crate) fn modify(clients: &mut Table, global: &mut GlobalPart, place: Place, tickets: u32)
+    requires place { IsPlaceIn clients.old place }
+    requires there { IsSome (map.get clients.old.by_flow place.flow) }
+    requires kept { AreKept clients.old global.old }
+    requires competes { IsTrue (client_at clients.old place).competes }
+    requires some { 0 < tickets }
+    requires few { tickets ≤ 2 ^ 20 }
+    ensures kept { AreKept clients.new global.new }
+    ensures modified { state_of clients.new global.new
+        ≡ model_modify (state_of clients.old global.old) place.flow tickets }
+{
+    update(global);
+    let before = clients.modify(place, global.pass, tickets);
+    global.tickets = global.tickets - u64::from(before) + u64::from(tickets);
+}
+
+/// Charges a client so many units, and moves the clock on by as many.
+pub(crate) fn charge(clients: &mut Table, global: &mut GlobalPart, place: Place, units: u64)
+    requires place { IsPlaceIn clients.old place }
+    requires there { IsSome (map.get clients.old.by_flow place.flow) }
+    requires kept { AreKept clients.old global.old }
+    requires clock { global.old.clock + units ≤ 2 ^ 40 }
+    ensures kept { AreKept clients.new global.new }
+    ensures charged { state_of clients.new global.new
+        ≡ model_charge (state_of clients.old global.old) place.flow units }
+{
+    clients.charge(place, units);
+    global.clock += units;
+}

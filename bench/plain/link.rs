@@ -297,20 +297,26 @@ impl Link {
         }
     }
 
+    /// Counts a link event, unless the link is broken or has nothing to send.
+    fn begin(&mut self) -> Result<Option<Part>, Refusal> {
+        if self.broken {
+            return Err(Broken);
+        }
+        let part = self.sending();
+        match part {
+            Some(_) => self.events += 1,
+            None => self.output.text(b"idle\n"),
+        }
+        Ok(part)
+    }
+
     fn turn(&mut self, words: &[u8]) -> Result<(), Refusal> {
         let most = number(words).ok_or(Syntax)?;
         self.check_life()?;
         if !(1..=65535).contains(&most) {
             return Err(Range);
         }
-        if self.broken {
-            return Err(Broken);
-        }
-        let Some(Part { place, out }) = self.sending() else {
-            self.output.text(b"idle\n");
-            return Ok(());
-        };
-        self.events += 1;
+        let Some(Part { place, out }) = self.begin()? else { return Ok(()) };
         let flow = self.flows[place].as_mut().ok_or(NoFlow)?;
         let rest = &flow.buffer.head()[out..];
         let count = rest.len().min(most as usize);
@@ -344,14 +350,7 @@ impl Link {
 
     fn tear(&mut self) -> Result<(), Refusal> {
         self.check_life()?;
-        if self.broken {
-            return Err(Broken);
-        }
-        let Some(Part { place, out }) = self.sending() else {
-            self.output.text(b"idle\n");
-            return Ok(());
-        };
-        self.events += 1;
+        let Some(Part { place, out }) = self.begin()? else { return Ok(()) };
         self.broken = true;
         self.part = None;
         self.torn = Some(place);

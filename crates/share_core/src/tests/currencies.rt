@@ -1,7 +1,11 @@
 //! Flows that are funded through currencies.
 
 use super::{Call, DONE, FLOW, FRAME, OPENED, name, packet, play, refused, taped, ticket, wrote};
+use crate::{Engine, Shelf};
 use share_base::{Command, Name, Outcome, Refusal, Reply, Turn};
+use share_model::Tape;
+use std::alloc::Global;
+use std::process::Abort;
 
 /// Names of currencies.
 const NAMES: [&str; 9] = ["c1", "c2", "c3", "c4", "c5", "c6", "c7", "c8", "c9"];
@@ -184,6 +188,33 @@ fn holds_as_many_as_its_tables(rt: HostRuntime) {
     );
 }
 
+// Sixteen tickets of a currency after this number, of which each backs the currency before, or funds `a`.
+fn fund_sixteen_times(
+    rt: &impl Abort,
+    alloc: Global,
+    engine: &mut Engine<Tape, Shelf>,
+    last: u32,
+    currency: &'static str,
+    before: Option<&'static str>,
+) {
+    for step in 1..17 {
+        let number = last.saturating_add(step);
+        let funds = match before {
+            Some(currency) => Call::Back(u64::from(number), currency),
+            None => Call::Fund(u64::from(number), "a"),
+        };
+        play(
+            rt,
+            alloc,
+            engine,
+            &[
+                (Call::MakeTicket(1, currency), ticket(number)),
+                (funds, DONE),
+            ],
+        );
+    }
+}
+
 // Eight currencies of sixteen tickets each, of which each ticket backs the currency before: 16^7 paths.
 #[test]
 fn answers_at_once_however_many_paths(rt: HostRuntime) {
@@ -195,30 +226,19 @@ fn answers_at_once_however_many_paths(rt: HostRuntime) {
         &mut engine,
         &[(Call::Open("a", 1024, 1), OPENED)],
     );
-    let mut number: u32 = 0;
-    for (at, currency) in NAMES.into_iter().enumerate() {
+    let mut last: u32 = 0;
+    let mut before = None;
+    for currency in NAMES {
         play(
             &rt,
             alloc,
             &mut engine,
             &[(Call::MakeCurrency(currency), DONE)],
         );
-        if at < 8 {
-            for _ in 0..16 {
-                number = number.saturating_add(1);
-                play(
-                    &rt,
-                    alloc,
-                    &mut engine,
-                    &[(Call::MakeTicket(1, currency), ticket(number))],
-                );
-                let funds = if at == 0 {
-                    Call::Fund(u64::from(number), "a")
-                } else {
-                    Call::Back(u64::from(number), NAMES[at - 1])
-                };
-                play(&rt, alloc, &mut engine, &[(funds, DONE)]);
-            }
+        if last < 128 {
+            fund_sixteen_times(&rt, alloc, &mut engine, last, currency, before);
+            before = Some(currency);
+            last = last.saturating_add(16);
         }
     }
     play(

@@ -8,6 +8,8 @@ use Rattle.share_model.specs.run.QueueLaws.{wants-can_level}
 use Rattle.share_model.specs.run.Sound.{Sound, QueueIsSound}
 use Rattle.share_model.specs.run.SoundCloseLaws.{sound-commanded}
 use Rattle.share_model.specs.stride.Level.{CanLevel}
+use Rattle.share_core.specs.Levels.{AreTicketsOf, AreLevelAt}
+use Rattle.share_core.proofs.Levellings.{level-by}
 
 -- a command that nothing refuses
 pub sound-done : {life : ℕ} {rates : List Rate} {l : Live} → Sound life rates l → l.counts.events < life
@@ -21,3 +23,10 @@ pub can-level : {life : ℕ} {rates : List Rate} {l : Live} → Sound life rates
 can-level {life = life} {l = l} was now made is flows =
     wants-can_level now (subst (λ ns. QueueIsSound life l.counts.events ns l.queue)
     (ap flow_numbers (sym flows ∙ ap (λ (g : Graph). g.flows) (sym is))) was.queue)
+
+-- and compete with what was kept
+pub level-before : {life : ℕ} {rates : List Rate} {l : Live} → Sound life rates l → (levels : List ℕ)
+    → AreTicketsOf levels l.graph → (now made : Graph) → now ≡ made → made.flows ≡ l.graph.flows
+    → AreLevelAt l.queue (wants now) levels
+level-before {l = l} was levels kept now made is flows =
+    level-by l.queue l.graph now levels (ap flow_numbers (ap (λ (g : Graph). g.flows) is ∙ flows)) was.level kept

@@ -1,15 +1,25 @@
 -- Levelling one flow after the other: what is left to do, and that it can be done.
-use Rattle.std.proofs.Common.{◌≡◌, ◌<◌, ◌≤◌, ◌+◌, ◌^◌, ◌∙◌, ℕ, zero, suc, List, [], ◌∷◌, length, drop, slice_get}
-use Rattle.std.proofs.Common.{Some, IsSome, refl, sym, ap, subst, arith}
-use Rattle.std.proofs.lemmas.List.{length-map}
+use Rattle.std.proofs.Common.{◌≡◌, ◌≢◌, ◌<◌, ◌≤◌, ◌+◌, ◌^◌, ◌∙◌, ℕ, zero, suc, Bool, List, [], ◌∷◌, ◌++◌, length, take, drop}
+use Rattle.std.proofs.Common.{map, set, get_or, slice_get, Option, None, Some, IsSome, refl, sym, ap, subst, add-one}
+use Rattle.std.proofs.Common.{arith}
+use Rattle.std.proofs.lemmas.List.{length-map, drop_all, take_all, take_more_set, get_or-set_other}
+use Rattle.std.proofs.lemmas.Option.{same_Some}
 use Rattle.std.specs.FinMap.{get}
 use Rattle.share_model.specs.declared.funding.OpenFlow.{OpenFlow}
-use Rattle.share_model.specs.funding.Graph.{NameBytes, Graph, tickets}
+use Rattle.share_model.specs.lists.Each.{Each}
+use Rattle.share_model.specs.lists.Rises.{Rises}
+use Rattle.share_model.specs.funding.Graph.{NameBytes, Graph, flow_numbers, tickets}
+use Rattle.share_model.specs.funding.Changes.{set_active}
+use Rattle.share_model.specs.funding.Kept.{IsKept}
+use Rattle.share_model.specs.link.BufferLaws.{numbers-with_activity}
 use Rattle.share_model.specs.link.Live.{wants}
-use Rattle.share_model.specs.stride.Moves.{Stride}
-use Rattle.share_model.specs.stride.Level.{level_one, level_all, CanLevel}
-use Rattle.share_model.specs.stride.LevelLaws.{can_level-level_one}
+use Rattle.share_model.specs.run.QueueLaws.{wants-distinct}
+use Rattle.share_model.specs.stride.Moves.{Stride, client}
+use Rattle.share_model.specs.stride.Level.{level_move, moved_if, level_one, level_all, CanLevel, IsLevel, HasTickets}
+use Rattle.share_model.specs.stride.Level.{AreDistinctFlows}
+use Rattle.share_model.specs.stride.LevelLaws.{can_level-level_one, client-level_one_other, level_move-none}
 use Rattle.share_core.specs.Held.{IfFound}
+use Rattle.share_core.specs.Levels.{AreTicketsOf, IsLevelAt, AreLevelAt}
 
 -- the flows from a place on are still to be levelled, and then all are
 pub record AreLeft (start now : Stride) (wants : List (ℕ × ℕ)) (place : ℕ) : Type 0 where
@@ -55,13 +65,162 @@ left-next start now new wants place few left moved =
       can = subst (λ s. CanLevel s others) (sym is) (can_level-level_one now at.0.0 at.0.1 others can.0.0 can.1);
     })
 
-drop-all : {A : Type 0} (xs : List A) (n : ℕ) → length xs ≤ n → drop n xs ≡ []
-drop-all [] zero few = refl
-drop-all [] (suc n) few = refl
-drop-all (x ∷ xs) zero few = absurd (omega arith)
-drop-all (x ∷ xs) (suc n) few = drop-all xs n (omega arith)
-
 -- none is left at the end
 pub left-none : (start now : Stride) (wants : List (ℕ × ℕ)) (place : ℕ) → length wants ≤ place
     → AreLeft start now wants place → now ≡ level_all start wants
-left-none start now wants place all left = ap (level_all now) (sym (drop-all wants place all)) ∙ left.rest
+left-none start now wants place all left = ap (level_all now) (sym (drop_all place wants all)) ∙ left.rest
+
+-- ---- The tickets that are kept beside the queue
+
+-- the flows before a place were levelled, and what they were levelled with is kept
+pub record AreDone (start now : Stride) (wants : List (ℕ × ℕ)) (levels : List ℕ) (place : ℕ) : Type 0 where
+  pub left : AreLeft start now wants place
+  pub kept : take place levels ≡ map (λ (want : ℕ × ℕ). want.1) (take place wants)
+  pub few : length wants ≤ 64
+  pub long : length levels ≡ 64
+
+-- and the others compete with what is kept for them
+pub record AreDoneChanged (start now : Stride) (wants : List (ℕ × ℕ)) (levels : List ℕ) (place : ℕ) : Type 0 where
+  pub before : AreDone start now wants levels place
+  pub after : (k : ℕ) → place ≤ k → IsLevelAt now wants levels k
+
+one_more : (wants : List (ℕ × ℕ)) (place : ℕ) (want : ℕ × ℕ) → slice_get wants place ≡ Some want
+    → map (λ (want : ℕ × ℕ). want.1) (take (suc place) wants)
+    ≡ map (λ (want : ℕ × ℕ). want.1) (take place wants) ++ want.1 ∷ []
+one_more [] place want is = absurd cc
+one_more (w ∷ wants) zero want is = ap (λ (want : ℕ × ℕ). want.1 ∷ []) (same_Some w want is)
+one_more (w ∷ wants) (suc place) want is = ap (λ ns. w.1 ∷ ns) (one_more wants place want is)
+
+pub done-start : (start : Stride) (wants : List (ℕ × ℕ)) (levels : List ℕ) → length wants ≤ 64
+    → length levels ≡ 64 → CanLevel start wants → AreDone start start wants levels 0
+done-start start wants levels few long can =
+    record { left = left-start start wants can; kept = refl; few = few; long = long }
+
+pub done-next : (start now new : Stride) (wants : List (ℕ × ℕ)) (levels next : List ℕ) (place : ℕ)
+    → place < length wants → AreDone start now wants levels place
+    → IfFound (slice_get wants place) (λ want. new ≡ level_one now want.0 want.1)
+    → IfFound (slice_get wants place) (λ want. next ≡ set levels place want.1)
+    → length next ≡ 64
+    → AreDone start new wants next (place + 1)
+done-next start now new wants levels next place few done moved written long =
+    let at = drop-get wants place few in
+    let is = subst (λ o. IfFound o (λ (want : ℕ × ℕ). next ≡ set levels place want.1)) at.1 written in
+    record {
+      left = left-next start now new wants place few done.left moved;
+      kept = ap (take (place + 1)) is ∙ take_more_set levels place at.0.1 (omega (arith, few, done.few, done.long))
+          ∙ ap (λ ns. ns ++ at.0.1 ∷ []) done.kept ∙ sym (one_more wants place at.0 at.1)
+          ∙ ap (λ k. map (λ (want : ℕ × ℕ). want.1) (take k wants)) (sym (add-one place));
+      few = done.few;
+      long = long;
+    }
+
+each-at : {A : Type 0} (P : A → Type 0) (xs : List A) (k : ℕ) (x : A) → Each P xs → slice_get xs k ≡ Some x → P x
+each-at P [] k x all is = absurd cc
+each-at P (y ∷ ys) zero x all is = subst P (same_Some y x is) all.0
+each-at P (y ∷ ys) (suc k) x all is = each-at P ys k x all.1 is
+
+distinct-at : (wants : List (ℕ × ℕ)) → AreDistinctFlows wants → (i k : ℕ) → i < k → (v w : ℕ × ℕ)
+    → slice_get wants i ≡ Some v → slice_get wants k ≡ Some w → w.0 ≢ v.0
+distinct-at [] distinct i k before v w at_i at_k = absurd cc
+distinct-at (e ∷ es) distinct zero zero before v w at_i at_k = absurd (omega (arith, before))
+distinct-at (e ∷ es) distinct zero (suc k) before v w at_i at_k =
+    λ same. each-at (λ (other : ℕ × ℕ). e.0 ≢ other.0) es k w distinct.0 at_k
+    (ap (λ (p : ℕ × ℕ). p.0) (same_Some e v at_i) ∙ sym same)
+distinct-at (e ∷ es) distinct (suc i) zero before v w at_i at_k = absurd (omega (arith, before))
+distinct-at (e ∷ es) distinct (suc i) (suc k) before v w at_i at_k =
+    distinct-at es distinct.1 i k (omega (arith, before)) v w at_i at_k
+
+-- a move of the flow at a place leaves those behind it as they were
+stays-behind : (now : Stride) (wants : List (ℕ × ℕ)) (levels : List ℕ) (place k : ℕ) (want : ℕ × ℕ)
+    → AreDistinctFlows wants → slice_get wants place ≡ Some want → place < k → IsLevelAt now wants levels k
+    → IsLevelAt (level_one now want.0 want.1) wants (set levels place want.1) k
+stays-behind now wants levels place k want distinct at behind is = by_flow (slice_get wants k) refl is
+  where
+    by_flow : (o : Option (ℕ × ℕ)) → slice_get wants k ≡ o
+        → IfFound o (λ other. HasTickets (client now other.0) (get_or levels k 0))
+        → IfFound o (λ other. HasTickets (client (level_one now want.0 want.1) other.0)
+        (get_or (set levels place want.1) k 0))
+    by_flow None at_k has = tt
+    by_flow (Some other) at_k has =
+        let apart = distinct-at wants distinct place k behind want other at at_k in
+        let elsewhere : k ≢ place = λ same. absurd (omega (arith, behind, same)) in
+        rw (
+          client-level_one_other now want.0 want.1 other.0 apart,
+          get_or-set_other levels place k want.1 0 elsewhere,
+        ) has
+
+pub changed-next : (start now new : Stride) (wants : List (ℕ × ℕ)) (levels next : List ℕ) (place : ℕ)
+    → AreDistinctFlows wants → place < length wants → AreDoneChanged start now wants levels place
+    → IfFound (slice_get wants place) (λ want. new ≡ level_one now want.0 want.1)
+    → IfFound (slice_get wants place) (λ want. next ≡ set levels place want.1)
+    → length next ≡ 64
+    → AreDoneChanged start new wants next (place + 1)
+changed-next start now new wants levels next place distinct few done moved written long =
+    let at = drop-get wants place few in
+    let moved_is = subst (λ o. IfFound o (λ (want : ℕ × ℕ). new ≡ level_one now want.0 want.1)) at.1 moved in
+    let written_is = subst (λ o. IfFound o (λ (want : ℕ × ℕ). next ≡ set levels place want.1)) at.1 written in
+    record {
+      before = done-next start now new wants levels next place few done.before moved written long;
+      after = λ k behind. rw (moved_is, written_is)
+          (stays-behind now wants levels place k at.0 distinct at.1 (omega (arith, behind))
+          (done.after k (omega (arith, behind))));
+    }
+
+-- a client that has the tickets of its flow takes no move
+pub one-stays : (now : Stride) (wants : List (ℕ × ℕ)) (levels : List ℕ) (place share : ℕ)
+    → IsLevelAt now wants levels place → get_or levels place 0 ≡ share
+    → IfFound (slice_get wants place) (λ want. want.1 ≡ share)
+    → IfFound (slice_get wants place) (λ want. now ≡ level_one now want.0 want.1)
+one-stays now wants levels place share is same share_is = by_flow (slice_get wants place) is share_is
+  where
+    by_flow : (o : Option (ℕ × ℕ)) → IfFound o (λ want. HasTickets (client now want.0) (get_or levels place 0))
+        → IfFound o (λ want. want.1 ≡ share) → IfFound o (λ want. now ≡ level_one now want.0 want.1)
+    by_flow None has is = tt
+    by_flow (Some want) has is =
+        let holds = subst (HasTickets (client now want.0)) (same ∙ sym is) has in
+        sym (ap (moved_if now want.0) (level_move-none (client now want.0) want.1 holds))
+
+-- ---- Before a levelling
+
+numbers_by : (value : ℕ → ℕ) (es : List (NameBytes × OpenFlow))
+    → map (λ (want : ℕ × ℕ). want.0) (map (λ (e : NameBytes × OpenFlow). (e.1.number, value e.1.number)) es)
+    ≡ flow_numbers es
+numbers_by value [] = refl
+numbers_by value (e ∷ es) = ap (λ ns. e.1.number ∷ ns) (numbers_by value es)
+
+level_by : (q : Stride) (olds news : List (ℕ × ℕ)) (levels : List ℕ)
+    → map (λ (want : ℕ × ℕ). want.0) olds ≡ map (λ (want : ℕ × ℕ). want.0) news → IsLevel q olds
+    → take (length olds) levels ≡ map (λ (want : ℕ × ℕ). want.1) olds → AreLevelAt q news levels
+level_by q olds [] levels numbers level kept k = tt
+level_by q [] (n ∷ ns) levels numbers level kept k = absurd cc
+level_by q (o ∷ os) (n ∷ ns) [] numbers level kept k = absurd cc
+level_by q (o ∷ os) (n ∷ ns) (l ∷ ls) numbers level kept zero =
+    let same : o.0 ≡ n.0 = cc in
+    let tickets : o.1 ≡ l = cc in
+    subst (λ t. HasTickets (client q n.0) t) tickets (subst (λ f. HasTickets (client q f) o.1) same level.0)
+level_by q (o ∷ os) (n ∷ ns) (l ∷ ls) numbers level kept (suc k) =
+    level_by q os ns ls (cc) level.1 (cc) k
+
+-- where the flows stand as they were, their clients compete with what was kept
+pub level-by : (q : Stride) (g now : Graph) (levels : List ℕ) → flow_numbers now.flows ≡ flow_numbers g.flows
+    → IsLevel q (wants g) → AreTicketsOf levels g → AreLevelAt q (wants now) levels
+level-by q g now levels same level kept =
+    level_by q (wants g) (wants now) levels
+    (numbers_by (tickets g) g.flows ∙ sym same ∙ sym (numbers_by (tickets now) now.flows)) level
+    (ap (λ k. take k levels) (wants-count g) ∙ kept)
+
+pub level-settled : (q : Stride) (g now : Graph) (f : ℕ) (t : Bool) (levels : List ℕ) → now ≡ set_active g f t
+    → IsLevel q (wants g) → AreTicketsOf levels g → AreLevelAt q (wants now) levels
+level-settled q g now f t levels is =
+    level-by q g now levels (ap (λ (g : Graph). flow_numbers g.flows) is ∙ numbers-with_activity f t g.flows)
+
+pub kept-distinct : (g : Graph) → IsKept g → AreDistinctFlows (wants g)
+unfolding Rises
+kept-distinct g kept = wants-distinct g g.next_flow kept.numbered.flows.2
+
+-- all were levelled at the end
+pub kept-all : (start now : Stride) (g : Graph) (levels : List ℕ) (place : ℕ) → place ≡ length g.flows
+    → AreDone start now (wants g) levels place → AreTicketsOf levels g
+kept-all start now g levels place all done =
+    ap (λ k. take k levels) (sym all) ∙ done.kept
+    ∙ ap (map (λ (want : ℕ × ℕ). want.1)) (take_all place (wants g) (omega (arith, all, wants-count g)))

@@ -1,5 +1,6 @@
 pub mod Framed
 pub mod Held
+pub mod Levels
 pub mod Life
 pub mod Place
 pub mod Shelf

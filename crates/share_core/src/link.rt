@@ -15,6 +15,7 @@ mod levelling;
 mod readers;
 mod sending;
 
+use crate::MAX_FLOWS;
 use crate::books::Books;
 use crate::buffers::Buffers;
 use share_base::{FlowNo, Refusal, Reply};
@@ -27,7 +28,8 @@ use std::marker::Model;
 /// The longest life, in events.
 const MAX_LIFE: u64 = 1 << 24;
 
-/// The ledger, the queue, the buffers, the books and the counts of a link, and its shelf of tariffs.
+/// The ledger, the queue, the buffers, the books and the counts of a link, and its shelf of tariffs. Beside the queue it
+/// keeps the tickets with which each open flow was levelled last, by its place.
 #[derive(Drop)]
 pub struct Link<S: Rates> {
     alloc: Global,
@@ -35,6 +37,7 @@ pub struct Link<S: Rates> {
     shelf: S,
     ledger: Ledger,
     queue: Queue,
+    levels: [u32; MAX_FLOWS],
     buffers: Buffers,
     books: Books,
     part: Option<Part>,
@@ -47,6 +50,7 @@ impl<S: Rates> Model for Link<S> {
     ghost use Rattle.std.specs.Prelude.{◌≤◌, ◌^◌};
     ghost use Rattle.share_model.specs.run.Sound.{Sound};
     ghost use Rattle.share_model.specs.link.Seen.{Seen};
+    ghost use Rattle.share_core.specs.Levels.{AreTicketsOf};
     ghost use Rattle.std.specs.Coded.{codes};
     ghost use Rattle.share_model.specs.stride.Moves.{coded_stride};
 
@@ -71,7 +75,7 @@ impl<S: Rates> Model for Link<S> {
     } };
 
     ghost invariant = { λ e.
-        (e.life ≤ 2 ^ 24)
+        ((e.life ≤ 2 ^ 24) × AreTicketsOf e.levels e.ledger)
         × Sound e.life (S.rates e.shelf) (record {
           graph = e.ledger;
           queue = e.queue;
@@ -106,6 +110,7 @@ impl<S: Rates + Drop> Link<S> {
             shelf,
             ledger,
             queue,
+            levels: [0; MAX_FLOWS],
             buffers,
             books,
             part: None,

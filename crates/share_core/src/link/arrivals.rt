@@ -31,7 +31,14 @@ impl<S: Rates> Link<S> {
         let seq = self.buffers.push(flow, body);
         self.counts.accepted += 1;
         self.counts.events += 1;
-        settle(&mut self.queue, &mut self.ledger, flow, true, busy);
+        settle(
+            &mut self.queue,
+            &mut self.ledger,
+            &mut self.levels,
+            flow,
+            true,
+            busy,
+        );
         Reply::Packet { flow, seq }
     }
 

@@ -20,7 +20,7 @@ impl<S: Rates> Link<S> {
             Err(refusal) => self.refuse(refusal),
             Ok(()) => {
                 self.counts.events += 1;
-                level(&mut self.queue, &self.ledger);
+                level(&mut self.queue, &self.ledger, &mut self.levels);
                 Reply::Done
             }
         }
@@ -34,7 +34,7 @@ impl<S: Rates> Link<S> {
             Err(refusal) => self.refuse(refusal),
             Ok(()) => {
                 self.counts.events += 1;
-                level(&mut self.queue, &self.ledger);
+                level(&mut self.queue, &self.ledger, &mut self.levels);
                 Reply::Done
             }
         }
@@ -49,7 +49,7 @@ impl<S: Rates> Link<S> {
             Err(refusal) => self.refuse(refusal),
             Ok(ticket) => {
                 self.counts.events += 1;
-                level(&mut self.queue, &self.ledger);
+                level(&mut self.queue, &self.ledger, &mut self.levels);
                 Reply::Ticket(ticket)
             }
         }
@@ -63,7 +63,7 @@ impl<S: Rates> Link<S> {
             Err(refusal) => self.refuse(refusal),
             Ok(()) => {
                 self.counts.events += 1;
-                level(&mut self.queue, &self.ledger);
+                level(&mut self.queue, &self.ledger, &mut self.levels);
                 Reply::Done
             }
         }
@@ -77,7 +77,7 @@ impl<S: Rates> Link<S> {
             Err(refusal) => self.refuse(refusal),
             Ok(()) => {
                 self.counts.events += 1;
-                level(&mut self.queue, &self.ledger);
+                level(&mut self.queue, &self.ledger, &mut self.levels);
                 Reply::Done
             }
         }
@@ -91,7 +91,7 @@ impl<S: Rates> Link<S> {
             Err(refusal) => self.refuse(refusal),
             Ok(()) => {
                 self.counts.events += 1;
-                level(&mut self.queue, &self.ledger);
+                level(&mut self.queue, &self.ledger, &mut self.levels);
                 Reply::Done
             }
         }
@@ -105,7 +105,7 @@ impl<S: Rates> Link<S> {
             Err(refusal) => self.refuse(refusal),
             Ok(()) => {
                 self.counts.events += 1;
-                level(&mut self.queue, &self.ledger);
+                level(&mut self.queue, &self.ledger, &mut self.levels);
                 Reply::Done
             }
         }

@@ -7,7 +7,7 @@ ghost use Rattle.share_model.specs.link.Live.{command_step, open_flow_refusal, i
 ghost use Rattle.share_model.specs.link.Live.{close_flow, closed_reply};
 
 use super::Link;
-use super::levelling::level;
+use super::levelling::level_anew;
 use crate::ring::Ring;
 use share_base::{FlowNo, Name, Refusal, Reply};
 use share_model::Rates;
@@ -56,7 +56,7 @@ impl<S: Rates> Link<S> {
                 self.buffers.open(ring);
                 self.books.open(flow, tariff);
                 self.counts.events += 1;
-                level(&mut self.queue, &self.ledger);
+                level_anew(&mut self.queue, &self.ledger, &mut self.levels);
                 Reply::Flow(flow)
             }
         }
@@ -124,7 +124,7 @@ impl<S: Rates> Link<S> {
         self.counts.events += 1;
         self.counts.dropped += u64::from(dropped);
         self.counts.past += account;
-        level(&mut self.queue, &self.ledger);
+        level_anew(&mut self.queue, &self.ledger, &mut self.levels);
         Reply::Closed {
             flow,
             dropped,

@@ -1,51 +1,100 @@
 //! Levelling: each open flow competes with as many tickets as it has.
-ghost use Rattle.std.specs.Prelude.{◌≡◌, ◌<◌, ◌≤◌, ◌^◌, true, length, slice_get, IsSome};
+ghost use Rattle.std.specs.Prelude.{◌≡◌, ◌<◌, ◌≤◌, ◌^◌, true, length, set, slice_get, IsSome};
 ghost use Rattle.share_model.specs.funding.Changes.{set_active};
 ghost use Rattle.std.specs.FinMap.{get};
 ghost use Rattle.share_model.specs.link.Live.{wants};
 ghost use Rattle.share_model.specs.stride.Level.{level_one, level_all, CanLevel, IsLevel};
 ghost use Rattle.share_core.specs.Held.{IfFound};
+ghost use Rattle.share_core.specs.Levels.{AreTicketsOf, IsLevelAt, AreLevelAt};
 
+use crate::MAX_FLOWS;
 use share_base::FlowNo;
 use share_ledger::Ledger;
 use share_stride::Queue;
 
 /// Levels the clients of the open flows, in order of opening: each takes the one move that its flow's tickets require,
-/// or none. It takes no memory.
-pub fn level(queue: &mut Queue, ledger: &Ledger)
-    requires { CanLevel queue.old (wants ledger.now) }
-    ensures { queue.new ≡ level_all queue.old (wants ledger.now) }
+/// or none. `levels` has the tickets with which each was levelled last, so only those whose tickets are others now are
+/// looked up. It takes no memory.
+pub fn level(queue: &mut Queue, ledger: &Ledger, levels: &mut [u32; MAX_FLOWS])
+    requires can { CanLevel queue.old (wants ledger.now) }
+    requires levels { AreLevelAt queue.old (wants ledger.now) levels.old }
+    ensures queue { queue.new ≡ level_all queue.old (wants ledger.now) }
+    ensures levels { AreTicketsOf levels.new ledger.now }
 {
+    ledger.is_kept();
     for place in 0..ledger.flow_count() {
-        level_at(queue, ledger, place);
+        level_changed(queue, ledger, levels, place);
+    }
+}
+
+/// Levels the clients of the open flows, whatever they were levelled with. It takes no memory.
+pub fn level_anew(queue: &mut Queue, ledger: &Ledger, levels: &mut [u32; MAX_FLOWS])
+    requires { CanLevel queue.old (wants ledger.now) }
+    ensures queue { queue.new ≡ level_all queue.old (wants ledger.now) }
+    ensures levels { AreTicketsOf levels.new ledger.now }
+{
+    ledger.is_kept();
+    for place in 0..ledger.flow_count() {
+        level_at(queue, ledger, levels, place);
     }
 }
 
 /// Lets a flow be active, or not, and levels the clients of all. Where the flow was so before, as `stood` says, nothing
 /// changes, and no tickets are computed. It takes no memory.
-pub fn settle(queue: &mut Queue, ledger: &mut Ledger, flow: FlowNo, active: bool, stood: bool)
+pub fn settle(
+    queue: &mut Queue,
+    ledger: &mut Ledger,
+    levels: &mut [u32; MAX_FLOWS],
+    flow: FlowNo,
+    active: bool,
+    stood: bool,
+)
     requires stands { stood ≡ true → set_active ledger.old flow active ≡ ledger.old }
-    requires level { stood ≡ true → IsLevel queue.old (wants ledger.old) }
+    requires level { IsLevel queue.old (wants ledger.old) }
+    requires levels { AreTicketsOf levels.old ledger.old }
     requires can { CanLevel queue.old (wants (set_active ledger.old flow active)) }
     ensures ledger { ledger.new ≡ set_active ledger.old flow active }
     ensures queue { queue.new ≡ level_all queue.old (wants ledger.new) }
+    ensures levels { AreTicketsOf levels.new ledger.new }
 {
     if !stood {
         ledger.set_active(flow, active);
-        level(queue, ledger);
+        level(queue, ledger, levels);
+    }
+}
+
+// Levels the client of the open flow at a place, where its tickets are others than they were.
+fn level_changed(queue: &mut Queue, ledger: &Ledger, levels: &mut [u32; MAX_FLOWS], place: usize)
+    requires place { place < length ledger.now.flows }
+    requires few { length ledger.now.flows ≤ 64 }
+    requires can { IfFound (slice_get (wants ledger.now) place)
+        (λ want. IsSome (get queue.old.clients want.0) × (want.1 ≤ 2 ^ 20)) }
+    requires level { IsLevelAt queue.old (wants ledger.now) levels.old place }
+    ensures queue { IfFound (slice_get (wants ledger.now) place)
+        (λ want. queue.new ≡ level_one queue.old want.0 want.1) }
+    ensures levels { IfFound (slice_get (wants ledger.now) place)
+        (λ want. levels.new ≡ set levels.old place want.1) }
+{
+    if levels[place] != ledger.tickets_at(place) {
+        level_at(queue, ledger, levels, place);
     }
 }
 
 // Levels the client of the open flow at a place.
-fn level_at(queue: &mut Queue, ledger: &Ledger, place: usize)
+fn level_at(queue: &mut Queue, ledger: &Ledger, levels: &mut [u32; MAX_FLOWS], place: usize)
     requires place { place < length ledger.now.flows }
+    requires few { length ledger.now.flows ≤ 64 }
     requires can { IfFound (slice_get (wants ledger.now) place)
         (λ want. IsSome (get queue.old.clients want.0) × (want.1 ≤ 2 ^ 20)) }
-    ensures { IfFound (slice_get (wants ledger.now) place)
+    ensures queue { IfFound (slice_get (wants ledger.now) place)
         (λ want. queue.new ≡ level_one queue.old want.0 want.1) }
+    ensures levels { IfFound (slice_get (wants ledger.now) place)
+        (λ want. levels.new ≡ set levels.old place want.1) }
 {
+    let tickets = ledger.tickets_at(place);
+    levels[place] = tickets;
     match ledger.flow_at(place) {
         None => {}
-        Some((_, flow)) => queue.level(flow.number, ledger.tickets_at(place)),
+        Some((_, flow)) => queue.level(flow.number, tickets),
     }
 }

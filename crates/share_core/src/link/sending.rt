@@ -64,7 +64,14 @@ impl<S: Rates> Link<S> {
         self.counts.written += 1;
         self.counts.sent += u64::from(k);
         let busy = self.buffers.is_busy(place.flow);
-        settle(&mut self.queue, &mut self.ledger, place.flow, busy, busy);
+        settle(
+            &mut self.queue,
+            &mut self.ledger,
+            &mut self.levels,
+            place.flow,
+            busy,
+            busy,
+        );
         Turn::Wrote {
             flow: place.flow,
             seq: place.seq,

@@ -7,4 +7,4 @@ returns-clause-small g c =
     let sound = c.self.invariant.1 in
     let account = book-account sound c.args.flow (sym c.in_ok-book.ensures) in
     let small : c.in_ok-book.book.now.account < 2 ^ 52
-    = omega (arith, account, sound.counts.events, c.self.invariant.0) in small
+    = omega (arith, account, sound.counts.events, c.self.invariant.0.0) in small

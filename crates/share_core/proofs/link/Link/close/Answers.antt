@@ -30,10 +30,10 @@ close-requires-2 g c =
 
 pub overflow_add-self-3 : goal.overflow_add-self-3
 overflow_add-self-3 g c =
-    omega (arith, c.account-account.ensures, past_few c.self.invariant.1 c.self.invariant.0 c.args.flow)
+    omega (arith, c.account-account.ensures, past_few c.self.invariant.1 c.self.invariant.0.0 c.args.flow)
 
-pub level-requires-2 : goal.level-requires-2
-level-requires-2 g c =
+pub level_anew-requires : goal.level_anew-requires
+level_anew-requires g c =
     rw (c.remove.ensures, c.level.ensures, c.remove_flow.ensures)
     (can-close c.self.invariant.1 c.args.flow (closable _ _ _ c.self.view_is c.requires.may).stands)
 
@@ -43,9 +43,9 @@ invariant_of-self g c =
     let may = closable _ _ _ c.self.view_is c.requires.may in
     let dropped = c.waiting_of-dropped.ensures
     ∙ ap (λ (k : Seen (Unit {0})). waiting_of k.live c.args.flow) (sym c.self.view_is) in (
-      c.self.invariant.0,
+      (c.self.invariant.0.0, c.level_anew.ensures.levels),
       rw (
-        c.level-2.ensures,
+        c.level_anew.ensures.queue,
         c.remove.ensures,
         c.level.ensures,
         c.remove_flow.ensures,

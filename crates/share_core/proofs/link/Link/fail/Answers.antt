@@ -15,7 +15,7 @@ charge-units-requires-clause-known g c =
 pub charge-units-requires-clause-account : goal.charge-units-requires-clause-account
 charge-units-requires-clause-account g c =
     posts _ _ _ c.args.place c.self.invariant.1
-    (sent _ _ c.args.place c.self.view_is c.requires.place) c.self.invariant.0
+    (sent _ _ c.args.place c.self.view_is c.requires.place) c.self.invariant.0.0
 
 pub charge-units-requires-clause-few : goal.charge-units-requires-clause-few
 charge-units-requires-clause-few g c =
@@ -30,7 +30,7 @@ charge-requires-clause-clock g c =
     let sound = c.self.invariant.1 in
     let t = sent _ _ c.args.place c.self.view_is c.requires.place in
     rw (c.charge-units.ensures.units)
-    (clock _ _ _ c.args.place sound t (g.met.S.Rates.in_range c.self.inside.shelf) c.self.invariant.0
+    (clock _ _ _ c.args.place sound t (g.met.S.Rates.in_range c.self.inside.shelf) c.self.invariant.0.0
     (living _ _ c.self.view_is c.requires.living sound) _ (out_few _ _ _ c.args.place sound t))
 
 pub invariant_of-self : goal.invariant_of-self

@@ -19,7 +19,7 @@ charge-units-requires-clause-known g c =
 pub charge-units-requires-clause-account : goal.charge-units-requires-clause-account
 charge-units-requires-clause-account g c =
     posts _ _ _ c.args.place c.self.invariant.1
-    (sent _ _ c.args.place c.self.view_is c.requires.place) c.self.invariant.0
+    (sent _ _ c.args.place c.self.view_is c.requires.place) c.self.invariant.0.0
 
 pub charge-units-requires-clause-few : goal.charge-units-requires-clause-few
 charge-units-requires-clause-few g c =
@@ -34,7 +34,7 @@ charge-requires-clause-clock g c =
     let sound = c.self.invariant.1 in
     let t = sent _ _ c.args.place c.self.view_is c.requires.place in
     rw (c.charge-units.ensures.units)
-    (clock _ _ _ c.args.place sound t (g.met.S.Rates.in_range c.self.inside.shelf) c.self.invariant.0
+    (clock _ _ _ c.args.place sound t (g.met.S.Rates.in_range c.self.inside.shelf) c.self.invariant.0.0
     (living _ _ c.self.view_is c.requires.living sound) _ (short _ _ _ c.args.place sound t))
 
 pub pop-requires : goal.pop-requires
@@ -52,7 +52,7 @@ settle-requires-clause-stands g c =
 pub settle-requires-clause-level : goal.settle-requires-clause-level
 settle-requires-clause-level g c =
     let t = sent _ _ c.args.place c.self.view_is c.requires.place in
-    λ left. rw (c.charge.ensures) (charged-level _ _ _ c.args.place c.self.invariant.1 t c.charge-units.result)
+    rw (c.charge.ensures) (charged-level _ _ _ c.args.place c.self.invariant.1 t c.charge-units.result)
 
 pub settle-requires-clause-can : goal.settle-requires-clause-can
 settle-requires-clause-can g c =
@@ -71,7 +71,7 @@ invariant_of-self g c =
     let t = sent _ _ c.args.place c.self.view_is c.requires.place in
     let fits = within _ _ c.args.place c.args.k c.self.view_is t c.requires.within in
     let unbroken = subst (λ (k : Seen (Unit {0})). k.live.broken ≡ false) (sym c.self.view_is) c.requires.unbroken in (
-      c.self.invariant.0,
+      (c.self.invariant.0.0, c.settle.ensures.levels),
       rw (
         c.settle.ensures.queue,
         c.settle.ensures.ledger,

@@ -23,8 +23,8 @@ open-requires-in-Ok-add_flow g c =
     let room = allowed-room c.self.invariant.1 c.args.name c.args.limit c.args.tariff allowed in
     omega (arith, room, book_count c.self.invariant.1)
 
-pub level-requires : goal.level-requires
-level-requires g c =
+pub level_anew-requires : goal.level_anew-requires
+level_anew-requires g c =
     let sound = c.self.invariant.1 in
     let allowed = allowed_of _ _ c.args.name c.args.limit c.args.tariff c.self.view_is c.requires.allowed in
     let room = allowed-room c.self.invariant.1 c.args.name c.args.limit c.args.tariff allowed in
@@ -39,9 +39,9 @@ invariant_of-self-in-Ok-add_flow g c =
     let allowed = allowed_of _ _ c.args.name c.args.limit c.args.tariff c.self.view_is c.requires.allowed in
     let joined = added _ _ _ _ c.add.ensures.ok c.add.ensures.refused
     (queue-room sound c.args.name c.args.limit c.args.tariff allowed) in (
-      c.self.invariant.0,
+      (c.self.invariant.0.0, c.level_anew.ensures.levels),
       rw (
-        c.level.ensures,
+        c.level_anew.ensures.queue,
         joined,
         c.open-in-Ok-add_flow.ensures,
         c.open.ensures,

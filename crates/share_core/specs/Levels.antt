@@ -1,0 +1,19 @@
+-- The tickets with which the queue was levelled last, kept by the places of the flows.
+use Rattle.std.specs.Prelude.{◌≡◌, ℕ, List, length, map, take, get_or, slice_get}
+use Rattle.share_model.specs.funding.Graph.{Graph}
+use Rattle.share_model.specs.link.Live.{wants}
+use Rattle.share_model.specs.stride.Moves.{Stride, client}
+use Rattle.share_model.specs.stride.Level.{HasTickets}
+use Rattle.share_core.specs.Held.{IfFound}
+
+-- the tickets of the open flows stand in front, in order of opening
+abbrev pub AreTicketsOf : List ℕ → Graph → Type 0
+AreTicketsOf levels g = take (length g.flows) levels ≡ map (λ (want : ℕ × ℕ). want.1) (wants g)
+
+-- the client of the flow at a place competes with the tickets that are kept there
+abbrev pub IsLevelAt : Stride → List (ℕ × ℕ) → List ℕ → ℕ → Type 0
+IsLevelAt q flows levels k =
+    IfFound (slice_get flows k) (λ want. HasTickets (client q want.0) (get_or levels k 0))
+
+abbrev pub AreLevelAt : Stride → List (ℕ × ℕ) → List ℕ → Type 0
+AreLevelAt q flows levels = (k : ℕ) → IsLevelAt q flows levels k

@@ -1,10 +1,15 @@
 -- What the map of a table's slots answers, before and after a change of one slot.
 use Rattle.std.proofs.Common.{◌≡◌, ◌≢◌, ℕ, zero, suc, ◌<◌, [], ◌∷◌, set, length, Option, None, Some, is_some}
-use Rattle.std.proofs.Common.{option_map, IsSome, ◌≤◌}
+use Rattle.std.proofs.Common.{option_map, IsSome, ◌≤◌, Bool, true, false, replicate}
 use Rattle.std.proofs.Common.{count_by, cond, unwrap_or, inl, inr, refl, sym, ap, subst, ◌∙◌, arith}
-use Rattle.std.proofs.lemmas.Bool.{cases_eq}
-use Rattle.std.proofs.lemmas.List.{get_or-set_same, get_or-set_other, get_or_past}
+use Rattle.std.proofs.lemmas.Bool.{cases_eq, cases_lt, cond-true, cond-false}
+use Rattle.std.proofs.lemmas.List.{get_or-set_same, get_or-set_other, get_or_past, length-set}
+use Rattle.std.proofs.lemmas.List.{length-replicate, get_or-replicate}
 use Rattle.std.proofs.lemmas.List.Sums.{sum_by-cons}
+use Rattle.std.specs.Prelude.{FitsSigned}
+use Rattle.std.proofs.lemmas.Int.{to_z-of_z}
+use mir.Syntax.{w128}
+use mir.Val.{to_z, of_z}
 use Rattle.std.specs.Ordering.{nat_cmp}
 use Rattle.std.specs.Cmp.{nat_cmp_total}
 use Rattle.std.specs.FinMap.{FinMap, empty, get, insert, remove, len, get-empty, len-empty, same_map}
@@ -13,11 +18,14 @@ use Rattle.slab.specs.Slab.{Slab}
 use Rattle.share_model.specs.declared.stride.Client.{Client}
 use Rattle.share_model.specs.stride.MapLaws.{get-insert_same, get-insert_other, get-remove_same, get-remove_other}
 use Rattle.share_model.specs.stride.MapLaws.{len-insert_new, len-insert_found}
-use Rattle.share_model.specs.stride.Moves.{new_client}
+use Rattle.share_model.specs.stride.Moves.{new_client, charged}
 use Rattle.share_stride.specs.declared.table.Slot.{Slot}
 use Rattle.share_stride.specs.declared.table.Place.{Place}
 use Rattle.share_stride.specs.Table.{Slots, client_map, slot_at, AreDistinct, HoldsFlow, LacksFlow, flow_under}
 use Rattle.share_stride.specs.Table.{IsIndexed, IsWellFormed, Clients, IsPlaceIn, client_at, with_client_at}
+use Rattle.share_stride.specs.Table.{entry_of, entry_in, IsRanked}
+use Rattle.share_stride.specs.declared.seating.Entry.{Entry}
+use Rattle.share_stride.specs.Heap.{Standings, standing_under}
 
 AreDistinct-rest : (head : Option Slot) (rest : Slots) → AreDistinct (head ∷ rest) → AreDistinct rest
 AreDistinct-rest head rest distinct = record {
@@ -479,9 +487,96 @@ module _ (slots : Slots) (keys : FinMap nat_cmp ℕ) (now : Clients) (indexed : 
           ap (λ m. record { by_flow = m; keys = keys }) map_written
           ∙ ap (λ (c : Clients). with_client_at c place client) view
 
-pub IsWellFormed-new : (slab : Slab Slot) (keys : FinMap nat_cmp ℕ) → slab.slots ≡ [] → keys ≡ empty
-    → 64 ≤ slab.capacity → IsWellFormed slab keys
-IsWellFormed-new slab keys no_slots no_keys room = record {
+-- ---- The heap
+
+pub entry_of-competes : (key : ℕ) (slot : Slot) → slot.client.competes ≡ true
+    → entry_of key slot ≡ Some (record { pass = slot.client.pass; flow = slot.flow; key = key })
+entry_of-competes key slot competes = cond-true _ _ _ competes
+
+-- the same as the code reads the pass
+pub entry_of-read : (key : ℕ) (slot : Slot) → slot.client.competes ≡ true → FitsSigned w128 slot.client.pass
+    → entry_of key slot
+    ≡ Some (record { pass = to_z w128 (of_z w128 slot.client.pass); flow = slot.flow; key = key })
+entry_of-read key slot competes fits =
+    entry_of-competes key slot competes
+    ∙ ap (λ p. Some (record { pass = p; flow = slot.flow; key = key })) (sym (to_z-of_z w128 slot.client.pass fits))
+
+pub entry_of-idle : (key : ℕ) (slot : Slot) → slot.client.competes ≡ false → entry_of key slot ≡ None
+entry_of-idle key slot idle = cond-false _ _ _ idle
+
+is_some-entry_of : (key : ℕ) (slot : Slot) → is_some (entry_of key slot) ≡ slot.client.competes
+is_some-entry_of key slot = by_case slot.client.competes refl
+  where
+    by_case : (b : Bool) → slot.client.competes ≡ b → is_some (entry_of key slot) ≡ b
+    by_case true is = ap is_some (entry_of-competes key slot is)
+    by_case false is = ap is_some (entry_of-idle key slot is)
+
+-- a charge lets a client compete as it did
+pub charged-competes : (client : Client) (units : ℕ) → (charged client units).competes ≡ client.competes
+charged-competes client units = by_case client.competes refl
+  where
+    by_case : (b : Bool) → client.competes ≡ b → (charged client units).competes ≡ b
+    by_case true is = rw is refl
+    by_case false is = rw is refl
+
+-- a slot is written, and under its key stands what its client asks for
+IsRanked-written : (old new : Slots) (key : ℕ) (slot : Option Slot) (standings after : Standings)
+    → key < length standings → IsRanked old standings → ChangesSlot old new key slot
+    → after ≡ set standings key (entry_in key slot) → IsRanked new after
+IsRanked-written old new key slot standings after fits ranked changes is = record {
+  entry_is = λ k. elim (cases_eq k key) [
+    | inl same ↦
+        let here : standing_under after key ≡ entry_in key (slot_at new key) =
+        ap (λ (s : Standings). standing_under s key) is
+        ∙ get_or-set_same standings key (entry_in key slot) None fits
+        ∙ ap (entry_in key) (sym changes.changed) in
+        subst (λ (i : ℕ). standing_under after i ≡ entry_in i (slot_at new i)) (sym same) here
+    | inr apart ↦
+        ap (λ (s : Standings). standing_under s k) is
+        ∙ get_or-set_other standings key k (entry_in key slot) None apart
+        ∙ ranked.entry_is k
+        ∙ ap (entry_in k) (sym (changes.others k apart))
+  ];
+}
+
+-- a change of a slot that asks for nothing before and after
+pub IsRanked-idle : (old new : Slots) (key : ℕ) (slot : Option Slot) (standings : Standings) → IsRanked old standings
+    → ChangesSlot old new key slot → entry_in key (slot_at old key) ≡ None → entry_in key slot ≡ None
+    → IsRanked new standings
+IsRanked-idle old new key slot standings ranked changes was is = record {
+  entry_is = λ k. elim (cases_eq k key) [
+    | inl same ↦
+        let here : standing_under standings key ≡ entry_in key (slot_at new key) =
+        ranked.entry_is key ∙ was ∙ sym is ∙ ap (entry_in key) (sym changes.changed) in
+        subst (λ (i : ℕ). standing_under standings i ≡ entry_in i (slot_at new i)) (sym same) here
+    | inr apart ↦ ranked.entry_is k ∙ ap (entry_in k) (sym (changes.others k apart))
+  ];
+}
+
+-- every key that has a slot is below a bound
+abbrev FitKeys : Slots → ℕ → Type 0
+FitKeys slots bound = (key : ℕ) (slot : Slot) → slot_at slots key ≡ Some slot → key < bound
+
+pub key_fits-written : (old new : Slots) (key : ℕ) (slot : Slot) (was bound : ℕ) → FitKeys old was
+    → ChangesSlot old new key (Some slot) → bound ≡ was → key < bound → FitKeys new bound
+key_fits-written old new key slot was bound fits changes same lt k s found =
+    elim (cases_eq k key) [
+      | inl is ↦ omega arith
+      | inr apart ↦ let below = fits k s (sym (changes.others k apart) ∙ found) in omega arith
+    ]
+
+pub key_fits-removed : (old new : Slots) (key was bound : ℕ) → FitKeys old was → ChangesSlot old new key None
+    → bound ≡ was → FitKeys new bound
+key_fits-removed old new key was bound fits changes same k s found =
+    elim (cases_eq k key) [
+      | inl is ↦ let gone = ap (slot_at new) is in let none = changes.changed in absurd (cc)
+      | inr apart ↦ let below = fits k s (sym (changes.others k apart) ∙ found) in omega arith
+    ]
+
+pub IsWellFormed-new : (slab : Slab Slot) (keys : FinMap nat_cmp ℕ) (standings : Standings) (wide : ℕ)
+    → slab.slots ≡ [] → keys ≡ empty → 64 ≤ slab.capacity → wide ≡ slab.capacity → standings ≡ replicate wide None
+    → IsWellFormed slab keys standings
+IsWellFormed-new slab keys standings wide no_slots no_keys room all nothing = record {
   indexed = subst (λ (slots : Slots). IsIndexed slots keys) (sym no_slots)
       (subst (λ (k : FinMap nat_cmp ℕ). IsIndexed [] k) (sym no_keys) (record {
         key_is = λ flow key. (
@@ -492,7 +587,60 @@ IsWellFormed-new slab keys no_slots no_keys room = record {
   count = ap len no_keys ∙ len-empty nat_cmp ℕ ∙ sym (len-empty nat_cmp Client)
       ∙ sym (ap (λ (slots : Slots). len (client_map slots)) no_slots);
   room = room;
+  ranked = record {
+    entry_is = λ key.
+        ap (λ (s : Standings). standing_under s key) nothing
+        ∙ (elim (cases_lt key wide) [
+          | inl lt ↦ get_or-replicate wide key None None lt
+          | inr le ↦
+              let long = length-replicate {A = Option Entry} wide None in
+              get_or_past (replicate wide None) key None (omega arith)
+        ])
+        ∙ sym (ap (λ (slots : Slots). entry_in key (slot_at slots key)) no_slots);
+  };
+  wide = ap length nothing ∙ length-replicate {A = Option Entry} wide None ∙ all;
+  key_fits = λ key slot found. let gone = ap (λ (slots : Slots). slot_at slots key) no_slots in absurd (cc);
 }
+
+-- a client is written in its slot, and the heap follows
+module _ (slab : Slab Slot) (keys : FinMap nat_cmp ℕ) (standings : Standings) (now : Clients)
+    (well : IsWellFormed slab keys standings) (view : clients_of slab.slots keys ≡ now) (place : Place)
+    (is_place : IsPlaceIn now place) (was : Slot) (at : Some was ≡ slot_at slab.slots place.key) where
+  pub place_fits : place.key < length standings
+  place_fits =
+      let wide = well.wide in
+      let fits = well.key_fits place.key was (sym at) in
+      omega arith
+
+  stood : standing_under standings place.key ≡ entry_of place.key was
+  stood = well.ranked.entry_is place.key ∙ ap (entry_in place.key) (sym at)
+
+  competed : was.client.competes ≡ (client_at now place).competes
+  competed =
+      ap (λ (c : Client). c.competes) (client_is_at slab.slots keys now well.indexed view place is_place was at)
+
+  pub stood_out : (client_at now place).competes ≡ false → standing_under standings place.key ≡ None
+  stood_out idle = stood ∙ entry_of-idle place.key was (competed ∙ idle)
+
+  pub stood_as : is_some (standing_under standings place.key) ≡ (client_at now place).competes
+  stood_as = ap is_some stood ∙ is_some-entry_of place.key was ∙ competed
+
+  pub IsWellFormed-written : (client : Client) (after : Standings)
+      → after ≡ set standings place.key (entry_of place.key (record { flow = was.flow; client = client }))
+      → IsWellFormed
+      (record slab { slots = set slab.slots place.key (Some (record { flow = was.flow; client = client })) }) keys after
+  IsWellFormed-written client after is =
+      let slot : Slot = record { flow = was.flow; client = client } in
+      let change = changes slab.slots keys now well.indexed view place is_place was at client in
+      record {
+        indexed = indexed_written slab.slots keys now well.indexed view place is_place was at client;
+        count = count_written slab.slots keys now well.indexed view place is_place was at client well.count;
+        room = well.room;
+        ranked = IsRanked-written slab.slots _ place.key (Some slot) standings after place_fits well.ranked change is;
+        wide = ap length is ∙ length-set standings place.key (entry_of place.key slot) ∙ well.wide;
+        key_fits = key_fits-written slab.slots _ place.key slot slab.capacity slab.capacity well.key_fits change refl
+            (well.key_fits place.key was (sym at));
+      }
 
 -- a flow that has no key has no client, as its caller sees it
 pub absent_in_view : (slots : Slots) (keys : FinMap nat_cmp ℕ) (now : Clients) (flow : ℕ) → IsIndexed slots keys

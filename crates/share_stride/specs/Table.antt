@@ -1,15 +1,17 @@
 -- The slots of a table: each holds a client with its flow number, or nothing.
-use Rattle.std.specs.Prelude.{◌≡◌, ◌≢◌, ℕ, ◌≤◌, ◌<ℤ◌, List, [], ◌∷◌, Option, None, Some, slice_index_or, unwrap_or}
-use Rattle.std.specs.Prelude.{option_map, IsTrue, ◌⊎◌, ◌↔◌, refl}
+use Rattle.std.specs.Prelude.{◌≡◌, ◌≢◌, ℕ, ◌<◌, ◌≤◌, List, [], ◌∷◌, length, Option, None, Some, slice_index_or, unwrap_or}
+use Rattle.std.specs.Prelude.{option_map, ◌↔◌, if◌then◌else◌, refl}
 use Rattle.std.specs.Ordering.{nat_cmp}
 use Rattle.std.specs.FinMap as map
 use Rattle.std.specs.FinMap.{FinMap, empty, get, insert, len}
 use Rattle.std.specs.Coded.{Coded, code_by, coded×, coded_ℕ}
 use Rattle.slab.specs.Slab.{Slab}
 use Rattle.share_model.specs.declared.stride.Client.{Client}
-use Rattle.share_model.specs.stride.Moves.{Precedes, new_client, coded_client}
+use Rattle.share_model.specs.stride.Moves.{new_client, coded_client}
 use Rattle.share_stride.specs.declared.table.Slot.{Slot}
 use Rattle.share_stride.specs.declared.table.Place.{Place}
+use Rattle.share_stride.specs.declared.seating.Entry.{Entry}
+use Rattle.share_stride.specs.Heap.{Standings, standing_under}
 
 abbrev pub Slots : Type 0
 Slots = List (Option Slot)
@@ -40,11 +42,27 @@ flow_under slots key = option_map (λ slot. slot.flow) (slot_at slots key)
 pub record IsIndexed (slots : Slots) (keys : FinMap nat_cmp ℕ) : Type 0 where
   pub key_is : (flow key : ℕ) → (get keys flow ≡ Some key) ↔ (flow_under slots key ≡ Some flow)
 
--- as many keys as clients, of which 64 fit with no more memory
-pub record IsWellFormed (slab : Slab Slot) (keys : FinMap nat_cmp ℕ) : Type 0 where
+-- a client that competes stands in the heap, with its pass, its flow and its key
+abbrev pub entry_of : ℕ → Slot → Option Entry
+entry_of key slot =
+    if slot.client.competes then Some (record { pass = slot.client.pass; flow = slot.flow; key = key }) else None
+
+abbrev pub entry_in : ℕ → Option Slot → Option Entry
+entry_in key None = None
+entry_in key (Some slot) = entry_of key slot
+
+-- and nothing else does
+pub record IsRanked (slots : Slots) (standings : Standings) : Type 0 where
+  pub entry_is : (key : ℕ) → standing_under standings key ≡ entry_in key (slot_at slots key)
+
+-- as many keys as clients, of which 64 fit with no more memory, and none that the heap has no room for
+pub record IsWellFormed (slab : Slab Slot) (keys : FinMap nat_cmp ℕ) (standings : Standings) : Type 0 where
   pub indexed : IsIndexed slab.slots keys
   pub count : len keys ≡ len (client_map slab.slots)
   pub room : 64 ≤ slab.capacity
+  pub ranked : IsRanked slab.slots standings
+  pub wide : length standings ≡ slab.capacity
+  pub key_fits : (key : ℕ) (slot : Slot) → slot_at slab.slots key ≡ Some slot → key < slab.capacity
 
 -- the clients by their flow numbers, and the keys under which they stand
 pub record Clients : Type 0 where
@@ -84,26 +102,3 @@ pub record HoldsFlow (slots : Slots) (flow key : ℕ) : Type 0 where
 -- no slot has this flow
 pub record LacksFlow (slots : Slots) (flow : ℕ) : Type 0 where
   pub none : (key : ℕ) (slot : Slot) → slot_at slots key ≡ Some slot → slot.flow ≢ flow
-
--- a slot precedes the first one so far, if there is one
-abbrev pub ComesBefore : Slot → Option Slot → Type 0
-ComesBefore slot None = Unit {0}
-ComesBefore slot (Some first) = Precedes slot.client.pass slot.flow first.client.pass first.flow
-
--- the slot takes the place of the first one so far exactly where it competes and precedes that
-abbrev pub IsEarlier : Option Slot → Slot → Option Slot → Type 0
-IsEarlier first slot result =
-    ((IsTrue slot.client.competes × ComesBefore slot first) × (result ≡ Some slot))
-    ⊎ (¬ (IsTrue slot.client.competes × ComesBefore slot first) × (result ≡ first))
-
--- the first one so far is this slot, or precedes it
-abbrev pub IsNoLater : Slot → Slot → Type 0
-IsNoLater first slot =
-    (first.client.pass <ℤ slot.client.pass) ⊎ ((first.client.pass ≡ slot.client.pass) × (first.flow ≤ slot.flow))
-
-abbrev pub IsFirstSlot : Slots → Option Slot → Type 0
-IsFirstSlot slots None = (key : ℕ) (slot : Slot) → slot_at slots key ≡ Some slot → IsTrue slot.client.competes → ⊥
-IsFirstSlot slots (Some first) =
-    ((key : ℕ) × (slot_at slots key ≡ Some first))
-    × IsTrue first.client.competes
-    × ((key : ℕ) (slot : Slot) → slot_at slots key ≡ Some slot → IsTrue slot.client.competes → IsNoLater first slot)

@@ -2,10 +2,12 @@
 #![tactic(auto)]
 
 mod client;
+mod heap;
 mod index;
 mod laws;
 mod moves;
 mod queue;
+mod seating;
 mod table;
 #[cfg(test)]
 mod tests;

@@ -1,14 +1,17 @@
 //! The clients of a queue by their flow numbers, in a slab.
-ghost use Rattle.std.specs.Prelude.{◌≡◌, ◌<◌, ◌≤◌, ◌*◌, ◌^◌, ◌↔◌, pos, ◌-ℤ◌, Some, None, false};
-ghost use Rattle.std.specs.Prelude.{IsTrue, IsSome, IfSome, IfNone, IfOk, option_copied};
+ghost use Rattle.std.specs.Prelude.{◌≡◌, ◌<◌, ◌≤◌, ◌*◌, ◌^◌, ◌↔◌, pos, ◌-ℤ◌, Some, None, false, length, slice_set};
+ghost use Rattle.std.specs.Prelude.{IsTrue, IsSome, IfSome, IfOk, is_some};
 ghost use Rattle.std.specs.FinMap as map;
 ghost use Rattle.share_model.specs.stride.Moves.{IsNext, joined, left, charged, position};
 ghost use Rattle.share_stride.specs.Fits.{IsWithin};
 ghost use Rattle.share_stride.specs.Table.{no_clients, client_of, client_at, with_client_at, IsPlaceIn};
-ghost use Rattle.share_stride.specs.Table.{ComesBefore, IsEarlier, IsFirstSlot};
+ghost use Rattle.share_stride.specs.Table.{entry_of};
+ghost use Rattle.share_stride.specs.Heap.{standing_under};
 
 use crate::client;
+use crate::heap::Heap;
 use crate::index::Index;
+use crate::seating::Entry;
 use share_base::FlowNo;
 use share_model::Client;
 use slab::Slab;
@@ -37,6 +40,7 @@ pub(crate) struct Place {
 pub(crate) struct Table {
     slots: Slab<Slot>,
     index: Index,
+    heap: Heap,
 }
 
 impl Model for Table {
@@ -48,7 +52,7 @@ impl Model for Table {
 
     ghost view = { λ table. record { by_flow = client_map table.slots.slots; keys = table.index } };
 
-    ghost invariant = { λ table. IsWellFormed table.slots table.index };
+    ghost invariant = { λ table. IsWellFormed table.slots table.index table.heap };
 }
 
 impl Table {
@@ -57,10 +61,9 @@ impl Table {
         ensures { IfOk result (λ table. table ≡ no_clients) }
     {
         let index = Index::new(alloc)?;
-        Ok(Table {
-            slots: Slab::with_capacity(alloc, MAX_CLIENTS)?,
-            index,
-        })
+        let slots = Slab::with_capacity(alloc, MAX_CLIENTS)?;
+        let heap = Heap::new(alloc, slots.capacity())?;
+        Ok(Table { slots, index, heap })
     }
 
     /// How many clients there are.
@@ -107,7 +110,14 @@ impl Table {
     {
         match self.slots.get_mut(place.key) {
             None => {}
-            Some(slot) => slot.client = client::joined(global_pass, &slot.client, tickets),
+            Some(slot) => {
+                slot.client = client::joined(global_pass, &slot.client, tickets);
+                self.heap.enter(Entry {
+                    pass: slot.client.pass,
+                    flow: slot.flow,
+                    key: place.key,
+                });
+            }
         }
     }
 
@@ -125,14 +135,15 @@ impl Table {
             None => 0,
             Some(slot) => {
                 slot.client = client::left(global_pass, &slot.client);
-                slot.client.tickets
+                let tickets = slot.client.tickets;
+                self.heap.leave(place.key);
+                tickets
             }
         }
     }
 
     /// Gives the client at a place, which competes, other tickets: it leaves, and joins with them. Answers those that
-    /// it
-    /// had.
+    /// it had.
     pub(crate) fn modify(&mut self, place: Place, global_pass: u128, tickets: u32) -> u32
         requires place { IsPlaceIn self.old place }
         requires competes { IsTrue (client_at self.old place).competes }
@@ -151,6 +162,7 @@ impl Table {
                 let before = slot.client.tickets;
                 let client = client::left(global_pass, &slot.client);
                 slot.client = client::joined(global_pass, &client, tickets);
+                shift(&mut self.heap, slot, place.key);
                 before
             }
         }
@@ -167,7 +179,10 @@ impl Table {
     {
         match self.slots.get_mut(place.key) {
             None => {}
-            Some(slot) => slot.client = client::charged(&slot.client, units),
+            Some(slot) => {
+                slot.client = client::charged(&slot.client, units);
+                shift(&mut self.heap, slot, place.key);
+            }
         }
     }
 
@@ -200,43 +215,24 @@ impl Table {
     pub(crate) fn least(&self) -> Option<FlowNo>
         ensures { IsNext self.now.by_flow result }
     {
-        match least_slot(&self.slots) {
+        match self.heap.first() {
             None => None,
-            Some(slot) => Some(slot.flow),
+            Some(entry) => Some(entry.flow),
         }
     }
 }
 
-// The competing slot that comes first.
-fn least_slot(slots: &Slab<Slot>) -> Option<&Slot>
-    ensures { IsFirstSlot slots.now.slots (option_copied result) }
+// Brings the entry of a client, where it competes, to its pass.
+fn shift(heap: &mut Heap, slot: &Slot, key: usize)
+    requires key { key < length heap.old }
+    requires stands { is_some (standing_under heap.old key) ≡ slot.now.client.competes }
+    ensures { heap.new ≡ slice_set heap.old key (entry_of key slot.now) }
 {
-    let mut first: Option<&Slot> = None;
-    for (_, slot) in slots.iter() {
-        first = earlier(first, slot);
-    }
-    first
-}
-
-// The slot, where it competes and comes before the first one so far; else that one.
-fn earlier<'a>(first: Option<&'a Slot>, slot: &'a Slot) -> Option<&'a Slot>
-    ensures { IsEarlier (option_copied first.entry) slot.now (option_copied result) }
-{
-    if slot.client.competes && comes_before(slot, first) {
-        Some(slot)
-    } else {
-        first
-    }
-}
-
-fn comes_before(slot: &Slot, first: Option<&Slot>) -> bool
-    ensures { IsTrue result ↔ ComesBefore slot.now (option_copied first.entry) }
-{
-    match first {
-        None => true,
-        Some(first) => {
-            slot.client.pass < first.client.pass
-                || (slot.client.pass == first.client.pass && slot.flow < first.flow)
-        }
+    if slot.client.competes {
+        heap.shift(Entry {
+            pass: slot.client.pass,
+            flow: slot.flow,
+            key,
+        });
     }
 }

@@ -1,8 +1,9 @@
-use Rattle.std.proofs.Common.{ap, sym, ◌∙◌, ◌+◌, arith}
+use Rattle.std.proofs.Common.{Some, ap, sym, ◌∙◌, ◌+◌, arith}
 use Rattle.std.specs.FinMap.{get, insert, len}
 use Rattle.share_model.specs.stride.MapLaws.{len-insert_new}
-use Rattle.share_stride.specs.Table.{Clients}
+use Rattle.share_stride.specs.Table.{Clients, entry_in}
 use Rattle.share_stride.proofs.TableLaws.{distinct, len-client_map, keyless_of_absent, IsIndexed-add, client_map-add}
+use Rattle.share_stride.proofs.TableLaws.{IsRanked-idle, entry_of-idle, key_fits-written}
 use Rattle.share_stride.proofs.table.Table.add.Goals as goal
 
 pub insert_reserved-key-requires : goal.insert_reserved-key-requires
@@ -35,6 +36,17 @@ invariant_of-self c =
           c.self.inside.index c.insert_reserved-key.result (record { flow = c.args.flow; client = c.args.client })
           c.self.invariant.indexed absent vacant (record { changed = u.changed; others = u.others })));
       room = rw c.insert_reserved-key.ensures.capacity c.self.invariant.room;
+      ranked = IsRanked-idle _ _ c.insert_reserved-key.result
+          (Some (record { flow = c.args.flow; client = c.args.client })) _ c.self.invariant.ranked
+          (record { changed = u.changed; others = u.others })
+          (ap (entry_in c.insert_reserved-key.result) vacant)
+          (entry_of-idle c.insert_reserved-key.result (record { flow = c.args.flow; client = c.args.client })
+          c.requires.idle);
+      wide = c.self.invariant.wide ∙ sym c.insert_reserved-key.ensures.capacity;
+      key_fits = key_fits-written _ _ c.insert_reserved-key.result
+          (record { flow = c.args.flow; client = c.args.client }) _ _ c.self.invariant.key_fits
+          (record { changed = u.changed; others = u.others }) c.insert_reserved-key.ensures.capacity
+          c.insert_reserved-key.ensures.key_in_range;
     })
 
 pub returns : goal.returns

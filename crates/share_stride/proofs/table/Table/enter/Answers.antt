@@ -1,11 +1,14 @@
-use Rattle.std.proofs.Common.{sym, ap, subst, ◌∙◌, ◌≤◌, ◌*◌, ◌^◌}
+use Rattle.std.proofs.Common.{sym, ap, subst, ◌∙◌, ◌≤◌, ◌*◌, ◌^◌, set, rules}
+use Rattle.std.specs.Prelude.{FitsSigned}
+use mir.Syntax.{w128}
+use Rattle.share_stride.specs.declared.table.Slot.{Slot}
 use Rattle.share_model.specs.declared.stride.Client.{Client}
 use Rattle.share_model.specs.stride.Moves.{joined}
 use Rattle.share_stride.specs.Fits.{IsWithin}
 use Rattle.share_stride.specs.Table.{with_client_at}
-use Rattle.share_stride.proofs.TableLaws.{place_filled, client_is_at, indexed_written, count_written, view_written}
+use Rattle.share_stride.proofs.TableLaws.{place_filled, client_is_at, view_written, IsWellFormed-written}
+use Rattle.share_stride.proofs.TableLaws.{place_fits, stood_out, entry_of-read}
 use Rattle.share_stride.proofs.table.Table.enter.Goals as goal
-use Rattle.share_stride.proofs.table.Table.enter.Goals.{in-None, in-Some}
 
 pub joined-slot-requires-clause-stride : goal.joined-slot-requires-clause-stride
 joined-slot-requires-clause-stride c =
@@ -19,30 +22,34 @@ joined-slot-requires-clause-remain c =
     (sym (client_is_at _ _ _ c.self.invariant.indexed c.self.view_is c.args.place c.requires.place _
     c.in-Some.ensures.value)) c.requires.remain
 
-pub invariant_of-self : goal.invariant_of-self
-invariant_of-self c =
-    elim c.match-get_mut.branch [
-      | in-None w ↦ rw w.self-inside-is c.self.invariant
-      | in-Some w ↦ rw w.self-inside-is (record {
-        indexed = indexed_written _ _ _ c.self.invariant.indexed c.self.view_is c.args.place c.requires.place _
-            w.in-Some.ensures.value w.joined-slot.result;
-        count = count_written _ _ _ c.self.invariant.indexed c.self.view_is c.args.place c.requires.place _
-            w.in-Some.ensures.value w.joined-slot.result c.self.invariant.count;
-        room = c.self.invariant.room;
-      })
-    ]
+pub invariant_of-self-in-Some : goal.invariant_of-self-in-Some
+invariant_of-self-in-Some c =
+    let slot : Slot = record { flow = c.in-Some.slot.now.flow; client = c.joined-slot.result } in
+    let fits : FitsSigned w128 c.joined-slot.result.pass = search rules in
+    IsWellFormed-written _ _ _ _ c.self.invariant c.self.view_is c.args.place c.requires.place _
+    c.in-Some.ensures.value c.joined-slot.result _
+    (c.enter.ensures
+    ∙ ap (set c.self.inside.heap c.args.place.key)
+    (sym (entry_of-read c.args.place.key slot (ap (λ (k : Client). k.competes) c.joined-slot.ensures) fits)))
 
-pub returns : goal.returns
-returns c =
-    elim c.match-get_mut.branch [
-      | in-None w ↦ absurd (place_filled _ _ _ c.self.invariant.indexed c.self.view_is c.args.place c.requires.place
-          w.in-None.ensures.value)
-      | in-Some w ↦
-          let is = client_is_at _ _ _ c.self.invariant.indexed c.self.view_is c.args.place c.requires.place _
-          w.in-Some.ensures.value in
-          rw w.self-inside-is
-          (view_written _ _ _ c.self.invariant.indexed c.self.view_is c.args.place c.requires.place _
-          w.in-Some.ensures.value w.joined-slot.result
-          ∙ ap (with_client_at c.args.self.now c.args.place)
-          (w.joined-slot.ensures ∙ ap (λ (k : Client). joined c.args.global_pass k c.args.tickets) is))
-    ]
+pub returns-in-None : goal.returns-in-None
+returns-in-None c = absurd (place_filled _ _ _ c.self.invariant.indexed c.self.view_is c.args.place c.requires.place
+    c.in-None.ensures.value)
+
+pub returns-in-Some : goal.returns-in-Some
+returns-in-Some c =
+    let is = client_is_at _ _ _ c.self.invariant.indexed c.self.view_is c.args.place c.requires.place _
+    c.in-Some.ensures.value in
+    (view_written _ _ _ c.self.invariant.indexed c.self.view_is c.args.place c.requires.place _
+    c.in-Some.ensures.value c.joined-slot.result
+    ∙ ap (with_client_at c.args.self.now c.args.place)
+    (c.joined-slot.ensures ∙ ap (λ (k : Client). joined c.args.global_pass k c.args.tickets) is))
+
+pub enter-requires-clause-key : goal.enter-requires-clause-key
+enter-requires-clause-key c =
+    place_fits _ _ _ _ c.self.invariant c.self.view_is c.args.place c.requires.place _ c.in-Some.ensures.value
+
+pub enter-requires-clause-out : goal.enter-requires-clause-out
+enter-requires-clause-out c =
+    stood_out _ _ _ _ c.self.invariant c.self.view_is c.args.place c.requires.place _ c.in-Some.ensures.value
+    c.requires.idle

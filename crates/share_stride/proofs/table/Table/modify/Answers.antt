@@ -4,9 +4,9 @@ use Rattle.share_model.specs.stride.Moves.{joined, left}
 use Rattle.std.specs.Prelude.{pos, ◌-ℤ◌}
 use Rattle.share_stride.specs.Fits.{IsWithin}
 use Rattle.share_stride.specs.Table.{with_client_at}
-use Rattle.share_stride.proofs.TableLaws.{place_filled, client_is_at, indexed_written, count_written, view_written}
+use Rattle.share_stride.proofs.TableLaws.{place_filled, client_is_at, view_written, IsWellFormed-written}
+use Rattle.share_stride.proofs.TableLaws.{place_fits, stood_as}
 use Rattle.share_stride.proofs.table.Table.modify.Goals as goal
-use Rattle.share_stride.proofs.table.Table.modify.Goals.{in-None, in-Some}
 
 pub left-client-requires-clause-distance : goal.left-client-requires-clause-distance
 left-client-requires-clause-distance c =
@@ -32,43 +32,43 @@ joined-slot-requires-clause-remain c =
     (sym (client_is_at _ _ _ c.self.invariant.indexed c.self.view_is c.args.place c.requires.place _
     c.in-Some.ensures.value)) c.requires.distance)
 
-pub invariant_of-self : goal.invariant_of-self
-invariant_of-self c =
-    elim c.match-get_mut.branch [
-      | in-None w ↦ rw w.self-inside-is c.self.invariant
-      | in-Some w ↦ rw w.self-inside-is (record {
-        indexed = indexed_written _ _ _ c.self.invariant.indexed c.self.view_is c.args.place c.requires.place _
-            w.in-Some.ensures.value w.joined-slot.result;
-        count = count_written _ _ _ c.self.invariant.indexed c.self.view_is c.args.place c.requires.place _
-            w.in-Some.ensures.value w.joined-slot.result c.self.invariant.count;
-        room = c.self.invariant.room;
-      })
-    ]
+pub invariant_of-self-in-Some : goal.invariant_of-self-in-Some
+invariant_of-self-in-Some c =
+    (IsWellFormed-written _ _ _ _ c.self.invariant c.self.view_is c.args.place c.requires.place _
+    c.in-Some.ensures.value c.joined-slot.result _
+    (c.shift.ensures))
 
-pub returns-clause-tickets : goal.returns-clause-tickets
-returns-clause-tickets c =
-    elim c.match-get_mut.branch [
-      | in-None w ↦ absurd (place_filled _ _ _ c.self.invariant.indexed c.self.view_is c.args.place c.requires.place
-          w.in-None.ensures.value)
-      | in-Some w ↦
-          let is = client_is_at _ _ _ c.self.invariant.indexed c.self.view_is c.args.place c.requires.place _
-          w.in-Some.ensures.value in
-          w.result-is ∙ ap (λ (k : Client). k.tickets) is
-    ]
+pub returns-in-None-clause-tickets : goal.returns-in-None-clause-tickets
+returns-in-None-clause-tickets c = absurd (place_filled _ _ _ c.self.invariant.indexed c.self.view_is c.args.place c.requires.place
+    c.in-None.ensures.value)
 
-pub returns-clause-modified : goal.returns-clause-modified
-returns-clause-modified c =
-    elim c.match-get_mut.branch [
-      | in-None w ↦ absurd (place_filled _ _ _ c.self.invariant.indexed c.self.view_is c.args.place c.requires.place
-          w.in-None.ensures.value)
-      | in-Some w ↦
-          let is = client_is_at _ _ _ c.self.invariant.indexed c.self.view_is c.args.place c.requires.place _
-          w.in-Some.ensures.value in
-          rw w.self-inside-is
-          (view_written _ _ _ c.self.invariant.indexed c.self.view_is c.args.place c.requires.place _
-          w.in-Some.ensures.value w.joined-slot.result
-          ∙ ap (with_client_at c.args.self.now c.args.place)
-          (w.joined-slot.ensures
-          ∙ ap (λ (k : Client). joined c.args.global_pass k c.args.tickets) w.left-client.ensures
-          ∙ ap (λ (k : Client). joined c.args.global_pass (left c.args.global_pass k) c.args.tickets) is))
-    ]
+pub returns-in-Some-clause-tickets : goal.returns-in-Some-clause-tickets
+returns-in-Some-clause-tickets c =
+    let is = client_is_at _ _ _ c.self.invariant.indexed c.self.view_is c.args.place c.requires.place _
+    c.in-Some.ensures.value in
+    ap (λ (k : Client). k.tickets) is
+
+pub returns-in-None-clause-modified : goal.returns-in-None-clause-modified
+returns-in-None-clause-modified c = absurd (place_filled _ _ _ c.self.invariant.indexed c.self.view_is c.args.place c.requires.place
+    c.in-None.ensures.value)
+
+pub returns-in-Some-clause-modified : goal.returns-in-Some-clause-modified
+returns-in-Some-clause-modified c =
+    let is = client_is_at _ _ _ c.self.invariant.indexed c.self.view_is c.args.place c.requires.place _
+    c.in-Some.ensures.value in
+    (view_written _ _ _ c.self.invariant.indexed c.self.view_is c.args.place c.requires.place _
+    c.in-Some.ensures.value c.joined-slot.result
+    ∙ ap (with_client_at c.args.self.now c.args.place)
+    (c.joined-slot.ensures
+    ∙ ap (λ (k : Client). joined c.args.global_pass k c.args.tickets) c.left-client.ensures
+    ∙ ap (λ (k : Client). joined c.args.global_pass (left c.args.global_pass k) c.args.tickets) is))
+
+pub shift-requires-clause-key : goal.shift-requires-clause-key
+shift-requires-clause-key c =
+    place_fits _ _ _ _ c.self.invariant c.self.view_is c.args.place c.requires.place _ c.in-Some.ensures.value
+
+pub shift-requires-clause-stands : goal.shift-requires-clause-stands
+shift-requires-clause-stands c =
+    stood_as _ _ _ _ c.self.invariant c.self.view_is c.args.place c.requires.place _ c.in-Some.ensures.value
+    ∙ c.requires.competes
+    ∙ sym (ap (λ (k : Client). k.competes) c.joined-slot.ensures)

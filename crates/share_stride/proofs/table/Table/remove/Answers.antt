@@ -1,9 +1,11 @@
-use Rattle.std.proofs.Common.{◌≡◌, ap, sym, ◌∙◌, ◌-◌}
+use Rattle.std.proofs.Common.{◌≡◌, Option, None, unwrap_or, refl, ap, sym, ◌∙◌, ◌-◌}
 use Rattle.std.specs.FinMap.{get, remove, len}
 use Rattle.share_model.specs.stride.MapLaws.{len-remove_found}
-use Rattle.share_stride.specs.Table.{Clients, client_map}
+use Rattle.share_model.specs.declared.stride.Client.{Client}
+use Rattle.share_model.specs.stride.Moves.{new_client}
+use Rattle.share_stride.specs.Table.{Clients, client_map, entry_in}
 use Rattle.share_stride.proofs.TableLaws.{distinct, key_holds, absent_in_view, IsIndexed-removal, client_map-removal}
-use Rattle.share_stride.proofs.TableLaws.{client_of_slot}
+use Rattle.share_stride.proofs.TableLaws.{client_of_slot, IsRanked-idle, entry_of-idle, key_fits-removed}
 use Rattle.share_stride.proofs.table.Table.remove.Goals as goal
 
 pub invariant_of-self : goal.invariant_of-self
@@ -41,6 +43,16 @@ invariant_of-self-in-Some c =
           ∙ sym (len-remove_found _ c.args.flow holds.slot.client found)
           ∙ ap len (sym (map_removed c));
       room = rw c.try_remove.ensures.capacity c.self.invariant.room;
+      ranked = IsRanked-idle _ _ c.in-Some.key None _ c.self.invariant.ranked
+          (record { changed = u.changed; others = u.others })
+          (ap (entry_in c.in-Some.key) holds.found
+          ∙ entry_of-idle c.in-Some.key holds.slot
+          (ap (λ (o : Option Client). (unwrap_or o new_client).competes)
+          (sym found ∙ ap (λ (clients : Clients). get clients.by_flow c.args.flow) c.self.view_is)
+          ∙ c.requires.idle)) refl;
+      wide = c.self.invariant.wide ∙ sym c.try_remove.ensures.capacity;
+      key_fits = key_fits-removed _ _ c.in-Some.key _ _ c.self.invariant.key_fits
+          (record { changed = u.changed; others = u.others }) c.try_remove.ensures.capacity;
     })
 
 pub returns-in-Some : goal.returns-in-Some

@@ -1,0 +1,455 @@
+-- What entering, shifting and leaving do to a heap.
+use Rattle.std.proofs.Common.{◌≡◌, ◌≢◌, ℕ, ◌+◌, ◌-◌, ◌<◌, ◌≤◌, length, set, List, [], ◌∷◌, ◌++◌, Option, None, Some}
+use Rattle.std.proofs.Common.{IsSome, is_some, false}
+use Rattle.std.proofs.Common.{get_or, replicate, inl, inr, refl, sym, ap, subst, ◌∙◌, arith}
+use Rattle.std.proofs.lemmas.Bool.{cases_eq, cases_lt}
+use Rattle.std.proofs.lemmas.List.{get_or-set_same, get_or-set_other, length-set, length-map, get_or-map, get_or_past}
+use Rattle.std.proofs.lemmas.List.{length-replicate, get_or-replicate}
+use Rattle.std.proofs.lemmas.List.{same_lists, get_or_default, get_or_append_left, get_or_push, length_push}
+use Rattle.share_stride.specs.declared.seating.Entry.{Entry}
+use Rattle.share_stride.specs.Seating.{no_entry, entry_at, seat_of, IsNoLater, IsOpen, IsOrdered, IsSeated, IsLifted, Swaps}
+use Rattle.share_stride.specs.Seating.{standing_at, standing, KeepsOthers, Settles, Resettles}
+use Rattle.share_stride.specs.Heap.{Standings, standing_under, standings_of, IsHeap, IsFirst}
+use Rattle.share_stride.proofs.HeapOrder.{at_hole, at_other, IsOpen-from, IsOrdered-from, first-no_later}
+use Rattle.share_stride.proofs.SeatingLaws.{standing_at-in, standing_at-out, KeepsOthers-trans, IsLifted-fill}
+use Rattle.share_stride.proofs.SeatingLaws.{KeepsOthers-fill, IsSeated-place, KeepsOthers-place}
+
+-- ---- What stands under a key
+
+under_is : (count : ℕ) (entries : List Entry) (seats : List ℕ) (key : ℕ) → key < length seats
+    → standing_under (standings_of count entries seats) key ≡ standing count entries seats key
+under_is count entries seats key lt = get_or-map (standing_at count entries) seats key 0 None lt
+
+module _ (count : ℕ) (entries : List Entry) (seats : List ℕ) (key : ℕ) (seated : IsSeated entries seats) where
+  under_in : key < length entries → seat_of seats key < count
+      → standing_under (standings_of count entries seats) key ≡ Some (entry_at entries (seat_of seats key))
+  under_in fits lt =
+      let many = seated.as_many in
+      under_is count entries seats key (omega arith) ∙ standing_at-in count entries (seat_of seats key) lt
+
+  under_out : key < length entries → count ≤ seat_of seats key
+      → standing_under (standings_of count entries seats) key ≡ None
+  under_out fits le =
+      let many = seated.as_many in
+      under_is count entries seats key (omega arith) ∙ standing_at-out count entries (seat_of seats key) le
+
+  pub under_past : length entries ≤ key → standing_under (standings_of count entries seats) key ≡ None
+  under_past past =
+      let many = seated.as_many in
+      let long = length-map seats (standing_at count entries) in
+      get_or_past (standings_of count entries seats) key None (omega arith)
+
+  -- what stands has a seat in the heap
+  pub stands_in : (entry : Entry) → standing_under (standings_of count entries seats) key ≡ Some entry
+      → (key < length entries) × (seat_of seats key < count) × (entry ≡ entry_at entries (seat_of seats key))
+  stands_in entry found =
+      elim (cases_lt key (length entries)) [
+        | inl fits ↦
+            elim (cases_lt (seat_of seats key) count) [
+              | inl lt ↦ let there = under_in fits lt in (fits, lt, cc)
+              | inr le ↦ let none = under_out fits le in absurd (cc)
+            ]
+        | inr past ↦ let none = under_past past in absurd (cc)
+      ]
+
+  pub stands_some : IsSome (standing_under (standings_of count entries seats) key)
+      → (key < length entries) × (seat_of seats key < count)
+  stands_some some =
+      elim (standing_under (standings_of count entries seats) key)
+      as (λ o. standing_under (standings_of count entries seats) key ≡ o → IsSome o
+      → (key < length entries) × (seat_of seats key < count)) [
+        | None ↦ λ _ nothing. absurd (cc)
+        | Some entry ↦ λ found _. let it = stands_in entry found in (it.0, it.1)
+      ] refl some
+
+  -- nothing stands under a key whose seat is behind the heap
+  pub stands_out : key < length entries → standing_under (standings_of count entries seats) key ≡ None
+      → count ≤ seat_of seats key
+  stands_out fits none =
+      elim (cases_lt (seat_of seats key) count) [
+        | inl lt ↦ let there = under_in fits lt in absurd (cc)
+        | inr le ↦ le
+      ]
+
+-- the seat of a key of the heap, as the code reads it
+pub seat_read : (count : ℕ) (entries : List Entry) (seats : List ℕ) (now : Standings) (key seat : ℕ)
+    → IsSeated entries seats → standings_of count entries seats ≡ now → key < length now → seat ≡ get_or seats key seat
+    → (key < length entries) × (seat ≡ seat_of seats key)
+seat_read count entries seats now key seat seated view lt read =
+    let many = seated.as_many in
+    let long = length-map seats (standing_at count entries) in
+    let same = ap length view in (omega arith, read ∙ get_or_default seats key seat 0 (omega arith))
+
+-- there are as many keys as seats, so what stands has one
+pub stands_within : (now : Standings) (key : ℕ) → IsSome (standing_under now key) → key < length now
+stands_within now key some =
+    elim (cases_lt key (length now)) [
+      | inl lt ↦ lt
+      | inr le ↦
+          let nothing : IsSome {T = Entry} None =
+          subst (λ (o : Option Entry). IsSome o) (get_or_past now key None le) some in
+          absurd (cc)
+    ]
+
+pub stands_none : (now : Standings) (key : ℕ) → is_some (standing_under now key) ≡ false
+    → standing_under now key ≡ None
+stands_none now key none =
+    elim (standing_under now key) as (λ o. is_some o ≡ false → o ≡ None) [
+      | None ↦ λ _. refl
+      | Some entry ↦ λ some. absurd (cc)
+    ] none
+
+-- one key has another entry, or none, and the others keep theirs
+standings_of-set : (old_count : ℕ) (old : List Entry) (old_seats : List ℕ) (count : ℕ) (entries : List Entry)
+    (seats : List ℕ) (key : ℕ) (entry : Option Entry) → IsSeated old old_seats → IsSeated entries seats
+    → KeepsOthers key old_count old old_seats count entries seats → key < length old
+    → standing count entries seats key ≡ entry
+    → standings_of count entries seats ≡ set (standings_of old_count old old_seats) key entry
+standings_of-set old_count old old_seats count entries seats key entry was is keeps fits stands =
+    let was_many = was.as_many in
+    let is_many = is.as_many in
+    let as_many = keeps.as_many in
+    let old_long = length-map old_seats (standing_at old_count old) in
+    let long = length-map seats (standing_at count entries) in
+    let set_long = length-set (standings_of old_count old old_seats) key entry in
+    same_lists _ _ (omega arith) (λ k d lt.
+    get_or-map (standing_at count entries) seats k 0 d (omega arith)
+    ∙ elim (cases_eq k key) [
+      | inl same ↦
+          ap (standing count entries seats) same
+          ∙ stands
+          ∙ sym (get_or-set_same (standings_of old_count old old_seats) key entry d (omega arith))
+          ∙ ap (λ i. get_or (set (standings_of old_count old old_seats) key entry) i d) (sym same)
+      | inr apart ↦
+          keeps.kept k (omega arith) apart
+          ∙ sym (get_or-map (standing_at old_count old) old_seats k 0 d (omega arith))
+          ∙ sym (get_or-set_other (standings_of old_count old old_seats) key k entry d apart)
+    ])
+
+-- ---- A key leaves its seat, or two change theirs
+
+pub IsLifted-lift : (entries : List Entry) (seats : List ℕ) (seat key : ℕ) → IsSeated entries seats
+    → seat < length entries → (entry_at entries seat).key ≡ key → IsLifted entries seats seat key
+IsLifted-lift entries seats seat key seated fits has = record {
+  as_many = seated.as_many;
+  hole_fits = fits;
+  lifted_fits = let key_fits = seated.key_fits seat fits in omega arith;
+  key_fits = λ i lt _. seated.key_fits i lt;
+  seat_is = λ i lt _. seated.seat_is i lt;
+  other_key = λ i lt apart same.
+      apart (sym (seated.seat_is i lt) ∙ ap (seat_of seats) (same ∙ sym has) ∙ seated.seat_is seat fits);
+  seat_fits = λ k lt _. seated.seat_fits k lt;
+  other_seat = λ k lt apart same.
+      apart (sym (seated.key_is k lt) ∙ ap (λ i. (entry_at entries i).key) same ∙ has);
+  key_is = λ k lt _. seated.key_is k lt;
+}
+
+-- a write of what stands there already
+pub set_same : {X : Type 0} (xs : List X) (i : ℕ) (x d : X) → i < length xs → get_or xs i d ≡ x → set xs i x ≡ xs
+set_same xs i x d fits is =
+    same_lists _ _ (length-set xs i x) (λ k e lt.
+    elim (cases_eq k i) [
+      | inl same ↦
+          ap (λ j. get_or (set xs i x) j e) same
+          ∙ get_or-set_same xs i x e fits
+          ∙ sym is
+          ∙ get_or_default xs i d e fits
+          ∙ ap (λ j. get_or xs j e) (sym same)
+      | inr apart ↦ get_or-set_other xs i k x e apart
+    ])
+
+module _ (entries : List Entry) (seats : List ℕ) (a b : ℕ) (seated : IsSeated entries seats) (a_fits : a < length entries)
+    (b_fits : b < length entries) where
+  abbrev own : Entry
+  own = entry_at entries a
+
+  abbrev filled : List Entry
+  filled = set entries a (entry_at entries b)
+
+  abbrev reseated : List ℕ
+  reseated = set seats (entry_at entries b).key a
+
+  lifted : IsLifted entries seats a own.key
+  lifted = IsLifted-lift entries seats a own.key seated a_fits refl
+
+  -- a seat with itself
+  Swaps-itself : b ≡ a → Swaps entries seats (set filled b own) (set reseated own.key b) a b
+  Swaps-itself same =
+      let key_fits = seated.key_fits a a_fits in
+      let many = seated.as_many in
+      let entries_is : filled ≡ entries =
+      ap (λ i. set entries a (entry_at entries i)) same ∙ set_same entries a own no_entry a_fits refl in
+      let seats_is : reseated ≡ seats =
+      ap (λ i. set seats (entry_at entries i).key a) same
+      ∙ set_same seats own.key a 0 (omega arith) (seated.seat_is a a_fits) in
+      subst (λ (j : ℕ). Swaps entries seats (set filled j own) (set reseated own.key j) a j) (sym same)
+      (subst (λ (es : List Entry). Swaps entries seats (set es a own) (set reseated own.key a) a a) (sym entries_is)
+      (subst (λ (ss : List ℕ). Swaps entries seats (set entries a own) (set ss own.key a) a a) (sym seats_is) (record {
+        seated = IsSeated-place entries seats a own lifted;
+        first = at_hole entries a own a_fits a refl;
+        second = at_hole entries a own a_fits a refl;
+        others = λ i apart _. at_other entries a own a_fits i apart;
+        kept = λ count _. KeepsOthers-place entries seats a own lifted count;
+      })))
+
+  Swaps-others : b ≢ a → Swaps entries seats (set filled b own) (set reseated own.key b) a b
+  Swaps-others apart =
+      let moved = IsLifted-fill entries seats a own.key b lifted b_fits apart in
+      let back : a ≢ b = omega arith in
+      record {
+        seated = IsSeated-place filled reseated b own moved;
+        first = at_other filled b own moved.hole_fits a back ∙ at_hole entries a (entry_at entries b) a_fits a refl;
+        second = at_hole filled b own moved.hole_fits b refl;
+        others = λ i not_a not_b.
+            at_other filled b own moved.hole_fits i not_b ∙ at_other entries a (entry_at entries b) a_fits i not_a;
+        kept = λ count both. KeepsOthers-trans own.key count count count entries filled _ seats reseated _
+            (KeepsOthers-fill entries seats a own.key b lifted b_fits apart count both)
+            (KeepsOthers-place filled reseated b own moved count);
+      }
+
+  pub Swaps-swap : Swaps entries seats (set filled b own) (set reseated own.key b) a b
+  Swaps-swap = elim (cases_eq b a) [ inl same ↦ Swaps-itself same | inr apart ↦ Swaps-others apart ]
+
+-- ---- A heap counts one more, or one less
+
+module _ (count : ℕ) (entries : List Entry) (seats : List ℕ) (key : ℕ) (seated : IsSeated entries seats)
+    (has : (entry_at entries count).key ≡ key) where
+  -- a key but the one at the end of the heap
+  counted : (k : ℕ) → k < length entries → k ≢ key → standing (count + 1) entries seats k ≡ standing count entries seats k
+  counted k fits apart =
+      let elsewhere : seat_of seats k ≢ count =
+      λ same. apart (sym (seated.key_is k fits) ∙ ap (λ i. (entry_at entries i).key) same ∙ has) in
+      elim (cases_lt (seat_of seats k) count) [
+        | inl lt ↦
+            standing_at-in (count + 1) entries (seat_of seats k) (omega arith)
+            ∙ sym (standing_at-in count entries (seat_of seats k) lt)
+        | inr le ↦
+            standing_at-out (count + 1) entries (seat_of seats k) (omega arith)
+            ∙ sym (standing_at-out count entries (seat_of seats k) le)
+      ]
+
+  KeepsOthers-more : KeepsOthers key count entries seats (count + 1) entries seats
+  KeepsOthers-more = record { as_many = refl; kept = counted }
+
+  KeepsOthers-less : KeepsOthers key (count + 1) entries seats count entries seats
+  KeepsOthers-less = record { as_many = refl; kept = λ k fits apart. sym (counted k fits apart) }
+
+-- ---- An entry enters
+
+module _ (count : ℕ) (es : List Entry) (ss : List ℕ) (x : Entry) (heap : IsHeap count es ss) (fits : x.key < length es)
+    (out : standing_under (standings_of count es ss) x.key ≡ None) (fs : List Entry) (ts : List ℕ)
+    (swaps : Swaps es ss fs ts (seat_of ss x.key) count) where
+  entering_behind : count ≤ seat_of ss x.key
+  entering_behind = stands_out count es ss x.key heap.seated fits out
+
+  entering_keeps : KeepsOthers x.key count es ss count fs ts
+  entering_keeps =
+      let behind = entering_behind in
+      subst (λ (k : ℕ). KeepsOthers k count es ss count fs ts) (heap.seated.key_is x.key fits)
+      (swaps.kept count (λ lt. omega arith, λ lt. omega arith))
+
+  pub entering_few : count + 1 ≤ length fs
+  entering_few =
+      let behind = entering_behind in
+      let many = entering_keeps.as_many in
+      let seat_fits = heap.seated.seat_fits x.key fits in
+      omega arith
+
+  entering_has : (entry_at fs count).key ≡ x.key
+  entering_has = ap (λ (e : Entry). e.key) swaps.second ∙ heap.seated.key_is x.key fits
+
+  pub entering_lifted : IsLifted fs ts count x.key
+  entering_lifted =
+      let few = entering_few in
+      IsLifted-lift fs ts count x.key swaps.seated (omega arith) entering_has
+
+  pub entering_open : IsOpen (count + 1) fs count
+  entering_open =
+      let behind = entering_behind in
+      IsOpen-from count es (count + 1) fs count (omega arith) heap.ordered (λ i lt apart.
+      (omega arith, swaps.others i (omega arith) apart))
+
+  module _ (gs : List Entry) (us : List ℕ) (settles : Settles (count + 1) fs ts gs us x) where
+    pub IsHeap-entered : IsHeap (count + 1) gs us
+    IsHeap-entered =
+        let few = entering_few in
+        let many = settles.kept.as_many in
+        record { seated = settles.seated; few = omega arith; ordered = settles.ordered }
+
+    pub standings-entered : standings_of (count + 1) gs us ≡ set (standings_of count es ss) x.key (Some x)
+    standings-entered =
+        standings_of-set count es ss (count + 1) gs us x.key (Some x) heap.seated settles.seated
+        (KeepsOthers-trans x.key count count (count + 1) es fs gs ss ts us entering_keeps
+        (KeepsOthers-trans x.key count (count + 1) (count + 1) fs fs gs ts ts us
+        (KeepsOthers-more count fs ts x.key swaps.seated entering_has) settles.kept))
+        fits settles.stands
+
+-- ---- An entry takes the place of another
+
+module _ (count : ℕ) (es : List Entry) (ss : List ℕ) (x : Entry) (heap : IsHeap count es ss)
+    (there : IsSome (standing_under (standings_of count es ss) x.key)) where
+  pub shifting_lifted : IsLifted es ss (seat_of ss x.key) x.key
+  shifting_lifted =
+      let stands = stands_some count es ss x.key heap.seated there in
+      IsLifted-lift es ss (seat_of ss x.key) x.key heap.seated (heap.seated.seat_fits x.key stands.0)
+      (heap.seated.key_is x.key stands.0)
+
+  pub shifting_open : IsOpen count es (seat_of ss x.key)
+  shifting_open =
+      let stands = stands_some count es ss x.key heap.seated there in
+      IsOpen-from count es count es (seat_of ss x.key) stands.1 heap.ordered (λ i lt _. (lt, refl))
+
+  module _ (gs : List Entry) (us : List ℕ) (settles : Settles count es ss gs us x) where
+    pub IsHeap-shifted : IsHeap count gs us
+    IsHeap-shifted =
+        let few = heap.few in
+        let many = settles.kept.as_many in
+        record { seated = settles.seated; few = omega arith; ordered = settles.ordered }
+
+    pub standings-shifted : standings_of count gs us ≡ set (standings_of count es ss) x.key (Some x)
+    standings-shifted =
+        standings_of-set count es ss count gs us x.key (Some x) heap.seated settles.seated settles.kept
+        ((stands_some count es ss x.key heap.seated there).0) settles.stands
+
+-- ---- An entry leaves
+
+module _ (all count : ℕ) (es : List Entry) (ss : List ℕ) (key : ℕ) (counts : count ≡ all - 1) (heap : IsHeap all es ss)
+    (there : IsSome (standing_under (standings_of all es ss) key)) (fs : List Entry) (ts : List ℕ)
+    (swaps : Swaps es ss fs ts (seat_of ss key) count) where
+  leaving_in : (key < length es) × (seat_of ss key < all)
+  leaving_in = stands_some all es ss key heap.seated there
+
+  one_more : all ≡ count + 1
+  one_more = let inside = leaving_in in omega (arith, inside.1)
+
+  leaving_keeps : KeepsOthers key all es ss all fs ts
+  leaving_keeps =
+      let inside = leaving_in in
+      let more = one_more in
+      subst (λ (k : ℕ). KeepsOthers k all es ss all fs ts) (heap.seated.key_is key inside.0)
+      (swaps.kept all (λ _. omega arith, λ _. inside.1))
+
+  pub leaving_few : count ≤ length fs
+  leaving_few = let few = heap.few in let many = leaving_keeps.as_many in let more = one_more in omega arith
+
+  leaving_has : (entry_at fs count).key ≡ key
+  leaving_has = ap (λ (e : Entry). e.key) swaps.second ∙ heap.seated.key_is key leaving_in.0
+
+  leaving_agrees : (i : ℕ) → i < count → i ≢ seat_of ss key
+      → (i < all) × (entry_at fs i ≡ entry_at es i)
+  leaving_agrees i lt apart = let more = one_more in (omega arith, swaps.others i apart (omega arith))
+
+  pub leaving_open : seat_of ss key < count → IsOpen count fs (seat_of ss key)
+  leaving_open lt = IsOpen-from all es count fs (seat_of ss key) lt heap.ordered leaving_agrees
+
+  pub leaving_ordered : count ≤ seat_of ss key → IsOrdered count fs
+  leaving_ordered le = IsOrdered-from all es count fs (seat_of ss key) le heap.ordered leaving_agrees
+
+  module _ (gs : List Entry) (us : List ℕ) (resettles : Resettles count fs ts gs us) where
+    pub IsHeap-left : IsHeap count gs us
+    IsHeap-left =
+        let few = leaving_few in
+        let many = resettles.kept.as_many in
+        record { seated = resettles.seated; few = omega arith; ordered = resettles.ordered }
+
+    -- its key has the seat right behind the heap
+    left_out : standing count gs us key ≡ None
+    left_out =
+        let few = heap.few in
+        let many = leaving_keeps.as_many in
+        let inside = leaving_in in
+        let more = one_more in
+        resettles.kept.kept key (omega arith)
+        ∙ ap (standing count fs ts) (sym leaving_has)
+        ∙ ap (standing_at count fs) (swaps.seated.seat_is count (omega arith))
+        ∙ standing_at-out count fs count (omega arith)
+
+    pub standings-left : standings_of count gs us ≡ set (standings_of all es ss) key None
+    standings-left =
+        standings_of-set all es ss count gs us key None heap.seated resettles.seated
+        (KeepsOthers-trans key all all count es fs gs ss ts us leaving_keeps
+        (KeepsOthers-trans key all count count fs fs gs ts ts us
+        (subst (λ n. KeepsOthers key n fs ts count fs ts) (sym one_more)
+        (KeepsOthers-less count fs ts key swaps.seated leaving_has))
+        (record { as_many = resettles.kept.as_many; kept = λ k lt _. resettles.kept.kept k lt })))
+        (leaving_in.0) left_out
+
+-- ---- What is first
+
+pub IsFirst-none : (entries : List Entry) (seats : List ℕ) → IsSeated entries seats
+    → IsFirst (standings_of 0 entries seats) None
+IsFirst-none entries seats seated = λ key.
+    elim (cases_lt key (length entries)) [
+      | inl fits ↦ under_out 0 entries seats key seated fits (omega arith)
+      | inr past ↦ under_past 0 entries seats key seated past
+    ]
+
+pub IsFirst-some : (count : ℕ) (entries : List Entry) (seats : List ℕ) → IsHeap count entries seats → 0 < count
+    → IsFirst (standings_of count entries seats) (Some (entry_at entries 0))
+IsFirst-some count entries seats heap some =
+    let few = heap.few in
+    let fits = heap.seated.key_fits 0 (omega arith) in
+    let seat = heap.seated.seat_is 0 (omega arith) in
+    record {
+      stands = under_in count entries seats (entry_at entries 0).key heap.seated fits (omega arith)
+          ∙ ap (λ i. Some (entry_at entries i)) seat;
+      first = λ key other found.
+          let it = stands_in count entries seats key heap.seated other found in
+          subst (λ (e : Entry). IsNoLater (entry_at entries 0) e) (sym it.2)
+          (first-no_later count entries (seat_of seats key) heap.ordered it.1);
+    }
+
+-- ---- A new heap
+
+-- each key so far has the seat of its own number
+pub record IsIdle (entries : List Entry) (seats : List ℕ) (count : ℕ) : Type 0 where
+  pub entries_long : length entries ≡ count
+  pub seats_long : length seats ≡ count
+  pub key_is : (i : ℕ) → i < count → (entry_at entries i).key ≡ i
+  pub seat_is : (i : ℕ) → i < count → seat_of seats i ≡ i
+
+pub IsIdle-push : (entries : List Entry) (seats : List ℕ) (count : ℕ) (x : Entry) → x.key ≡ count
+    → IsIdle entries seats count → IsIdle (entries ++ x ∷ []) (seats ++ count ∷ []) (count + 1)
+IsIdle-push entries seats count x is idle =
+    let entries_long = idle.entries_long in
+    let seats_long = idle.seats_long in
+    record {
+      entries_long = omega (arith, length_push entries x);
+      seats_long = omega (arith, length_push seats count);
+      key_is = λ i lt. elim (cases_lt i count) [
+        | inl less ↦
+            ap (λ (e : Entry). e.key) (get_or_append_left entries (x ∷ []) no_entry i (omega arith))
+            ∙ idle.key_is i less
+        | inr le ↦
+            let last : length entries ≡ i = omega arith in
+            ap (λ (e : Entry). e.key) (get_or_push entries x no_entry i last) ∙ is ∙ omega arith
+      ];
+      seat_is = λ i lt. elim (cases_lt i count) [
+        | inl less ↦ get_or_append_left seats (count ∷ []) 0 i (omega arith) ∙ idle.seat_is i less
+        | inr le ↦ let last : length seats ≡ i = omega arith in get_or_push seats count 0 i last ∙ omega arith
+      ];
+    }
+
+pub IsSeated-idle : (entries : List Entry) (seats : List ℕ) (count : ℕ) → IsIdle entries seats count
+    → IsSeated entries seats
+IsSeated-idle entries seats count idle =
+    let long = idle.entries_long in
+    let seats_long = idle.seats_long in
+    record {
+      as_many = omega arith;
+      key_fits = λ i lt. let is = idle.key_is i (omega arith) in omega arith;
+      seat_is = λ i lt. ap (seat_of seats) (idle.key_is i (omega arith)) ∙ idle.seat_is i (omega arith);
+      seat_fits = λ k lt. let is = idle.seat_is k (omega arith) in omega arith;
+      key_is = λ k lt.
+          ap (λ i. (entry_at entries i).key) (idle.seat_is k (omega arith)) ∙ idle.key_is k (omega arith);
+    }
+
+-- nothing stands in an empty heap
+pub standings_of-none : (entries : List Entry) (seats : List ℕ) → standings_of 0 entries seats ≡ replicate (length seats) None
+standings_of-none entries seats =
+    let long = length-map seats (standing_at 0 entries) in
+    let all_long = length-replicate {A = Option Entry} (length seats) None in
+    same_lists _ _ (omega arith) (λ k d lt.
+    get_or-map (standing_at 0 entries) seats k 0 d (omega arith)
+    ∙ standing_at-out 0 entries (get_or seats k 0) (omega arith)
+    ∙ sym (get_or-replicate (length seats) k None d (omega arith)))

@@ -1,4 +1,6 @@
 //! Worked figures on a queue, and a long run of moves beside a plain model.
+ghost use Rattle.std.specs.Prelude.{◌<◌};
+
 mod guarded;
 mod plain;
 
@@ -274,66 +276,97 @@ fn make(queue: &mut Queue, flow: u32, step: Move) -> bool {
     }
 }
 
-// A move that a number draws.
-fn drawn(number: u64) -> Move {
-    let most = if (number >> 62) & 1 == 0 {
-        8
-    } else {
-        1_048_576
-    };
-    let tickets = (number >> 42) as u32 % most + 1;
-    match (number >> 33) as u32 % 14 {
-        0 => Move::Add,
-        1 | 2 => Move::Join(tickets),
-        3 => Move::Leave,
-        4 => Move::Modify(tickets),
-        5 => Move::Remove,
-        6 | 7 => Move::Level(tickets / 2),
-        _ => Move::Charge((number >> 20) % 4096),
+// Few tickets or many, one or as many as there may be.
+fn drawn_tickets(number: u64) -> u32 {
+    match number >> 62 {
+        0 => (number >> 43) as u32 % 8 + 1,
+        1 => (number >> 42) as u32 % 1_048_576 + 1,
+        2 => 1,
+        _ => 1_048_576,
     }
 }
 
-// Whether both show the same figures for every flow, and the same next flow.
+// The units of a frame, or now and then of very many.
+fn drawn_units(number: u64) -> u64 {
+    if (number >> 52) % 512 == 0 {
+        (number >> 14) % 274_877_906_944 + 1
+    } else {
+        (number >> 20) % 4096
+    }
+}
+
+// A move that a number draws.
+fn drawn(number: u64) -> Move {
+    let tickets = drawn_tickets(number);
+    match (number >> 33) as u32 % 16 {
+        0 | 1 => Move::Add,
+        2 | 3 => Move::Join(tickets),
+        4 => Move::Leave,
+        5 => Move::Modify(tickets),
+        6 => Move::Remove,
+        7 | 8 => Move::Level(tickets / 2),
+        9 => Move::Level(tickets),
+        _ => Move::Charge(drawn_units(number)),
+    }
+}
+
+// Whether both show the same figures for a flow.
+fn agrees_on(queue: &Queue, plain: &Plain, flow: u32) -> bool {
+    let row = plain.row(flow);
+    let position = position(queue, flow);
+    queue.contains(FlowNo(flow)) == (row.flow == flow)
+        && position.competing == row.competes
+        && i128::from(position.tickets) == row.tickets
+        && i128::from(position.stride) == plain::stride(row.tickets)
+        && position.place == row.place
+}
+
+// Whether both show the same next flow, and the same of what all flows share.
 fn agrees(queue: &Queue, plain: &Plain) -> bool {
     let global = queue.global();
-    let mut same = global.pass as i128 == plain.pass
+    global.pass as i128 == plain.pass
         && i128::from(global.tickets) == plain.tickets()
         && i128::from(global.last) == plain.last
         && i128::from(global.clock) == plain.clock
-        && least(queue) == plain.least();
-    for flow in 1..=8 {
-        let row = plain.row(flow);
-        let position = position(queue, flow);
-        same = same
-            && queue.contains(FlowNo(flow)) == (row.flow == flow)
-            && position.competing == row.competes
-            && i128::from(position.tickets) == row.tickets
-            && i128::from(position.stride) == plain::stride(row.tickets)
-            && position.place == row.place;
-    }
-    same
+        && least(queue) == plain.least()
 }
 
-// Twenty thousand moves of all kinds, in an order that is drawn from a sequence of numbers.
-#[test]
-fn beside_a_plain_model(rt: HostRuntime) -> Result<(), Fail> {
-    let mut queue = Queue::new(rt.alloc())?;
+// Ten thousand moves of all kinds of so many flows, in an order that is drawn from a sequence of numbers, of which it
+// gives the last.
+fn run(rt: &impl Abort, alloc: Global, flows: u32, start: u64) -> Result<u64, Refusal>
+    requires { 0 < flows }
+{
+    let mut queue = Queue::new(alloc)?;
     let mut plain = Plain::new();
-    let mut number = 1u64;
+    let mut number = start;
     let mut made = 0u32;
-    for count in 0..20_000u32 {
+    for count in 0..10_000u32 {
         number = number
             .wrapping_mul(6_364_136_223_846_793_005)
             .wrapping_add(1_442_695_040_888_963_407);
-        let flow = (number >> 40) as u32 % 8 + 1;
+        let flow = (number >> 37) as u32 % flows + 1;
         let step = drawn(number);
         let ours = make(&mut queue, flow, step);
         assert_eq!(rt; ours, plain.make(flow, step), "at move {count}");
-        assert!(rt; agrees(&queue, &plain), "at move {count}");
+        assert!(rt; agrees(&queue, &plain) && agrees_on(&queue, &plain, flow), "at move {count}");
         if ours {
             made = made.wrapping_add(1);
         }
     }
-    assert!(rt; made > 10_000);
+    for flow in 1..=64 {
+        assert!(rt; agrees_on(&queue, &plain, flow), "flow {flow} in the end");
+    }
+    assert!(rt; made > 4_000);
+    Ok(number)
+}
+
+// Sixty thousand moves: of few flows, and of as many as a queue holds.
+#[test]
+fn beside_a_plain_model(rt: HostRuntime) -> Result<(), Fail> {
+    let mut number = 1u64;
+    for _ in 0..3u32 {
+        number = run(&rt, rt.alloc(), 8, number)?;
+        number = run(&rt, rt.alloc(), 64, number)?;
+    }
     Ok(())
 }

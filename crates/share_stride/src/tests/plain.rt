@@ -21,9 +21,12 @@ const FREE: Row = Row {
     competes: false,
 };
 
+/// The clock goes no further.
+const LAST_CLOCK: i128 = 1_099_511_627_776;
+
 #[derive(Drop)]
 pub(crate) struct Plain {
-    pub(crate) rows: [Row; 8],
+    pub(crate) rows: [Row; 64],
     pub(crate) pass: i128,
     pub(crate) last: i128,
     pub(crate) clock: i128,
@@ -49,7 +52,7 @@ pub(crate) fn stride(tickets: i128) -> i128 {
 impl Plain {
     pub(crate) fn new() -> Plain {
         Plain {
-            rows: [FREE; 8],
+            rows: [FREE; 64],
             pass: 0,
             last: 0,
             clock: 0,
@@ -168,7 +171,8 @@ impl Plain {
         let there = row.flow == flow;
         let ready = match step {
             Move::Add => !there,
-            Move::Charge(_) | Move::Level(_) => there,
+            Move::Level(_) => there,
+            Move::Charge(units) => there && i128::from(units) <= LAST_CLOCK.wrapping_sub(self.clock),
             Move::Join(_) | Move::Remove => there && !row.competes,
             Move::Leave | Move::Modify(_) => there && row.competes,
         };

@@ -1,8 +1,12 @@
 pub mod IndexLaws
 pub mod TableLaws
+pub mod KeyLaws
+pub mod RankLaws
+pub mod PlaceLaws
 pub mod NextFlow
 pub mod Division
 pub mod HeapOrder
 pub mod SeatingLaws
+pub mod Seats
 pub mod HeapLaws
 pub mod Soundness

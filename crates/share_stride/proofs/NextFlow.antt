@@ -10,7 +10,9 @@ use Rattle.share_stride.specs.declared.seating.Entry.{Entry}
 use Rattle.share_stride.specs.declared.table.Slot.{Slot}
 use Rattle.share_stride.specs.Heap.{Standings, standing_under, IsFirst}
 use Rattle.share_stride.specs.Table.{Slots, client_map, slot_at, entry_of, entry_in, AreDistinct, IsRanked, Clients}
-use Rattle.share_stride.proofs.TableLaws.{client_of_slot, slot_of_client, clients_of, entry_of-competes, entry_of-idle}
+use Rattle.share_stride.proofs.TableLaws.{client_of_slot, slot_of_client}
+use Rattle.share_stride.proofs.RankLaws.{entry_of-competes, entry_of-idle}
+use Rattle.share_stride.proofs.PlaceLaws.{clients_of}
 
 precedes_other : (p q : ℤ) (f g : ℕ) → g ≢ f → (p <ℤ q) ⊎ ((p ≡ q) × (f ≤ g)) → Precedes p f q g
 precedes_other p q f g apart (inl less) = inl less

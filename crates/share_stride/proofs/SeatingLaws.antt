@@ -147,73 +147,73 @@ module _ (entries : List Entry) (seats : List ℕ) (hole key from : ℕ) (lifted
 -- ---- The entry that was lifted takes the open seat
 
 module _ (entries : List Entry) (seats : List ℕ) (hole : ℕ) (x : Entry) (lifted : IsLifted entries seats hole x.key)
-    where
-  abbrev placed : List Entry
-  placed = set entries hole x
+  where
+    abbrev placed : List Entry
+    placed = set entries hole x
 
-  abbrev seated : List ℕ
-  seated = set seats x.key hole
+    abbrev seated : List ℕ
+    seated = set seats x.key hole
 
-  placed_long : length placed ≡ length entries
-  placed_long = length-set entries hole x
+    placed_long : length placed ≡ length entries
+    placed_long = length-set entries hole x
 
-  placed_here : (seat : ℕ) → seat ≡ hole → entry_at placed seat ≡ x
-  placed_here = at_hole entries hole x lifted.hole_fits
+    placed_here : (seat : ℕ) → seat ≡ hole → entry_at placed seat ≡ x
+    placed_here = at_hole entries hole x lifted.hole_fits
 
-  placed_there : (seat : ℕ) → seat ≢ hole → entry_at placed seat ≡ entry_at entries seat
-  placed_there = at_other entries hole x lifted.hole_fits
+    placed_there : (seat : ℕ) → seat ≢ hole → entry_at placed seat ≡ entry_at entries seat
+    placed_there = at_other entries hole x lifted.hole_fits
 
-  seated_here : (k : ℕ) → k ≡ x.key → seat_of seated k ≡ hole
-  seated_here k is =
-      let fits = lifted.lifted_fits in
-      let many = lifted.as_many in
-      ap (seat_of seated) is ∙ get_or-set_same seats x.key hole 0 (omega arith)
+    seated_here : (k : ℕ) → k ≡ x.key → seat_of seated k ≡ hole
+    seated_here k is =
+        let fits = lifted.lifted_fits in
+        let many = lifted.as_many in
+        ap (seat_of seated) is ∙ get_or-set_same seats x.key hole 0 (omega arith)
 
-  seated_there : (k : ℕ) → k ≢ x.key → seat_of seated k ≡ seat_of seats k
-  seated_there k other = get_or-set_other seats x.key k hole 0 other
+    seated_there : (k : ℕ) → k ≢ x.key → seat_of seated k ≡ seat_of seats k
+    seated_there k other = get_or-set_other seats x.key k hole 0 other
 
-  pub IsSeated-place : IsSeated placed seated
-  IsSeated-place = record {
-    as_many = length-set seats x.key hole ∙ lifted.as_many ∙ sym placed_long;
-    key_fits = λ i fits. rw placed_long (elim (cases_eq i hole) [
-      | inl is ↦ rw (placed_here i is) lifted.lifted_fits
-      | inr other ↦ rw (placed_there i other) (lifted.key_fits i (omega (arith, placed_long)) other)
-    ]);
-    seat_is = λ i fits. elim (cases_eq i hole) [
-      | inl is ↦ seated_here (entry_at placed i).key (ap (λ (e : Entry). e.key) (placed_here i is)) ∙ sym is
-      | inr other ↦
-          ap (seat_of seated) (ap (λ (e : Entry). e.key) (placed_there i other))
-          ∙ seated_there (entry_at entries i).key (lifted.other_key i (omega (arith, placed_long)) other)
-          ∙ lifted.seat_is i (omega (arith, placed_long)) other
-    ];
-    seat_fits = λ k fits. rw placed_long (elim (cases_eq k x.key) [
-      | inl is ↦ rw (seated_here k is) lifted.hole_fits
-      | inr other ↦ rw (seated_there k other) (lifted.seat_fits k (omega (arith, placed_long)) other)
-    ]);
-    key_is = λ k fits. elim (cases_eq k x.key) [
-      | inl is ↦ ap (λ (e : Entry). e.key) (placed_here (seat_of seated k) (seated_here k is)) ∙ sym is
-      | inr other ↦
-          let elsewhere = lifted.other_seat k (omega (arith, placed_long)) other in
-          ap (λ i. (entry_at placed i).key) (seated_there k other)
-          ∙ ap (λ (e : Entry). e.key) (placed_there (seat_of seats k) elsewhere)
-          ∙ lifted.key_is k (omega (arith, placed_long)) other
-    ];
-  }
+    pub IsSeated-place : IsSeated placed seated
+    IsSeated-place = record {
+      as_many = length-set seats x.key hole ∙ lifted.as_many ∙ sym placed_long;
+      key_fits = λ i fits. rw placed_long (elim (cases_eq i hole) [
+        | inl is ↦ rw (placed_here i is) lifted.lifted_fits
+        | inr other ↦ rw (placed_there i other) (lifted.key_fits i (omega (arith, placed_long)) other)
+      ]);
+      seat_is = λ i fits. elim (cases_eq i hole) [
+        | inl is ↦ seated_here (entry_at placed i).key (ap (λ (e : Entry). e.key) (placed_here i is)) ∙ sym is
+        | inr other ↦
+            ap (seat_of seated) (ap (λ (e : Entry). e.key) (placed_there i other))
+            ∙ seated_there (entry_at entries i).key (lifted.other_key i (omega (arith, placed_long)) other)
+            ∙ lifted.seat_is i (omega (arith, placed_long)) other
+      ];
+      seat_fits = λ k fits. rw placed_long (elim (cases_eq k x.key) [
+        | inl is ↦ rw (seated_here k is) lifted.hole_fits
+        | inr other ↦ rw (seated_there k other) (lifted.seat_fits k (omega (arith, placed_long)) other)
+      ]);
+      key_is = λ k fits. elim (cases_eq k x.key) [
+        | inl is ↦ ap (λ (e : Entry). e.key) (placed_here (seat_of seated k) (seated_here k is)) ∙ sym is
+        | inr other ↦
+            let elsewhere = lifted.other_seat k (omega (arith, placed_long)) other in
+            ap (λ i. (entry_at placed i).key) (seated_there k other)
+            ∙ ap (λ (e : Entry). e.key) (placed_there (seat_of seats k) elsewhere)
+            ∙ lifted.key_is k (omega (arith, placed_long)) other
+      ];
+    }
 
-  pub standing-place : (count : ℕ) → hole < count → standing count placed seated x.key ≡ Some x
-  standing-place count in_heap =
-      ap (standing_at count placed) (seated_here x.key refl)
-      ∙ standing_at-in count placed hole in_heap
-      ∙ ap Some (placed_here hole refl)
+    pub standing-place : (count : ℕ) → hole < count → standing count placed seated x.key ≡ Some x
+    standing-place count in_heap =
+        ap (standing_at count placed) (seated_here x.key refl)
+        ∙ standing_at-in count placed hole in_heap
+        ∙ ap Some (placed_here hole refl)
 
-  pub KeepsOthers-place : (count : ℕ) → KeepsOthers x.key count entries seats count placed seated
-  KeepsOthers-place count = record {
-    as_many = placed_long;
-    kept = λ k fits other.
-        ap (standing_at count placed) (seated_there k other)
-        ∙ standing_at-agrees count entries placed (seat_of seats k)
-        (placed_there (seat_of seats k) (lifted.other_seat k fits other));
-  }
+    pub KeepsOthers-place : (count : ℕ) → KeepsOthers x.key count entries seats count placed seated
+    KeepsOthers-place count = record {
+      as_many = placed_long;
+      kept = λ k fits other.
+          ap (standing_at count placed) (seated_there k other)
+          ∙ standing_at-agrees count entries placed (seat_of seats k)
+          (placed_there (seat_of seats k) (lifted.other_seat k fits other));
+    }
 
 -- ---- The steps of the open seat
 

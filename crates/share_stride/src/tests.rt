@@ -348,7 +348,10 @@ fn run(rt: &impl Abort, alloc: Global, flows: u32, start: u64) -> Result<u64, Re
         let step = drawn(number);
         let ours = make(&mut queue, flow, step);
         assert_eq!(rt; ours, plain.make(flow, step), "at move {count}");
-        assert!(rt; agrees(&queue, &plain) && agrees_on(&queue, &plain, flow), "at move {count}");
+        assert!(rt;
+            agrees(&queue, &plain) && agrees_on(&queue, &plain, flow),
+            "at move {count}"
+        );
         if ours {
             made = made.wrapping_add(1);
         }

@@ -172,7 +172,8 @@ impl Plain {
         let ready = match step {
             Move::Add => !there,
             Move::Level(_) => there,
-            Move::Charge(units) => there && i128::from(units) <= LAST_CLOCK.wrapping_sub(self.clock),
+            Move::Charge(units) => there
+                && i128::from(units) <= LAST_CLOCK.wrapping_sub(self.clock),
             Move::Join(_) | Move::Remove => there && !row.competes,
             Move::Leave | Move::Modify(_) => there && row.competes,
         };

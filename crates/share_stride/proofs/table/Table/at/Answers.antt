@@ -1,4 +1,4 @@
-use Rattle.share_stride.proofs.TableLaws.{place_filled, client_found}
+use Rattle.share_stride.proofs.PlaceLaws.{place_filled, client_found}
 use Rattle.share_stride.proofs.table.Table.at.Goals as goal
 
 pub returns-in-None : goal.returns-in-None

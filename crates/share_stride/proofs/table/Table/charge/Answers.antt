@@ -3,8 +3,9 @@ use Rattle.share_model.specs.declared.stride.Client.{Client}
 use Rattle.share_model.specs.stride.Moves.{charged, position}
 use Rattle.share_stride.specs.Fits.{IsWithin}
 use Rattle.share_stride.specs.Table.{with_client_at}
-use Rattle.share_stride.proofs.TableLaws.{place_filled, client_is_at, view_written, IsWellFormed-written}
-use Rattle.share_stride.proofs.TableLaws.{place_fits, stood_as, charged-competes}
+use Rattle.share_stride.proofs.RankLaws.{charged-competes}
+use Rattle.share_stride.proofs.PlaceLaws.{place_filled, client_is_at, view_written, IsWellFormed-written, place_fits}
+use Rattle.share_stride.proofs.PlaceLaws.{stood_as}
 use Rattle.share_stride.proofs.table.Table.charge.Goals as goal
 
 pub charged-slot-requires-clause-stride : goal.charged-slot-requires-clause-stride

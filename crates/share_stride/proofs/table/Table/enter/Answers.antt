@@ -6,8 +6,9 @@ use Rattle.share_model.specs.declared.stride.Client.{Client}
 use Rattle.share_model.specs.stride.Moves.{joined}
 use Rattle.share_stride.specs.Fits.{IsWithin}
 use Rattle.share_stride.specs.Table.{with_client_at}
-use Rattle.share_stride.proofs.TableLaws.{place_filled, client_is_at, view_written, IsWellFormed-written}
-use Rattle.share_stride.proofs.TableLaws.{place_fits, stood_out, entry_of-read}
+use Rattle.share_stride.proofs.RankLaws.{entry_of-read}
+use Rattle.share_stride.proofs.PlaceLaws.{place_filled, client_is_at, view_written, IsWellFormed-written, place_fits}
+use Rattle.share_stride.proofs.PlaceLaws.{stood_out}
 use Rattle.share_stride.proofs.table.Table.enter.Goals as goal
 
 pub joined-slot-requires-clause-stride : goal.joined-slot-requires-clause-stride

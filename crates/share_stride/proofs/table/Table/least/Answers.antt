@@ -1,5 +1,5 @@
 use Rattle.std.proofs.Common.{Some, None}
-use Rattle.share_stride.proofs.TableLaws.{distinct}
+use Rattle.share_stride.proofs.KeyLaws.{distinct}
 use Rattle.share_stride.proofs.NextFlow.{IsNext-view}
 use Rattle.share_stride.proofs.table.Table.least.Goals as goal
 

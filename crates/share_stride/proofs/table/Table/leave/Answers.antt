@@ -5,8 +5,8 @@ use Rattle.share_model.specs.stride.Moves.{left}
 use Rattle.std.specs.Prelude.{pos, ◌-ℤ◌}
 use Rattle.share_stride.specs.Fits.{IsWithin}
 use Rattle.share_stride.specs.Table.{with_client_at}
-use Rattle.share_stride.proofs.TableLaws.{place_filled, client_is_at, view_written, IsWellFormed-written}
-use Rattle.share_stride.proofs.TableLaws.{stood_as, entry_of-idle}
+use Rattle.share_stride.proofs.RankLaws.{entry_of-idle}
+use Rattle.share_stride.proofs.PlaceLaws.{place_filled, client_is_at, view_written, IsWellFormed-written, stood_as}
 use Rattle.share_stride.proofs.table.Table.leave.Goals as goal
 
 pub left-slot-requires-clause-distance : goal.left-slot-requires-clause-distance

@@ -4,8 +4,8 @@ use Rattle.share_model.specs.stride.Moves.{joined, left}
 use Rattle.std.specs.Prelude.{pos, ◌-ℤ◌}
 use Rattle.share_stride.specs.Fits.{IsWithin}
 use Rattle.share_stride.specs.Table.{with_client_at}
-use Rattle.share_stride.proofs.TableLaws.{place_filled, client_is_at, view_written, IsWellFormed-written}
-use Rattle.share_stride.proofs.TableLaws.{place_fits, stood_as}
+use Rattle.share_stride.proofs.PlaceLaws.{place_filled, client_is_at, view_written, IsWellFormed-written, place_fits}
+use Rattle.share_stride.proofs.PlaceLaws.{stood_as}
 use Rattle.share_stride.proofs.table.Table.modify.Goals as goal
 
 pub left-client-requires-clause-distance : goal.left-client-requires-clause-distance

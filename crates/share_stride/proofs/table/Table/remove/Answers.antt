@@ -4,8 +4,10 @@ use Rattle.share_model.specs.stride.MapLaws.{len-remove_found}
 use Rattle.share_model.specs.declared.stride.Client.{Client}
 use Rattle.share_model.specs.stride.Moves.{new_client}
 use Rattle.share_stride.specs.Table.{Clients, client_map, entry_in}
-use Rattle.share_stride.proofs.TableLaws.{distinct, key_holds, absent_in_view, IsIndexed-removal, client_map-removal}
-use Rattle.share_stride.proofs.TableLaws.{client_of_slot, IsRanked-idle, entry_of-idle, key_fits-removed}
+use Rattle.share_stride.proofs.TableLaws.{client_map-removal, client_of_slot}
+use Rattle.share_stride.proofs.KeyLaws.{distinct, key_holds, IsIndexed-removal}
+use Rattle.share_stride.proofs.RankLaws.{IsRanked-idle, entry_of-idle, key_fits-removed}
+use Rattle.share_stride.proofs.PlaceLaws.{absent_in_view}
 use Rattle.share_stride.proofs.table.Table.remove.Goals as goal
 
 pub invariant_of-self : goal.invariant_of-self

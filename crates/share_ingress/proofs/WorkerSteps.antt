@@ -1,5 +1,5 @@
 -- What the steps of a worker come to.
-use Rattle.std.proofs.Common.{◌≡◌, ℕ, suc, ◌+◌, ◌-◌, List, [], ◌∷◌, ◌++◌, length, Option, None, Some, IfSome}
+use Rattle.std.proofs.Common.{◌≡◌, ℕ, suc, ◌+◌, ◌-◌, Bool, List, [], ◌∷◌, ◌++◌, length, Option, None, Some, IfSome}
 use Rattle.std.proofs.Common.{arith, refl, sym, ap, ◌∙◌, subst}
 use Rattle.std.proofs.lemmas.List.{append_assoc, append-nil, length-append}
 use Rattle.std.specs.Io.KnownBytes.{Consumes, Keeps, IsAtEnd, prepend_known}
@@ -11,8 +11,9 @@ use Rattle.share_model.specs.io.Given.{Gives}
 use Rattle.share_model.specs.ingress.Queue.{offer}
 use Rattle.share_model.specs.ingress.Records.{Item, IsItem, record_of, records_of, IsRecords, EndsAs, IsCut}
 use Rattle.share_ingress.specs.Ends.{EndView, with_offer}
+use Rattle.share_ingress.specs.Gates.{MayDrop}
 use Rattle.share_ingress.specs.Reader.{Reading, left_of, Stands, Takes, Answers}
-use Rattle.share_ingress.specs.Workers.{offers_of, Queues, Worked, FaultRead, IsDropped}
+use Rattle.share_ingress.specs.Workers.{offers_of, Queues, Worked}
 use Rattle.share_ingress.specs.declared.reader.Next.TheVariants.{Item as Found, Ended as Answered}
 use Rattle.share_ingress.specs.declared.workers.Why.{Why}
 use Rattle.share_ingress.specs.declared.workers.Why.TheVariants.{Ended as Over, Stopped, NotStarted}
@@ -159,14 +160,6 @@ module _ {R : Type 0} (gives : R → List ℕ → Got → R → Type 0) (left : 
   stands_told tells NoMemory r h = any_known _
   stands_told tells Bound r h = any_known _
 
-  pub fault_read : (over : Ended) (r : Reading R) → Stands gives r over → FaultRead gives over
-  fault_read End r h = tt
-  fault_read Cut r h = tt
-  fault_read BadRecord r h = tt
-  fault_read Fault r h = (r.reader, h)
-  fault_read NoMemory r h = tt
-  fault_read Bound r h = tt
-
   pub worked_over : ((before : R) (buffer : List ℕ) (got : Got) (after : R) → gives before buffer got after
       → Gives (left before) buffer got (left after)) → (first now new : Reading R) (before after : EndView) (over : Ended)
       (tally : ℕ) → Working left first now before after
@@ -202,25 +195,25 @@ module _ {R : Type 0} (gives : R → List ℕ → Got → R → Type 0) (left : 
           taken = consumes_more _ _ _ f.items item f.taken taken_after;
         }
 
-    pub worked_dropped : (why : Why) (tally : ℕ) → done ≡ after → IsDropped why
+    pub worked_dropped : (why : Why) (again : Bool) (turns tally : ℕ) → done ≡ after → MayDrop why again turns
         → tally ≡ length after.pushed - length before.pushed → Worked (left_of left first) before done tally why
-    worked_dropped (Over End) tally same dropped counted = absurd dropped
-    worked_dropped (Over Cut) tally same dropped counted = absurd dropped
-    worked_dropped (Over BadRecord) tally same dropped counted = absurd dropped
-    worked_dropped (Over Fault) tally same dropped counted = absurd dropped
-    worked_dropped (Over NoMemory) tally same dropped counted = absurd dropped
-    worked_dropped (Over Bound) tally same dropped counted =
+    worked_dropped (Over End) again turns tally same dropped counted = absurd dropped
+    worked_dropped (Over Cut) again turns tally same dropped counted = absurd dropped
+    worked_dropped (Over BadRecord) again turns tally same dropped counted = absurd dropped
+    worked_dropped (Over Fault) again turns tally same dropped counted = absurd dropped
+    worked_dropped (Over NoMemory) again turns tally same dropped counted = absurd dropped
+    worked_dropped (Over Bound) again turns tally same dropped counted =
         record {
           items = f.items;
           counted = omega (arith, f.long, counted);
           queued = same ∙ f.queued;
           told = bound_told _ _ f.items f.good f.taken;
         }
-    worked_dropped Stopped tally same dropped counted =
+    worked_dropped Stopped again turns tally same dropped counted =
         record {
           items = f.items;
           counted = omega (arith, f.long, counted);
           queued = same ∙ f.queued;
           told = stopped_told _ _ _ f.items item (each_last f.items item f.good takes.good) f.taken takes.taken;
         }
-    worked_dropped NotStarted tally same dropped counted = absurd dropped
+    worked_dropped NotStarted again turns tally same dropped counted = absurd dropped

@@ -1,5 +1,7 @@
 pub mod Ends
 pub mod Found
+pub mod GateCalls
+pub mod Gates
 pub mod Reader
 pub mod Threads
 pub mod Workers

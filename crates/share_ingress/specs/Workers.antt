@@ -1,14 +1,9 @@
 -- What the work of a worker comes to.
-use Rattle.std.specs.Prelude.{◌≡◌, ⊤, ℕ, suc, List, [], ◌∷◌, ◌++◌, length, Option, IfSome}
-use Rattle.share_model.specs.declared.ingress.Ended.{Ended}
-use Rattle.share_model.specs.declared.ingress.Ended.TheVariants.{End, Cut, BadRecord, Fault, NoMemory, Bound}
+use Rattle.std.specs.Prelude.{◌≡◌, ℕ, suc, List, [], ◌∷◌, ◌++◌, length, Option, IfSome}
 use Rattle.share_model.specs.declared.ingress.Offer.{Offer}
-use Rattle.share_model.specs.declared.reader.Got.{Got}
-use Rattle.share_model.specs.declared.reader.Got.TheVariants.{Failed}
 use Rattle.share_model.specs.ingress.Queue.{offer}
 use Rattle.share_model.specs.ingress.Records.{Item, Front, IsRecords}
 use Rattle.share_ingress.specs.Ends.{EndView}
-use Rattle.share_ingress.specs.Reader.{Gave}
 use Rattle.share_ingress.specs.declared.workers.Why.{Why}
 use Rattle.share_ingress.specs.declared.workers.Why.TheVariants.{Ended as Over, Stopped, NotStarted}
 
@@ -31,29 +26,3 @@ pub record Worked (left : Option (List ℕ)) (before after : EndView) (tally : �
   pub counted : tally ≡ length items
   pub queued : after ≡ record before { pushed = before.pushed ++ offers_of before.worker (length before.pushed) items }
   pub told : IfSome left (λ bytes. Queues bytes items why)
-
--- a fault was a read that failed
-abbrev pub FaultRead : {R : Type 0} → (R → List ℕ → Got → R → Type 0) → Ended → Type 0
-FaultRead {R = R} gives Fault = (last : R) × Gave gives Failed last
-FaultRead gives End = ⊤
-FaultRead gives Cut = ⊤
-FaultRead gives BadRecord = ⊤
-FaultRead gives NoMemory = ⊤
-FaultRead gives Bound = ⊤
-
--- a worker that was started ended so
-abbrev pub IsReason : {R : Type 0} → (R → List ℕ → Got → R → Type 0) → Why → Type 0
-IsReason gives (Over ended) = FaultRead gives ended
-IsReason gives Stopped = ⊤
-IsReason gives NotStarted = ⊥
-
--- An item is queued, or dropped: where the gate stopped the worker, or no turn was left
-abbrev pub IsDropped : Why → Type 0
-IsDropped (Over End) = ⊥
-IsDropped (Over Cut) = ⊥
-IsDropped (Over BadRecord) = ⊥
-IsDropped (Over Fault) = ⊥
-IsDropped (Over NoMemory) = ⊥
-IsDropped (Over Bound) = ⊤
-IsDropped Stopped = ⊤
-IsDropped NotStarted = ⊥

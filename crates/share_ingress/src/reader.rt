@@ -1,5 +1,6 @@
 //! Readers of records.
-ghost use Rattle.std.specs.Prelude.{◌≡◌, ◌<◌, ◌-◌, [], None, Some, IfOk, IfSome, MatchResult, MatchBool};
+ghost use Rattle.std.specs.Prelude.{◌≡◌, ◌<◌, ◌+◌, [], None, Some, IfOk, IfErr, IfSome, MatchResult, MatchBool};
+ghost use Rattle.share_base.specs.Refusal.{IsRefused};
 ghost use Rattle.share_ingress.specs.Found.{BeginsWhole, NeedsMore};
 ghost use Rattle.share_ingress.specs.declared.reader.Next.TheVariants.{Ended as Over};
 ghost use Rattle.share_ingress.specs.Reader.{Answers, HasReason, Stands, Stops, ReadsOn, EndsInput};
@@ -57,6 +58,7 @@ impl<R: Source + Drop> IngressReader<R> {
     /// dropped then.
     pub fn new(alloc: Global, reader: R, bound: u64) -> Result<IngressReader<R>, Refusal>
         ensures ok { IfOk result (λ r. r ≡ record { reader = reader; held = []; turns = bound; ended = None }) }
+        ensures refused { IfErr result (IsRefused None) }
     {
         let held = BytesMut::with_capacity(alloc, CHUNK + CARRIED)?;
         let chunk = vec![in alloc; 0u8; CHUNK]?;
@@ -93,8 +95,8 @@ impl<R: Source> IngressReader<R> {
     /// Uses up a turn without a read, where one is left.
     pub(crate) fn turn(&mut self) -> bool
         requires { self.old.ended ≡ None }
-        ensures { MatchBool result (self.new ≡ record self.old { turns = self.old.turns - 1 })
-            ((self.new ≡ self.old) × (self.old.turns ≡ 0)) }
+        ensures { MatchBool result ((self.new ≡ record self.old { turns = self.new.turns })
+            × (self.new.turns + 1 ≡ self.old.turns)) ((self.new ≡ self.old) × (self.old.turns ≡ 0)) }
     {
         if self.turns == 0 {
             return false;

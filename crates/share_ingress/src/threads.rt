@@ -25,10 +25,10 @@ pub struct Job<R: Source, G> {
 #[derive(Drop)]
 struct WorkOf<R: Source, G>(Snapshot<Job<R, G>>);
 
-impl<R: Source, G> Promise<Done<G>> for WorkOf<R, G> {
+impl<R: Source, G: Gate> Promise<Done<G>> for WorkOf<R, G> {
     ghost use Rattle.share_ingress.specs.Threads.{IsJobDone};
 
-    ghost kept_by = { λ p done. IsJobDone R.gives R.left p.0.value done };
+    ghost kept_by = { λ p done. IsJobDone R.gives R.left G.told p.0.value done };
 }
 
 // A worker at work, or one that was not started.
@@ -46,7 +46,7 @@ where
     T: Threads + Wait + Copy + Send + 'static,
     R: Source + Send + Drop + 'static,
     G: Gate + Send + Drop + 'static,
-    ensures each { IfOk result (λ all. Matches (IsJobDone R.gives R.left) jobs.items all.items) }
+    ensures each { IfOk result (λ all. Matches (IsJobDone R.gives R.left G.told) jobs.items all.items) }
     ensures back { IfErr result (λ back. back ≡ jobs) }
 {
     let mut jobs = jobs;
@@ -83,7 +83,8 @@ where
     T: Threads + Wait + Copy + Send + 'static,
     R: Source + Send + Drop + 'static,
     G: Gate + Send + Drop + 'static,
-    ensures { MatchResult result (λ handle. handle.promise.0.value ≡ job) (λ done. IsJobDone R.gives R.left job done) }
+    ensures { MatchResult result (λ handle. handle.promise.0.value ≡ job)
+        (λ done. IsJobDone R.gives R.left G.told job done) }
 {
     let Ok(word) = Arc::new(alloc, AtomicU64::new(0)) else {
         return Err(not_started(job));
@@ -111,7 +112,7 @@ where
     T: Wait,
     R: Source + Drop,
     G: Gate + Drop,
-    ensures { IsJobDone R.gives R.left job result }
+    ensures { IsJobDone R.gives R.left G.told job result }
 {
     if word.load(Ordering::SeqCst) != 0 {
         return not_started(job);
@@ -120,8 +121,8 @@ where
     run_worker(rt, reader, end, gate)
 }
 
-fn not_started<R: Source + Drop, G: Drop>(job: Job<R, G>) -> Done<G>
-    ensures { IsJobDone R.gives R.left job result }
+fn not_started<R: Source + Drop, G: Gate + Drop>(job: Job<R, G>) -> Done<G>
+    ensures { IsJobDone R.gives R.left G.told job result }
 {
     let Job {
         reader: _,
@@ -136,8 +137,8 @@ fn not_started<R: Source + Drop, G: Drop>(job: Job<R, G>) -> Done<G>
     }
 }
 
-fn finish<T: Threads, R: Source, G>(rt: &T, begun: Begun<R, G>) -> Done<G>
-    ensures { MatchResult begun (λ handle. IsJobDone R.gives R.left handle.promise.0.value result)
+fn finish<T: Threads, R: Source, G: Gate>(rt: &T, begun: Begun<R, G>) -> Done<G>
+    ensures { MatchResult begun (λ handle. IsJobDone R.gives R.left G.told handle.promise.0.value result)
         (λ done. result ≡ done) }
 {
     match begun {

@@ -1,8 +1,10 @@
 //! Workers, which queue the records that they read.
 ghost use Rattle.std.specs.Prelude.{◌≡◌, None, MatchResult};
 ghost use Rattle.share_ingress.specs.Ends.{with_offer};
+ghost use Rattle.share_ingress.specs.GateCalls.{GateCall, item_next, item_queued, queue_full};
+ghost use Rattle.share_ingress.specs.Gates.{Waits, Drops, Ran};
 ghost use Rattle.share_ingress.specs.Reader.{left_of};
-ghost use Rattle.share_ingress.specs.Workers.{Worked, IsReason, IsDropped};
+ghost use Rattle.share_ingress.specs.Workers.{Worked};
 
 use crate::ends::{IngressEnd, Offered};
 use crate::reader::{IngressReader, Next};
@@ -11,16 +13,22 @@ use share_model::{Ended, Source};
 use std::sync::Wait;
 
 /// What a worker tells of its work, and who may stop it where the queue is full. Items are counted from 1 in each run of
-/// a worker.
+/// a worker. What is `told` is what contracts know of a call.
 pub trait Gate {
+    /// The gate before a call, the call with its answer, and the gate after.
+    ghost told: { Self → GateCall → Self → Type 0 };
+
     /// The n-th item is about to be offered for the first time.
-    fn before(&mut self, n: u64);
+    fn before(&mut self, n: u64)
+        ensures { told self.old (item_next n) self.new };
 
     /// The n-th item is queued.
-    fn offered(&mut self, n: u64);
+    fn offered(&mut self, n: u64)
+        ensures { told self.old (item_queued n) self.new };
 
     /// The queue was full. Whether the item is to be offered again: the worker stops where it is not.
-    fn full(&mut self) -> bool;
+    fn full(&mut self) -> bool
+        ensures { told self.old (queue_full result) self.new };
 }
 
 /// Why a worker stopped.
@@ -53,7 +61,7 @@ pub fn run_worker<T: Wait, R: Source + Drop, G: Gate>(
     gate: G,
 ) -> Done<G>
     ensures worked { Worked (left_of R.left reader) end result.end result.tally result.why }
-    ensures reason { IsReason R.gives result.why }
+    ensures ran { Ran R.gives G.told reader end gate result.tally result.why result.end result.gate }
 {
     let mut reader = reader;
     let mut end = end;
@@ -75,7 +83,7 @@ fn work<T: Wait, R: Source, G: Gate>(
     gate: &mut G,
 ) -> (Why, u64)
     ensures worked { Worked (left_of R.left reader.old) end.old end.new result.1 result.0 }
-    ensures reason { IsReason R.gives result.0 }
+    ensures ran { Ran R.gives G.told reader.old end.old gate.old result.1 result.0 end.new gate.new }
 {
     let first = end.queued();
     for _ in rt.forever() {
@@ -105,7 +113,10 @@ fn put<T: Wait, R: Source, G: Gate>(
 ) -> Result<(), Why>
     requires { reader.old.ended ≡ None }
     ensures end { MatchResult result (λ _. end.new ≡ with_offer end.old name parcel)
-        (λ why. (end.new ≡ end.old) × IsDropped why) }
+        (λ _. end.new ≡ end.old) }
+    ensures gate { MatchResult result
+        (λ _. Waits G.told end.old reader.old.turns gate.old reader.new.turns gate.new)
+        (λ why. Drops G.told end.old reader.old.turns gate.old reader.new.turns why gate.new) }
     ensures reader { reader.new ≡ record reader.old { turns = reader.new.turns } }
 {
     let mut parcel = parcel;

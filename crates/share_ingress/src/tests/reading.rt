@@ -177,10 +177,15 @@ fn an_interrupted_read_is_made_again(rt: HostRuntime) -> Result<(), Fail> {
     Ok(())
 }
 
+/// How many bytes a read of a flood gives.
+const CHUNK: usize = 65536;
+
 /// Gives a pattern again and again, some 100 MB of it.
 #[derive(Drop)]
 struct Flood {
-    pattern: Vec<u8>,
+    /// The pattern, and so much of it again that a chunk stands at each of its places.
+    bytes: Vec<u8>,
+    pattern: usize,
     at: usize,
     chunks: usize,
 }
@@ -200,20 +205,27 @@ impl Source for Flood {
             return Got::End;
         }
         self.chunks -= 1;
-        for byte in buffer.iter_mut() {
-            *byte = *self.pattern.get(self.at).unwrap_or(&0);
-            self.at = self.at.saturating_add(1);
-            if self.at >= self.pattern.len() {
-                self.at = 0;
-            }
+        let start = self.at.min(self.bytes.len());
+        let rest = &self.bytes.as_slice()[start..];
+        if buffer.len() < CHUNK || rest.len() < CHUNK || self.pattern == 0 {
+            return Got::Failed;
         }
-        Got::Bytes(buffer.len())
+        buffer[..CHUNK].copy_from_slice(&rest[..CHUNK]);
+        self.at = self.at.saturating_add(CHUNK) % self.pattern;
+        Got::Bytes(CHUNK)
     }
 }
 
 fn flooded(alloc: Global, pattern: &[u8]) -> Result<Flood, AllocError> {
+    let mut bytes = Vec::new(alloc);
+    for _ in 0..CHUNK {
+        if bytes.len() < CHUNK.saturating_add(pattern.len()) {
+            bytes.extend_from_slice(pattern)?;
+        }
+    }
     Ok(Flood {
-        pattern: Vec::from_slice(alloc, pattern)?,
+        bytes,
+        pattern: pattern.len(),
         at: 0,
         chunks: 1600,
     })

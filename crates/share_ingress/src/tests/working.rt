@@ -35,6 +35,8 @@ impl Notes {
 }
 
 impl Gate for Notes {
+    ghost told = { λ _ _ _. Unit {0} };
+
     fn before(&mut self, n: u64) {
         self.note(b'b', n);
     }
@@ -158,6 +160,8 @@ struct Setting {
 }
 
 impl Gate for Setting {
+    ghost told = { λ _ _ _. Unit {0} };
+
     fn before(&mut self, _n: u64) {}
 
     fn offered(&mut self, _n: u64) {

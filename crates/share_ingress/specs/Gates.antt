@@ -1,0 +1,108 @@
+-- The calls that a worker makes of its gate.
+use Rattle.std.specs.Prelude.{◌≡◌, ◌⊎◌, ◌^◌, ◌+◌, ℕ, Bool, true, false, List, ◌++◌, length}
+use Rattle.std.specs.Prelude.{None, Some}
+use Rattle.crossbeam_queue.specs.Fifo.{Held}
+use Rattle.share_model.specs.declared.ingress.Ended.{Ended}
+use Rattle.share_model.specs.declared.ingress.Ended.TheVariants.{End, Cut, BadRecord, Fault, NoMemory, Bound}
+use Rattle.share_model.specs.declared.ingress.Offer.{Offer}
+use Rattle.share_model.specs.declared.reader.Got.{Got}
+use Rattle.share_model.specs.ingress.Queue.{of_worker}
+use Rattle.share_model.specs.io.Calls.{Reads}
+use Rattle.share_ingress.specs.Ends.{EndView, with_offer}
+use Rattle.share_ingress.specs.GateCalls.{GateCall, item_next, item_queued, queue_full}
+use Rattle.share_ingress.specs.Reader.{Reading, EndsBy, Stands}
+use Rattle.share_ingress.specs.declared.workers.Why.{Why}
+use Rattle.share_ingress.specs.declared.workers.Why.TheVariants.{Ended as Over, Stopped, NotStarted}
+
+-- the queue was full at some moment of an offer by this end, or the end has pushed 2^40
+abbrev pub WasFull : EndView → Type 0
+WasFull e =
+    (length e.pushed ≡ 2 ^ 40)
+    ⊎ Held e.capacity (λ items. (before : List Offer) × (e.pushed ≡ before ++ of_worker e.worker items))
+
+-- Calls: a relation `told` says what a call does to a gate, and what it answers
+
+-- so often in turn the queue was full, and the gate answered that the item is to be offered again
+pub data Again {G : Type 0} (told : G → GateCall → G → Type 0) (e : EndView) (first : G) : ℕ → G → Type 0 where
+  not_again : Again told e first 0 first
+  once_again : (n : ℕ) (before after : G) → Again told e first n before → WasFull e
+      → told before (queue_full true) after → Again told e first (n + 1) after
+
+-- the same, each time for one of these turns
+pub record Waits {G : Type 0} (told : G → GateCall → G → Type 0) (e : EndView) (turns : ℕ) (first : G) (left : ℕ) (last : G)
+    : Type 0 where
+  pub rounds : ℕ
+  pub again : Again told e first rounds last
+  pub spent : rounds + left ≡ turns
+
+-- the gate stopped the worker; or the item was to be offered again, and no turn was left
+abbrev pub MayDrop : Why → Bool → ℕ → Type 0
+MayDrop (Over End) again left = ⊥
+MayDrop (Over Cut) again left = ⊥
+MayDrop (Over BadRecord) again left = ⊥
+MayDrop (Over Fault) again left = ⊥
+MayDrop (Over NoMemory) again left = ⊥
+MayDrop (Over Bound) again left = (again ≡ true) × (left ≡ 0)
+MayDrop Stopped again left = again ≡ false
+MayDrop NotStarted again left = ⊥
+
+-- an item was offered for some of these turns, and dropped when the queue was full once more
+pub record Drops {G : Type 0} (told : G → GateCall → G → Type 0) (e : EndView) (turns : ℕ) (first : G) (left : ℕ) (why : Why)
+    (last : G) : Type 0 where
+  pub asked : G
+  pub waits : Waits told e turns first left asked
+  pub full : WasFull e
+  pub again : Bool
+  pub answered : told asked (queue_full again) last
+  pub reason : MayDrop why again left
+
+-- so many items were queued, one after the other: the gate was told before each was offered and once it was queued,
+-- and between these as often as the queue was full, so many times in all
+pub data Queueing {G : Type 0} (told : G → GateCall → G → Type 0) (start : EndView) (first : G) : ℕ → ℕ → EndView → G → Type 0
+  where
+    none_queued : Queueing told start first 0 0 start first
+    one_queued : (items rounds more : ℕ) (e : EndView) (name payload : List ℕ) (before asked waited after : G)
+        → Queueing told start first items rounds e before → told before (item_next (items + 1)) asked
+        → Again told e asked more waited → told waited (item_queued (items + 1)) after
+        → Queueing told start first (items + 1) (rounds + more) (with_offer e name payload) after
+
+-- The work of a worker
+
+-- reads that gave bytes or were interrupted, and so many rounds on a full queue, each of which took a turn
+pub record Spends {R : Type 0} (gives : R → List ℕ → Got → R → Type 0) (old : Reading R) (rounds : ℕ) (new : Reading R)
+    : Type 0 where
+  pub count : ℕ
+  pub reads : Reads gives old.reader count new.reader
+  pub turns : count + rounds + new.turns ≡ old.turns
+
+-- the reader ended so by its next reads, or had ended so before
+abbrev pub EndsNow : {R : Type 0} → (R → List ℕ → Got → R → Type 0) → Reading R → Ended → Type 0
+EndsNow {R = R} gives now over =
+    ((now.ended ≡ None) × ((new : Reading R) × EndsBy gives over now new × Stands gives new over))
+    ⊎ ((now.ended ≡ Some over) × Stands gives now over)
+
+module _ {R G : Type 0} (gives : R → List ℕ → Got → R → Type 0) (told : G → GateCall → G → Type 0) where
+  -- the item with this number was the next one, and was dropped
+  pub record DropsNext (n : ℕ) (e : EndView) (now : Reading R) (why : Why) (first last : G) : Type 0 where
+    pub asked : G
+    pub left : ℕ
+    pub next : told first (item_next n) asked
+    pub dropped : Drops told e now.turns asked left why last
+
+  -- after the items that were queued the reader ended, and the gate got no more calls; or one more item was dropped
+  abbrev pub Finishes : ℕ → EndView → Reading R → G → Why → G → Type 0
+  Finishes n e now first (Over over) last =
+      (EndsNow gives now over × (last ≡ first)) ⊎ DropsNext n e now (Over over) first last
+  Finishes n e now first Stopped last = DropsNext n e now Stopped first last
+  Finishes n e now first NotStarted last = ⊥
+
+  -- a worker queued so many items and stopped for this reason: the calls of its reader and of its gate, and the turns
+  -- that were spent
+  pub record Ran (reader : Reading R) (start : EndView) (gate : G) (tally : ℕ) (why : Why) (end : EndView) (last : G)
+      : Type 0 where
+    pub rounds : ℕ
+    pub now : Reading R
+    pub asked : G
+    pub queued : Queueing told start gate tally rounds end asked
+    pub spent : Spends gives reader rounds now
+    pub finished : Finishes (tally + 1) end now asked why last

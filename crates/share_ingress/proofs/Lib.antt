@@ -6,3 +6,4 @@ pub mod Joins
 pub mod GateSteps
 pub mod WorkerSteps
 pub mod ThreadSteps
+pub mod StreamSteps

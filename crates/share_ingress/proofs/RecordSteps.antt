@@ -25,10 +25,10 @@ out_of_range n most (inr h) = grind (arith, nat_tests, h.1)
 pub byte_below : (b : ℕ) → Fits w8 b → b < 256
 byte_below b h = omega (arith, h)
 
-two_bytes_are : (high low : ℕ) → low < 256 → two_bytes (high * 256 + low) ≡ high ∷ low ∷ []
+pub two_bytes_are : (high low : ℕ) → low < 256 → two_bytes (high * 256 + low) ≡ high ∷ low ∷ []
 two_bytes_are high low h = rw (div-mul-add high 256 low h, mod-mul-add high 256 low h) refl
 
-joined : (front two payload rest : List ℕ) (high low : ℕ) → two ≡ high ∷ low ∷ [] → (tail : List ℕ)
+pub joined : (front two payload rest : List ℕ) (high low : ℕ) → two ≡ high ∷ low ∷ [] → (tail : List ℕ)
     → tail ≡ high ∷ low ∷ (payload ++ rest) → front ++ tail ≡ front ++ two ++ payload ++ rest
 joined front two payload rest high low e tail f =
     rw (e, f) (sym (append_assoc (front ++ high ∷ low ∷ []) payload rest

@@ -3,5 +3,6 @@ pub mod Found
 pub mod GateCalls
 pub mod Gates
 pub mod Reader
+pub mod Streams
 pub mod Threads
 pub mod Workers

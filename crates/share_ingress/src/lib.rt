@@ -3,6 +3,7 @@
 
 mod ends;
 mod held;
+mod laws;
 mod reader;
 mod record;
 #[cfg(test)]
@@ -11,6 +12,7 @@ mod threads;
 mod workers;
 
 pub use ends::{IngressEnd, Intake, Offered, queue};
+pub use laws::streams_have_one_reading;
 pub use reader::{IngressReader, Next};
 pub use share_model::{Ended, Offer};
 pub use threads::{Job, run_workers};

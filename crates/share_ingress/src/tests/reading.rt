@@ -78,13 +78,13 @@ fn count<R: Source>(reader: &mut IngressReader<R>) -> (usize, Ended) {
 /// The same of bytes that are read as a whole, and one a read.
 fn counts_of(alloc: Global, bytes: &[u8]) -> Option<[(usize, Ended); 2]> {
     let mut whole = IngressReader::new(alloc, PlainReader(bytes), 2).ok()?;
-    let mut drops = IngressReader::new(alloc, Dripping::new(bytes, MANY, false), 100).ok()?;
+    let mut drops = IngressReader::new(alloc, Dripping::new(bytes, MANY, false), 2000).ok()?;
     Some([count(&mut whole), count(&mut drops)])
 }
 
 #[test]
 fn streams_end_as_their_fields_say(rt: HostRuntime) {
-    let rows: [(&[u8], usize, Ended); 9] = [
+    let rows: [(&[u8], usize, Ended); 10] = [
         (&[], 0, Ended::End),
         (&[1, 97, 0, 1, 97, 1, 97, 0, 2, 98], 1, Ended::Cut),
         (&[1, 97, 0, 1, 97, 0], 1, Ended::BadRecord),
@@ -94,11 +94,26 @@ fn streams_end_as_their_fields_say(rt: HostRuntime) {
         (&[0], 0, Ended::BadRecord),
         (&[1, 97, 0], 0, Ended::Cut),
         (&[1, 97, 0, 0], 0, Ended::BadRecord),
+        (&[3, 97, 66], 0, Ended::Cut),
     ];
     for (bytes, items, ended) in rows {
         let expected = (items, ended);
         assert_eq!(rt; counts_of(rt.alloc(), bytes), Some([expected, expected]));
     }
+}
+
+#[test]
+fn the_longest_name_and_payload_are_good(rt: HostRuntime) -> Result<(), Fail> {
+    let mut bytes = Vec::new(rt.alloc());
+    bytes.push(16)?;
+    bytes.extend_from_slice(b"a-name_of_16byte")?;
+    bytes.extend_from_slice(&[5, 210])?;
+    bytes.extend_from_slice(&[0; 1490])?;
+    assert_eq!(rt;
+        counts_of(rt.alloc(), bytes.as_slice()),
+        Some([(1, Ended::End), (1, Ended::End)])
+    );
+    Ok(())
 }
 
 #[test]
@@ -177,7 +192,7 @@ fn an_interrupted_read_is_made_again(rt: HostRuntime) -> Result<(), Fail> {
     Ok(())
 }
 
-/// How many bytes a read of a flood gives.
+/// How many bytes a read asks for.
 const CHUNK: usize = 65536;
 
 /// Gives a pattern again and again, some 100 MB of it.
@@ -205,14 +220,15 @@ impl Source for Flood {
             return Got::End;
         }
         self.chunks -= 1;
+        let count = buffer.len();
         let start = self.at.min(self.bytes.len());
         let rest = &self.bytes.as_slice()[start..];
-        if buffer.len() < CHUNK || rest.len() < CHUNK || self.pattern == 0 {
+        if rest.len() < count || self.pattern == 0 {
             return Got::Failed;
         }
-        buffer[..CHUNK].copy_from_slice(&rest[..CHUNK]);
-        self.at = self.at.saturating_add(CHUNK) % self.pattern;
-        Got::Bytes(CHUNK)
+        buffer.copy_from_slice(&rest[..count]);
+        self.at = self.at.wrapping_add(count) % self.pattern;
+        Got::Bytes(count)
     }
 }
 

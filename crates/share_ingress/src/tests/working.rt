@@ -3,7 +3,7 @@
 use crate::tests::queueing::taken;
 use crate::tests::reading::Dripping;
 use crate::{
-    Done, Ended, Gate, IngressEnd, IngressReader, Job, Why, queue, run_worker, run_workers,
+    Done, Ended, Gate, IngressEnd, IngressReader, Intake, Job, Why, queue, run_worker, run_workers,
 };
 use share_model::{Got, Source};
 use std::alloc::Global;
@@ -107,6 +107,100 @@ fn a_worker_counts_its_own_items(rt: HostRuntime) -> Result<(), Fail> {
         }
         let Done { end: back, .. } = done;
         end = back;
+    }
+    Ok(())
+}
+
+/// Has the queue's other side, and writes down what stands in the queue at each of its calls. It takes what is queued at
+/// once, or only where the queue is full.
+#[derive(Drop)]
+struct Watching<T> {
+    rt: T,
+    intake: Intake,
+    calls: Vec<u8>,
+    at_once: bool,
+}
+
+impl<T: Wait> Watching<T> {
+    fn note(&mut self, letter: u8, takes: bool) {
+        let _letter = self.calls.push(letter);
+        if takes {
+            let digit = match taken(&self.rt, &mut self.intake) {
+                None => b'-',
+                Some((_, n, _)) => b'0' + (n % 10) as u8,
+            };
+            let _digit = self.calls.push(digit);
+        }
+    }
+}
+
+impl<T: Wait> Gate for Watching<T> {
+    ghost told = { λ _ _ _. Unit {0} };
+
+    fn before(&mut self, _n: u64) {
+        let takes = self.at_once;
+        self.note(b'b', takes);
+    }
+
+    fn offered(&mut self, _n: u64) {
+        let takes = self.at_once;
+        self.note(b'o', takes);
+    }
+
+    fn full(&mut self) -> bool {
+        self.note(b'f', true);
+        true
+    }
+}
+
+/// The calls of a worker that has the three records and a queue of one place.
+fn watched<T: Wait + Copy + Drop>(
+    rt: &T,
+    alloc: Global,
+    at_once: bool,
+) -> Option<Done<Watching<T>>> {
+    let (intake, mut ends) = queue(alloc, 1, 1).ok()?;
+    let end = ends.pop()?;
+    let reader = IngressReader::new(alloc, Dripping::new(THREE, 100, false), 100).ok()?;
+    let gate = Watching {
+        rt: *rt,
+        intake,
+        calls: Vec::new(alloc),
+        at_once,
+    };
+    Some(run_worker(rt, reader, end, gate))
+}
+
+#[test]
+fn an_item_is_offered_between_the_calls_of_its_gate(rt: HostRuntime) -> Result<(), Fail> {
+    let at_once = watched(&rt, rt.alloc(), true).ok_or("at once")?;
+    assert_eq!(rt; at_once.gate.calls.as_slice(), b"b-o1b-o2b-o3".as_slice());
+    let full = watched(&rt, rt.alloc(), false).ok_or("full")?;
+    assert_eq!(rt; full.gate.calls.as_slice(), b"bobf1obf2o".as_slice());
+    Ok(())
+}
+
+#[test]
+fn a_worker_ends_with_its_reader(rt: HostRuntime) -> Result<(), Fail> {
+    let cases: [(&[u8], usize, Ended, u64); 3] = [
+        (THREE, 7, Ended::Fault, 1),
+        (&THREE[..12], 100, Ended::Cut, 2),
+        (&[1, 97, 0, 1, 98, 0], 100, Ended::BadRecord, 1),
+    ];
+    for (bytes, failing, ended, tally) in cases {
+        let (_intake, mut ends) = queue(rt.alloc(), 4, 1).ok().ok_or("queue")?;
+        let end = ends.pop().ok_or("end")?;
+        let reader = IngressReader::new(rt.alloc(), Dripping::new(bytes, failing, true), 100)
+            .ok()
+            .ok_or("reader")?;
+        let gate = Notes {
+            calls: Vec::new(rt.alloc()),
+            again: 0,
+        };
+        let done = run_worker(&rt, reader, end, gate);
+        assert_eq!(rt; done.why, Why::Ended(ended));
+        assert_eq!(rt; done.tally, tally);
+        assert_eq!(rt; done.gate.calls.len() as u64, 4 * tally);
     }
     Ok(())
 }

@@ -21,8 +21,9 @@ module _ {G : Type 0} (told : G → GateCall → G → Type 0) where
   pub waits_none : (e : EndView) (turns : ℕ) (g : G) → Waits told e turns g turns g
   waits_none e turns g = record { rounds = 0; again = not_again; spent = omega arith }
 
-  pub waits_more : (e new : EndView) (turns left now : ℕ) (first before after : G) → Waits told e turns first left before
-      → WasFull e → told before (queue_full true) after → new ≡ e → now + 1 ≡ left → Waits told new turns first now after
+  pub waits_more : (e new : EndView) (turns left now : ℕ) (first before after : G)
+      → Waits told e turns first left before → WasFull e → told before (queue_full true) after → new ≡ e
+      → now + 1 ≡ left → Waits told new turns first now after
   waits_more e new turns left now first before after waits full asked same spent =
       subst (λ (d : EndView). Waits told d turns first now after) (sym same)
       (record {
@@ -42,7 +43,8 @@ pub record Running {R G : Type 0} (gives : R → List ℕ → Got → R → Type
   pub long : length e.pushed ≡ length start.pushed + items
 
 module _ {R G : Type 0} (gives : R → List ℕ → Got → R → Type 0) (told : G → GateCall → G → Type 0) where
-  pub running_none : (reader : Reading R) (start : EndView) (gate : G) → Running gives told reader start gate reader start gate
+  pub running_none : (reader : Reading R) (start : EndView) (gate : G)
+      → Running gives told reader start gate reader start gate
   running_none reader start gate =
       record {
         items = 0;
@@ -67,67 +69,69 @@ module _ {R G : Type 0} (gives : R → List ℕ → Got → R → Type 0) (told 
         → n ≡ f.items + 1
     numbered n first count a b c = omega (arith, f.long, a, b, c)
 
-    module _ (new : Reading R) (calls : GoesOn gives now new) (n first count : ℕ) (first_is : first ≡ length start.pushed)
-        (count_is : count ≡ length e.pushed) (n_is : n ≡ count - first + 1) (asked : G) (next : told g (item_next n) asked)
-      where
-        n_items : n ≡ f.items + 1
-        n_items = numbered n first count first_is count_is n_is
+    module _ (new : Reading R) (calls : GoesOn gives now new) (n first count : ℕ)
+        (first_is : first ≡ length start.pushed) (count_is : count ≡ length e.pushed) (n_is : n ≡ count - first + 1)
+        (asked : G) (next : told g (item_next n) asked) where
+      n_items : n ≡ f.items + 1
+      n_items = numbered n first count first_is count_is n_is
 
-        told_next : told g (item_next (f.items + 1)) asked
-        told_next = let P : ℕ → Type 0 = λ i. told g (item_next i) asked in subst P n_items next
+      told_next : told g (item_next (f.items + 1)) asked
+      told_next = let P : ℕ → Type 0 = λ i. told g (item_next i) asked in subst P n_items next
 
-        -- and queued
-        pub running_more : (after : Reading R) (waited last : G) (done : EndView) (name payload : List ℕ)
-            → after ≡ record new { turns = after.turns } → Waits told e new.turns asked after.turns waited
-            → told waited (item_queued n) last → done ≡ with_offer e name payload
-            → Running gives told reader start gate after done last
-        running_more after waited last done name payload turned waits queued put =
-            let spent = read_more new calls in
-            let same : after.reader ≡ new.reader = ap (λ (r : Reading R). r.reader) turned in
-            record {
-              items = f.items + 1;
-              rounds = f.rounds + waits.rounds;
-              queued = subst (λ (d : EndView). Queueing told start gate (f.items + 1) (f.rounds + waits.rounds) d last)
-                  (sym put)
-                  (one_queued f.items f.rounds waits.rounds e name payload g asked waited last f.queued told_next
-                  waits.again (let P : ℕ → Type 0 = λ i. told waited (item_queued i) last in subst P n_items queued));
-              spent = record {
-                count = spent.count;
-                reads = subst (λ r. Reads gives reader.reader spent.count r) (sym same) spent.reads;
-                turns = omega (arith, spent.turns, waits.spent);
-              };
-              long = ap (λ (d : EndView). length d.pushed) put ∙ length-append e.pushed _ ∙ omega (arith, f.long);
-            }
+      -- and queued
+      pub running_more : (after : Reading R) (waited last : G) (done : EndView) (name payload : List ℕ)
+          → after ≡ record new { turns = after.turns } → Waits told e new.turns asked after.turns waited
+          → told waited (item_queued n) last → done ≡ with_offer e name payload
+          → Running gives told reader start gate after done last
+      running_more after waited last done name payload turned waits queued put =
+          let spent = read_more new calls in
+          let same : after.reader ≡ new.reader = ap (λ (r : Reading R). r.reader) turned in
+          record {
+            items = f.items + 1;
+            rounds = f.rounds + waits.rounds;
+            queued = subst (λ (d : EndView). Queueing told start gate (f.items + 1) (f.rounds + waits.rounds) d last)
+                (sym put)
+                (one_queued f.items f.rounds waits.rounds e name payload g asked waited last f.queued told_next
+                waits.again (let P : ℕ → Type 0 = λ i. told waited (item_queued i) last in subst P n_items queued));
+            spent = record {
+              count = spent.count;
+              reads = subst (λ r. Reads gives reader.reader spent.count r) (sym same) spent.reads;
+              turns = omega (arith, spent.turns, waits.spent);
+            };
+            long = ap (λ (d : EndView). length d.pushed) put ∙ length-append e.pushed _ ∙ omega (arith, f.long);
+          }
 
-        drops_next : (left : ℕ) (why : Why) (last : G) → Drops told e new.turns asked left why last
-            → DropsNext gives told (f.items + 1) e new why g last
-        drops_next left why last dropped =
-            record { asked = asked; left = left; next = told_next; dropped = dropped }
+      drops_next : (left : ℕ) (why : Why) (last : G) → Drops told e new.turns asked left why last
+          → DropsNext gives told (f.items + 1) e new why g last
+      drops_next left why last dropped =
+          record { asked = asked; left = left; next = told_next; dropped = dropped }
 
-        finishes : (left : ℕ) (why : Why) (last : G) → Drops told e new.turns asked left why last
-            → Finishes gives told (f.items + 1) e new g why last
-        finishes left (Over over) last dropped = inr (drops_next left (Over over) last dropped)
-        finishes left Stopped last dropped = drops_next left Stopped last dropped
-        finishes left NotStarted last dropped = absurd dropped.reason
+      finishes : (left : ℕ) (why : Why) (last : G) → Drops told e new.turns asked left why last
+          → Finishes gives told (f.items + 1) e new g why last
+      finishes left (Over over) last dropped = inr (drops_next left (Over over) last dropped)
+      finishes left Stopped last dropped = drops_next left Stopped last dropped
+      finishes left NotStarted last dropped = absurd dropped.reason
 
-        -- and dropped
-        pub ran_dropped : (left : ℕ) (why : Why) (last : G) (done : EndView) → Drops told e new.turns asked left why last
-            → done ≡ e → Ran gives told reader start gate (n - 1) why done last
-        ran_dropped left why last done dropped same =
-            let one_less : n - 1 ≡ f.items = omega (arith, n_items) in
-            rw (same, one_less)
-            (record {
-              rounds = f.rounds;
-              now = new;
-              asked = g;
-              queued = f.queued;
-              spent = read_more new calls;
-              finished = finishes left why last dropped;
-            })
+      -- and dropped
+      pub ran_dropped : (left : ℕ) (why : Why) (last : G) (done : EndView)
+          → Drops told e new.turns asked left why last → done ≡ e
+          → Ran gives told reader start gate (n - 1) why done last
+      ran_dropped left why last done dropped same =
+          let one_less : n - 1 ≡ f.items = omega (arith, n_items) in
+          rw (same, one_less)
+          (record {
+            rounds = f.rounds;
+            now = new;
+            asked = g;
+            queued = f.queued;
+            spent = read_more new calls;
+            finished = finishes left why last dropped;
+          })
 
     ends_by : (o : Option Ended) (new : Reading R) (over : Ended) (left : R → Option (List ℕ)) → now.ended ≡ o
         → IfSome o (λ ended. (Answered over ≡ Answered ended) × (new ≡ now))
-        → (now.ended ≡ None → Answers gives left now (Answered over) new) → Stands gives new over → EndsNow gives now over
+        → (now.ended ≡ None → Answers gives left now (Answered over) new) → Stands gives new over
+        → EndsNow gives now over
     ends_by None new over left e again once stands = let stops = (once e).0 in
         inl (e, (new, stops.calls, stops.stands))
     ends_by (Some ended) new over left e again once stands =

@@ -20,7 +20,8 @@ use Rattle.share_ingress.proofs.Moves.{not_true, moved, moved_here, moved_else}
 module _ (pass made : ℕ) (popped ahead : List Offer) (closed : List ℕ) (other w : ℕ) (pushed : List Offer) where
   end_was : (views : List QueueView) (now : QueueView) → ¬ (other ≡ pass)
       → get_elem? (set views pass now) other ≡ some (an_end w pushed) → get_elem? views other ≡ some (an_end w pushed)
-  end_was views now two at' = ⊎_elim (λ x. absurd (two x.0)) (λ x. x.1) (at_set views pass other now (an_end w pushed) at')
+  end_was views now two at' = ⊎_elim (λ x. absurd (two x.0)) (λ x. x.1) (at_set views pass other now (an_end w
+      pushed) at')
 
   joins_end : length pushed ≡ length (of_worker w popped)
       → Merges KeepsOrder pass (an_intake made popped ahead closed) other (an_end w pushed)
@@ -29,7 +30,8 @@ module _ (pass made : ℕ) (popped ahead : List Offer) (closed : List ℕ) (othe
       let was = h.intake pass (an_intake made popped ahead closed) at refl in
       let now = an_intake made popped ahead (w ∷ closed) in
       let theirs = h.ends other (an_end w pushed) (end_was views now two at') refl in
-      let long : length (of_worker w popped) ≡ length (of_worker w h.got) = ap (λ t. length (of_worker w t)) was.popped in
+      let long : length (of_worker w popped) ≡ length (of_worker w h.got) = ap (λ t. length (of_worker w t))
+      was.popped in
       let all : length pushed ≡ length (of_worker w h.got) + length (of_worker w items) =
       ap (λ t. length t) theirs.pushed ∙ length-append (of_worker w h.got) (of_worker w items) in
       let none : of_worker w items ≡ [] = none_long (of_worker w items) (omega (arith, even, long, all)) in
@@ -193,7 +195,8 @@ module _ (pass : ℕ) (v i e : QueueView) (made : ℕ) (popped ahead : List Offe
       (sym (hosted is)) (parts_host pass made popped ahead closed w pushed)
 
 -- what was popped of an end beside the intake is the front of what it pushed
-pub front_of : (v i e : QueueView) (w : ℕ) (items : List Offer) → v ≡ a_host i e → e ≡ an_end w e.pushed → Behind v items
+pub front_of : (v i e : QueueView) (w : ℕ) (items : List Offer) → v ≡ a_host i e → e ≡ an_end w e.pushed
+    → Behind v items
     → Begins e.pushed (of_worker w i.popped)
 front_of v i e w items is end behind =
     let worker : e.worker ≡ w = ap (λ (u : QueueView). u.worker) end in

@@ -11,7 +11,8 @@ use Rattle.share_model.specs.declared.ingress.QueueView.{QueueView}
 use Rattle.share_model.specs.ingress.Queue.{of_worker, Numbered, an_end, an_intake, IsEnd}
 use Rattle.share_model.specs.ingress.Queue.{IsIntake, KeepsOrder, Put, OwnLast, Taken, Seen}
 use Rattle.share_ingress.proofs.Offers.{same_or_not, same_test, other_test, of_append, of_snoc_same, of_snoc_other}
-use Rattle.share_ingress.proofs.Offers.{of_same, of_moved, of_rest_none, of_first_some, of_above, numbered_snoc, numbered_at}
+use Rattle.share_ingress.proofs.Offers.{of_same, of_moved, of_rest_none, of_first_some, of_above, numbered_snoc}
+use Rattle.share_ingress.proofs.Offers.{numbered_at}
 use Rattle.share_ingress.proofs.Offers.{each_snoc, each_at, each_more, begins_snoc, begins_all, Views, views_set}
 use Rattle.share_ingress.proofs.Offers.{views_snoc, length_set}
 
@@ -80,7 +81,8 @@ module _ (pass w : ℕ) (pushed : List Offer) (x : Offer) (mine : x.worker ≡ w
                 alone = old.alone;
                 known = old.known;
                 still = old.still;
-                pushed = old.pushed ∙ ap (λ t. of_worker v.worker h.got ++ t) (sym (of_snoc_other v.worker items x other));
+                pushed = old.pushed ∙ ap (λ t. of_worker v.worker h.got ++ t) (sym (of_snoc_other v.worker items x
+                    other));
               });
           intake = views_set (λ j v. v.gets ≡ true → IsIntake h.reader h.got (items ++ x ∷ []) h.made h.shut j v) views
               pass _ (λ s. absurd (not_true s)) (λ j v apart e s. let old = h.intake j v e s in

@@ -45,7 +45,8 @@ of_append w (o ∷ os) rest =
     ap (λ t. keep (nat_eq o.worker w) o t) (of_append w os rest)
     ∙ keep_append (nat_eq o.worker w) o (of_worker w os) (of_worker w rest)
 
-pub of_snoc_same : (w : ℕ) (os : List Offer) (o : Offer) → o.worker ≡ w → of_worker w (os ++ o ∷ []) ≡ of_worker w os ++ o ∷ []
+pub of_snoc_same : (w : ℕ) (os : List Offer) (o : Offer) → o.worker ≡ w
+    → of_worker w (os ++ o ∷ []) ≡ of_worker w os ++ o ∷ []
 of_snoc_same w os o e = of_append w os (o ∷ []) ∙ ap (λ t. of_worker w os ++ t) (of_same w o [] e)
 
 pub of_snoc_other : (w : ℕ) (os : List Offer) (o : Offer) → o.worker ≢ w → of_worker w (os ++ o ∷ []) ≡ of_worker w os
@@ -76,7 +77,8 @@ of_above m (o ∷ os) h = of_other m o os (λ e. omega (arith, e, h.0)) ∙ of_a
 
 -- Numbers of offers
 
-pub numbered_snoc : (k : ℕ) (os : List Offer) (o : Offer) → Numbered k os → o.n ≡ suc (k + length os) → Numbered k (os ++ o ∷ [])
+pub numbered_snoc : (k : ℕ) (os : List Offer) (o : Offer) → Numbered k os → o.n ≡ suc (k + length os)
+    → Numbered k (os ++ o ∷ [])
 numbered_snoc k [] o h e = (omega (arith, e), tt)
 numbered_snoc k (p ∷ os) o h e = (h.0, numbered_snoc (suc k) os o h.1 (omega (arith, e)))
 
@@ -132,7 +134,8 @@ snoc_at [] w u (suc j) e = absurd (some-ne-none u (sym e))
 snoc_at (x ∷ xs) w u zero e = inl e
 snoc_at (x ∷ xs) w u (suc j) e = ⊎_elim (λ h. inl h) (λ h. inr (ap suc h.0, h.1)) (snoc_at xs w u j e)
 
-pub views_snoc : (F : ℕ → QueueView → Type 0) (views : List QueueView) (w : QueueView) → Views F views → F (length views) w
+pub views_snoc : (F : ℕ → QueueView → Type 0) (views : List QueueView) (w : QueueView) → Views F views
+    → F (length views) w
     → Views F (views ++ w ∷ [])
 views_snoc F views w olds new j u e =
     ⊎_elim (λ (h : get_elem? views j ≡ some u). olds j u h)

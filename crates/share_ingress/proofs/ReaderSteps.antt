@@ -126,7 +126,8 @@ module _ {R : Type 0} (gives : R → List ℕ → Got → R → Type 0) (left : 
       }
 
   module _ (tells : (before : R) (buffer : List ℕ) (got : Got) (after : R) → gives before buffer got after
-      → Gives (left before) buffer got (left after)) (before after : R) (held : List ℕ) (turns : ℕ) (ended : Option Ended)
+      → Gives (left before) buffer got (left after)) (before after : R) (held : List ℕ) (turns : ℕ) (ended : Option
+      Ended)
       (buffer : List ℕ) where
     pub bytes_read : (n : ℕ) → turns ≢ 0 → ended ≡ None → gives before buffer (Bytes n) after
         → ReadsOn gives left (record { reader = before; held = held; turns = turns; ended = ended })
@@ -260,7 +261,8 @@ module _ {R : Type 0} (gives : R → List ℕ → Got → R → Type 0) (left : 
   answers_later (Over over) a b c f g = (stops_later over a b c f g.0, g.1)
 
   -- what is answered for good changes nothing else
-  goes_ended : {a : Reading R} (b : Reading R) (e : Option Ended) → GoesOn gives a b → GoesOn gives a (record b { ended = e })
+  goes_ended : {a : Reading R} (b : Reading R) (e : Option Ended) → GoesOn gives a b
+      → GoesOn gives a (record b { ended = e })
   goes_ended b e f = record { count = f.count; reads = f.reads; turns = f.turns }
 
   last_ended : {a : Reading R} {got : Got} (b : Reading R) (e : Option Ended) → LastRead gives a got b
@@ -313,7 +315,8 @@ some_known None e P is h = cc
 some_known (Some x) e P is h = let same : x ≡ e = cc in subst P same h
 
 -- what was read stands in front of the buffer
-pub read_whole : (bs buffer rest : List ℕ) (room : ℕ) → bs ≡ take room (buffer ++ rest) → length buffer ≡ room → bs ≡ buffer
+pub read_whole : (bs buffer rest : List ℕ) (room : ℕ) → bs ≡ take room (buffer ++ rest) → length buffer ≡ room
+    → bs ≡ buffer
 read_whole bs buffer rest room is long = is ∙ take_at buffer rest room long
 
 pub cut_held : (held : List ℕ) → false ≡ (length held == 0) → NeedsMore held → IsCut held

@@ -1,6 +1,8 @@
 -- The fields of a record, read one after the other.
-use Rattle.std.proofs.Common.{if◌then◌else◌, ◌≡◌, ◌≢◌, ◌⊎◌, inl, inr, ℕ, ◌+◌, ◌-◌, ◌*◌, ◌<◌, ◌≤◌, Bool, true, false, ◌&&◌, nat_le}
-use Rattle.std.proofs.Common.{List, [], ◌∷◌, ◌++◌, Some, None, length, get_or, take, drop, Fits, w8, arith, refl, sym, ap, ◌∙◌, subst}
+use Rattle.std.proofs.Common.{if◌then◌else◌, ◌≡◌, ◌≢◌, ◌⊎◌, inl, inr, ℕ, ◌+◌, ◌-◌, ◌*◌, ◌<◌, ◌≤◌, Bool, true, false}
+use Rattle.std.proofs.Common.{◌&&◌, nat_le}
+use Rattle.std.proofs.Common.{List, [], ◌∷◌, ◌++◌, Some, None, length, get_or, take, drop, Fits, w8, arith, refl}
+use Rattle.std.proofs.Common.{sym, ap, ◌∙◌, subst}
 use Rattle.std.proofs.lemmas.Bool.Decides.{nat_tests}
 use Rattle.std.proofs.lemmas.List.{take-append-drop, length-take-le, append_assoc, take_rest}
 use Rattle.std.proofs.Math.Seq.{drop-drop}
@@ -50,7 +52,8 @@ module _ (name tail : List ℕ) (good : is_name name ≡ true) where
       two : tail ≡ high ∷ low ∷ drop 2 tail
       two = rw (high_is, low_is) (two_first tail long)
 
-      pub length_bad : ((high * 256 + low) ≡ 0) ⊎ ((high * 256 + low ≢ 0) × (1490 < high * 256 + low)) → IsBad ((length name ∷ name) ++ tail)
+      pub length_bad : ((high * 256 + low) ≡ 0) ⊎ ((high * 256 + low ≢ 0) × (1490 < high * 256 + low))
+          → IsBad ((length name ∷ name) ++ tail)
       length_bad h =
           bad_length name high low (drop 2 tail) good (out_of_range _ 1490 h) (ap (λ t. (length name ∷ name) ++ t) two)
 

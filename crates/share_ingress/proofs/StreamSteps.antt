@@ -108,7 +108,8 @@ name_not_bad n part bs in_range short cut (bad_length name high low rest good ou
 
 -- after a name
 tail_not_bad : (name tail bs : List ℕ) → is_name name ≡ true → bs ≡ named name tail → IsBad bs
-    → (high : ℕ) × (low : ℕ) × (rest : List ℕ) × (tail ≡ high ∷ low ∷ rest) × (is_payload_length (high * 256 + low) ≡ false)
+    → (high : ℕ) × (low : ℕ) × (rest : List ℕ) × (tail ≡ high ∷ low ∷ rest)
+    × (is_payload_length (high * 256 + low) ≡ false)
 tail_not_bad name tail bs good cut (bad_name_length n rest out bad) =
     let e = same_first n (length name) rest (name ++ tail) (sym bad ∙ cut) in
     absurd (true≢false (sym (named_length name good) ∙ ap is_name_length (sym e.0) ∙ out))

@@ -91,6 +91,7 @@ joined_all all slots dones P Q f e =
 
 -- what one joined leaves is that of its job
 pub finished : {A H D : Type 0} (y : Result H D) (r : D) (Q : A → D → Type 0) (job_of : H → A)
-    → MatchResult y (λ h. Q (job_of h) r) (λ d. r ≡ d) → (x : A) → MatchResult y (λ h. job_of h ≡ x) (λ d. Q x d) → Q x r
+    → MatchResult y (λ h. Q (job_of h) r) (λ d. r ≡ d) → (x : A) → MatchResult y (λ h. job_of h ≡ x) (λ d. Q x d)
+    → Q x r
 finished (Ok h) r Q job_of f x g = subst (λ a. Q a r) g f
 finished (Err d) r Q job_of f x g = subst (λ e. Q x e) (sym f) g

@@ -37,7 +37,8 @@ offers_length worker k (i ∷ items) = ap (λ n. suc n) (offers_length worker (s
 records_snoc : (items : List Item) (i : Item) → records_of (items ++ i ∷ []) ≡ records_of items ++ record_of i
 records_snoc [] i = append-nil (record_of i)
 records_snoc (j ∷ items) i =
-    ap (λ t. record_of j ++ t) (records_snoc items i) ∙ sym (append_assoc (record_of j) (records_of items) (record_of i))
+    ap (λ t. record_of j ++ t) (records_snoc items i) ∙ sym (append_assoc (record_of j) (records_of items)
+    (record_of i))
 
 each_last : (items : List Item) (i : Item) → Each IsItem items → IsItem i → Each IsItem (items ++ i ∷ [])
 each_last [] i all good = (good, tt)
@@ -74,7 +75,8 @@ consumes_more (Some xs) (Some ys) (Some zs) items i f g =
     ∙ ap (λ t. t ++ zs) (sym (records_snoc items i))
 
 ended_told : (a b c : Option (List ℕ)) (items : List Item) (ended : Ended) → Each IsItem items
-    → Consumes a b (records_of items) → Keeps b c → IfSome c (EndsAs ended) → IfSome a (λ bytes. IsRecords bytes items ended)
+    → Consumes a b (records_of items) → Keeps b c → IfSome c (EndsAs ended)
+    → IfSome a (λ bytes. IsRecords bytes items ended)
 ended_told None b c items ended all f g h = tt
 ended_told (Some xs) None c items ended all f g h = absurd f
 ended_told (Some xs) (Some ys) None items ended all f g h = absurd g
@@ -112,7 +114,10 @@ pub record Working {R : Type 0} (left : R → Option (List ℕ)) (first now : Re
   where
     pub items : List Item
     pub good : Each IsItem items
-    pub queued : after ≡ record before { pushed = before.pushed ++ offers_of before.worker (length before.pushed) items }
+    pub queued : after ≡ record before {
+      pushed = before.pushed ++ offers_of before.worker (length before.pushed)
+          items;
+    }
     pub long : length after.pushed ≡ length before.pushed + length items
     pub taken : Consumes (left_of left first) (left_of left now) (records_of items)
 
@@ -161,7 +166,8 @@ module _ {R : Type 0} (gives : R → List ℕ → Got → R → Type 0) (left : 
   stands_told tells Bound r h = any_known _
 
   pub worked_over : ((before : R) (buffer : List ℕ) (got : Got) (after : R) → gives before buffer got after
-      → Gives (left before) buffer got (left after)) → (first now new : Reading R) (before after : EndView) (over : Ended)
+      → Gives (left before) buffer got (left after)) → (first now new : Reading R) (before after : EndView) (over :
+      Ended)
       (tally : ℕ) → Working left first now before after
       → IfSome now.ended (λ ended. (Answered over ≡ Answered ended) × (new ≡ now))
       → (now.ended ≡ None → Answers gives left now (Answered over) new) → Stands gives new over
@@ -179,7 +185,8 @@ module _ {R : Type 0} (gives : R → List ℕ → Got → R → Type 0) (left : 
       (f : Working left first now before after) (takes : Takes gives left now item new)
       (turned : after_it ≡ record new { turns = after_it.turns }) where
     taken_after : Consumes (left_of left now) (left_of left after_it) (record_of item)
-    taken_after = subst (λ (r : Reading R). Consumes (left_of left now) (left_of left r) (record_of item)) (sym turned) takes.taken
+    taken_after = subst (λ (r : Reading R). Consumes (left_of left now) (left_of left r) (record_of item)) (sym
+        turned) takes.taken
 
     pub working_more : done ≡ with_offer after item.name item.payload → Working left first after_it before done
     working_more put =
@@ -191,7 +198,8 @@ module _ {R : Type 0} (gives : R → List ℕ → Got → R → Type 0) (left : 
           queued = all;
           long = ap (λ (e : EndView). length e.pushed) all
               ∙ length-append before.pushed (offers_of before.worker (length before.pushed) (f.items ++ item ∷ []))
-              ∙ ap (λ n. length before.pushed + n) (offers_length before.worker (length before.pushed) (f.items ++ item ∷ []));
+              ∙ ap (λ n. length before.pushed + n) (offers_length before.worker (length before.pushed) (f.items ++
+              item ∷ []));
           taken = consumes_more _ _ _ f.items item f.taken taken_after;
         }
 

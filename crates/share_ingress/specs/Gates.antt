@@ -29,8 +29,8 @@ pub data Again {G : Type 0} (told : G → GateCall → G → Type 0) (e : EndVie
       → told before (queue_full true) after → Again told e first (n + 1) after
 
 -- the same, each time for one of these turns
-pub record Waits {G : Type 0} (told : G → GateCall → G → Type 0) (e : EndView) (turns : ℕ) (first : G) (left : ℕ) (last : G)
-    : Type 0 where
+pub record Waits {G : Type 0} (told : G → GateCall → G → Type 0) (e : EndView) (turns : ℕ) (first : G) (left : ℕ)
+    (last : G) : Type 0 where
   pub rounds : ℕ
   pub again : Again told e first rounds last
   pub spent : rounds + left ≡ turns
@@ -47,8 +47,8 @@ MayDrop Stopped again left = again ≡ false
 MayDrop NotStarted again left = ⊥
 
 -- an item was offered for some of these turns, and dropped when the queue was full once more
-pub record Drops {G : Type 0} (told : G → GateCall → G → Type 0) (e : EndView) (turns : ℕ) (first : G) (left : ℕ) (why : Why)
-    (last : G) : Type 0 where
+pub record Drops {G : Type 0} (told : G → GateCall → G → Type 0) (e : EndView) (turns : ℕ) (first : G) (left : ℕ)
+    (why : Why) (last : G) : Type 0 where
   pub asked : G
   pub waits : Waits told e turns first left asked
   pub full : WasFull e
@@ -58,13 +58,13 @@ pub record Drops {G : Type 0} (told : G → GateCall → G → Type 0) (e : EndV
 
 -- so many items were queued, one after the other: the gate was told before each was offered and once it was queued,
 -- and between these as often as the queue was full, so many times in all
-pub data Queueing {G : Type 0} (told : G → GateCall → G → Type 0) (start : EndView) (first : G) : ℕ → ℕ → EndView → G → Type 0
-  where
-    none_queued : Queueing told start first 0 0 start first
-    one_queued : (items rounds more : ℕ) (e : EndView) (name payload : List ℕ) (before asked waited after : G)
-        → Queueing told start first items rounds e before → told before (item_next (items + 1)) asked
-        → Again told e asked more waited → told waited (item_queued (items + 1)) after
-        → Queueing told start first (items + 1) (rounds + more) (with_offer e name payload) after
+pub data Queueing {G : Type 0} (told : G → GateCall → G → Type 0) (start : EndView) (first : G)
+    : ℕ → ℕ → EndView → G → Type 0 where
+  none_queued : Queueing told start first 0 0 start first
+  one_queued : (items rounds more : ℕ) (e : EndView) (name payload : List ℕ) (before asked waited after : G)
+      → Queueing told start first items rounds e before → told before (item_next (items + 1)) asked
+      → Again told e asked more waited → told waited (item_queued (items + 1)) after
+      → Queueing told start first (items + 1) (rounds + more) (with_offer e name payload) after
 
 -- The work of a worker
 

@@ -4,7 +4,8 @@ ghost use Rattle.std.specs.Arc.{arc_value};
 ghost use Rattle.crossbeam_queue.specs.Passes.{view, IsPassOf, ruled_capacity};
 ghost use Rattle.share_base.specs.Refusal.{IsRefused};
 ghost use Rattle.share_model.specs.ingress.Queue.{an_intake, of_worker, Begins};
-ghost use Rattle.share_ingress.specs.Ends.{queue_refusal, new_end, new_ends, new_intake, Offers, IsTake, is_out_of_range};
+ghost use Rattle.share_ingress.specs.Ends.{queue_refusal, new_end, new_ends, new_intake, Offers, IsTake};
+ghost use Rattle.share_ingress.specs.Ends.{is_out_of_range};
 
 use crate::held::{Beside, Ends, Line, Puts, Takes, Token};
 use share_base::{Name, Parcel, Refusal};
@@ -31,8 +32,8 @@ pub enum Offered {
     Full(Parcel),
 }
 
-/// A worker's end of the queue, which alone queues this worker's offers. A contract sees the queue by its name, how many
-/// offers it holds at most, the worker, counted from 0, and what the end pushed.
+/// A worker's end of the queue, which alone queues this worker's offers. A contract sees the queue by its name, how
+/// many offers it holds at most, the worker, counted from 0, and what the end pushed.
 #[derive(Drop)]
 pub struct IngressEnd {
     queue: Arc<Line, Global>,
@@ -193,8 +194,8 @@ impl IngressEnd {
 }
 
 impl Intake {
-    /// Takes the offer in front, or `None` where the queue was empty at some moment of the call. It takes no memory, and
-    /// may spin while another thread is in the middle of a push.
+    /// Takes the offer in front, or `None` where the queue was empty at some moment of the call. It takes no memory,
+    /// and may spin while another thread is in the middle of a push.
     pub fn take<R: Wait>(&mut self, rt: &R) -> Option<Offer>
         ensures some { IfSome result (λ offer. IsTake self.old offer self.new) }
         ensures none { IfNone result ((self.new ≡ self.old) × (self.old.ahead ≡ [])) }

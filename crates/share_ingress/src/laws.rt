@@ -1,4 +1,5 @@
-//! What holds of every stream of records. The function here does nothing: its contract is a law, which is proved with it.
+//! What holds of every stream of records. The function here does nothing: its contract is a law, which is proved with
+//! it.
 ghost use Rattle.std.specs.Prelude.{◌≡◌, ◌<◌, ◌++◌, ℕ, List};
 ghost use Rattle.share_model.specs.declared.ingress.Ended.{Ended};
 ghost use Rattle.share_model.specs.ingress.Records.{Item, Front, IsRecords};

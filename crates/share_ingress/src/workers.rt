@@ -12,8 +12,8 @@ use share_base::{Name, Parcel};
 use share_model::{Ended, Source};
 use std::sync::Wait;
 
-/// What a worker tells of its work, and who may stop it where the queue is full. Items are counted from 1 in each run of
-/// a worker. What is `told` is what contracts know of a call.
+/// What a worker tells of its work, and who may stop it where the queue is full. Items are counted from 1 in each run
+/// of a worker. What is `told` is what contracts know of a call.
 pub trait Gate {
     /// The gate before a call, the call with its answer, and the gate after.
     ghost told: { Self → GateCall → Self → Type 0 };

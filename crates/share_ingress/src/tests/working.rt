@@ -111,8 +111,8 @@ fn a_worker_counts_its_own_items(rt: HostRuntime) -> Result<(), Fail> {
     Ok(())
 }
 
-/// Has the queue's other side, and writes down what stands in the queue at each of its calls. It takes what is queued at
-/// once, or only where the queue is full.
+/// Has the queue's other side, and writes down what stands in the queue at each of its calls. It takes what is queued
+/// at once, or only where the queue is full.
 #[derive(Drop)]
 struct Watching<T> {
     rt: T,

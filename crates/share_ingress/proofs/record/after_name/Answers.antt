@@ -11,10 +11,16 @@ returns-then-size-eq0 c =
 
 pub returns-then-tail-size : goal.returns-then-tail-size
 returns-then-tail-size c =
-    payload_cut _ _ c.requires _ _ c.if-tail-lt2.false c.from.ensures c.from-2.ensures (omega (arith, c.if-size-eq0.false))
+    payload_cut _ _ c.requires _ _ c.if-tail-lt2.false c.from.ensures c.from-2.ensures (omega (
+      arith,
+      c.if-size-eq0.false,
+    ))
     c.if-size-gt-MAX_PAYLOAD.false c.if-tail-size.true
 
 pub returns : goal.returns
 returns c =
-    record_whole _ _ c.requires _ _ c.if-tail-lt2.false c.from.ensures c.from-2.ensures (omega (arith, c.if-size-eq0.false))
+    record_whole _ _ c.requires _ _ c.if-tail-lt2.false c.from.ensures c.from-2.ensures (omega (
+      arith,
+      c.if-size-eq0.false,
+    ))
     c.if-size-gt-MAX_PAYLOAD.false (byte_below _ (rw c.from-2.ensures (c.type_inv.tail 1))) c.if-tail-size.false

@@ -1,5 +1,6 @@
 use Rattle.std.proofs.Common.{◌≡◌, length, arith}
-use Rattle.share_ingress.proofs.ThreadSteps.{begun_none, begun_more, joined_none, joined_more, joined_all, finished, nil_of}
+use Rattle.share_ingress.proofs.ThreadSteps.{begun_none, begun_more, joined_none, joined_more, joined_all, finished}
+use Rattle.share_ingress.proofs.ThreadSteps.{nil_of}
 use Rattle.share_ingress.proofs.threads.run_workers.Goals as goal
 
 pub loop-job-init : goal.loop-job-init
@@ -25,7 +26,11 @@ loop-job-preserved g c = record {
 
 pub loop-one-init : goal.loop-one-init
 loop-one-init g c =
-    let none : length c.loop-job.jobs.items ≡ 0 = omega (arith, c.loop-job.jobs.ok.0, c.in_default-pop.ensures.cases.0) in
+    let none : length c.loop-job.jobs.items ≡ 0 = omega (
+      arith,
+      c.loop-job.jobs.ok.0,
+      c.in_default-pop.ensures.cases.0,
+    ) in
     record {
       joined = joined_none _ _ _ _ _ _ c.loop-job.invariant.begun (nil_of _ none) c.loop-job.invariant.all;
       total = omega (arith, c.loop-job.invariant.total, c.loop-job.invariant.len, c.in_default-pop.ensures.cases.0);

@@ -22,7 +22,8 @@ abbrev pub invariant-loop-one : goal.invariant-loop-one
 invariant-loop-one g l = record {
   joined : Joined l.fn.jobs.items l.begun.items l.all.items
       (λ job slot. MatchResult slot (λ handle. handle.promise.0.value ≡ job)
-      (λ done. IsJobDone g.R.Source.gives g.R.Source.left g.G.Gate.told job done)) (IsJobDone g.R.Source.gives g.R.Source.left g.G.Gate.told);
+      (λ done. IsJobDone g.R.Source.gives g.R.Source.left g.G.Gate.told job done)) (IsJobDone g.R.Source.gives
+      g.R.Source.left g.G.Gate.told);
   total : vec_len l.begun + vec_len l.all ≡ vec_len l.fn.jobs;
   space : vec_len l.fn.jobs ≤ vec_capacity l.all;
 }

@@ -17,4 +17,5 @@ another-token-requires-clause-rule c =
 pub returns-clause-front : goal.returns-clause-front
 returns-clause-front c =
     rw (← c.self.view_is, ← c.end.view_is)
-    (front_of (view c.absorb.new.pass) (view c.self.inside.token) (view c.end.inside.token) _ c.learn_as.ensures.rule.0 c.absorb.ensures.rule c.end.invariant.1 c.learn_as.ensures.rule.1)
+    (front_of (view c.absorb.new.pass) (view c.self.inside.token) (view c.end.inside.token) _
+    c.learn_as.ensures.rule.0 c.absorb.ensures.rule c.end.invariant.1 c.learn_as.ensures.rule.1)

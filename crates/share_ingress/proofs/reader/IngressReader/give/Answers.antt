@@ -3,7 +3,8 @@ use Rattle.share_ingress.proofs.ReaderSteps.{answers_ended, no_memory, given_who
 use Rattle.share_ingress.proofs.reader.IngressReader.give.Goals as goal
 
 pub returns-in-Err : goal.returns-in-Err
-returns-in-Err g c = let e = c.end.ensures in answers_ended _ _ _ _ _ _ _ (no_memory _ _ _) c.end.ensures.answer c.end.ensures.same
+returns-in-Err g c = let e = c.end.ensures in answers_ended _ _ _ _ _ _ _ (no_memory _ _ _) c.end.ensures.answer
+    c.end.ensures.same
 
 pub returns-in-Ok : goal.returns-in-Ok
 returns-in-Ok g c =

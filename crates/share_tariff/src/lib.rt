@@ -1,0 +1,10 @@
+//! Tariffs that store the closures by which a link charges and posts, and the shelf on which they stand.
+#![tactic(auto)]
+
+mod shelf;
+mod tariff;
+#[cfg(test)]
+mod tests;
+
+pub use shelf::{MAX_TARIFFS, Shelf};
+pub use tariff::{Book, Charge, Tariff};

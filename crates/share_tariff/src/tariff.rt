@@ -1,0 +1,109 @@
+//! A tariff and the closures that it stores.
+ghost use Rattle.std.specs.Prelude.{◌≡◌, ◌<◌, ◌≤◌, ◌^◌, IfOk, IfErr, true, false};
+ghost use Rattle.share_base.specs.declared.refusal.Refusal.TheVariants.{Range};
+ghost use Rattle.share_model.specs.link.Tariff.{is_rate, IsInRange, units_of, post_of};
+ghost use Rattle.share_tariff.specs.Rules.{Charges, Books};
+
+use share_base::Refusal;
+use share_model::Rate;
+
+/// The units that so many bytes are charged.
+pub type Charge = Box<dyn Fn(u32) -> u64 + Send>;
+
+/// An account after so many units were charged.
+pub type Book = Box<dyn Fn(u64, u64) -> u64 + Send>;
+
+/// A tariff whose numbers are in range, and the two closures by which it charges and posts. They were made by the
+/// caller, and meet the tariff's rule: `charge` for up to 65535 bytes, `book` for an account of up to 2^62 and up to
+/// 2^17 units. A contract sees the numbers.
+#[derive(Drop)]
+pub struct Tariff {
+    rate: Rate,
+    charge: Charge,
+    book: Book,
+    ghost in_range: { IsInRange rate },
+    ghost charges: { Charges rate (λ n. Charge.pre charge n) (λ n u. Charge.post charge n u) },
+    ghost books: { Books rate (λ a u. Book.pre book a u) (λ a u after. Book.post book a u after) },
+}
+
+impl Tariff {
+    ghost use Rattle.share_tariff.specs.Shelf.{rate_in};
+
+    /// The tariff of these numbers: a cell of 1 to 2048 units, an overhead of 0 to 1024 units, and a price of 0 to
+    /// 65535 for each unit. `Range` where one of them is out of its range; the closures are dropped then. It takes no
+    /// memory.
+    ///
+    /// Where the numbers are in range, the closures may be called and meet the tariff's rule.
+    pub fn new(
+        cell: u64,
+        overhead: u64,
+        price: u64,
+        charge: Charge,
+        book: Book,
+    ) -> Result<Tariff, Refusal>
+        requires charges { is_rate cell overhead price ≡ true
+            → Charges (record { cell = cell; overhead = overhead; price = price })
+            (λ n. Charge.pre charge n) (λ n u. Charge.post charge n u) }
+        requires books { is_rate cell overhead price ≡ true
+            → Books (record { cell = cell; overhead = overhead; price = price })
+            (λ a u. Book.pre book a u) (λ a u after. Book.post book a u after) }
+        ensures ok { IfOk result (λ t.
+            (rate_in t ≡ record { cell = cell; overhead = overhead; price = price })
+            × (is_rate cell overhead price ≡ true)) }
+        ensures refused { IfErr result (λ e. (e ≡ Range) × (is_rate cell overhead price ≡ false)) }
+    {
+        if !is_rate(cell, overhead, price) {
+            return Err(Refusal::Range);
+        }
+        Ok(Tariff {
+            rate: Rate {
+                cell,
+                overhead,
+                price,
+            },
+            charge,
+            book,
+        })
+    }
+
+    /// The units that `count` bytes are charged: none for no byte, otherwise the overhead and whole cells. It takes no
+    /// memory.
+    pub fn units(&self, count: u32) -> u64
+        requires { count < 2 ^ 16 }
+        ensures { result ≡ units_of (rate_in self.now) count }
+    {
+        charged(&self.charge, count)
+    }
+
+    /// An account after `units` units were charged: it grows by the price for each of them. It takes no memory.
+    pub fn post(&self, account: u64, units: u64) -> u64
+        requires account { account ≤ 2 ^ 62 }
+        requires units { units ≤ 2 ^ 17 }
+        ensures { result ≡ post_of (rate_in self.now) account units }
+    {
+        booked(&self.book, account, units)
+    }
+}
+
+// Whether these numbers are in range.
+fn is_rate(cell: u64, overhead: u64, price: u64) -> bool
+    ensures { result ≡ is_rate cell overhead price }
+{
+    1 <= cell && cell <= 2048 && overhead <= 1024 && price <= 65535
+}
+
+// The answer of a stored charge.
+fn charged(charge: &Charge, count: u32) -> u64
+    requires { Charge.pre charge.now count }
+    ensures { Charge.post charge.now count result }
+{
+    charge(count)
+}
+
+// The answer of a stored book.
+fn booked(book: &Book, account: u64, units: u64) -> u64
+    requires { Book.pre book.now account units }
+    ensures { Book.post book.now account units result }
+{
+    book(account, units)
+}

@@ -1,0 +1,20 @@
+use Rattle.std.proofs.Common.{◌∙◌, ap, sym, position}
+use Rattle.share_model.specs.link.Buffers.{is_buffer_of, count_by, closed}
+use Rattle.share_flows.specs.PlaceLaws.{taken}
+use Rattle.share_flows.proofs.Standing.{standing_of}
+use Rattle.share_flows.proofs.buffers.Buffers.close.Goals as goal
+
+pub returns-clause-held : goal.returns-clause-held
+returns-clause-held c =
+    c.count.ensures.count
+    ∙ ap count_by (sym (standing_of _ _ c.place-place.result c.remove-ring.result c.self.view_is
+    c.place-place.ensures.stands c.remove-ring.ensures.value _ c.place-place.ensures.flow))
+
+pub returns-clause-after : goal.returns-clause-after
+returns-clause-after c =
+    let place = ap (position (is_buffer_of c.args.flow)) c.self.view_is
+    ∙ ap (λ f. position (is_buffer_of f) c.args.self.now) (sym c.place-place.ensures.flow)
+    ∙ c.place-place.ensures.stands in
+    c.remove-ring.ensures.items
+    ∙ (taken (is_buffer_of c.args.flow) _ c.place-place.result.at place
+    ∙ ap (λ bs. closed bs c.args.flow) c.self.view_is)

@@ -1,0 +1,10 @@
+use Rattle.std.proofs.Common.{◌∙◌, ap, sym, position}
+use Rattle.share_model.specs.link.Buffers.{is_buffer_of}
+use Rattle.share_flows.specs.PlaceLaws.{unfound}
+use Rattle.share_flows.proofs.buffers.Buffers.find.Goals as goal
+
+pub returns-in-None : goal.returns-in-None
+returns-in-None c =
+    unfound (is_buffer_of c.args.flow) c.args.self.now
+    (ap (position (is_buffer_of c.args.flow)) (sym (c.as_slice.ensures.value ∙ c.self.view_is))
+    ∙ sym c.place_of.ensures ∙ c.in-None.is)

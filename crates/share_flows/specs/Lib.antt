@@ -1,0 +1,3 @@
+pub mod Limit
+pub mod PlaceLaws
+pub mod Places

@@ -1,0 +1,229 @@
+//! The buffers of the open flows, found by the numbers of the flows.
+ghost use Rattle.std.specs.Prelude.{◌≡◌, ◌<◌, ◌≤◌, ◌^◌, ◌∷◌, [], true, false, position, IfOk, IfErr, OnOk};
+ghost use Rattle.std.specs.Prelude.{MatchOption, None, Some, IsSome, IfSome, option_map};
+ghost use Rattle.share_base.specs.Refusal.{IsRefused};
+ghost use Rattle.share_base.specs.declared.refusal.Refusal.TheVariants.{NoMemory};
+ghost use Rattle.share_model.specs.link.Buffers.{buffer_of, is_buffer_of, opened, closed, count_in, pushed, popped};
+ghost use Rattle.share_model.specs.link.Buffers.{is_full, head_of, is_busy};
+ghost use Rattle.share_flows.specs.Places.{Stands};
+ghost use Rattle.share_flows.specs.Limit.{limit_refusal};
+
+use crate::ring::{MAX_LIMIT, Ring};
+use share_base::{Body, FlowNo, Refusal};
+use std::alloc::Global;
+use std::marker::Model;
+
+/// For how many buffers room is made at the start. A buffer beyond them takes memory for its place when it is opened.
+const ROOM: usize = 64;
+
+/// Where the buffer of a flow stands, as `find` gave it. It is good while no buffer is opened or closed.
+#[derive(Clone, Copy, Debug)]
+pub struct Place {
+    pub flow: FlowNo,
+    pub at: usize,
+}
+
+/// A buffer for each open flow. A contract sees them as a list in order of opening: each with its flow, its limit, the
+/// payloads that it holds and the sequence number that is given next.
+#[derive(Drop)]
+pub struct Buffers {
+    alloc: Global,
+    rings: Vec<Ring>,
+}
+
+impl Model for Buffers {
+    ghost use Rattle.std.specs.Prelude.{List};
+    ghost use Rattle.share_model.specs.link.Buffers.{Buffer};
+
+    ghost Value = { List Buffer };
+
+    ghost view = { λ b. b.rings.items };
+}
+
+impl Buffers {
+    /// No buffer. `NoMemory` where the memory for the places of 64 buffers is refused.
+    pub fn new(alloc: Global) -> Result<Buffers, Refusal>
+        ensures ok { IfOk result (λ b. b ≡ []) }
+        ensures refused { IfErr result (λ e. e ≡ NoMemory) }
+    {
+        let rings = Vec::with_capacity(alloc, ROOM)?;
+        Ok(Buffers { alloc, rings })
+    }
+
+    /// Opens the buffer of a flow that has none, with room for `limit` packets, 1 to 1024. No later call takes memory
+    /// for it. `Range` where the limit is none of these, `NoMemory` where a growth is refused; nothing changes then.
+    pub fn open(&mut self, flow: FlowNo, limit: u64) -> Result<(), Refusal>
+        requires { buffer_of self.old flow ≡ None }
+        ensures ok { OnOk result
+            ((self.new ≡ opened self.old flow limit) × (limit_refusal limit ≡ None)) }
+        ensures refused { IfErr result
+            (λ e. (self.new ≡ self.old) × IsRefused (limit_refusal limit) e) }
+    {
+        if limit < 1 || limit > MAX_LIMIT {
+            return Err(Refusal::Range);
+        }
+        self.rings.reserve(1)?;
+        let ring = Ring::new(self.alloc, flow, limit as usize)?;
+        self.rings.push_reserved(ring);
+        Ok(())
+    }
+
+    /// Where the buffer of a flow stands, if it is open. It takes no memory.
+    pub fn find(&self, flow: FlowNo) -> Option<Place>
+        ensures { MatchOption result (buffer_of self.now flow ≡ None)
+            (λ place. (place.flow ≡ flow) × Stands self.now place) }
+    {
+        match place_of(self.rings.as_slice(), flow) {
+            None => None,
+            Some(at) => Some(Place { flow, at }),
+        }
+    }
+
+    // Where the buffer of an open flow stands.
+    fn place(&self, flow: FlowNo) -> Place
+        requires { IsSome (buffer_of self.now flow) }
+        ensures flow { result.flow ≡ flow }
+        ensures stands { Stands self.now result }
+    {
+        self.find(flow).unwrap()
+    }
+
+    /// The sequence number that the next packet of a flow takes. It takes no memory.
+    pub fn next_number(&self, flow: FlowNo) -> u64
+        requires { IsSome (buffer_of self.now flow) }
+        ensures { IfSome (buffer_of self.now flow) (λ b. result ≡ b.next) }
+    {
+        let place = self.place(flow);
+        self.rings[place.at].next_number()
+    }
+
+    /// Puts a packet at the back of a flow's buffer and gives its sequence number, which counts the packets from 1. Where
+    /// the buffer is full it hands the packet back, and nothing changes: no number is taken. It takes no memory.
+    pub fn push(&mut self, flow: FlowNo, body: Body) -> Result<u32, Body>
+        requires there { IsSome (buffer_of self.old flow) }
+        requires numbers { IfSome (buffer_of self.old flow)
+            (λ b. is_full b ≡ false → b.next < 2 ^ 32) }
+        ensures ok { IfOk result (λ number.
+            IfSome (buffer_of self.old flow) (λ b. (number ≡ b.next) × (is_full b ≡ false))
+            × (self.new ≡ pushed self.old flow body)) }
+        ensures full { IfErr result (λ back.
+            (back ≡ body)
+            × IfSome (buffer_of self.old flow) (λ b. is_full b ≡ true)
+            × (self.new ≡ self.old)) }
+    {
+        let place = self.place(flow);
+        self.push_at(place, body)
+    }
+
+    /// The same, at a place, which is good afterwards too.
+    pub fn push_at(&mut self, place: Place, body: Body) -> Result<u32, Body>
+        requires there { Stands self.old place }
+        requires numbers { IfSome (buffer_of self.old place.flow)
+            (λ b. is_full b ≡ false → b.next < 2 ^ 32) }
+        ensures ok { IfOk result (λ number.
+            IfSome (buffer_of self.old place.flow) (λ b. (number ≡ b.next) × (is_full b ≡ false))
+            × (self.new ≡ pushed self.old place.flow body)) }
+        ensures full { IfErr result (λ back.
+            (back ≡ body)
+            × IfSome (buffer_of self.old place.flow) (λ b. is_full b ≡ true)
+            × (self.new ≡ self.old)) }
+        ensures stands { Stands self.new place }
+    {
+        let ring = &mut self.rings[place.at];
+        ring.push(body)
+    }
+
+    /// The sequence number and the payload of the head packet of a flow's buffer, which holds one. It takes no memory.
+    pub fn head(&self, flow: FlowNo) -> (u32, &Body)
+        requires { IsSome (head_of self.now flow) }
+        ensures { head_of self.now flow
+            ≡ Some (record { flow = flow; seq = result.0; payload = result.1.now }) }
+    {
+        match self.find(flow) {
+            None => unreachable!(),
+            Some(place) => self.head_at(place).unwrap(),
+        }
+    }
+
+    /// The sequence number and the payload of the head packet at a place, `None` where the buffer is empty. It takes no
+    /// memory.
+    pub fn head_at(&self, place: Place) -> Option<(u32, &Body)>
+        requires { Stands self.now place }
+        ensures { MatchOption result (head_of self.now place.flow ≡ None) (λ h.
+            head_of self.now place.flow
+            ≡ Some (record { flow = place.flow; seq = h.0; payload = h.1.now })) }
+    {
+        self.rings[place.at].head()
+    }
+
+    /// Takes the head packet out of a flow's buffer, which holds one, and gives its payload. It takes no memory.
+    pub fn pop(&mut self, flow: FlowNo) -> Body
+        requires { IsSome (head_of self.old flow) }
+        ensures head { option_map (λ h. h.payload) (head_of self.old flow) ≡ Some result }
+        ensures after { self.new ≡ popped self.old flow }
+    {
+        match self.find(flow) {
+            None => unreachable!(),
+            Some(place) => self.pop_at(place),
+        }
+    }
+
+    /// The same, at a place, which is good afterwards too.
+    pub fn pop_at(&mut self, place: Place) -> Body
+        requires there { Stands self.old place }
+        requires some { IsSome (head_of self.old place.flow) }
+        ensures head { option_map (λ h. h.payload) (head_of self.old place.flow) ≡ Some result }
+        ensures after { self.new ≡ popped self.old place.flow }
+        ensures stands { Stands self.new place }
+    {
+        let ring = &mut self.rings[place.at];
+        ring.pop()
+    }
+
+    /// How many packets a flow's buffer holds, at most its limit, and 0 where the flow is not open. It takes no memory.
+    pub fn len(&self, flow: FlowNo) -> u32
+        ensures count { result ≡ count_in self.now flow }
+        ensures limit { IfSome (buffer_of self.now flow) (λ b. result ≤ b.limit) }
+    {
+        match self.find(flow) {
+            None => 0,
+            Some(place) => self.rings[place.at].count(),
+        }
+    }
+
+    /// Whether a flow's buffer holds a packet. It takes no memory.
+    pub fn is_busy(&self, flow: FlowNo) -> bool
+        ensures { result ≡ is_busy self.now flow }
+    {
+        match self.find(flow) {
+            None => false,
+            Some(place) => self.is_busy_at(place),
+        }
+    }
+
+    /// Whether the buffer at a place holds a packet. It takes no memory.
+    pub fn is_busy_at(&self, place: Place) -> bool
+        requires { Stands self.now place }
+        ensures { result ≡ is_busy self.now place.flow }
+    {
+        self.rings[place.at].is_busy()
+    }
+
+    /// Closes the buffer of a flow, and says how many packets it held; they are dropped. It takes no memory.
+    pub fn close(&mut self, flow: FlowNo) -> u32
+        requires { IsSome (buffer_of self.old flow) }
+        ensures held { result ≡ count_in self.old flow }
+        ensures after { self.new ≡ closed self.old flow }
+    {
+        let place = self.place(flow);
+        let ring = self.rings.remove(place.at);
+        ring.count()
+    }
+}
+
+// Where the ring of a flow stands, if there is one.
+fn place_of(rings: &[Ring], flow: FlowNo) -> Option<usize>
+    ensures { result ≡ position (is_buffer_of flow) rings.now }
+{
+    rings.iter().position(|ring| ring.is_of(flow))
+}

@@ -1,0 +1,10 @@
+//! The buffers of the open flows: a ring of packets for each, whose whole room is made when the flow is opened.
+#![tactic(auto)]
+
+mod buffers;
+mod ring;
+#[cfg(test)]
+mod tests;
+
+pub use buffers::{Buffers, Place};
+pub use ring::MAX_LIMIT;

@@ -1,12 +1,13 @@
 -- The ring at the place of a flow's buffer.
-use Rattle.std.proofs.Common.{◌≡◌, ◌<◌, ◌^◌, ◌∙◌, ℕ, Bool, false, true, List, [], ◌∷◌, get_or, set, position}
-use Rattle.std.proofs.Common.{Option, None, Some, IsSome, IfSome, MatchOption, option_map, option_and_then, is_some}
-use Rattle.std.proofs.Common.{Result, Ok, Err, IfOk, IfErr, refl, sym, ap, subst}
+use Rattle.std.proofs.Common.{◌≡◌, ◌<◌, ◌^◌, ◌∙◌, ℕ, false, true, List, ◌∷◌, get_or, set}
+use Rattle.std.proofs.Common.{Option, None, Some, IfSome, MatchOption, option_map, option_and_then}
+use Rattle.std.proofs.Common.{Result, Ok, Err, IfOk, IfErr, sym, ap, subst}
 use Rattle.std.proofs.lemmas.List.{set-get_or}
 use Rattle.share_model.specs.link.Frame.{Packet}
 use Rattle.share_model.specs.link.BufferLaws.{head_of-flow}
 use Rattle.share_model.specs.link.Buffers.{Buffer, is_buffer_of, buffer_of, with_packet, without_head, pushed, popped}
 use Rattle.share_model.specs.link.Buffers.{is_full, head_in, head_of_buffer, head_of, is_some_packet}
+use Rattle.share_model.specs.link.Buffers.{holds_packet, is_busy}
 use Rattle.share_flows.specs.declared.buffers.Place.{Place}
 use Rattle.share_flows.specs.Places.{Stands}
 use Rattle.share_flows.specs.PlaceLaws.{changed, found}
@@ -36,16 +37,12 @@ module _ (rs bs : List Buffer) (place : Place) (r : Buffer) (same : rs ≡ bs) (
   head_read None seq payload is = headed ∙ is
   head_read (Some h) seq payload is =
       let there : head_of bs place.flow ≡ Some (record { flow = r.flow; seq = seq h; payload = payload h }) =
-        headed ∙ is in
+      headed ∙ is in
       there ∙ ap (λ (f : ℕ). Some (record { flow = f; seq = seq h; payload = payload h }))
       (head_of-flow bs place.flow _ there)
 
-  some_in : (b : Buffer) (ps : List (List ℕ)) → IsSome (head_in b ps) → is_some_packet ps ≡ true
-  some_in b [] is = is
-  some_in b (p ∷ ps) is = refl
-
-  pub some_packet : IsSome (head_of bs place.flow) → is_some_packet r.packets ≡ true
-  some_packet some = some_in r r.packets (subst IsSome headed some)
+  pub some_packet : is_busy bs place.flow ≡ true → is_some_packet r.packets ≡ true
+  some_packet busy = sym (ap holds_packet standing) ∙ busy
 
   -- a packet that was the first is the head packet's payload
   pub head_popped : (p : List ℕ) (ps : List (List ℕ)) → r.packets ≡ p ∷ ps
@@ -54,7 +51,8 @@ module _ (rs bs : List Buffer) (place : Place) (r : Buffer) (same : rs ≡ bs) (
 
   pub after_pop : (new : Buffer) → new ≡ without_head r → set rs place.at new ≡ popped bs place.flow
   after_pop new is =
-      changed (is_buffer_of place.flow) without_head rs place.at r new own read is ∙ ap (λ xs. popped xs place.flow) same
+      changed (is_buffer_of place.flow) without_head rs place.at r new own read is
+      ∙ ap (λ xs. popped xs place.flow) same
 
   pub may_push : IfSome (buffer_of bs place.flow) (λ b. is_full b ≡ false → b.next < 2 ^ 32)
       → is_full r ≡ false → r.next < 2 ^ 32
@@ -67,7 +65,7 @@ module _ (rs bs : List Buffer) (place : Place) (r : Buffer) (same : rs ≡ bs) (
   after_push (Ok n) new body is = (
     subst (λ (o : Option Buffer). IfSome o (λ b. (n ≡ b.next) × (is_full b ≡ false))) (sym standing) (is.0, is.1),
     changed (is_buffer_of place.flow) (with_packet body) rs place.at r new own read is.2
-    ∙ ap (λ xs. pushed xs place.flow body) same,
+        ∙ ap (λ xs. pushed xs place.flow body) same,
   )
   after_push (Err back) new body is = tt
 

@@ -53,6 +53,11 @@ pub found : {A : Type 0} (p : A → Bool) (xs : List A) (i : ℕ) (x : A) → po
     → find p xs ≡ Some x
 found p xs i x e item = find_at_first p xs i x (first_of p xs i x e) ∙ ap Some (sym item)
 
+-- and there is one
+pub is_found : {A : Type 0} (p : A → Bool) (xs : List A) (i : ℕ) → position p xs ≡ Some i → IsSome (find p xs)
+is_found p [] i e = absurd (cc)
+is_found p (x ∷ xs) i e = rw (find_at_first p (x ∷ xs) i x (first_of p (x ∷ xs) i x e)) refl
+
 -- where an item is found it has a place
 pub some_place : {A : Type 0} (p : A → Bool) (xs : List A) → IsSome (find p xs) → IsSome (position p xs)
 some_place {A} p xs h = by_test (nat_lt (position_or_len p xs) (length xs)) refl

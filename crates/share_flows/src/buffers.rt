@@ -1,6 +1,6 @@
 //! The buffers of the open flows, found by the numbers of the flows.
 ghost use Rattle.std.specs.Prelude.{◌≡◌, ◌<◌, ◌≤◌, ◌^◌, ◌∷◌, [], true, false, position, IfOk, IfErr, OnOk};
-ghost use Rattle.std.specs.Prelude.{MatchOption, None, Some, IsSome, IfSome, option_map};
+ghost use Rattle.std.specs.Prelude.{MatchOption, None, Some, IsSome, IfSome, IsTrue, option_map};
 ghost use Rattle.share_base.specs.Refusal.{IsRefused};
 ghost use Rattle.share_base.specs.declared.refusal.Refusal.TheVariants.{NoMemory};
 ghost use Rattle.share_model.specs.link.Buffers.{buffer_of, is_buffer_of, opened, closed, count_in, pushed, popped};
@@ -71,7 +71,7 @@ impl Buffers {
     /// Where the buffer of a flow stands, if it is open. It takes no memory.
     pub fn find(&self, flow: FlowNo) -> Option<Place>
         ensures { MatchOption result (buffer_of self.now flow ≡ None)
-            (λ place. (place.flow ≡ flow) × Stands self.now place) }
+            (λ place. (place.flow ≡ flow) × IsSome (buffer_of self.now flow) × Stands self.now place) }
     {
         match place_of(self.rings.as_slice(), flow) {
             None => None,
@@ -97,8 +97,8 @@ impl Buffers {
         self.rings[place.at].next_number()
     }
 
-    /// Puts a packet at the back of a flow's buffer and gives its sequence number, which counts the packets from 1. Where
-    /// the buffer is full it hands the packet back, and nothing changes: no number is taken. It takes no memory.
+    /// Puts a packet at the back of a flow's buffer and gives its sequence number, which counts the packets from 1.
+    /// Where the buffer is full it hands the packet back, and nothing changes: no number is taken. It takes no memory.
     pub fn push(&mut self, flow: FlowNo, body: Body) -> Result<u32, Body>
         requires there { IsSome (buffer_of self.old flow) }
         requires numbers { IfSome (buffer_of self.old flow)
@@ -112,22 +112,22 @@ impl Buffers {
             × (self.new ≡ self.old)) }
     {
         let place = self.place(flow);
-        self.push_at(place, body)
+        self.push_at(&place, body)
     }
 
     /// The same, at a place, which is good afterwards too.
-    pub fn push_at(&mut self, place: Place, body: Body) -> Result<u32, Body>
-        requires there { Stands self.old place }
-        requires numbers { IfSome (buffer_of self.old place.flow)
+    pub fn push_at(&mut self, place: &Place, body: Body) -> Result<u32, Body>
+        requires there { Stands self.old place.now }
+        requires numbers { IfSome (buffer_of self.old place.now.flow)
             (λ b. is_full b ≡ false → b.next < 2 ^ 32) }
         ensures ok { IfOk result (λ number.
-            IfSome (buffer_of self.old place.flow) (λ b. (number ≡ b.next) × (is_full b ≡ false))
-            × (self.new ≡ pushed self.old place.flow body)) }
+            IfSome (buffer_of self.old place.now.flow) (λ b. (number ≡ b.next) × (is_full b ≡ false))
+            × (self.new ≡ pushed self.old place.now.flow body)) }
         ensures full { IfErr result (λ back.
             (back ≡ body)
-            × IfSome (buffer_of self.old place.flow) (λ b. is_full b ≡ true)
+            × IfSome (buffer_of self.old place.now.flow) (λ b. is_full b ≡ true)
             × (self.new ≡ self.old)) }
-        ensures stands { Stands self.new place }
+        ensures stands { Stands self.new place.now }
     {
         let ring = &mut self.rings[place.at];
         ring.push(body)
@@ -135,46 +135,46 @@ impl Buffers {
 
     /// The sequence number and the payload of the head packet of a flow's buffer, which holds one. It takes no memory.
     pub fn head(&self, flow: FlowNo) -> (u32, &Body)
-        requires { IsSome (head_of self.now flow) }
+        requires { IsTrue (is_busy self.now flow) }
         ensures { head_of self.now flow
             ≡ Some (record { flow = flow; seq = result.0; payload = result.1.now }) }
     {
         match self.find(flow) {
             None => unreachable!(),
-            Some(place) => self.head_at(place).unwrap(),
+            Some(place) => self.head_at(&place).unwrap(),
         }
     }
 
     /// The sequence number and the payload of the head packet at a place, `None` where the buffer is empty. It takes no
     /// memory.
-    pub fn head_at(&self, place: Place) -> Option<(u32, &Body)>
-        requires { Stands self.now place }
-        ensures { MatchOption result (head_of self.now place.flow ≡ None) (λ h.
-            head_of self.now place.flow
-            ≡ Some (record { flow = place.flow; seq = h.0; payload = h.1.now })) }
+    pub fn head_at(&self, place: &Place) -> Option<(u32, &Body)>
+        requires { Stands self.now place.now }
+        ensures { MatchOption result (head_of self.now place.now.flow ≡ None) (λ h.
+            head_of self.now place.now.flow
+            ≡ Some (record { flow = place.now.flow; seq = h.0; payload = h.1.now })) }
     {
         self.rings[place.at].head()
     }
 
     /// Takes the head packet out of a flow's buffer, which holds one, and gives its payload. It takes no memory.
     pub fn pop(&mut self, flow: FlowNo) -> Body
-        requires { IsSome (head_of self.old flow) }
+        requires { IsTrue (is_busy self.old flow) }
         ensures head { option_map (λ h. h.payload) (head_of self.old flow) ≡ Some result }
         ensures after { self.new ≡ popped self.old flow }
     {
         match self.find(flow) {
             None => unreachable!(),
-            Some(place) => self.pop_at(place),
+            Some(place) => self.pop_at(&place),
         }
     }
 
     /// The same, at a place, which is good afterwards too.
-    pub fn pop_at(&mut self, place: Place) -> Body
-        requires there { Stands self.old place }
-        requires some { IsSome (head_of self.old place.flow) }
-        ensures head { option_map (λ h. h.payload) (head_of self.old place.flow) ≡ Some result }
-        ensures after { self.new ≡ popped self.old place.flow }
-        ensures stands { Stands self.new place }
+    pub fn pop_at(&mut self, place: &Place) -> Body
+        requires there { Stands self.old place.now }
+        requires busy { IsTrue (is_busy self.old place.now.flow) }
+        ensures head { option_map (λ h. h.payload) (head_of self.old place.now.flow) ≡ Some result }
+        ensures after { self.new ≡ popped self.old place.now.flow }
+        ensures stands { Stands self.new place.now }
     {
         let ring = &mut self.rings[place.at];
         ring.pop()
@@ -197,14 +197,14 @@ impl Buffers {
     {
         match self.find(flow) {
             None => false,
-            Some(place) => self.is_busy_at(place),
+            Some(place) => self.is_busy_at(&place),
         }
     }
 
     /// Whether the buffer at a place holds a packet. It takes no memory.
-    pub fn is_busy_at(&self, place: Place) -> bool
-        requires { Stands self.now place }
-        ensures { result ≡ is_busy self.now place.flow }
+    pub fn is_busy_at(&self, place: &Place) -> bool
+        requires { Stands self.now place.now }
+        ensures { result ≡ is_busy self.now place.now.flow }
     {
         self.rings[place.at].is_busy()
     }

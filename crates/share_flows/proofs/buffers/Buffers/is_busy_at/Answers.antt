@@ -6,4 +6,4 @@ use Rattle.share_flows.proofs.buffers.Buffers.is_busy_at.Goals as goal
 pub returns : goal.returns
 returns c =
     c.is_busy.ensures
-    ∙ ap holds_packet (sym (standing _ _ c.args.place c.index.result.now c.self.view_is c.requires c.index.ensures))
+    ∙ ap holds_packet (sym (standing _ _ c.args.place.now c.index.result.now c.self.view_is c.requires c.index.ensures))

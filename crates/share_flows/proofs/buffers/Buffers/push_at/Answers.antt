@@ -3,15 +3,15 @@ use Rattle.share_flows.proofs.buffers.Buffers.push_at.Goals as goal
 
 pub push-requires : goal.push-requires
 push-requires c =
-    may_push _ _ c.args.place c.index_mut-ring.result.now c.self.view_is c.requires.there
+    may_push _ _ c.args.place.now c.index_mut-ring.result.now c.self.view_is c.requires.there
     c.index_mut-ring.ensures.value c.requires.numbers
 
 pub returns-clause-ok : goal.returns-clause-ok
 returns-clause-ok c =
-    after_push _ _ c.args.place c.index_mut-ring.result.now c.self.view_is c.requires.there
+    after_push _ _ c.args.place.now c.index_mut-ring.result.now c.self.view_is c.requires.there
     c.index_mut-ring.ensures.value c.push.result _ c.args.body c.push.ensures.ok
 
 pub returns-clause-full : goal.returns-clause-full
 returns-clause-full c =
-    after_full _ _ c.args.place c.index_mut-ring.result.now c.self.view_is c.requires.there
+    after_full _ _ c.args.place.now c.index_mut-ring.result.now c.self.view_is c.requires.there
     c.index_mut-ring.ensures.value c.push.result _ c.args.body c.push.ensures.full

@@ -3,10 +3,13 @@ pub mod Lays
 pub mod LinkChains
 pub mod LinkPlaces
 pub mod LinkSteps
+pub mod NetSteps
 pub mod Positions
 pub mod RouteLists
 pub mod RouteSteps
 pub mod RouteWorths
 pub mod RoutesDone
 pub mod RoutesLeft
+pub mod SeatSums
+pub mod Settled
 pub mod Walks

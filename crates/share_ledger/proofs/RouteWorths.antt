@@ -107,11 +107,8 @@ flow-place-below f (e ∷ es) known = by (nat_eq f e.1.number) refl (flow-place-
         let inside = rest (omega (arith, more)) in
         omega arith
 
-module _ (g : Graph) (ok : IsKept g) (lit begun held : ℕ → Bool)
-    (flows : (f : ℕ) → 1 ≤ times_open f g.flows → lit (flow_place g.flows f) ≡ is_active_flow g f)
-    (first : (p : ℕ) → p < 65 → begun p ≡ reaches (routes_of g false g.tickets) lit p)
-    (rounds : (p : ℕ) → p < 65 → held p ≡ awake (routes_of g true g.tickets) begun 8 p) where
-  any-routes : (F : Route → Bool) (b : Bool)
+module _ (g : Graph) where
+  pub any-routes : (F : Route → Bool) (b : Bool)
       → list_any F (routes_of g b g.tickets)
       ≡ list_any (λ (t : Ticket). is_kind b t.holder && F (route_of g t)) g.tickets
   unfolding routes_of
@@ -119,7 +116,7 @@ module _ (g : Graph) (ok : IsKept g) (lit begun held : ℕ → Bool)
       any-map F (route_of g) (filter (λ (t : Ticket). is_kind b t.holder) g.tickets)
       ∙ any-filter (λ (t : Ticket). is_kind b t.holder) (λ (t : Ticket). F (route_of g t)) g.tickets
 
-  sum-routes : (F : Route → ℕ) (b : Bool)
+  pub sum-routes : (F : Route → ℕ) (b : Bool)
       → sum_by F (routes_of g b g.tickets)
       ≡ sum_by (λ (t : Ticket). cond (is_kind b t.holder) (F (route_of g t)) 0) g.tickets
   unfolding routes_of
@@ -127,9 +124,13 @@ module _ (g : Graph) (ok : IsKept g) (lit begun held : ℕ → Bool)
       sum_by-map F (route_of g) (filter (λ (t : Ticket). is_kind b t.holder) g.tickets)
       ∙ sum_by-filter (λ (t : Ticket). F (route_of g t)) (λ (t : Ticket). is_kind b t.holder) g.tickets
 
-  below : (c : NameBytes) → 1 ≤ times c (names_of g) → place (names_of g) c < 65
-  below c known = let under = place-below c (names_of g) known in let few = ok.few_currencies in omega arith
+  pub below : IsKept g → (c : NameBytes) → 1 ≤ times c (names_of g) → place (names_of g) c < 65
+  below ok c known = let under = place-below c (names_of g) known in let few = ok.few_currencies in omega arith
 
+module _ (g : Graph) (ok : IsKept g) (lit begun held : ℕ → Bool)
+    (flows : (f : ℕ) → 1 ≤ times_open f g.flows → lit (flow_place g.flows f) ≡ is_active_flow g f)
+    (first : (p : ℕ) → p < 65 → begun p ≡ reaches (routes_of g false g.tickets) lit p)
+    (rounds : (p : ℕ) → p < 65 → held p ≡ awake (routes_of g true g.tickets) begun 8 p) where
   -- Activity
   step-is : (flag : ℕ → Bool) (n : ℕ)
       → ((c : NameBytes) → 1 ≤ times c (names_of g)
@@ -143,12 +144,12 @@ module _ (g : Graph) (ok : IsKept g) (lit begun held : ℕ → Bool)
       ap
       (λ b. b || list_any (λ (r : Route). nat_eq (place (names_of g) c) r.from && flag r.to)
       (routes_of g true g.tickets))
-      (any-routes (λ (r : Route). nat_eq (place (names_of g) c) r.from && lit r.to) false)
+      (any-routes g (λ (r : Route). nat_eq (place (names_of g) c) r.from && lit r.to) false)
       ∙ ap
       (λ b. list_any
       (λ (t : Ticket). is_kind false t.holder && (nat_eq (place (names_of g) c) (place (names_of g) t.denomination)
       && lit (holder_place g t.holder))) g.tickets || b)
-      (any-routes (λ (r : Route). nat_eq (place (names_of g) c) r.from && flag r.to) true)
+      (any-routes g (λ (r : Route). nat_eq (place (names_of g) c) r.from && flag r.to) true)
       ∙ two-any (IsPlaced g)
       (λ (t : Ticket). is_kind false t.holder && (nat_eq (place (names_of g) c) (place (names_of g) t.denomination)
       && lit (holder_place g t.holder)))
@@ -179,36 +180,39 @@ module _ (g : Graph) (ok : IsKept g) (lit begun held : ℕ → Bool)
       none (t ∷ ts) = none ts
   awake-is (suc n) c known =
       ap (λ b. b || reaches (routes_of g true g.tickets) (awake (routes_of g true g.tickets) begun n)
-      (place (names_of g) c)) (first (place (names_of g) c) (below c known))
+      (place (names_of g) c)) (first (place (names_of g) c) (below g ok c known))
       ∙ step-is (awake (routes_of g true g.tickets) begun n) n (awake-is n) c known
 
-  held-is : (c : NameBytes) → 1 ≤ times c (names_of g)
+  pub held-is : (c : NameBytes) → 1 ≤ times c (names_of g)
       → held (place (names_of g) c) ≡ list_any (act g 8) (issued g.tickets c)
-  held-is c known = rounds (place (names_of g) c) (below c known) ∙ awake-is 8 c known
+  held-is c known = rounds (place (names_of g) c) (below g ok c known) ∙ awake-is 8 c known
 
-  -- Amounts
-  pub whole-is : (whole some : ℕ → ℕ)
-      → ((p : ℕ) → p < 65 → some p ≡ 0 + gathered (routes_of g true g.tickets) held p)
-      → ((p : ℕ) → p < 65 → whole p ≡ some p + gathered (routes_of g false g.tickets) lit p)
-      → (c : NameBytes) → 1 ≤ times c (names_of g) → whole (place (names_of g) c) ≡ active g c
-  unfolding gathered issued is_active act
-  whole-is whole some one two c known =
-      two (place (names_of g) c) (below c known)
-      ∙ ap (λ n. n + gathered (routes_of g false g.tickets) lit (place (names_of g) c))
-      (one (place (names_of g) c) (below c known) ∙ zero_add _)
-      ∙ ap (λ n. n + gathered (routes_of g false g.tickets) lit (place (names_of g) c))
-      (sum-routes (λ (r : Route). cond (nat_eq (place (names_of g) c) r.from && held r.to) r.amount 0) true)
+-- what the routes say is active, by the places of holders
+abbrev pub lead : Graph → (ℕ → Bool) → Holder → Bool
+lead g held Nobody = false
+lead g held (Currency d) = held (place (names_of g) d)
+lead g held (Flow f) = is_active_flow g f
+
+module _ (g : Graph) (ok : IsKept g) (lit held : ℕ → Bool)
+    (flows : (f : ℕ) → 1 ≤ times_open f g.flows → lit (flow_place g.flows f) ≡ is_active_flow g f) where
+  pub gathered-is : (c : NameBytes) → 1 ≤ times c (names_of g)
+      → gathered (routes_of g true g.tickets) held (place (names_of g) c)
+      + gathered (routes_of g false g.tickets) lit (place (names_of g) c)
+      ≡ sum_by (λ (t : Ticket). cond (bytes_eq c t.denomination) (cond (lead g held t.holder) t.amount 0) 0) g.tickets
+  unfolding gathered
+  gathered-is c known =
+      ap (λ n. n + gathered (routes_of g false g.tickets) lit (place (names_of g) c))
+      (sum-routes g (λ (r : Route). cond (nat_eq (place (names_of g) c) r.from && held r.to) r.amount 0) true)
       ∙ ap (λ n. sum_by (part true held) g.tickets + n)
-      (sum-routes (λ (r : Route). cond (nat_eq (place (names_of g) c) r.from && lit r.to) r.amount 0) false)
+      (sum-routes g (λ (r : Route). cond (nat_eq (place (names_of g) c) r.from && lit r.to) r.amount 0) false)
       ∙ two-sum (IsPlaced g) (part true held) (part false lit)
-      (λ (t : Ticket). cond (bytes_eq c t.denomination) (active_amount g t) 0) g.tickets (placed g ok)
+      (λ (t : Ticket). cond (bytes_eq c t.denomination) (cond (lead g held t.holder) t.amount 0) 0) g.tickets
+      (placed g ok)
       (λ t ok. ap
       (λ b. cond (is_kind true t.holder) (cond (b && held (holder_place g t.holder)) t.amount 0) 0
       + cond (is_kind false t.holder) (cond (b && lit (holder_place g t.holder)) t.amount 0) 0)
       (place-same c t.denomination (names_of g) known)
       ∙ by (bytes_eq c t.denomination) t.amount t.holder ok.holder_known)
-      ∙ sym (sum_by-filter (active_amount g) (λ (t : Ticket). bytes_eq c t.denomination) g.tickets)
-      ∙ sym (active-is g c)
     where
       part : Bool → (ℕ → Bool) → Ticket → ℕ
       part b flag t =
@@ -225,13 +229,36 @@ module _ (g : Graph) (ok : IsKept g) (lit begun held : ℕ → Bool)
       by : (b : Bool) (n : ℕ) (o : Holder) → IsHolderKnown g o
           → cond (is_kind true o) (cond (b && held (holder_place g o)) n 0) 0
           + cond (is_kind false o) (cond (b && lit (holder_place g o)) n 0) 0
-          ≡ cond b (cond (is_active_holder g (act g 8) o) n 0) 0
+          ≡ cond b (cond (lead g held o) n 0) 0
       by b n Nobody there = sym (cond_nothing b)
-      by b n (Currency d) there =
-          add_zero _ ∙ ap (λ a. cond (b && a) n 0) (held-is d there)
-          ∙ cond_and b (list_any (act g 8) (issued g.tickets d)) n
+      by b n (Currency d) there = add_zero _ ∙ cond_and b (held (place (names_of g) d)) n
       by b n (Flow f) there =
           zero_add _ ∙ ap (λ a. cond (b && a) n 0) (flows f there) ∙ cond_and b (is_active_flow g f) n
+
+-- Whatever says what is active gives the amounts and the worths.
+module _ (g : Graph) (ok : IsKept g) (lit held : ℕ → Bool)
+    (flows : (f : ℕ) → 1 ≤ times_open f g.flows → lit (flow_place g.flows f) ≡ is_active_flow g f)
+    (held-are : (c : NameBytes) → 1 ≤ times c (names_of g)
+    → held (place (names_of g) c) ≡ list_any (act g 8) (issued g.tickets c)) where
+  -- Amounts
+  pub whole-is : (whole : ℕ → ℕ)
+      → ((p : ℕ) → p < 65
+      → whole p ≡ gathered (routes_of g true g.tickets) held p + gathered (routes_of g false g.tickets) lit p)
+      → (c : NameBytes) → 1 ≤ times c (names_of g) → whole (place (names_of g) c) ≡ active g c
+  unfolding issued is_active act
+  whole-is whole sum c known =
+      sum (place (names_of g) c) (below g ok c known) ∙ gathered-is g ok lit held flows c known
+      ∙ sum_by-same_of (IsPlaced g)
+      (λ (t : Ticket). cond (bytes_eq c t.denomination) (cond (lead g held t.holder) t.amount 0) 0)
+      (λ (t : Ticket). cond (bytes_eq c t.denomination) (active_amount g t) 0) g.tickets (placed g ok)
+      (λ t ok. ap (λ b. cond (bytes_eq c t.denomination) (cond b t.amount 0) 0) (by t.holder ok.holder_known))
+      ∙ sym (sum_by-filter (active_amount g) (λ (t : Ticket). bytes_eq c t.denomination) g.tickets)
+      ∙ sym (active-is g c)
+    where
+      by : (o : Holder) → IsHolderKnown g o → lead g held o ≡ is_active_holder g (act g 8) o
+      by Nobody there = refl
+      by (Currency d) there = held-are d there
+      by (Flow f) there = refl
 
   -- Worths and values
   module _ (whole : ℕ → ℕ)
@@ -251,14 +278,14 @@ module _ (g : Graph) (ok : IsKept g) (lit begun held : ℕ → Bool)
         ∙ ap (λ n. cond (bytes_eq t.denomination base) t.amount (w t.denomination * t.amount / n))
         (wholes t.denomination ok.denomination_known)
 
-    poured-currency : (v : ℕ → ℕ) (w : NameBytes → ℕ)
+    pub poured-currency : (v : ℕ → ℕ) (w : NameBytes → ℕ)
         → ((c : NameBytes) → 1 ≤ times c (names_of g) → v (place (names_of g) c) ≡ w c)
         → (c : NameBytes) → 1 ≤ times c (names_of g)
         → poured (routes_of g true g.tickets) held (carried v whole) (place (names_of g) c)
         ≡ sum_by (worth_by g w) (backing g.tickets c)
     unfolding poured backing worth_by is_active act
     poured-currency v w value c known =
-        sum-routes
+        sum-routes g
         (λ (r : Route). cond (nat_eq (place (names_of g) c) r.to && held r.to) (carried v whole r) 0) true
         ∙ sum_by-same_of (IsPlaced g)
         (λ (t : Ticket). cond (is_kind true t.holder)
@@ -281,7 +308,7 @@ module _ (g : Graph) (ok : IsKept g) (lit begun held : ℕ → Bool)
         by n (Flow f) there = refl
         by n (Currency d) there =
             ap (λ b. cond (b && held (place (names_of g) d)) n 0) (place-same c d (names_of g) known)
-            ∙ ap (λ b. cond (bytes_eq c d && b) n 0) (held-is d there)
+            ∙ ap (λ b. cond (bytes_eq c d && b) n 0) (held-are d there)
             ∙ cond_and (bytes_eq c d) (list_any (act g 8) (issued g.tickets d)) n
 
     pub valued-is : (n : ℕ) (c : NameBytes) → 1 ≤ times c (names_of g)
@@ -298,7 +325,7 @@ module _ (g : Graph) (ok : IsKept g) (lit begun held : ℕ → Bool)
         ≡ sum_by (worth g 9) (funding g.tickets f)
     unfolding poured funding worth worth_by is_active act
     poured-flow v value f known =
-        sum-routes
+        sum-routes g
         (λ (r : Route). cond (nat_eq (flow_place g.flows f) r.to && lit r.to) (carried v whole r) 0) false
         ∙ sum_by-same_of (IsPlaced g)
         (λ (t : Ticket). cond (is_kind false t.holder)
@@ -330,7 +357,7 @@ module _ (g : Graph) (ok : IsKept g) (lit begun held : ℕ → Bool)
         → poured (routes_of g true g.tickets) held (carried v whole) p ≤ sum_by (worth_by g w) g.tickets
     unfolding poured worth_by is_active act
     poured-within v w value p =
-        let same = sum-routes (λ (r : Route). cond (nat_eq p r.to && held r.to) (carried v whole r) 0) true in
+        let same = sum-routes g (λ (r : Route). cond (nat_eq p r.to && held r.to) (carried v whole r) 0) true in
         let less =
         sum_by-le_of (IsPlaced g)
         (λ (t : Ticket). cond (is_kind true t.holder)
@@ -351,7 +378,7 @@ module _ (g : Graph) (ok : IsKept g) (lit begun held : ℕ → Bool)
         by n Nobody there = omega arith
         by n (Flow f) there = omega arith
         by n (Currency d) there =
-            rw (held-is d there) (at_most (nat_eq p (place (names_of g) d)) (list_any (act g 8) (issued g.tickets d)) n)
+            rw (held-are d there) (at_most (nat_eq p (place (names_of g) d)) (list_any (act g 8) (issued g.tickets d)) n)
 
     pub valued-bound : (n p : ℕ) → n ≤ 9 → p < 65 → valued (routes_of g true g.tickets) held whole n p ≤ 9 * 2 ^ 30
     unfolding valued

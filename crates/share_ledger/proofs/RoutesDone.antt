@@ -12,7 +12,7 @@ use Rattle.share_ledger.specs.Routes.{flow_place, routes_of, IsRouteWithin, reac
 use Rattle.share_ledger.specs.Routes.{valued}
 use Rattle.share_ledger.proofs.LinkPlaces.{place-below}
 use Rattle.share_ledger.proofs.RouteLists.{routes-within, routes-few, gathered-bound}
-use Rattle.share_ledger.proofs.RouteWorths.{flow-place-below, whole-is, valued-is, valued-bound, poured-flow}
+use Rattle.share_ledger.proofs.RouteWorths.{flow-place-below, held-is, whole-is, valued-is, valued-bound, poured-flow}
 
 -- Routes that are those of the tickets
 module _ (g : Graph) (ok : IsKept g) (b : Bool) (rs : List Route) (are : rs ≡ routes_of g b g.tickets) where
@@ -51,15 +51,20 @@ module _ (g : Graph) (ok : IsKept g) (backs funds : List Route) (backing : backs
 
   wholes : (c : NameBytes) → 1 ≤ times c (names_of g) → whole (place (names_of g) c) ≡ active g c
   wholes =
-      whole-is g ok lit begun held flows first_of rounds_of whole some
-      (λ p lt. one p lt ∙ ap (λ n. n + gathered backs held p) (nothing p lt)
-      ∙ ap (λ rs. 0 + gathered rs held p) backing)
-      (λ p lt. two p lt ∙ ap (λ rs. some p + gathered rs lit p) funding)
+      whole-is g ok lit held flows (held-is g ok lit begun held flows first_of rounds_of) whole
+      (λ p lt. two p lt
+      ∙ ap (λ n. n + gathered funds lit p)
+      (one p lt ∙ ap (λ n. n + gathered backs held p) (nothing p lt) ∙ zero_add (gathered backs held p))
+      ∙ ap (λ rs. gathered rs held p + gathered funds lit p) backing
+      ∙ ap (λ rs. gathered (routes_of g true g.tickets) held p + gathered rs lit p) funding)
+    where
+      zero_add : (n : ℕ) → 0 + n ≡ n
+      zero_add n = omega arith
 
   pub done-small : (n p : ℕ) → n ≤ 9 → p < 65 → valued backs held whole n p ≤ 9 * 2 ^ 30
   done-small n p few lt =
       subst (λ rs. valued rs held whole n p ≤ 9 * 2 ^ 30) (sym backing)
-      (valued-bound g ok lit begun held flows first_of rounds_of whole wholes n p few lt)
+      (valued-bound g ok lit held flows (held-is g ok lit begun held flows first_of rounds_of) whole wholes n p few lt)
 
   pub done-worths : (v out : ℕ → ℕ) → ((p : ℕ) → p < 65 → v p ≡ valued backs held whole 9 p)
       → ((p : ℕ) → p < 65 → out p ≡ poured funds lit (carried v whole) p)
@@ -69,10 +74,10 @@ module _ (g : Graph) (ok : IsKept g) (backs funds : List Route) (backing : backs
       let few = ok.few_flows in
       last (flow_place g.flows f) (omega arith)
       ∙ ap (λ rs. poured rs lit (carried v whole) (flow_place g.flows f)) funding
-      ∙ poured-flow g ok lit begun held flows first_of rounds_of whole wholes v
+      ∙ poured-flow g ok lit held flows (held-is g ok lit begun held flows first_of rounds_of) whole wholes v
       (λ c there. values (place (names_of g) c) (below c there)
       ∙ ap (λ rs. valued rs held whole 9 (place (names_of g) c)) backing
-      ∙ valued-is g ok lit begun held flows first_of rounds_of whole wholes 9 c there) f known
+      ∙ valued-is g ok lit held flows (held-is g ok lit begun held flows first_of rounds_of) whole wholes 9 c there) f known
     where
       below : (c : NameBytes) → 1 ≤ times c (names_of g) → place (names_of g) c < 65
       below c there = let under = place-below c (names_of g) there in let few = ok.few_currencies in omega arith

@@ -1,4 +1,5 @@
 pub mod Places
 pub mod Rounds
 pub mod Routes
+pub mod Seats
 pub mod Shares

@@ -10,8 +10,10 @@ mod holders;
 mod kept;
 mod laws;
 mod ledger;
+mod net;
 mod rounds;
 mod routes;
+mod seats;
 mod tables;
 #[cfg(test)]
 mod tests;

@@ -61,7 +61,7 @@ pub(crate) fn gather(routes: &[Route], flags: &[bool; PLACES], totals: &mut [u64
 }
 
 // The share of a value that an amount has of the whole, and 0 where the whole is 0.
-fn share(value: u64, amount: u32, whole: u64) -> u64
+pub(crate) fn share(value: u64, amount: u32, whole: u64) -> u64
     requires value_small { value ≤ 9 * 2 ^ 30 }
     requires amount_small { amount ≤ 2 ^ 20 }
     ensures { result ≡ value * amount / whole }

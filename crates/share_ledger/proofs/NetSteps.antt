@@ -1,0 +1,254 @@
+-- What one holder that wakes or rests does to the weights.
+use Rattle.std.proofs.Common.{◌≡◌, ◌≤◌, ◌<◌, ◌+◌, ◌*◌, ◌^◌, ℕ, ◌/◌, zero, suc, Bool, true, false, not, cond, ◌&&◌, List, [], ◌∷◌}
+use Rattle.std.proofs.Common.{nat_eq, nat_lt, set, get_or, sum_by, length, refl, sym, ap, subst, ◌∙◌, arith}
+use Rattle.std.proofs.lemmas.Bool.Decides.{nat_tests}
+use Rattle.std.proofs.lemmas.List.{get_or-set_other}
+use Rattle.std.proofs.lemmas.Grind.{get_or-set_at}
+use Rattle.std.proofs.lemmas.List.Sums.{sum_by-cons}
+use Rattle.share_model.specs.funding.Graph.{Graph}
+use Rattle.share_model.specs.funding.Kept.{IsKept}
+use Rattle.share_model.specs.lists.Each.{Each}
+use Rattle.share_ledger.specs.declared.routes.Route.{Route}
+use Rattle.share_ledger.specs.declared.seats.Seat.{Seat}
+use Rattle.share_ledger.specs.Routes.{gathered, routes_of}
+use Rattle.share_model.specs.lists.SumLaws.{sum_by-same_of}
+use Rattle.share_ledger.specs.Seats.{seat_of, taken, AreSeated, AreOrdered, AreCounted, seats_at, backs_of, funds_of}
+use Rattle.share_ledger.specs.Seats.{seat_worth, weighed}
+use Rattle.share_ledger.proofs.RouteLists.{gathered-bound}
+use Rattle.share_ledger.proofs.RoutesDone.{done-within, done-few}
+
+-- an array that is written at one place
+pub array-set : {X : Type 0} (xs : List X) (p k : ℕ) (y d : X) → p < length xs
+    → get_or (set xs p y) k d ≡ cond (nat_eq p k) y (get_or xs k d)
+array-set xs p k y d lt = by (nat_eq p k) refl
+  where
+    same : (a b : ℕ) → nat_eq a b ≡ true → b ≡ a
+    same a b e = grind (arith, nat_tests)
+
+    apart : (a b : ℕ) → nat_eq a b ≡ false → b ≡ a → ⊥
+    apart a b e = grind (arith, nat_tests)
+
+    by : (b : Bool) → nat_eq p k ≡ b → get_or (set xs p y) k d ≡ cond b y (get_or xs k d)
+    by true e = get_or-set_at xs p k y d (same p k e) lt
+    by false e = get_or-set_other xs p k y d (apart p k e)
+
+pub sum_two : {X : Type 0} (v w u : X → ℕ) (xs : List X) → ((x : X) → v x + w x ≡ u x)
+    → sum_by v xs + sum_by w xs ≡ sum_by u xs
+sum_two v w u [] same = refl
+sum_two v w u (x ∷ xs) same =
+    let rest = sum_two v w u xs same in
+    let here = same x in
+    omega (arith, sum_by-cons v x xs, sum_by-cons w x xs, sum_by-cons u x xs)
+
+-- one more place is awake: its seats count
+module _ (on more : ℕ → Bool) (p : ℕ) (off : on p ≡ false)
+    (wakes : (k : ℕ) → more k ≡ cond (nat_eq p k) true (on k)) where
+  same_number : (a b : ℕ) → nat_eq a b ≡ true → b ≡ a
+  same_number a b e = grind (arith, nat_tests)
+
+  idle_more : (a : Bool) (n : ℕ) → cond (a && false) n 0 + cond a n 0 ≡ cond (a && true) n 0
+  idle_more true n = omega arith
+  idle_more false n = refl
+
+  none_more : (n : ℕ) → n + 0 ≡ n
+  none_more n = omega arith
+
+  wakes-at : (a : Bool) (to n : ℕ)
+      → cond (a && on to) n 0 + cond (nat_eq p to) (cond a n 0) 0 ≡ cond (a && more to) n 0
+  wakes-at a to n = by (nat_eq p to) refl ∙ sym (ap (λ b. cond (a && b) n 0) (wakes to))
+    where
+      by : (b : Bool) → nat_eq p to ≡ b
+          → cond (a && on to) n 0 + cond (nat_eq p to) (cond a n 0) 0 ≡ cond (a && cond (nat_eq p to) true (on to)) n 0
+      by true e =
+          ap (λ b. cond (a && on to) n 0 + cond b (cond a n 0) 0) e
+          ∙ ap (λ b. cond (a && b) n 0 + cond a n 0) (ap on (same_number p to e) ∙ off)
+          ∙ idle_more a n
+          ∙ sym (ap (λ b. cond (a && cond b true (on to)) n 0) e)
+      by false e =
+          ap (λ b. cond (a && on to) n 0 + cond b (cond a n 0) 0) e
+          ∙ none_more (cond (a && on to) n 0)
+          ∙ sym (ap (λ b. cond (a && cond b true (on to)) n 0) e)
+
+  pub gathered-more : (rs : List Route) (ss : List Seat) (x : ℕ)
+      → ((F : Seat → ℕ) → sum_by F ss ≡ sum_by (λ (r : Route). cond (nat_eq p r.to) (F (seat_of r)) 0) rs)
+      → gathered rs more x ≡ gathered rs on x + taken ss x
+  unfolding gathered
+  gathered-more rs ss x seated =
+      let own = seated (λ (s : Seat). cond (nat_eq x s.from) s.amount 0) in
+      let both = sum_two (λ (r : Route). cond (nat_eq x r.from && on r.to) r.amount 0)
+      (λ (r : Route). cond (nat_eq p r.to) (cond (nat_eq x r.from) r.amount 0) 0)
+      (λ (r : Route). cond (nat_eq x r.from && more r.to) r.amount 0) rs
+      (λ r. wakes-at (nat_eq x r.from) r.to r.amount) in
+      omega arith
+
+-- one place fewer is awake: the others are as they were
+pub rests : (on less : ℕ → Bool) (p : ℕ) → on p ≡ true → ((k : ℕ) → less k ≡ cond (nat_eq p k) false (on k))
+    → (k : ℕ) → on k ≡ cond (nat_eq p k) true (less k)
+rests on less p lit off k = by (nat_eq p k) refl
+  where
+    same : (a b : ℕ) → nat_eq a b ≡ true → b ≡ a
+    same a b e = grind (arith, nat_tests)
+
+    by : (b : Bool) → nat_eq p k ≡ b → on k ≡ cond (nat_eq p k) true (less k)
+    by true e = ap on (same p k e) ∙ lit ∙ sym (ap (λ b. cond b true (less k)) e)
+    by false e =
+        sym (off k ∙ ap (λ b. cond b false (on k)) e) ∙ sym (ap (λ b. cond b true (less k)) e)
+
+-- weights are small
+pub counted-bound : (g : Graph) (awake active : ℕ → Bool) (whole : ℕ → ℕ) → IsKept g
+    → AreCounted (backs_of g) (funds_of g) awake active whole → (p : ℕ) → p < 65 → whole p ≤ 2 ^ 31
+counted-bound g awake active whole ok counted p lt =
+    let one = gathered-bound (backs_of g) awake p (done-within g ok true (backs_of g) refl)
+    (done-few g ok true (backs_of g) refl) in
+    let two = gathered-bound (funds_of g) active p (done-within g ok false (funds_of g) refl)
+    (done-few g ok false (funds_of g) refl) in
+    let sum = counted p lt in
+    omega arith
+
+-- seats that come from before a place count for none of the later places
+pub taken-none : (p x : ℕ) (ss : List Seat) → p ≤ x → Each (λ (s : Seat). s.from < p) ss → taken ss x ≡ 0
+taken-none p x [] le before = refl
+taken-none p x (s ∷ ss) le before =
+    let rest = taken-none p x ss le before.1 in
+    let here = ap {B = ℕ} (λ b. cond b s.amount 0) (apart x s.from (let lt = before.0 in omega arith)) in
+    sum_by-cons (λ (s : Seat). cond (nat_eq x s.from) s.amount 0) s ss ∙ omega arith
+  where
+    apart : (a b : ℕ) → b < a → nat_eq a b ≡ false
+    apart a b lt = grind (arith, nat_tests)
+
+-- what is read at a place that is there does not depend on what is read beyond
+pub at-default : {X : Type 0} (xs : List X) (p : ℕ) (y d : X) → p < length xs → y ≡ get_or xs p y → y ≡ get_or xs p d
+at-default [] p y d lt e = absurd (omega arith)
+at-default (x ∷ xs) zero y d lt e = e
+at-default (x ∷ xs) (suc p) y d lt e = at-default xs p y d (omega arith) e
+
+-- A currency that wakes or rests
+module _ (backs funds : List Route) (bs : List (List Seat)) (seated : AreSeated backs bs) (p : ℕ) (lt : p < 65)
+    (ss : List Seat) (own : ss ≡ seats_at bs p) (on other active : ℕ → Bool) (whole next : ℕ → ℕ)
+    (counted : AreCounted backs funds on active whole) where
+  pub woken : on p ≡ false → ((k : ℕ) → other k ≡ cond (nat_eq p k) true (on k))
+      → ((x : ℕ) → x < 65 → next x ≡ whole x + taken ss x) → AreCounted backs funds other active next
+  woken off wakes more x below =
+      let was = counted x below in
+      let now = more x below in
+      let gain = gathered-more on other p off wakes backs (seats_at bs p) x (λ F. seated.seated F p lt) in
+      let same = ap (λ s. taken s x) own in
+      omega arith
+
+  pub rested-held : on p ≡ true → ((k : ℕ) → other k ≡ cond (nat_eq p k) false (on k)) → (x : ℕ) → x < 65
+      → taken ss x ≤ whole x
+  rested-held lit rest x below =
+      let was = counted x below in
+      let loss = gathered-more other on p (gone p) (rests on other p lit rest) backs (seats_at bs p) x
+      (λ F. seated.seated F p lt) in
+      let same = ap (λ s. taken s x) own in
+      omega arith
+    where
+      self : nat_eq p p ≡ true
+      self = grind (arith, nat_tests)
+
+      gone : (k : ℕ) → other p ≡ false
+      gone k = rest p ∙ ap (λ b. cond b false (on p)) self
+
+  pub rested : on p ≡ true → ((k : ℕ) → other k ≡ cond (nat_eq p k) false (on k))
+      → ((x : ℕ) → x < 65 → next x + taken ss x ≡ whole x) → AreCounted backs funds other active next
+  rested lit rest less x below =
+      let was = counted x below in
+      let now = less x below in
+      let loss = gathered-more other on p (gone p) (rests on other p lit rest) backs (seats_at bs p) x
+      (λ F. seated.seated F p lt) in
+      let same = ap (λ s. taken s x) own in
+      omega arith
+    where
+      self : nat_eq p p ≡ true
+      self = grind (arith, nat_tests)
+
+      gone : (k : ℕ) → other p ≡ false
+      gone k = rest p ∙ ap (λ b. cond b false (on p)) self
+
+-- A flow that wakes or rests
+module _ (backs funds : List Route) (fs : List (List Seat)) (seated : AreSeated funds fs) (p : ℕ) (lt : p < 65)
+    (ss : List Seat) (own : ss ≡ seats_at fs p) (on other awake : ℕ → Bool) (whole next : ℕ → ℕ)
+    (counted : AreCounted backs funds awake on whole) where
+  pub flow-woken : on p ≡ false → ((k : ℕ) → other k ≡ cond (nat_eq p k) true (on k))
+      → ((x : ℕ) → x < 65 → next x ≡ whole x + taken ss x) → AreCounted backs funds awake other next
+  flow-woken off wakes more x below =
+      let was = counted x below in
+      let now = more x below in
+      let gain = gathered-more on other p off wakes funds (seats_at fs p) x (λ F. seated.seated F p lt) in
+      let same = ap (λ s. taken s x) own in
+      omega arith
+
+  pub flow-rested_held : on p ≡ true → ((k : ℕ) → other k ≡ cond (nat_eq p k) false (on k)) → (x : ℕ) → x < 65
+      → taken ss x ≤ whole x
+  flow-rested_held lit rest x below =
+      let was = counted x below in
+      let loss = gathered-more other on p (gone p) (rests on other p lit rest) funds (seats_at fs p) x
+      (λ F. seated.seated F p lt) in
+      let same = ap (λ s. taken s x) own in
+      omega arith
+    where
+      self : nat_eq p p ≡ true
+      self = grind (arith, nat_tests)
+
+      gone : (k : ℕ) → other p ≡ false
+      gone k = rest p ∙ ap (λ b. cond b false (on p)) self
+
+  pub flow-rested : on p ≡ true → ((k : ℕ) → other k ≡ cond (nat_eq p k) false (on k))
+      → ((x : ℕ) → x < 65 → next x + taken ss x ≡ whole x) → AreCounted backs funds awake other next
+  flow-rested lit rest less x below =
+      let was = counted x below in
+      let now = less x below in
+      let loss = gathered-more other on p (gone p) (rests on other p lit rest) funds (seats_at fs p) x
+      (λ F. seated.seated F p lt) in
+      let same = ap (λ s. taken s x) own in
+      omega arith
+    where
+      self : nat_eq p p ≡ true
+      self = grind (arith, nat_tests)
+
+      gone : (k : ℕ) → other p ≡ false
+      gone k = rest p ∙ ap (λ b. cond b false (on p)) self
+
+-- what seats are worth depends on the places that they come from alone
+pub worth-before : (v w whole : ℕ → ℕ) (p : ℕ) (ss : List Seat) → Each (λ (s : Seat). s.from < p) ss
+    → ((k : ℕ) → k < p → v k ≡ w k) → sum_by (seat_worth v whole) ss ≡ sum_by (seat_worth w whole) ss
+worth-before v w whole p ss before same =
+    sum_by-same_of (λ (s : Seat). s.from < p) (seat_worth v whole) (seat_worth w whole) ss before
+    (λ s lt. ap (λ n. cond (nat_eq s.from 0) s.amount (n * s.amount / whole s.from)) (same s.from lt))
+
+pub weighed-before : (bs : List (List Seat)) (awake : ℕ → Bool) (v w whole : ℕ → ℕ) (p : ℕ)
+    → Each (λ (s : Seat). s.from < p) (seats_at bs p) → ((k : ℕ) → k < p → v k ≡ w k)
+    → weighed bs awake v whole p ≡ weighed bs awake w whole p
+weighed-before bs awake v w whole p before same =
+    ap (λ n. cond (awake p) n 0) (worth-before v w whole p (seats_at bs p) before same)
+
+-- one value more
+pub valued-more : (bs : List (List Seat)) (awake : ℕ → Bool) (v next whole : ℕ → ℕ) (p n : ℕ) → AreOrdered bs → p < 65
+    → ((k : ℕ) → next k ≡ cond (nat_eq p k) n (v k)) → n ≡ weighed bs awake v whole p
+    → ((k : ℕ) → 0 < k → k < p → v k ≡ weighed bs awake v whole k)
+    → (k : ℕ) → 0 < k → k < p + 1 → next k ≡ weighed bs awake next whole k
+valued-more bs awake v next whole p n ordered lt set_one here before k above below = by (nat_eq p k) refl
+  where
+    same : (a b : ℕ) → nat_eq a b ≡ true → a ≡ b
+    same a b e = grind (arith, nat_tests)
+
+    apart : (a b : ℕ) → b < a → nat_eq a b ≡ false
+    apart a b e = grind (arith, nat_tests)
+
+    differ : (a b : ℕ) → nat_eq a b ≡ false → b < a + 1 → b < a
+    differ a b e l = grind (arith, nat_tests)
+
+    left : (j : ℕ) → j < p → v j ≡ next j
+    left j l = sym (set_one j ∙ ap (λ b. cond b n (v j)) (apart p j l))
+
+    by : (b : Bool) → nat_eq p k ≡ b → next k ≡ weighed bs awake next whole k
+    by true e =
+        set_one k ∙ ap (λ b. cond b n (v k)) e ∙ here
+        ∙ weighed-before bs awake v next whole p (ordered p lt) left
+        ∙ ap (weighed bs awake next whole) (same p k e)
+    by false e =
+        let under = differ p k e below in
+        set_one k ∙ ap (λ b. cond b n (v k)) e ∙ before k above under
+        ∙ weighed-before bs awake v next whole k (ordered k (omega arith))
+        (λ j l. left j (omega arith))

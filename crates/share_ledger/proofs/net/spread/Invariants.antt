@@ -1,0 +1,11 @@
+use Rattle.std.proofs.Common.{◌≡◌, ◌<◌, ◌-◌, ℕ, nat_lt}
+use Rattle.share_ledger.specs.Rounds.{flags_of, numbers_of}
+use Rattle.share_ledger.specs.Seats.{AreCounted, backs_of, funds_of}
+use Rattle.share_ledger.proofs.net.spread.Given as goal
+
+abbrev pub invariant-loop-i : goal.invariant-loop-i
+invariant-loop-i l = record {
+  counted : AreCounted (backs_of l.tables) (funds_of l.tables) (flags_of l.awake) (flags_of l.active)
+      (numbers_of l.weights);
+  settled : (k : ℕ) → 64 - l.i < k → k < 65 → flags_of l.awake k ≡ nat_lt 0 (numbers_of l.weights k);
+}

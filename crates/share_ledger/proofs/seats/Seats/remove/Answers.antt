@@ -1,0 +1,37 @@
+use Rattle.std.proofs.Common.{◌≡◌, ◌+◌, ◌<◌, ◌-◌, List, None, Some, position, sum_by, take, length, sym, ap, subst, ◌∙◌, arith}
+use Rattle.std.proofs.Common.{true≢false, get_or, set}
+use Rattle.std.specs.List.{list_any}
+use Rattle.std.proofs.lemmas.List.{get_or-take, length-take}
+use Rattle.share_ledger.specs.declared.seats.Seat.{Seat}
+use Rattle.share_ledger.specs.Seats.{is_like}
+use Rattle.share_model.specs.funding.SettleLaws.{none_any}
+use Rattle.share_ledger.proofs.Positions.{position-first, position-none}
+use Rattle.share_ledger.proofs.SeatSums.{first-passes, first-below, like-same, sum-taken_out}
+use Rattle.share_ledger.proofs.seats.Seats.remove.Goals as goal
+
+pub returns-in-Some : goal.returns-in-Some
+returns-in-Some c = λ F.
+    let none : Seat = record { from = 0; amount = 0 } in
+    let room = c.self.inside.room in
+    let n = c.self.inside.count in
+    let i = c.in-Some.place in
+    let own : List Seat = c.args.self.now in
+    let first = position-first (is_like c.args.seat) own i (sym c.place_of.ensures ∙ c.in-Some.is) in
+    let long : length own ≡ length (take n room) = ap length (sym c.self.view_is) in
+    let below = first-below (is_like c.args.seat) own i first in
+    let small = c.self.invariant in
+    let fits : i < n = omega (arith, long, below, length-take n room) in
+    let at : get_or own i none ≡ get_or room i none =
+    ap (λ (ss : List Seat). get_or ss i none) (sym c.self.view_is) ∙ get_or-take n room i none fits in
+    let same : get_or room i none ≡ c.args.seat =
+    sym at ∙ like-same c.args.seat (get_or own i none) (first-passes (is_like c.args.seat) own i none first) in
+    ap (λ s. sum_by F (take (n - 1) (set room i (get_or room (n - 1) none))) + F s) (sym same)
+    ∙ sum-taken_out F room n i none (omega arith) fits
+    ∙ ap (sum_by F) c.self.view_is
+
+pub returns-in_default : goal.returns-in_default
+returns-in_default c =
+    absurd (true≢false
+    (sym c.requires
+    ∙ none_any (is_like c.args.seat) c.args.self.now
+    (position-none (is_like c.args.seat) c.args.self.now (sym c.place_of.ensures ∙ c.in_default.is))))

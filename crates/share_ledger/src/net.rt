@@ -1,0 +1,242 @@
+//! What the funding of each currency and of each flow comes to. Amounts go upwards, from a holder to what its seats are
+//! denominated in, and values downwards. Each seat of a currency comes from a place before that of the currency, so one
+//! pass over the places settles either.
+ghost use Rattle.std.specs.Prelude.{◌≡◌, ℕ, ◌+◌, ◌-◌, ◌*◌, ◌^◌, ◌<◌, ◌≤◌, min, length, sum_by, true, false, not};
+ghost use Rattle.std.specs.Prelude.{nat_eq, nat_lt, IfOk, slice_index_or, replicate, if◌then◌else◌};
+ghost use Rattle.std.specs.List.{list_all};
+ghost use Rattle.share_model.specs.lists.Each.{Each};
+ghost use Rattle.share_ledger.specs.Rounds.{flags_of, numbers_of};
+ghost use Rattle.share_ledger.specs.Seats.{IsSeatWithin, taken, seat_worth, seats_at, AreSeated, AreOrdered};
+ghost use Rattle.share_ledger.specs.Seats.{AreCounted, AreAwake, AreValued, AreSmall, AreShared, weighed};
+ghost use Rattle.share_ledger.specs.Seats.{backs_of, funds_of};
+
+use crate::rounds::PLACES;
+use crate::routes;
+use crate::seats::{Seat, Seats};
+use crate::tables::{MAX_AMOUNT, MAX_FLOWS, Tables};
+
+/// More than any currency can be worth: nine times the amounts of all tickets.
+const MAX_VALUE: u64 = 9 << 30;
+
+/// Adds the amounts of seats to the weights of the places that they come from.
+pub(crate) fn raise(seats: &[Seat], weights: &mut [u64; PLACES])
+    requires within { Each IsSeatWithin seats.now }
+    requires few { length seats.now ≤ 16 }
+    requires small { (p : ℕ) → p < 65 → numbers_of weights.old p ≤ 2 ^ 31 }
+    ensures { (p : ℕ) → p < 65
+        → numbers_of weights.new p ≡ numbers_of weights.old p + taken seats.now p }
+{
+    for seat in seats {
+        weights[seat.from as usize] += u64::from(seat.amount);
+    }
+}
+
+/// Takes the amounts of seats from the weights of the places that they come from.
+pub(crate) fn lower(seats: &[Seat], weights: &mut [u64; PLACES])
+    requires within { Each IsSeatWithin seats.now }
+    requires held { (p : ℕ) → p < 65 → taken seats.now p ≤ numbers_of weights.old p }
+    ensures { (p : ℕ) → p < 65
+        → numbers_of weights.new p + taken seats.now p ≡ numbers_of weights.old p }
+{
+    for seat in seats {
+        weights[seat.from as usize] -= u64::from(seat.amount);
+    }
+}
+
+fn worth(seat: &Seat, values: &[u64; PLACES], weights: &[u64; PLACES]) -> u64
+    requires within { IsSeatWithin seat.now }
+    requires small { (p : ℕ) → p < 65 → numbers_of values.now p ≤ 9 * 2 ^ 30 }
+    ensures value { result ≡ seat_worth (numbers_of values.now) (numbers_of weights.now) seat.now }
+    ensures bound { result ≤ 9 * 2 ^ 50 }
+{
+    if seat.from == 0 {
+        return u64::from(seat.amount);
+    }
+    let from = seat.from as usize;
+    routes::share(values[from], seat.amount, weights[from])
+}
+
+/// What seats are worth together.
+pub(crate) fn weigh(seats: &[Seat], values: &[u64; PLACES], weights: &[u64; PLACES]) -> u64
+    requires within { Each IsSeatWithin seats.now }
+    requires few { length seats.now ≤ 16 }
+    requires small { (p : ℕ) → p < 65 → numbers_of values.now p ≤ 9 * 2 ^ 30 }
+    ensures { result
+        ≡ sum_by (seat_worth (numbers_of values.now) (numbers_of weights.now)) seats.now }
+{
+    let mut sum = 0;
+    for seat in seats {
+        sum += worth(seat, values, weights);
+    }
+    sum
+}
+
+/// Whether seats come from `base` alone.
+pub(crate) fn are_of_base(seats: &[Seat]) -> bool
+    ensures { result ≡ list_all (λ s. nat_eq s.from 0) seats.now }
+{
+    seats.iter().all(|seat| seat.from == 0)
+}
+
+// A currency wakes or rests.
+fn flip(
+    tables: &Tables,
+    backing: &[Seats],
+    active: &[bool; PLACES],
+    place: usize,
+    awake: &mut [bool; PLACES],
+    weights: &mut [u64; PLACES],
+)
+    requires seated { AreSeated (backs_of tables.now) backing.now }
+    requires ordered { AreOrdered backing.now }
+    requires place { place < 65 }
+    requires counted { AreCounted (backs_of tables.now) (funds_of tables.now) (flags_of awake.old)
+        (flags_of active.now) (numbers_of weights.old) }
+    ensures counted { AreCounted (backs_of tables.now) (funds_of tables.now) (flags_of awake.new)
+        (flags_of active.now) (numbers_of weights.new) }
+    ensures turned { (k : ℕ) → flags_of awake.new k
+        ≡ (if nat_eq place k then not (flags_of awake.old place) else flags_of awake.old k) }
+    ensures left { (k : ℕ) → place ≤ k → k < 65
+        → numbers_of weights.new k ≡ numbers_of weights.old k }
+{
+    tables.is_kept();
+    let seats = &backing[place];
+    if awake[place] {
+        awake[place] = false;
+        lower(seats.seats(), weights);
+        return;
+    }
+    awake[place] = true;
+    raise(seats.seats(), weights);
+}
+
+// A currency is awake where its weight is not zero.
+fn settle_place(
+    tables: &Tables,
+    backing: &[Seats],
+    active: &[bool; PLACES],
+    place: usize,
+    awake: &mut [bool; PLACES],
+    weights: &mut [u64; PLACES],
+)
+    requires seated { AreSeated (backs_of tables.now) backing.now }
+    requires ordered { AreOrdered backing.now }
+    requires place { place < 65 }
+    requires counted { AreCounted (backs_of tables.now) (funds_of tables.now) (flags_of awake.old)
+        (flags_of active.now) (numbers_of weights.old) }
+    ensures counted { AreCounted (backs_of tables.now) (funds_of tables.now) (flags_of awake.new)
+        (flags_of active.now) (numbers_of weights.new) }
+    ensures settled { flags_of awake.new place ≡ nat_lt 0 (numbers_of weights.new place) }
+    ensures others { (k : ℕ) → place < k → flags_of awake.new k ≡ flags_of awake.old k }
+    ensures left { (k : ℕ) → place ≤ k → k < 65
+        → numbers_of weights.new k ≡ numbers_of weights.old k }
+{
+    if awake[place] != (weights[place] > 0) {
+        flip(tables, backing, active, place, awake, weights);
+    }
+}
+
+/// Wakes and rests the currencies, from the last place to the first.
+pub(crate) fn spread(
+    tables: &Tables,
+    backing: &[Seats],
+    active: &[bool; PLACES],
+    awake: &mut [bool; PLACES],
+    weights: &mut [u64; PLACES],
+)
+    requires seated { AreSeated (backs_of tables.now) backing.now }
+    requires ordered { AreOrdered backing.now }
+    requires counted { AreCounted (backs_of tables.now) (funds_of tables.now) (flags_of awake.old)
+        (flags_of active.now) (numbers_of weights.old) }
+    ensures counted { AreCounted (backs_of tables.now) (funds_of tables.now) (flags_of awake.new)
+        (flags_of active.now) (numbers_of weights.new) }
+    ensures awake { AreAwake (flags_of awake.new) (numbers_of weights.new) }
+{
+    for i in 0..64_usize {
+        settle_place(tables, backing, active, 64 - i, awake, weights);
+    }
+}
+
+fn value_at(
+    holders: &[Seats],
+    awake: &[bool; PLACES],
+    weights: &[u64; PLACES],
+    values: &[u64; PLACES],
+    place: usize,
+) -> u64
+    requires within { (p : ℕ) → p < 65 → Each IsSeatWithin (seats_at holders.now p) }
+    requires places { length holders.now ≡ 65 }
+    requires small { AreSmall (numbers_of values.now) }
+    requires place { place < 65 }
+    ensures { result ≡ weighed holders.now (flags_of awake.now) (numbers_of values.now)
+        (numbers_of weights.now) place }
+{
+    if !awake[place] {
+        return 0;
+    }
+    let seats = &holders[place];
+    weigh(seats.seats(), values, weights)
+}
+
+/// Computes the values of the currencies, from the first place to the last. Gives up where one would be too great,
+/// which none ever is.
+pub(crate) fn revalue(
+    backing: &[Seats],
+    awake: &[bool; PLACES],
+    weights: &[u64; PLACES],
+    values: &mut [u64; PLACES],
+) -> bool
+    requires within { (p : ℕ) → p < 65 → Each IsSeatWithin (seats_at backing.now p) }
+    requires places { length backing.now ≡ 65 }
+    requires ordered { AreOrdered backing.now }
+    requires small { AreSmall (numbers_of values.old) }
+    ensures small { AreSmall (numbers_of values.new) }
+    ensures valued { result ≡ true → AreValued backing.now (flags_of awake.now)
+        (numbers_of values.new) (numbers_of weights.now) }
+{
+    for place in 1..PLACES {
+        let value = value_at(backing, awake, weights, values, place);
+        if value > MAX_VALUE {
+            return false;
+        }
+        values[place] = value;
+    }
+    true
+}
+
+/// The tickets of a flow: what its seats are worth, at most 2^20.
+pub(crate) fn share_at(
+    funding: &[Seats],
+    active: &[bool; PLACES],
+    weights: &[u64; PLACES],
+    values: &[u64; PLACES],
+    place: usize,
+) -> u32
+    requires within { (p : ℕ) → p < 65 → Each IsSeatWithin (seats_at funding.now p) }
+    requires places { length funding.now ≡ 65 }
+    requires small { AreSmall (numbers_of values.now) }
+    requires place { place < 65 }
+    ensures { result ≡ min (weighed funding.now (flags_of active.now) (numbers_of values.now)
+        (numbers_of weights.now) place) (2 ^ 20) }
+{
+    value_at(funding, active, weights, values, place).min(MAX_AMOUNT) as u32
+}
+
+/// Computes the tickets of all flows.
+pub(crate) fn reshare(
+    funding: &[Seats],
+    active: &[bool; PLACES],
+    weights: &[u64; PLACES],
+    values: &[u64; PLACES],
+    shares: &mut [u32; MAX_FLOWS],
+)
+    requires within { (p : ℕ) → p < 65 → Each IsSeatWithin (seats_at funding.now p) }
+    requires places { length funding.now ≡ 65 }
+    requires small { AreSmall (numbers_of values.now) }
+    ensures { AreShared funding.now (flags_of active.now) (numbers_of values.now)
+        (numbers_of weights.now) (numbers_of shares.new) }
+{
+    for place in 0..MAX_FLOWS {
+        shares[place] = share_at(funding, active, weights, values, place);
+    }
+}

@@ -1,0 +1,93 @@
+//! The tickets that fund one holder, each as a seat, in a room for sixteen.
+ghost use Rattle.std.specs.Prelude.{◌≡◌, ◌+◌, ◌<◌, ◌≤◌, ◌++◌, ◌∷◌, [], ℕ, length, sum_by, position, true};
+ghost use Rattle.std.specs.List.{list_any};
+ghost use Rattle.share_ledger.specs.declared.seats.Seat.{Seat};
+ghost use Rattle.share_ledger.specs.Seats.{is_like};
+
+use crate::tables::MAX_FUNDING;
+use std::marker::Model;
+
+/// A ticket that funds: where its denomination stands among the currencies, and its amount.
+#[derive(Clone, Copy, Debug)]
+pub(crate) struct Seat {
+    pub(crate) from: u32,
+    pub(crate) amount: u32,
+}
+
+/// What stands in a place without a seat.
+const NO_SEAT: Seat = Seat { from: 0, amount: 0 };
+
+/// The seats of one holder, in no order.
+#[derive(Drop)]
+pub(crate) struct Seats {
+    room: [Seat; MAX_FUNDING],
+    count: usize,
+}
+
+impl Model for Seats {
+    ghost use Rattle.std.specs.Prelude.{◌≤◌, List, take};
+    ghost use Rattle.share_ledger.specs.declared.seats.Seat.{Seat};
+
+    ghost Value = { List Seat };
+
+    ghost view = { λ s. take s.count s.room };
+
+    ghost invariant = { λ s. s.count ≤ 16 };
+}
+
+impl Seats {
+    pub(crate) fn new() -> Seats
+        ensures { result ≡ [] }
+    {
+        Seats {
+            room: [NO_SEAT; MAX_FUNDING],
+            count: 0,
+        }
+    }
+
+    pub(crate) fn seats(&self) -> &[Seat]
+        ensures value { result.now ≡ self.now }
+        ensures few { length self.now ≤ 16 }
+    {
+        &self.room[..self.count]
+    }
+
+    pub(crate) fn count(&self) -> usize
+        ensures { result ≡ length self.now }
+    {
+        self.seats().len()
+    }
+
+    pub(crate) fn clear(&mut self)
+        ensures { self.new ≡ [] }
+    {
+        self.count = 0;
+    }
+
+    pub(crate) fn add(&mut self, seat: Seat)
+        requires { length self.old < 16 }
+        ensures { self.new ≡ self.old ++ seat ∷ [] }
+    {
+        self.room[self.count] = seat;
+        self.count += 1;
+    }
+
+    fn place_of(&self, seat: Seat) -> Option<usize>
+        ensures { result ≡ position (is_like seat) self.now }
+    {
+        self.seats()
+            .iter()
+            .position(|other| seat.from == other.from && seat.amount == other.amount)
+    }
+
+    /// Takes out one seat like this, where there is one.
+    pub(crate) fn remove(&mut self, seat: Seat)
+        requires { list_any (is_like seat) self.old ≡ true }
+        ensures { (F : Seat → ℕ) → sum_by F self.new + F seat ≡ sum_by F self.old }
+    {
+        if let Some(place) = self.place_of(seat) {
+            self.count -= 1;
+            self.room[place] = self.room[self.count];
+        }
+    }
+}

@@ -3,6 +3,8 @@ pub mod Lays
 pub mod LinkChains
 pub mod LinkPlaces
 pub mod LinkSteps
+pub mod NetQuiet
+pub mod NetSeats
 pub mod NetSteps
 pub mod Positions
 pub mod RouteLists

@@ -183,7 +183,7 @@ idle-none f (e ∷ es) none = by (nat_eq f e.1.number) refl (idle-none f es)
     by true x rest = let here = ap {B = ℕ} (λ b. cond b 1 0) (turned x) in absurd (omega (arith, more))
     by false x rest = rest (omega (arith, more))
 
-activity-at : (f : ℕ) (es : List (NameBytes × OpenFlow)) → 1 ≤ times_open f es → times_open f es ≤ 1
+pub activity-at : (f : ℕ) (es : List (NameBytes × OpenFlow)) → 1 ≤ times_open f es → times_open f es ≤ 1
     → get_or (map (λ (e : NameBytes × OpenFlow). e.1.active) es) (flow_place es f) false
     ≡ list_any (λ (e : NameBytes × OpenFlow). nat_eq f e.1.number && e.1.active) es
 unfolding flow_place

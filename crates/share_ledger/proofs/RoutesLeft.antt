@@ -1,6 +1,7 @@
 -- What leaves the routes of the tickets.
 use Rattle.std.proofs.Common.{◌≡◌, ◌≤◌, ◌+◌, ℕ, suc, Bool, true, false, not, cond, List, [], ◌∷◌, ◌++◌, take, find}
-use Rattle.std.proofs.Common.{None, Some, length, bytes_eq, nat_eq, is_some, refl, sym, ap, ◌∙◌, arith}
+use Rattle.std.proofs.Common.{None, Some, length, bytes_eq, nat_eq, is_some, refl, sym, ap, ◌∙◌, arith, subst, map}
+use Rattle.std.proofs.Common.{◌<◌, ◌^◌, zero, get_or, min, sum_by, true≢false, position}
 use Rattle.std.specs.Set.{remove_key}
 use Rattle.std.proofs.lemmas.List.Sums.{sum_by-cons}
 use Rattle.std.proofs.lemmas.Bool.Decides.{nat_tests}
@@ -21,34 +22,42 @@ use Rattle.share_model.specs.funding.ChangeLaws.{not-refused}
 use Rattle.share_ledger.specs.declared.routes.Route.{Route}
 use Rattle.share_ledger.specs.Places.{place}
 use Rattle.share_ledger.specs.Routes.{flow_place, holder_place, route_of, is_kind, routes_of}
-use Rattle.share_ledger.specs.Shares.{AreListed, AreKept}
+use Rattle.share_ledger.specs.declared.net.Net.{Net}
+use Rattle.share_ledger.specs.Nets.{IsReady, activity_of}
+use Rattle.share_ledger.specs.Rounds.{flags_of, numbers_of}
+use Rattle.share_ledger.specs.Seats.{backs_of, funds_of, seats_at, seat_worth, weighed}
+use Rattle.share_ledger.specs.Shares.{AreKept}
+use Rattle.share_ledger.proofs.NetQuiet.{relit, activity-turned}
+use Rattle.share_ledger.proofs.Positions.{position-first, flow-first}
+use Rattle.share_ledger.proofs.SeatSums.{first-below}
+use Rattle.share_ledger.proofs.NetSeats.{activity-beyond}
 use Rattle.share_ledger.proofs.FlowShares.{shares-left, shares-opened}
 use Rattle.share_ledger.proofs.LinkPlaces.{IsPlaced, placed}
 use Rattle.share_ledger.proofs.RouteLists.{routes-cons, routes-append}
 
 -- what is kept of a graph fits another with the same routes and the same tickets of the same flows
-pub kept-left : (backs funds : List Route) (shares : List ℕ) (g h : Graph)
+pub kept-left : (net : Net) (ready : Bool) (shares : List ℕ) (g h : Graph)
     → ((b : Bool) → routes_of g b g.tickets ≡ routes_of h b h.tickets) → g.flows ≡ h.flows
-    → ((f : ℕ) → tickets g f ≡ tickets h f) → AreKept backs funds shares g → AreKept backs funds shares h
-kept-left backs funds shares g h routes flows same kept = record {
-  listed = record { backing = kept.listed.backing ∙ routes true; funding = kept.listed.funding ∙ routes false };
+    → ((f : ℕ) → tickets g f ≡ tickets h f) → AreKept net ready shares g → AreKept net ready shares h
+kept-left net ready shares g h routes flows same kept = record {
   of_flows = shares-left shares g h flows same kept.of_flows;
+  net_ready = λ e. relit net shares (backs_of h) (funds_of h) (activity_of g) (activity_of h)
+      (subst (λ rs. IsReady net shares (backs_of h) rs (activity_of g)) (routes false)
+      (subst (λ rs. IsReady net shares rs (funds_of g) (activity_of g)) (routes true) (kept.net_ready e)))
+      (λ k. ap (λ (es : List (NameBytes × OpenFlow)). get_or (map (λ (e : NameBytes × OpenFlow). e.1.active) es) k false)
+      flows);
+  backing_places = kept.backing_places;
+  funding_places = kept.funding_places;
 }
 
-pub listed-left : (backs funds : List Route) (g h : Graph)
-    → ((b : Bool) → routes_of g b g.tickets ≡ routes_of h b h.tickets) → AreListed backs funds g
-    → AreListed backs funds h
-listed-left backs funds g h routes listed = record {
-  backing = listed.backing ∙ routes true;
-  funding = listed.funding ∙ routes false;
-}
-
-pub kept-empty_graph : (backs funds : List Route) (shares : List ℕ) → backs ≡ [] → funds ≡ []
-    → AreKept backs funds shares empty_graph
-unfolding routes_of
-kept-empty_graph backs funds shares p q = record {
-  listed = record { backing = p; funding = q };
+-- nothing is kept of empty tables
+pub kept-empty_graph : (net : Net) (ready : Bool) (shares : List ℕ) → ready ≡ false → length net.backing.items ≡ 65
+    → length net.funding.items ≡ 65 → AreKept net ready shares empty_graph
+kept-empty_graph net ready shares off p q = record {
   of_flows = refl;
+  net_ready = λ e. absurd (true≢false (sym e ∙ off));
+  backing_places = p;
+  funding_places = q;
 }
 
 -- routes of the same tickets
@@ -189,14 +198,76 @@ routes-remove_ticket g n none b =
             routes-cons g b t ts ∙ ap (λ rs. cond (is_kind b t.holder) (route_of g t ∷ []) [] ++ rs) (rest e)
             ∙ sym (routes-cons g b t (remove_key p ts))
 
-pub kept-opened : (backs funds backs_after funds_after : List Route) (before after : List ℕ) (g : Graph)
-    (name : NameBytes) (n : ℕ) → IsKept g → n ≡ length g.flows → backs_after ≡ backs → funds_after ≡ funds
-    → take (n + 1) after ≡ take n before ++ 0 ∷ [] → AreKept backs funds before g
-    → AreKept backs_after funds_after after (add_flow g name)
-kept-opened backs funds backs_after funds_after before after g name n ok at p q more kept = record {
-  listed = record {
-    backing = p ∙ kept.listed.backing ∙ routes-add_flow g ok name true;
-    funding = q ∙ kept.listed.funding ∙ routes-add_flow g ok name false;
-  };
+-- one more flow is open, and not active
+activity-opened : (es : List (NameBytes × OpenFlow)) (name : NameBytes) (f : ℕ) (k : ℕ)
+    → get_or (map (λ (e : NameBytes × OpenFlow). e.1.active) es) k false
+    ≡ get_or (map (λ (e : NameBytes × OpenFlow). e.1.active) (es ++ (name, record { number = f; active = false }) ∷ []))
+    k false
+activity-opened [] name f zero = refl
+activity-opened [] name f (suc k) = refl
+activity-opened (e ∷ es) name f zero = refl
+activity-opened (e ∷ es) name f (suc k) = activity-opened es name f k
+
+pub kept-opened : (net : Net) (ready : Bool) (before after : List ℕ) (g : Graph) (name : NameBytes) (n : ℕ)
+    → IsKept g → n ≡ length g.flows
+    → ((k : ℕ) → get_or after k 0 ≡ cond (nat_eq n k) 0 (get_or before k 0))
+    → take (n + 1) after ≡ take n before ++ 0 ∷ [] → AreKept net ready before g
+    → AreKept net ready after (add_flow g name)
+kept-opened net ready before after g name n ok at wrote more kept = record {
   of_flows = shares-opened before after g name n ok at more kept.of_flows;
+  net_ready = λ e. relit net after (backs_of (add_flow g name)) (funds_of (add_flow g name)) (activity_of g)
+      (activity_of (add_flow g name))
+      (subst (λ rs. IsReady net after (backs_of (add_flow g name)) rs (activity_of g)) (routes-add_flow g ok name false)
+      (subst (λ rs. IsReady net after rs (funds_of g) (activity_of g)) (routes-add_flow g ok name true)
+      (opened (kept.net_ready e))))
+      (activity-opened g.flows name g.next_flow);
+  backing_places = kept.backing_places;
+  funding_places = kept.funding_places;
 }
+  where
+    same_number : (a b : ℕ) → nat_eq a b ≡ true → a ≡ b
+    same_number a b e = grind (arith, nat_tests)
+
+    opened : IsReady net before (backs_of g) (funds_of g) (activity_of g)
+        → IsReady net after (backs_of g) (funds_of g) (activity_of g)
+    opened ready = record {
+      begun = ready.begun;
+      awake_is = ready.awake_is;
+      valued = ready.valued;
+      shared = λ p lt. wrote p ∙ by p (nat_eq n p) refl lt;
+    }
+      where
+        by : (p : ℕ) (b : Bool) → nat_eq n p ≡ b → p < 64
+            → cond b 0 (get_or before p 0)
+            ≡ min (weighed net.funding.items (flags_of net.active.value) (numbers_of net.values.value)
+            (numbers_of net.weights.value) p) (2 ^ 20)
+        by p true e lt =
+            let idle : flags_of net.active.value p ≡ false =
+            ready.begun.active_is p ∙ activity-beyond g p (let same = same_number n p e in omega arith) in
+            ap (λ b. min (cond b (sum_by (seat_worth (numbers_of net.values.value) (numbers_of net.weights.value))
+            (seats_at net.funding.items p)) 0) (2 ^ 20)) (sym idle)
+        by p false e lt = ready.shared p lt
+
+-- A flow that becomes active or idle leaves the routes
+module _ (g : Graph) (ok : IsKept g) (net : Net) (shares : List ℕ) (f : ℕ) (a : Bool) (i : ℕ)
+    (found : position (λ (o : OpenFlow). nat_eq f o.number) (map (λ (e : NameBytes × OpenFlow). e.1) g.flows) ≡ Some i)
+    where
+  pub turned-below : i < 64
+  turned-below =
+      let inside = first-below (is_open_as f) g.flows i (flow-first f g.flows i (position-first _ _ i found)) in
+      let few = ok.few_flows in omega arith
+
+  pub turned-ready : IsReady net shares (backs_of g) (funds_of g) (activity_of g)
+      → IsReady net shares (backs_of (set_active g f a)) (funds_of (set_active g f a)) (flags_of net.active.value)
+  turned-ready ready =
+      relit net shares (backs_of (set_active g f a)) (funds_of (set_active g f a)) (activity_of g)
+      (flags_of net.active.value)
+      (subst (λ rs. IsReady net shares (backs_of (set_active g f a)) rs (activity_of g)) (routes-set_active g ok f a false)
+      (subst (λ rs. IsReady net shares rs (funds_of g) (activity_of g)) (routes-set_active g ok f a true) ready))
+      (λ k. sym (ready.begun.active_is k))
+
+  pub turned-activity : IsReady net shares (backs_of g) (funds_of g) (activity_of g) → (k : ℕ)
+      → activity_of (set_active g f a) k ≡ cond (nat_eq i k) a (flags_of net.active.value k)
+  turned-activity ready k =
+      activity-turned f a g.flows i k (flow-first f g.flows i (position-first _ _ i found))
+      ∙ ap (cond (nat_eq i k) a) (sym (ready.begun.active_is k))

@@ -14,7 +14,8 @@ use Rattle.share_model.specs.funding.Graph.{NameBytes, base, Graph, is_held_by_c
 use Rattle.share_model.specs.funding.Graph.{is_active_holder, act, is_active, active, worth_by, val, tickets}
 use Rattle.share_model.specs.lists.Each.{Each}
 use Rattle.share_model.specs.lists.Laws.{each_map}
-use Rattle.share_model.specs.lists.SumLaws.{Each-filter, sum_by-same_of, sum_by-filter, name_sym, same_name}
+use Rattle.share_model.specs.lists.SumLaws.{Each-filter, sum_by-same, sum_by-same_of, sum_by-filter}
+use Rattle.share_model.specs.lists.SumLaws.{name_sym, same_name}
 use Rattle.share_model.specs.funding.Kept.{names_of, times, times_open, IsHolderKnown, IsKept}
 use Rattle.share_model.specs.funding.Laws.{uncapped}
 use Rattle.share_model.specs.funding.SettleLaws.{any-same, act-unique, val-unique}
@@ -25,10 +26,12 @@ use Rattle.share_ledger.specs.Rounds.{flags_of, numbers_of}
 use Rattle.share_ledger.specs.Routes.{flow_place, holder_place, route_of, is_kind, routes_of, gathered, carried, poured}
 use Rattle.share_ledger.specs.Seats.{seat_of, seat_worth, seats_at, weighed, AreSeated, AreCounted, AreAwake, AreValued}
 use Rattle.share_ledger.specs.Seats.{AreShared, backs_of, funds_of}
+use Rattle.share_ledger.specs.declared.net.Net.{Net}
+use Rattle.share_ledger.specs.Nets.{IsReady, activity_of}
 use Rattle.share_ledger.specs.Shares.{shares_of}
 use Rattle.share_ledger.proofs.LinkPlaces.{place-base, IsPlaced, placed}
 use Rattle.share_ledger.proofs.NetSteps.{sum_two}
-use Rattle.share_ledger.proofs.RouteLists.{routes-cons, share-at}
+use Rattle.share_ledger.proofs.RouteLists.{share-at, activity-at}
 use Rattle.share_ledger.proofs.RouteWorths.{below, lead, gathered-is, whole-is, poured-currency, poured-flow}
 use Rattle.share_ledger.proofs.RouteWorths.{flow-place-below}
 
@@ -209,3 +212,133 @@ module _ (g : Graph) (ok : IsKept g) (lit on : ℕ → Bool) (whole value : ℕ 
 
   wholes : (c : NameBytes) → 1 ≤ times c (names_of g) → whole (place (names_of g) c) ≡ active g c
   wholes = whole-is g ok lit held flows held-are whole counted-held
+
+  -- nothing is said of the value of `base` either
+  valued_as : ℕ → ℕ
+  valued_as p = cond (nat_eq p 0) (val g 9 base) (value p)
+
+  valued-apart : (p : ℕ) → nat_eq p 0 ≡ false → valued_as p ≡ value p
+  unfolding valued_as
+  valued-apart p e = ap (λ b. cond b (val g 9 base) (value p)) e
+
+  carried-same : (r : Route) → carried value whole r ≡ carried valued_as whole r
+  carried-same r = by (nat_eq r.from 0) refl
+    where
+      by : (b : Bool) → nat_eq r.from 0 ≡ b
+          → cond b r.amount (value r.from * r.amount / whole r.from)
+          ≡ cond b r.amount (valued_as r.from * r.amount / whole r.from)
+      by true e = refl
+      by false e = ap (λ n. n * r.amount / whole r.from) (sym (valued-apart r.from e))
+
+  poured-same : (rs : List Route) (flag : ℕ → Bool) (p : ℕ)
+      → poured rs flag (carried value whole) p ≡ poured rs flag (carried valued_as whole) p
+  unfolding poured
+  poured-same rs flag p =
+      sum_by-same (λ (r : Route). cond (nat_eq p r.to && flag r.to) (carried value whole r) 0)
+      (λ (r : Route). cond (nat_eq p r.to && flag r.to) (carried valued_as whole r) 0) rs
+      (λ r. ap (λ n. cond (nat_eq p r.to && flag r.to) n 0) (carried-same r))
+
+  poured-held : (p : ℕ) (carry : Route → ℕ)
+      → poured (routes_of g true g.tickets) on carry p ≡ poured (routes_of g true g.tickets) held carry p
+  unfolding poured
+  poured-held p carry =
+      sum_by-same_of (λ (r : Route). nat_eq r.to 0 ≡ false)
+      (λ (r : Route). cond (nat_eq p r.to && on r.to) (carry r) 0)
+      (λ (r : Route). cond (nat_eq p r.to && held r.to) (carry r) 0) (routes_of g true g.tickets)
+      (backs-apart g g.tickets ok.shallow.unbacked)
+      (λ r e. ap (λ b. cond (nat_eq p r.to && b) (carry r) 0) (sym (held-apart r.to e)))
+
+  named : NameBytes → ℕ
+  named c = valued_as (place (names_of g) c)
+
+  named-is : (c : NameBytes) → valued_as (place (names_of g) c) ≡ named c
+  unfolding named
+  named-is c = refl
+
+  valued-base : (p : ℕ) → nat_eq p 0 ≡ true → valued_as p ≡ val g 9 base
+  unfolding valued_as
+  valued-base p e = ap (λ b. cond b (val g 9 base) (value p)) e
+
+  worthy : NameBytes → ℕ
+  worthy c = sum_by (worth_by g named) (backing g.tickets c)
+
+  module _ (bs : List (List Seat)) (seated : AreSeated (backs_of g) bs) (valued : AreValued bs on value whole) where
+    named-worthy : (c : NameBytes) → 1 ≤ times c (names_of g) → bytes_eq c base ≡ false → named c ≡ worthy c
+    unfolding named worthy
+    named-worthy c known other =
+        let p = place (names_of g) c in
+        let lt = below g ok c known in
+        valued-apart p (place-base g c ∙ other) ∙ valued p (apart-place c other) lt
+        ∙ weighed-poured (backs_of g) bs on value whole p seated lt
+        ∙ poured-held p (carried value whole) ∙ poured-same (routes_of g true g.tickets) held p
+        ∙ poured-currency g ok lit held flows held-are whole wholes valued_as named (λ c known. refl) c known
+
+    worth-worthy : (t : Ticket) → 1 ≤ times t.denomination (names_of g) → worth_by g named t ≡ worth_by g worthy t
+    unfolding worth_by
+    worth-worthy t known = by (bytes_eq t.denomination base) refl
+      where
+        by : (b : Bool) → bytes_eq t.denomination base ≡ b
+            → cond (is_active g t) (cond b t.amount (named t.denomination * t.amount / active g t.denomination)) 0
+            ≡ cond (is_active g t) (cond b t.amount (worthy t.denomination * t.amount / active g t.denomination)) 0
+        by true e = refl
+        by false e =
+            ap (λ n. cond (is_active g t) (n * t.amount / active g t.denomination) 0)
+            (named-worthy t.denomination known e)
+
+    worthy-step : (c : NameBytes) → worthy c ≡ sum_by (worth_by g worthy) (backing g.tickets c)
+    unfolding worthy backing
+    worthy-step c =
+        sum_by-same_of
+        (λ (t : Ticket). (1 ≤ times t.denomination (names_of g)) × (is_held_by_currency c t.holder ≡ true))
+        (worth_by g named) (worth_by g worthy) (backing g.tickets c)
+        (Each-filter (λ (t : Ticket). 1 ≤ times t.denomination (names_of g))
+        (λ (t : Ticket). is_held_by_currency c t.holder) g.tickets ok.sound.known)
+        (λ t e. worth-worthy t e.0)
+
+    values : (c : NameBytes) → 1 ≤ times c (names_of g) → valued_as (place (names_of g) c) ≡ val g 9 c
+    values c known = by (bytes_eq c base) refl
+      where
+        by : (b : Bool) → bytes_eq c base ≡ b → valued_as (place (names_of g) c) ≡ val g 9 c
+        by true e = valued-base (place (names_of g) c) (place-base g c ∙ e) ∙ ap (val g 9) (sym (same_name c base e))
+        by false e = named-is c ∙ named-worthy c known e ∙ sym (val-unique g ok.shallow worthy worthy-step c)
+
+    flow-weighed : (fs : List (List Seat)) → AreSeated (funds_of g) fs → (f : ℕ) → 1 ≤ times_open f g.flows
+        → weighed fs lit value whole (flow_place g.flows f) ≡ uncapped g f
+    flow-weighed fs funded f known =
+        let lt = flow-place-below f g.flows known in
+        let few = ok.few_flows in
+        weighed-poured (funds_of g) fs lit value whole (flow_place g.flows f) funded (omega arith)
+        ∙ poured-same (routes_of g false g.tickets) lit (flow_place g.flows f)
+        ∙ poured-flow g ok lit held flows held-are whole wholes valued_as values f known
+
+    share-is : (fs : List (List Seat)) (share : ℕ → ℕ) → AreSeated (funds_of g) fs → AreShared fs lit value whole share
+        → (i : ℕ) → i < length g.flows
+        → option_map (λ (e : NameBytes × OpenFlow). tickets g e.1.number) (slice_get g.flows i) ≡ Some (share i)
+    share-is fs share funded shared i lt =
+        share-at g i (share i) (weighed fs lit value whole) ok lt (flow-weighed fs funded)
+        (shared i (let few = ok.few_flows in omega arith))
+
+-- a list that is known place by place
+take-parts : {X Y : Type 0} (part : X → Y) (xs : List X) (ys : List Y) (d : Y) → length xs ≤ length ys
+    → ((i : ℕ) → i < length xs → option_map part (slice_get xs i) ≡ Some (get_or ys i d))
+    → take (length xs) ys ≡ map part xs
+take-parts part [] ys d le at = refl
+take-parts part (x ∷ xs) [] d le at = absurd (omega arith)
+take-parts part (x ∷ xs) (y ∷ ys) d le at =
+    ap (λ z. z ∷ take (length xs) ys) (sym (same_Some (part x) y (at 0 (omega arith))))
+    ∙ ap (λ zs. part x ∷ zs) (take-parts part xs ys d (omega arith) (λ i lt. at (suc i) (omega arith)))
+
+-- what has settled gives the tickets of all flows
+pub shares-settled : (g : Graph) (net : Net) (shares : List ℕ) → IsKept g → length shares ≡ 64
+    → IsReady net shares (backs_of g) (funds_of g) (activity_of g)
+    → take (length g.flows) shares ≡ shares_of g
+shares-settled g net shares ok long ready =
+    let begun = ready.begun in
+    take-parts (λ (e : NameBytes × OpenFlow). tickets g e.1.number) g.flows shares 0
+    (let few = ok.few_flows in omega arith)
+    (share-is g ok (flags_of net.active.value) (flags_of net.awake.value) (numbers_of net.weights.value)
+    (numbers_of net.values.value)
+    (λ f known. begun.active_is (flow_place g.flows f)
+    ∙ activity-at f g.flows known (ok.sound.numbers f)) begun.counted
+    ready.awake_is net.backing.items begun.backing ready.valued net.funding.items (numbers_of shares) begun.funding
+    ready.shared)

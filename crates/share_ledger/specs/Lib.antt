@@ -1,3 +1,4 @@
+pub mod Nets
 pub mod Places
 pub mod Rounds
 pub mod Routes

@@ -1,20 +1,18 @@
 -- What is kept beside the tables.
-use Rattle.std.specs.Prelude.{◌≡◌, ℕ, true, false, List, map, take, length}
+use Rattle.std.specs.Prelude.{◌≡◌, ℕ, Bool, true, List, map, take, length}
 use Rattle.share_model.specs.declared.funding.OpenFlow.{OpenFlow}
 use Rattle.share_model.specs.funding.Graph.{NameBytes, Graph, tickets}
-use Rattle.share_ledger.specs.declared.routes.Route.{Route}
-use Rattle.share_ledger.specs.Routes.{routes_of}
+use Rattle.share_ledger.specs.declared.net.Net.{Net}
+use Rattle.share_ledger.specs.Nets.{IsReady, activity_of}
+use Rattle.share_ledger.specs.Seats.{backs_of, funds_of}
 
 -- the tickets of each open flow, in the order of opening
 abbrev pub shares_of : Graph → List ℕ
 shares_of g = map (λ (e : NameBytes × OpenFlow). tickets g e.1.number) g.flows
 
--- the routes that are kept are those of the tickets, which back currencies or fund flows
-pub record AreListed (backs funds : List Route) (g : Graph) : Type 0 where
-  pub backing : backs ≡ routes_of g true g.tickets
-  pub funding : funds ≡ routes_of g false g.tickets
-
--- and so are the tickets of the flows
-pub record AreKept (backs funds : List Route) (shares : List ℕ) (g : Graph) : Type 0 where
-  pub listed : AreListed backs funds g
+-- The tickets of the flows are those of the graph, and so is the net where it is ready.
+pub record AreKept (net : Net) (ready : Bool) (shares : List ℕ) (g : Graph) : Type 0 where
   pub of_flows : take (length g.flows) shares ≡ shares_of g
+  pub net_ready : ready ≡ true → IsReady net shares (backs_of g) (funds_of g) (activity_of g)
+  pub backing_places : length net.backing.items ≡ 65
+  pub funding_places : length net.funding.items ≡ 65

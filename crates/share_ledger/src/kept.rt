@@ -1,8 +1,13 @@
-//! What is kept beside the tables: the routes of the tickets that have a holder, and the tickets of each open flow.
-ghost use Rattle.std.specs.Prelude.{◌≡◌, ◌<◌, ◌+◌, ◌++◌, ◌∷◌, [], take, true, false, IfOk};
+//! What is kept beside the tables: the net of seats, weights and values by place, and the tickets of each open flow.
+ghost use Rattle.std.specs.Prelude.{◌≡◌, ℕ, ◌<◌, ◌+◌, ◌++◌, ◌∷◌, [], take, length, true, false, nat_eq, slice_index_or, IfOk};
+ghost use Rattle.std.specs.Prelude.{if◌then◌else◌};
+ghost use Rattle.share_ledger.specs.Nets.{activity_of, IsBegun, IsReady};
+ghost use Rattle.share_ledger.specs.Rounds.{flags_of};
 ghost use Rattle.share_ledger.specs.Routes.{routes_of};
-ghost use Rattle.share_ledger.specs.Shares.{AreListed, AreKept};
+ghost use Rattle.share_ledger.specs.Seats.{backs_of, funds_of};
+ghost use Rattle.share_ledger.specs.Shares.{AreKept};
 
+use crate::net::{self, Net};
 use crate::routes::Route;
 use crate::tables::{MAX_FLOWS, MAX_TICKETS, Tables};
 use std::alloc::{AllocError, Global};
@@ -57,32 +62,40 @@ impl Listed {
     }
 }
 
-/// The routes of the tickets that back currencies, those of the tickets that fund flows, and the tickets of each open
-/// flow, by its place.
+/// The net, whether it is ready, and the tickets of each open flow by its place; and room for routes, which are listed
+/// where all is computed anew.
 #[derive(Drop)]
 pub(crate) struct Kept {
-    pub(crate) backing: Listed,
-    pub(crate) funding: Listed,
+    pub(crate) net: Net,
+    pub(crate) ready: bool,
     pub(crate) shares: Box<[u32; MAX_FLOWS]>,
+    backing: Listed,
+    funding: Listed,
 }
 
 impl Kept {
     /// What is kept beside empty tables.
     pub(crate) fn new(alloc: Global) -> Result<Kept, AllocError>
-        ensures { IfOk result (λ kept. (kept.backing ≡ []) × (kept.funding ≡ [])) }
+        ensures { IfOk result (λ kept. (kept.ready ≡ false) × (length kept.net.backing.items ≡ 65)
+            × (length kept.net.funding.items ≡ 65)) }
     {
         Ok(Kept {
+            net: Net::new(alloc)?,
+            ready: false,
+            shares: Box::new(alloc, [0; MAX_FLOWS])?,
             backing: Listed::new(alloc)?,
             funding: Listed::new(alloc)?,
-            shares: Box::new(alloc, [0; MAX_FLOWS])?,
         })
     }
 
-    /// The tickets of all flows anew, where the routes are those of the tables.
-    pub(crate) fn refresh(&mut self, tables: &Tables)
-        requires { AreListed self.old.backing self.old.funding tables.now }
-        ensures { AreKept self.new.backing self.new.funding self.new.shares.value tables.now }
+    // The tickets of all flows by rounds over the routes, in whatever order the places stand.
+    fn count(&mut self, tables: &Tables)
+        requires places { (length self.old.net.backing.items ≡ 65) × (length self.old.net.funding.items ≡ 65) }
+        ensures { AreKept self.new.net self.new.ready self.new.shares.value tables.now }
     {
+        self.ready = false;
+        self.backing.list(tables, true);
+        self.funding.list(tables, false);
         tables.refresh(
             self.backing.routes(),
             self.funding.routes(),
@@ -90,29 +103,63 @@ impl Kept {
         );
     }
 
-    /// The routes and the tickets of all flows anew.
-    pub(crate) fn renew(&mut self, tables: &Tables)
-        ensures { AreKept self.new.backing self.new.funding self.new.shares.value tables.now }
+    // What follows from the seats and the activity.
+    fn settle(&mut self, tables: &Tables)
+        requires { IsBegun self.old.net (backs_of tables.now) (funds_of tables.now) (activity_of tables.now) }
+        ensures { AreKept self.new.net self.new.ready self.new.shares.value tables.now }
     {
-        self.backing.list(tables, true);
-        self.funding.list(tables, false);
-        self.refresh(tables);
+        self.ready = self.net.settle(tables, &mut self.shares);
+        if !self.ready {
+            self.count(tables);
+        }
     }
 
-    /// The routes anew, where the tickets of the flows are those of the tables.
-    pub(crate) fn relist(&mut self, tables: &Tables)
-        ensures listed { AreListed self.new.backing self.new.funding tables.now }
-        ensures left { self.new.shares.value ≡ self.old.shares.value }
+    /// All anew.
+    pub(crate) fn renew(&mut self, tables: &Tables)
+        requires places { (length self.old.net.backing.items ≡ 65) × (length self.old.net.funding.items ≡ 65) }
+        ensures { AreKept self.new.net self.new.ready self.new.shares.value tables.now }
     {
         self.backing.list(tables, true);
         self.funding.list(tables, false);
+        let begun = self.net.begin(tables, self.backing.routes(), self.funding.routes());
+        if begun {
+            self.settle(tables);
+            return;
+        }
+        self.count(tables);
+    }
+
+    /// The flow at a place has become active or idle.
+    pub(crate) fn set_active(&mut self, tables: &Tables, place: usize, active: bool)
+        requires place { place < 64 }
+        requires places { (length self.old.net.backing.items ≡ 65) × (length self.old.net.funding.items ≡ 65) }
+        requires ready { self.old.ready ≡ true → IsReady self.old.net self.old.shares.value (backs_of tables.now)
+            (funds_of tables.now) (flags_of self.old.net.active.value) }
+        requires turned { self.old.ready ≡ true → (k : ℕ) → activity_of tables.now k
+            ≡ (if nat_eq place k then active else flags_of self.old.net.active.value k) }
+        ensures { AreKept self.new.net self.new.ready self.new.shares.value tables.now }
+    {
+        tables.is_kept();
+        if !self.ready || self.net.active[place] == active {
+            self.count(tables);
+            return;
+        }
+        if self.net.is_funded_by_base(place) {
+            self.net.turn(tables, place, active);
+            self.net.share(place, &mut self.shares);
+            return;
+        }
+        self.net.turn(tables, place, active);
+        self.settle(tables);
     }
 
     /// Behind the tickets of the first flows stand none of one more.
     pub(crate) fn append_none(&mut self, count: usize)
         requires { count < 64 }
-        ensures routes { (self.new.backing ≡ self.old.backing) × (self.new.funding ≡ self.old.funding) }
-        ensures shares { take (count + 1) self.new.shares.value ≡ take count self.old.shares.value ++ 0 ∷ [] }
+        ensures left { (self.new.net ≡ self.old.net) × (self.new.ready ≡ self.old.ready) }
+        ensures shares { (k : ℕ) → slice_index_or self.new.shares.value k 0
+            ≡ (if nat_eq count k then 0 else slice_index_or self.old.shares.value k 0) }
+        ensures first { take (count + 1) self.new.shares.value ≡ take count self.old.shares.value ++ 0 ∷ [] }
     {
         append_none(&mut self.shares, count);
     }
@@ -120,7 +167,8 @@ impl Kept {
 
 fn append_none(shares: &mut [u32; MAX_FLOWS], count: usize)
     requires { count < 64 }
-    ensures { take (count + 1) shares.new ≡ take count shares.old ++ 0 ∷ [] }
+    ensures shares { (k : ℕ) → slice_index_or shares.new k 0 ≡ (if nat_eq count k then 0 else slice_index_or shares.old k 0) }
+    ensures first { take (count + 1) shares.new ≡ take count shares.old ++ 0 ∷ [] }
 {
     shares[count] = 0;
 }

@@ -38,7 +38,7 @@ impl Model for Ledger {
     ghost view = { λ l. l.tables };
 
     ghost invariant = { λ l.
-        AreKept l.kept.backing l.kept.funding l.kept.shares.value l.tables };
+        AreKept l.kept.net l.kept.ready l.kept.shares.value l.tables };
 }
 
 impl Ledger {
@@ -76,7 +76,7 @@ impl Ledger {
             (λ e. (remove_currency_refusal self.old name ≡ Some e) × (self.new ≡ self.old)) }
     {
         self.tables.remove_currency(name)?;
-        self.kept.relist(&self.tables);
+        self.kept.renew(&self.tables);
         Ok(())
     }
 
@@ -175,8 +175,12 @@ impl Ledger {
         ensures { self.new ≡ set_active self.old flow active }
     {
         self.tables.is_kept();
+        let place = self.tables.place_of_flow(flow);
         if self.tables.set_active(flow, active) {
-            self.kept.refresh(&self.tables);
+            match place {
+                Some(place) => self.kept.set_active(&self.tables, place, active),
+                None => self.kept.renew(&self.tables),
+            }
         }
     }
 

@@ -17,5 +17,6 @@ mod seats;
 mod tables;
 #[cfg(test)]
 mod tests;
+mod turns;
 
 pub use ledger::Ledger;

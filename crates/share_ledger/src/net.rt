@@ -18,6 +18,18 @@ use crate::tables::{MAX_AMOUNT, MAX_FLOWS, Tables};
 /// More than any currency can be worth: nine times the amounts of all tickets.
 const MAX_VALUE: u64 = 9 << 30;
 
+/// The seats of the currencies and of the flows by their places, which flows are active and which currencies awake,
+/// what weighs on each place, and the value of each currency.
+#[derive(Drop)]
+pub(crate) struct Net {
+    pub(crate) backing: Vec<Seats>,
+    pub(crate) funding: Vec<Seats>,
+    pub(crate) active: Box<[bool; PLACES]>,
+    pub(crate) awake: Box<[bool; PLACES]>,
+    pub(crate) weights: Box<[u64; PLACES]>,
+    pub(crate) values: Box<[u64; PLACES]>,
+}
+
 /// Adds the amounts of seats to the weights of the places that they come from.
 pub(crate) fn raise(seats: &[Seat], weights: &mut [u64; PLACES])
     requires within { Each IsSeatWithin seats.now }
@@ -76,6 +88,58 @@ pub(crate) fn are_of_base(seats: &[Seat]) -> bool
     ensures { result ≡ list_all (λ s. nat_eq s.from 0) seats.now }
 {
     seats.iter().all(|seat| seat.from == 0)
+}
+
+/// A flow wakes.
+pub(crate) fn wake(
+    tables: &Tables,
+    funding: &[Seats],
+    awake: &[bool; PLACES],
+    place: usize,
+    active: &mut [bool; PLACES],
+    weights: &mut [u64; PLACES],
+)
+    requires seated { AreSeated (funds_of tables.now) funding.now }
+    requires place { place < 65 }
+    requires idle { flags_of active.old place ≡ false }
+    requires counted { AreCounted (backs_of tables.now) (funds_of tables.now) (flags_of awake.now)
+        (flags_of active.old) (numbers_of weights.old) }
+    ensures counted { AreCounted (backs_of tables.now) (funds_of tables.now) (flags_of awake.now)
+        (flags_of active.new) (numbers_of weights.new) }
+    ensures turned { (k : ℕ) → flags_of active.new k ≡ (if nat_eq place k then true else flags_of active.old k) }
+    ensures raised { (p : ℕ) → p < 65
+        → numbers_of weights.new p ≡ numbers_of weights.old p + taken (seats_at funding.now place) p }
+{
+    tables.is_kept();
+    let seats = &funding[place];
+    active[place] = true;
+    raise(seats.seats(), weights);
+}
+
+/// A flow rests.
+pub(crate) fn rest(
+    tables: &Tables,
+    funding: &[Seats],
+    awake: &[bool; PLACES],
+    place: usize,
+    active: &mut [bool; PLACES],
+    weights: &mut [u64; PLACES],
+)
+    requires seated { AreSeated (funds_of tables.now) funding.now }
+    requires place { place < 65 }
+    requires active { flags_of active.old place ≡ true }
+    requires counted { AreCounted (backs_of tables.now) (funds_of tables.now) (flags_of awake.now)
+        (flags_of active.old) (numbers_of weights.old) }
+    ensures counted { AreCounted (backs_of tables.now) (funds_of tables.now) (flags_of awake.now)
+        (flags_of active.new) (numbers_of weights.new) }
+    ensures turned { (k : ℕ) → flags_of active.new k ≡ (if nat_eq place k then false else flags_of active.old k) }
+    ensures lowered { (p : ℕ) → p < 65
+        → numbers_of weights.new p + taken (seats_at funding.now place) p ≡ numbers_of weights.old p }
+{
+    tables.is_kept();
+    let seats = &funding[place];
+    active[place] = false;
+    lower(seats.seats(), weights);
 }
 
 // A currency wakes or rests.

@@ -57,7 +57,7 @@ impl Tables {
         count
     }
 
-    fn is_active_at(&self, place: usize) -> bool
+    pub(crate) fn is_active_at(&self, place: usize) -> bool
         requires { place < length self.now.flows }
         ensures { option_map (λ e. e.1.active) (slice_get self.now.flows place) ≡ Some result }
     {
@@ -106,7 +106,8 @@ impl Tables {
     )
         requires backing { backing.now ≡ routes_of self.now true self.now.tickets }
         requires funding { funding.now ≡ routes_of self.now false self.now.tickets }
-        ensures { take (length self.now.flows) shares.new ≡ shares_of self.now }
+        ensures shares { take (length self.now.flows) shares.new ≡ shares_of self.now }
+        ensures long { length shares.new ≡ 64 }
     {
         self.is_kept();
         let worths = self.worths(backing, funding);

@@ -4,12 +4,12 @@ use super::model::Model;
 use super::{Change, apply, empty, name, numbered};
 use crate::Ledger;
 use share_base::{FlowNo, Name, Refusal, Reply};
-use std::alloc::AllocError;
+use std::alloc::{AllocError, Global};
 use std::process::Abort;
 use std::test::Fail;
 
-/// The steps of the run.
-const STEPS: u32 = 12000;
+/// The steps of each run.
+const STEPS: u32 = 13000;
 
 // The next number of an xorshift generator.
 fn next(state: &mut u64) -> u64 {
@@ -40,6 +40,17 @@ fn ticket(state: &mut u64, issued: u32) -> u64 {
     u64::from(issued).saturating_sub(back)
 }
 
+// The least amount and the greatest, one too small and one too great, as often as one between.
+fn amount(k: u64) -> u64 {
+    match k % 16 {
+        0 | 1 | 2 => 1,
+        3 | 4 | 5 => 1048576,
+        6 => 0,
+        7 => 1048577,
+        _ => k / 16 % 1500,
+    }
+}
+
 fn drawn(rt: &impl Abort, state: &mut u64, issued: u32) -> Change {
     let kind = next(state) % 100;
     let k = next(state);
@@ -50,10 +61,10 @@ fn drawn(rt: &impl Abort, state: &mut u64, issued: u32) -> Change {
         return Change::RemoveCurrency(currency(rt, k));
     }
     if kind < 15 {
-        return Change::MakeTicket(k % 1500, currency(rt, next(state)));
+        return Change::MakeTicket(amount(k), currency(rt, next(state)));
     }
     if kind < 24 {
-        return Change::MakeTicket(k % 1500, currency(rt, u64::from(issued)));
+        return Change::MakeTicket(amount(k), currency(rt, u64::from(issued)));
     }
     if kind < 40 {
         return Change::RemoveTicket(ticket(state, issued));
@@ -158,21 +169,21 @@ fn agree(rt: &impl Abort, ledger: &Ledger, model: &Model) -> bool {
     true
 }
 
-#[test]
-fn long_run_beside_a_plain_model(rt: HostRuntime) -> Result<(), Fail> {
-    let base = name(&rt, "base");
-    let mut ledger = empty(&rt, rt.alloc());
-    let mut model = Model::new(rt.alloc(), base)?;
-    let mut state = 88172645463325252;
+// A run from a state of the generator.
+fn run(rt: &impl Abort, alloc: Global, seed: u64) -> Result<(), AllocError> {
+    let base = name(rt, "base");
+    let mut ledger = empty(rt, alloc);
+    let mut model = Model::new(alloc, base)?;
+    let mut state = seed;
     let mut met: u64 = 0;
     for count in 0..STEPS {
-        if let Some(refusal) = step(&rt, &mut state, &mut ledger, &mut model)? {
+        if let Some(refusal) = step(rt, &mut state, &mut ledger, &mut model)? {
             met |= bit_of(&refusal);
         }
         model.settle();
-        assert!(rt; agree(&rt, &ledger, &model), "after step {count}");
+        assert!(rt; agree(rt, &ledger, &model), "after step {count}");
         assert!(rt;
-            agree_by_place(&rt, &ledger, &model),
+            agree_by_place(rt, &ledger, &model),
             "by place after step {count}"
         );
     }
@@ -182,5 +193,29 @@ fn long_run_beside_a_plain_model(rt: HostRuntime) -> Result<(), Fail> {
             "the run never met {refusal:?}"
         );
     }
+    Ok(())
+}
+
+#[test]
+fn long_run_beside_a_plain_model(rt: HostRuntime) -> Result<(), Fail> {
+    run(&rt, rt.alloc(), 88172645463325252)?;
+    Ok(())
+}
+
+#[test]
+fn second_run_beside_a_plain_model(rt: HostRuntime) -> Result<(), Fail> {
+    run(&rt, rt.alloc(), 3935559000370003845)?;
+    Ok(())
+}
+
+#[test]
+fn third_run_beside_a_plain_model(rt: HostRuntime) -> Result<(), Fail> {
+    run(&rt, rt.alloc(), 2685821657736338717)?;
+    Ok(())
+}
+
+#[test]
+fn fourth_run_beside_a_plain_model(rt: HostRuntime) -> Result<(), Fail> {
+    run(&rt, rt.alloc(), 1181783497276652981)?;
     Ok(())
 }

@@ -1,5 +1,7 @@
-use Rattle.std.proofs.Common.{sym, subst}
+use Rattle.std.proofs.Common.{◌≡◌, Bool, List, ℕ, sym, subst}
+use Rattle.share_model.specs.funding.Changes.{add_flow}
 use Rattle.share_ledger.specs.Shares.{AreKept}
+use Rattle.share_ledger.specs.declared.net.Net.{Net}
 use Rattle.share_ledger.proofs.RoutesLeft.{kept-opened}
 use Rattle.share_ledger.proofs.ledger.Ledger.add_flow.Goals as goal
 
@@ -7,7 +9,12 @@ pub invariant_of-self-2 : goal.invariant_of-self-2
 invariant_of-self-2 c =
     let kept = c.self.inside.kept in
     let after = c.append_none.new.self in
-    subst (AreKept after.backing after.funding after.shares.value) (sym c.in_ok-flow.ensures.done.2)
-    (kept-opened kept.backing kept.funding after.backing after.funding kept.shares.value after.shares.value
-    c.self.inside.tables c.args.name c.flow_count-count.result c.is_kept.ensures c.flow_count-count.ensures
-    c.append_none.ensures.routes.0 c.append_none.ensures.routes.1 c.append_none.ensures.shares c.self.invariant)
+    let g = c.self.inside.tables in
+    subst (AreKept after.net after.ready after.shares.value) (sym c.in_ok-flow.ensures.done.2)
+    (subst (λ (net : Net). AreKept net after.ready after.shares.value (add_flow g c.args.name))
+    (sym c.append_none.ensures.left.0)
+    (subst (λ (ready : Bool). AreKept kept.net ready after.shares.value (add_flow g c.args.name))
+    (sym c.append_none.ensures.left.1)
+    (kept-opened kept.net kept.ready kept.shares.value after.shares.value g c.args.name c.flow_count-count.result
+    c.is_kept.ensures c.flow_count-count.ensures c.append_none.ensures.shares c.append_none.ensures.first
+    c.self.invariant)))

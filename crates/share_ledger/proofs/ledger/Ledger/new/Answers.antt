@@ -6,5 +6,6 @@ use Rattle.share_ledger.proofs.ledger.Ledger.new.Goals as goal
 pub invariant_of-result : goal.invariant_of-result
 invariant_of-result c =
     let kept = c.in_ok-kept.kept in
-    subst (AreKept kept.backing kept.funding kept.shares.value) (sym c.new-2.ensures)
-    (kept-empty_graph kept.backing kept.funding kept.shares.value c.in_ok-kept.ensures.0 c.in_ok-kept.ensures.1)
+    subst (AreKept kept.net kept.ready kept.shares.value) (sym c.new-2.ensures)
+    (kept-empty_graph kept.net kept.ready kept.shares.value c.in_ok-kept.ensures.0 c.in_ok-kept.ensures.1
+    c.in_ok-kept.ensures.2)

@@ -1,13 +1,31 @@
-use Rattle.std.proofs.Common.{sym, subst}
-use Rattle.share_model.specs.funding.Changes.{set_active}
-use Rattle.share_ledger.specs.Shares.{AreListed}
-use Rattle.share_ledger.proofs.RoutesLeft.{listed-left, routes-set_active}
+use Rattle.std.proofs.Common.{◌≡◌, ℕ, ◌∙◌, cond, nat_eq, sym, subst}
+use Rattle.share_model.specs.funding.Graph.{Graph}
+use Rattle.share_ledger.specs.Nets.{activity_of, IsReady}
+use Rattle.share_ledger.specs.Rounds.{flags_of}
+use Rattle.share_ledger.specs.Seats.{backs_of, funds_of}
+use Rattle.share_ledger.proofs.RoutesLeft.{turned-below, turned-ready, turned-activity}
 use Rattle.share_ledger.proofs.ledger.Ledger.set_active.Goals as goal
 
-pub refresh-requires : goal.refresh-requires
-refresh-requires c =
-    let g = c.self.inside.tables in
+pub set_active-requires-in-Some-clause-place : goal.set_active-requires-in-Some-clause-place
+set_active-requires-in-Some-clause-place c =
     let kept = c.self.inside.kept in
-    subst (AreListed kept.backing kept.funding) (sym c.set_active.ensures.change)
-    (listed-left kept.backing kept.funding g (set_active g c.args.flow c.args.active)
-    (routes-set_active g c.is_kept.ensures c.args.flow c.args.active) c.self.invariant.listed)
+    turned-below c.self.inside.tables c.is_kept.ensures kept.net kept.shares.value c.args.flow c.args.active
+    c.in-Some.place (sym c.place_of_flow-place.ensures ∙ c.in-Some.is)
+
+pub set_active-requires-in-Some-clause-ready : goal.set_active-requires-in-Some-clause-ready
+set_active-requires-in-Some-clause-ready c = λ e.
+    let kept = c.self.inside.kept in
+    subst
+    (λ (g : Graph). IsReady kept.net kept.shares.value (backs_of g) (funds_of g) (flags_of kept.net.active.value))
+    (sym c.set_active.ensures.change)
+    (turned-ready c.self.inside.tables c.is_kept.ensures kept.net kept.shares.value c.args.flow c.args.active
+    c.in-Some.place (sym c.place_of_flow-place.ensures ∙ c.in-Some.is) (c.self.invariant.net_ready e))
+
+pub set_active-requires-in-Some-clause-turned : goal.set_active-requires-in-Some-clause-turned
+set_active-requires-in-Some-clause-turned c = λ e k.
+    let kept = c.self.inside.kept in
+    subst
+    (λ (g : Graph). activity_of g k ≡ cond (nat_eq c.in-Some.place k) c.args.active (flags_of kept.net.active.value k))
+    (sym c.set_active.ensures.change)
+    (turned-activity c.self.inside.tables c.is_kept.ensures kept.net kept.shares.value c.args.flow c.args.active
+    c.in-Some.place (sym c.place_of_flow-place.ensures ∙ c.in-Some.is) (c.self.invariant.net_ready e) k)

@@ -1,0 +1,158 @@
+-- A flow that wakes or rests where its seats come from `base` alone: nothing else changes.
+use Rattle.std.proofs.Common.{◌≡◌, ◌≤◌, ◌<◌, ◌*◌, ◌/◌, ◌^◌, ℕ, zero, suc, Bool, true, false, cond, min, List, [], ◌∷◌, map}
+use Rattle.std.proofs.Common.{true≢false, ◌&&◌, nat_eq, nat_lt, set, get_or, sum_by, length, refl, sym, ap, subst, ◌∙◌, arith}
+use Rattle.std.specs.List.{list_all}
+use Rattle.std.proofs.lemmas.Bool.Decides.{nat_tests}
+use Rattle.std.proofs.lemmas.List.Sums.{sum_by-cons}
+use Rattle.share_model.specs.declared.funding.OpenFlow.{OpenFlow}
+use Rattle.share_model.specs.funding.Graph.{NameBytes, Graph}
+use Rattle.share_model.specs.funding.Changes.{is_open_as, active_as, with_activity}
+use Rattle.share_model.specs.lists.Change.{change_first}
+use Rattle.share_model.specs.lists.Each.{Each}
+use Rattle.share_model.specs.lists.SumLaws.{sum_by-same_of}
+use Rattle.share_ledger.specs.declared.net.Net.{Net}
+use Rattle.share_ledger.specs.declared.routes.Route.{Route}
+use Rattle.share_ledger.specs.declared.seats.Seat.{Seat}
+use Rattle.share_ledger.specs.Rounds.{flags_of, numbers_of}
+use Rattle.share_ledger.specs.Nets.{activity_of, IsBegun, IsReady}
+use Rattle.share_ledger.specs.Seats.{IsSeatWithin, seat_worth, seats_at, taken, weighed}
+use Rattle.share_ledger.proofs.NetSteps.{array-set}
+use Rattle.share_ledger.proofs.Positions.{IsFirstAt}
+
+-- seats of `base` count for no other place
+pub taken-base : (ss : List Seat) (k : ℕ) → list_all (λ (s : Seat). nat_eq s.from 0) ss ≡ true → 0 < k → taken ss k ≡ 0
+taken-base [] k all above = refl
+taken-base (s ∷ ss) k all above = by (nat_eq s.from 0) refl all (taken-base ss k)
+  where
+    zero_of : (n : ℕ) → nat_eq n 0 ≡ true → n ≡ 0
+    zero_of n e = grind (arith, nat_tests)
+
+    apart : (a b : ℕ) → b < a → nat_eq a b ≡ false
+    apart a b lt = grind (arith, nat_tests)
+
+    by : (b : Bool) → nat_eq s.from 0 ≡ b → (b && list_all (λ (s : Seat). nat_eq s.from 0) ss) ≡ true
+        → (list_all (λ (s : Seat). nat_eq s.from 0) ss ≡ true → 0 < k → taken ss k ≡ 0) → taken (s ∷ ss) k ≡ 0
+    by true e all rest =
+        let none = zero_of s.from e in
+        let here = ap {B = ℕ} (λ b. cond b s.amount 0) (apart k s.from (omega arith)) in
+        let others = rest all above in
+        sum_by-cons (λ (s : Seat). cond (nat_eq k s.from) s.amount 0) s ss ∙ omega arith
+    by false e all rest = absurd (true≢false (sym all))
+
+-- weights of other places than that of `base` alone matter to what seats are worth
+pub weighed-quiet : (ss : List (List Seat)) (on : ℕ → Bool) (v w u : ℕ → ℕ) (p : ℕ)
+    → Each IsSeatWithin (seats_at ss p) → ((k : ℕ) → 0 < k → k < 65 → u k ≡ w k)
+    → weighed ss on v w p ≡ weighed ss on v u p
+weighed-quiet ss on v w u p within same =
+    ap (λ n. cond (on p) n 0)
+    (sum_by-same_of IsSeatWithin (seat_worth v w) (seat_worth v u) (seats_at ss p) within
+    (λ s ok. by (nat_eq s.from 0) s refl ok.from_place))
+  where
+    above : (n : ℕ) → nat_eq n 0 ≡ false → 0 < n
+    above n e = grind (arith, nat_tests)
+
+    by : (b : Bool) → (s : Seat) → nat_eq s.from 0 ≡ b → s.from < 65
+        → cond b s.amount (v s.from * s.amount / w s.from) ≡ cond b s.amount (v s.from * s.amount / u s.from)
+    by true s e lt = refl
+    by false s e lt = ap (λ n. v s.from * s.amount / n) (sym (same s.from (above s.from e) lt))
+
+-- what is kept stands but for the activity and the tickets of this flow
+pub quiet-ready : (old new : Net) (shares : List ℕ) (backs funds : List Route) (lit : ℕ → Bool) (place n : ℕ) (b : Bool)
+    → IsReady old shares backs funds (flags_of old.active.value) → IsBegun new backs funds lit
+    → new.backing ≡ old.backing → new.funding ≡ old.funding → new.awake ≡ old.awake → new.values ≡ old.values
+    → ((k : ℕ) → 0 < k → k < 65 → numbers_of new.weights.value k ≡ numbers_of old.weights.value k)
+    → ((k : ℕ) → lit k ≡ cond (nat_eq place k) b (flags_of old.active.value k)) → place < 64 → length shares ≡ 64
+    → n ≡ min (weighed new.funding.items (flags_of new.active.value) (numbers_of new.values.value)
+    (numbers_of new.weights.value) place) (2 ^ 20)
+    → IsReady new (set shares place n) backs funds lit
+quiet-ready old new shares backs funds lit place n b ready begun backing funding awake values still turned lt long own =
+    record {
+      begun = begun;
+      awake_is = λ p above below. ap (λ a. flags_of a.value p) awake ∙ ready.awake_is p above below
+          ∙ ap (nat_lt 0) (sym (still p above below));
+      valued = λ p above below. ap (λ v. numbers_of v.value p) values ∙ ready.valued p above below
+          ∙ weighed-quiet old.backing.items (flags_of old.awake.value) (numbers_of old.values.value)
+          (numbers_of old.weights.value) (numbers_of new.weights.value) p (ready.begun.backing.within p below) still
+          ∙ ap (λ bs. weighed bs.items (flags_of old.awake.value) (numbers_of old.values.value)
+          (numbers_of new.weights.value) p) (sym backing)
+          ∙ ap (λ a. weighed new.backing.items (flags_of a.value) (numbers_of old.values.value)
+          (numbers_of new.weights.value) p) (sym awake)
+          ∙ ap (λ v. weighed new.backing.items (flags_of new.awake.value) (numbers_of v.value)
+          (numbers_of new.weights.value) p) (sym values);
+      shared = λ p below. array-set shares place p n 0 (omega arith) ∙ shared p below (nat_eq place p) refl;
+    }
+  where
+    same_number : (x y : ℕ) → nat_eq x y ≡ true → x ≡ y
+    same_number x y e = grind (arith, nat_tests)
+
+    shared : (p : ℕ) → p < 64 → (a : Bool) → nat_eq place p ≡ a
+        → cond a n (numbers_of shares p)
+        ≡ min (weighed new.funding.items (flags_of new.active.value) (numbers_of new.values.value)
+        (numbers_of new.weights.value) p) (2 ^ 20)
+    shared p below true e =
+        own ∙ ap (λ k. min (weighed new.funding.items (flags_of new.active.value) (numbers_of new.values.value)
+        (numbers_of new.weights.value) k) (2 ^ 20)) (same_number place p e)
+    shared p below false e =
+        let stands : flags_of old.active.value p ≡ flags_of new.active.value p =
+        sym (begun.active_is p ∙ turned p ∙ ap (λ a. cond a b (flags_of old.active.value p)) e) in
+        ready.shared p below
+        ∙ ap (λ k. min k (2 ^ 20))
+        (weighed-quiet old.funding.items (flags_of old.active.value) (numbers_of old.values.value)
+        (numbers_of old.weights.value) (numbers_of new.weights.value) p
+        (ready.begun.funding.within p (omega arith)) still
+        ∙ ap (λ a. cond a (sum_by (seat_worth (numbers_of old.values.value) (numbers_of new.weights.value))
+        (seats_at old.funding.items p)) 0) stands
+        ∙ ap (λ fs. weighed fs.items (flags_of new.active.value) (numbers_of old.values.value)
+        (numbers_of new.weights.value) p) (sym funding)
+        ∙ ap (λ v. weighed new.funding.items (flags_of new.active.value) (numbers_of v.value)
+        (numbers_of new.weights.value) p) (sym values))
+
+-- the activity of the flow at a place is set
+pub activity-turned : (f : ℕ) (a : Bool) (es : List (NameBytes × OpenFlow)) (i k : ℕ) → IsFirstAt (is_open_as f) es i
+    → get_or (map (λ (e : NameBytes × OpenFlow). e.1.active) (with_activity f a es)) k false
+    ≡ cond (nat_eq i k) a (get_or (map (λ (e : NameBytes × OpenFlow). e.1.active) es) k false)
+unfolding change_first
+activity-turned f a [] i k first = absurd first
+activity-turned f a (x ∷ es) zero zero first =
+    ap (λ t. get_or (map (λ (e : NameBytes × OpenFlow). e.1.active)
+    (cond t (active_as a x ∷ es) (x ∷ with_activity f a es))) 0 false) first
+    ∙ refl
+activity-turned f a (x ∷ es) zero (suc k) first =
+    ap (λ t. get_or (map (λ (e : NameBytes × OpenFlow). e.1.active)
+    (cond t (active_as a x ∷ es) (x ∷ with_activity f a es))) (suc k) false) first
+    ∙ sym (ap (λ t. cond t a (get_or (map (λ (e : NameBytes × OpenFlow). e.1.active) es) k false)) (differ k))
+  where
+    differ : (k : ℕ) → nat_eq 0 (suc k) ≡ false
+    differ k = grind (arith, nat_tests)
+activity-turned f a (x ∷ es) (suc i) zero first =
+    ap (λ t. get_or (map (λ (e : NameBytes × OpenFlow). e.1.active)
+    (cond t (active_as a x ∷ es) (x ∷ with_activity f a es))) 0 false) first.0
+    ∙ sym (ap (λ t. cond t a x.1.active) (differ i))
+  where
+    differ : (k : ℕ) → nat_eq (suc k) 0 ≡ false
+    differ k = grind (arith, nat_tests)
+activity-turned f a (x ∷ es) (suc i) (suc k) first =
+    ap (λ t. get_or (map (λ (e : NameBytes × OpenFlow). e.1.active)
+    (cond t (active_as a x ∷ es) (x ∷ with_activity f a es))) (suc k) false) first.0
+    ∙ activity-turned f a es i k first.1
+    ∙ sym (ap (λ t. cond t a (get_or (map (λ (e : NameBytes × OpenFlow). e.1.active) es) k false)) (both i k))
+  where
+    both : (n m : ℕ) → nat_eq (suc n) (suc m) ≡ nat_eq n m
+    both n m = grind (arith, nat_tests)
+
+-- the same seats and numbers under activity that is the same
+pub relit : (n : Net) (shares : List ℕ) (backs funds : List Route) (lit other : ℕ → Bool)
+    → IsReady n shares backs funds lit → ((k : ℕ) → lit k ≡ other k) → IsReady n shares backs funds other
+relit n shares backs funds lit other ready same = record {
+  begun = record {
+    backing = ready.begun.backing;
+    funding = ready.begun.funding;
+    ordered = ready.begun.ordered;
+    active_is = λ k. ready.begun.active_is k ∙ same k;
+    counted = ready.begun.counted;
+    small = ready.begun.small;
+  };
+  awake_is = ready.awake_is;
+  valued = ready.valued;
+  shared = ready.shared;
+}

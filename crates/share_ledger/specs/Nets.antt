@@ -1,0 +1,30 @@
+-- What is kept of currencies and flows by their places.
+use Rattle.std.specs.Prelude.{◌≡◌, ℕ, Bool, false, List, map, slice_index_or}
+use Rattle.share_model.specs.declared.funding.OpenFlow.{OpenFlow}
+use Rattle.share_model.specs.funding.Graph.{NameBytes, Graph}
+use Rattle.share_ledger.specs.declared.net.Net.{Net}
+use Rattle.share_ledger.specs.declared.routes.Route.{Route}
+use Rattle.share_ledger.specs.Rounds.{flags_of, numbers_of}
+use Rattle.share_ledger.specs.Seats.{AreSeated, AreOrdered, AreCounted, AreAwake, AreValued, AreShared, AreSmall}
+
+-- whether the flow at a place is active
+abbrev pub activity_of : Graph → ℕ → Bool
+activity_of g k = slice_index_or (map (λ (e : NameBytes × OpenFlow). e.1.active) g.flows) k false
+
+-- The seats, the activity of the flows and the weights are those of these routes and flows.
+pub record IsBegun (n : Net) (backs funds : List Route) (lit : ℕ → Bool) : Type 0 where
+  pub backing : AreSeated backs n.backing.items
+  pub funding : AreSeated funds n.funding.items
+  pub ordered : AreOrdered n.backing.items
+  pub active_is : (k : ℕ) → flags_of n.active.value k ≡ lit k
+  pub counted : AreCounted backs funds (flags_of n.awake.value) (flags_of n.active.value) (numbers_of n.weights.value)
+  pub small : AreSmall (numbers_of n.values.value)
+
+-- And so are what is awake, the values and the tickets of the flows.
+pub record IsReady (n : Net) (shares : List ℕ) (backs funds : List Route) (lit : ℕ → Bool) : Type 0 where
+  pub begun : IsBegun n backs funds lit
+  pub awake_is : AreAwake (flags_of n.awake.value) (numbers_of n.weights.value)
+  pub valued : AreValued n.backing.items (flags_of n.awake.value) (numbers_of n.values.value)
+      (numbers_of n.weights.value)
+  pub shared : AreShared n.funding.items (flags_of n.active.value) (numbers_of n.values.value)
+      (numbers_of n.weights.value) (numbers_of shares)

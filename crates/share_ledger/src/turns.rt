@@ -1,0 +1,295 @@
+//! What commands do to the net: a flow that wakes or rests, and all seats anew.
+ghost use Rattle.std.specs.Prelude.{◌≡◌, ℕ, ◌+◌, ◌<◌, ◌++◌, ◌∷◌, [], length, true, false, not, nat_eq, IfOk};
+ghost use Rattle.std.specs.Prelude.{◌^◌, min, take, slice_set, if◌then◌else◌};
+ghost use Rattle.std.specs.List.{list_all};
+ghost use Rattle.share_model.specs.lists.Each.{Each};
+ghost use Rattle.share_ledger.specs.Rounds.{flags_of, numbers_of};
+ghost use Rattle.share_ledger.specs.Routes.{IsRouteWithin};
+ghost use Rattle.share_ledger.specs.Seats.{seats_at, seat_of, AreSeated, AreOrdered, AreCounted, backs_of, funds_of};
+ghost use Rattle.share_ledger.specs.Seats.{IsSeatWithin, AreSmall, weighed};
+ghost use Rattle.share_ledger.specs.Nets.{activity_of, IsBegun, IsReady};
+ghost use Rattle.share_ledger.specs.Shares.{shares_of};
+
+use crate::net::{self, Net};
+use crate::rounds::PLACES;
+use crate::routes::Route;
+use crate::seats::{Seat, Seats};
+use crate::tables::{MAX_FLOWS, MAX_FUNDING, Tables};
+use std::alloc::{AllocError, Global};
+
+// So many holders without seats.
+fn holders(alloc: Global) -> Result<Vec<Seats>, AllocError>
+    ensures { IfOk result (λ holders. length holders.items ≡ 65) }
+{
+    let mut holders = Vec::new(alloc);
+    for _ in 0..PLACES {
+        holders.push(Seats::new())?;
+    }
+    Ok(holders)
+}
+
+// All seats are taken away.
+fn clear(holders: &mut Vec<Seats>)
+    ensures places { length holders.new.items ≡ length holders.old.items }
+    ensures none { (p : ℕ) → seats_at holders.new.items p ≡ [] }
+{
+    for i in 0..holders.len() {
+        let holder = &mut holders[i];
+        holder.clear();
+    }
+}
+
+// The holder of a route gets its seat. Not so where it has no room, or where seats have to come from before their
+// holder and this one does not.
+fn seat(route: &Route, holders: &mut Vec<Seats>, ordered: bool) -> bool
+    requires within { IsRouteWithin route.now }
+    requires places { length holders.old.items ≡ 65 }
+    ensures places { length holders.new.items ≡ 65 }
+    ensures seated { result ≡ true → (k : ℕ) → seats_at holders.new.items k
+        ≡ (if nat_eq route.now.to k then seats_at holders.old.items k ++ seat_of route.now ∷ []
+        else seats_at holders.old.items k) }
+    ensures before { result ≡ true → ordered ≡ true → route.now.from < route.now.to }
+{
+    if ordered && route.from >= route.to {
+        return false;
+    }
+    let holder = &mut holders[route.to];
+    if holder.count() >= MAX_FUNDING {
+        return false;
+    }
+    holder.add(Seat {
+        from: route.from as u32,
+        amount: route.amount,
+    });
+    true
+}
+
+// The holders get the seats of these routes and no others, unless one cannot be given.
+fn fill(routes: &[Route], holders: &mut Vec<Seats>, ordered: bool) -> bool
+    requires within { Each IsRouteWithin routes.now }
+    requires places { length holders.old.items ≡ 65 }
+    ensures places { length holders.new.items ≡ 65 }
+    ensures seated { result ≡ true → AreSeated routes.now holders.new.items }
+    ensures ordered { result ≡ true → ordered ≡ true → AreOrdered holders.new.items }
+{
+    clear(holders);
+    for route in routes {
+        if !seat(route, holders, ordered) {
+            return false;
+        }
+    }
+    true
+}
+
+fn lower_all(flags: &mut [bool; PLACES])
+    ensures { (k : ℕ) → flags_of flags.new k ≡ false }
+{
+    for place in 0..PLACES {
+        flags[place] = false;
+    }
+}
+
+fn empty_all(numbers: &mut [u64; PLACES])
+    ensures { (k : ℕ) → numbers_of numbers.new k ≡ 0 }
+{
+    for place in 0..PLACES {
+        numbers[place] = 0;
+    }
+}
+
+// The active flows wake, where none is yet.
+fn wake_all(
+    tables: &Tables,
+    funding: &[Seats],
+    awake: &[bool; PLACES],
+    active: &mut [bool; PLACES],
+    weights: &mut [u64; PLACES],
+)
+    requires seated { AreSeated (funds_of tables.now) funding.now }
+    requires idle { (k : ℕ) → flags_of active.old k ≡ false }
+    requires counted { AreCounted (backs_of tables.now) (funds_of tables.now) (flags_of awake.now)
+        (flags_of active.old) (numbers_of weights.old) }
+    ensures counted { AreCounted (backs_of tables.now) (funds_of tables.now) (flags_of awake.now)
+        (flags_of active.new) (numbers_of weights.new) }
+    ensures active { (k : ℕ) → flags_of active.new k ≡ activity_of tables.now k }
+{
+    tables.is_kept();
+    for place in 0..tables.flow_count() {
+        if tables.is_active_at(place) {
+            net::wake(tables, funding, awake, place, active, weights);
+        }
+    }
+}
+
+// What weighs on the places and what the currencies are worth as nothing is awake, and then the active flows wake.
+fn rouse(
+    tables: &Tables,
+    funding: &[Seats],
+    active: &mut [bool; PLACES],
+    awake: &mut [bool; PLACES],
+    weights: &mut [u64; PLACES],
+    values: &mut [u64; PLACES],
+)
+    requires seated { AreSeated (funds_of tables.now) funding.now }
+    ensures counted { AreCounted (backs_of tables.now) (funds_of tables.now) (flags_of awake.new)
+        (flags_of active.new) (numbers_of weights.new) }
+    ensures active { (k : ℕ) → flags_of active.new k ≡ activity_of tables.now k }
+    ensures small { AreSmall (numbers_of values.new) }
+{
+    lower_all(active);
+    lower_all(awake);
+    empty_all(weights);
+    empty_all(values);
+    wake_all(tables, funding, awake, active, weights);
+}
+
+impl Net {
+    pub(crate) fn new(alloc: Global) -> Result<Net, AllocError>
+        ensures { IfOk result (λ n. (length n.backing.items ≡ 65) × (length n.funding.items ≡ 65)) }
+    {
+        Ok(Net {
+            backing: holders(alloc)?,
+            funding: holders(alloc)?,
+            active: Box::new(alloc, [false; PLACES])?,
+            awake: Box::new(alloc, [false; PLACES])?,
+            weights: Box::new(alloc, [0; PLACES])?,
+            values: Box::new(alloc, [0; PLACES])?,
+        })
+    }
+
+    /// The flow at a place wakes or rests.
+    pub(crate) fn turn(&mut self, tables: &Tables, place: usize, active: bool)
+        requires place { place < 65 }
+        requires begun { IsBegun self.old (backs_of tables.now) (funds_of tables.now) (flags_of self.old.active.value) }
+        requires turns { flags_of self.old.active.value place ≡ not active }
+        requires then { (k : ℕ) → activity_of tables.now k
+            ≡ (if nat_eq place k then active else flags_of self.old.active.value k) }
+        ensures begun { IsBegun self.new (backs_of tables.now) (funds_of tables.now) (activity_of tables.now) }
+        ensures left { (self.new.backing ≡ self.old.backing) × (self.new.funding ≡ self.old.funding)
+            × (self.new.awake ≡ self.old.awake) × (self.new.values ≡ self.old.values) }
+        ensures still { list_all (λ s. nat_eq s.from 0) (seats_at self.old.funding.items place) ≡ true
+            → (k : ℕ) → 0 < k → k < 65
+            → numbers_of self.new.weights.value k ≡ numbers_of self.old.weights.value k }
+    {
+        if active {
+            net::wake(
+                tables,
+                &self.funding,
+                &self.awake,
+                place,
+                &mut self.active,
+                &mut self.weights,
+            );
+            return;
+        }
+        net::rest(
+            tables,
+            &self.funding,
+            &self.awake,
+            place,
+            &mut self.active,
+            &mut self.weights,
+        );
+    }
+
+    /// Whether the tickets that fund the flow at a place are denominated in `base` alone.
+    pub(crate) fn is_funded_by_base(&self, place: usize) -> bool
+        requires place { place < 65 }
+        requires places { length self.now.funding.items ≡ 65 }
+        ensures { result ≡ list_all (λ s. nat_eq s.from 0) (seats_at self.now.funding.items place) }
+    {
+        let holder = &self.funding[place];
+        net::are_of_base(holder.seats())
+    }
+
+    /// The tickets of the flow at a place.
+    pub(crate) fn share(&self, place: usize, shares: &mut [u32; MAX_FLOWS])
+        requires place { place < 64 }
+        requires within { (p : ℕ) → p < 65 → Each IsSeatWithin (seats_at self.now.funding.items p) }
+        requires places { length self.now.funding.items ≡ 65 }
+        requires small { AreSmall (numbers_of self.now.values.value) }
+        ensures set { shares.new ≡ slice_set shares.old place
+            (min (weighed self.now.funding.items (flags_of self.now.active.value)
+            (numbers_of self.now.values.value) (numbers_of self.now.weights.value) place) (2 ^ 20)) }
+        ensures long { (length shares.old ≡ 64) × (length shares.new ≡ 64) }
+    {
+        shares[place] = net::share_at(
+            &self.funding,
+            &self.active,
+            &self.weights,
+            &self.values,
+            place,
+        );
+    }
+
+    // What follows from the seats and the activity.
+    fn follow(&mut self, tables: &Tables, shares: &mut [u32; MAX_FLOWS]) -> bool
+        requires { IsBegun self.old (backs_of tables.now) (funds_of tables.now) (activity_of tables.now) }
+        ensures ready { result ≡ true
+            → IsReady self.new shares.new (backs_of tables.now) (funds_of tables.now) (activity_of tables.now) }
+        ensures long { length shares.new ≡ 64 }
+        ensures places { (length self.new.backing.items ≡ 65) × (length self.new.funding.items ≡ 65) }
+    {
+        net::spread(
+            tables,
+            &self.backing,
+            &self.active,
+            &mut self.awake,
+            &mut self.weights,
+        );
+        if !net::revalue(
+            &self.backing,
+            &self.awake,
+            &self.weights,
+            &mut self.values,
+        ) {
+            return false;
+        }
+        net::reshare(
+            &self.funding,
+            &self.active,
+            &self.weights,
+            &self.values,
+            shares,
+        );
+        true
+    }
+
+    /// What follows from the seats and the activity: what is awake, the values, and the tickets of the flows. Not so
+    /// where a value would be too great, which none ever is.
+    pub(crate) fn settle(&mut self, tables: &Tables, shares: &mut [u32; MAX_FLOWS]) -> bool
+        requires { IsBegun self.old (backs_of tables.now) (funds_of tables.now) (activity_of tables.now) }
+        ensures ready { result ≡ true
+            → IsReady self.new shares.new (backs_of tables.now) (funds_of tables.now) (activity_of tables.now) }
+        ensures shares { result ≡ true → take (length tables.now.flows) shares.new ≡ shares_of tables.now }
+        ensures long { length shares.new ≡ 64 }
+        ensures places { (length self.new.backing.items ≡ 65) × (length self.new.funding.items ≡ 65) }
+    {
+        tables.is_kept();
+        self.follow(tables, shares)
+    }
+
+    /// All seats and the activity anew. Not so where some seat would not come from before its holder.
+    pub(crate) fn begin(&mut self, tables: &Tables, backs: &[Route], funds: &[Route]) -> bool
+        requires backs { backs.now ≡ backs_of tables.now }
+        requires funds { funds.now ≡ funds_of tables.now }
+        requires places { (length self.old.backing.items ≡ 65) × (length self.old.funding.items ≡ 65) }
+        ensures begun { result ≡ true
+            → IsBegun self.new (backs_of tables.now) (funds_of tables.now) (activity_of tables.now) }
+        ensures places { (length self.new.backing.items ≡ 65) × (length self.new.funding.items ≡ 65) }
+    {
+        tables.is_kept();
+        if !fill(backs, &mut self.backing, true) || !fill(funds, &mut self.funding, false) {
+            return false;
+        }
+        rouse(
+            tables,
+            &self.funding,
+            &mut self.active,
+            &mut self.awake,
+            &mut self.weights,
+            &mut self.values,
+        );
+        true
+    }
+}

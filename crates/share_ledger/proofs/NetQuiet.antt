@@ -1,11 +1,11 @@
 -- A flow that wakes or rests where its seats come from `base` alone: nothing else changes.
-use Rattle.std.proofs.Common.{◌≡◌, ◌≤◌, ◌<◌, ◌*◌, ◌/◌, ◌^◌, ℕ, zero, suc, Bool, true, false, cond, min, List, [], ◌∷◌, map}
-use Rattle.std.proofs.Common.{true≢false, ◌&&◌, nat_eq, nat_lt, set, get_or, sum_by, length, refl, sym, ap, subst, ◌∙◌, arith}
+use Rattle.std.proofs.Common.{◌≡◌, ◌<◌, ◌*◌, ◌/◌, ◌^◌, ℕ, zero, suc, Bool, true, false, cond, min, List, [], ◌∷◌, map}
+use Rattle.std.proofs.Common.{true≢false, ◌&&◌, nat_eq, nat_lt, set, get_or, sum_by, length, refl, sym, ap, ◌∙◌, arith}
 use Rattle.std.specs.List.{list_all}
 use Rattle.std.proofs.lemmas.Bool.Decides.{nat_tests}
 use Rattle.std.proofs.lemmas.List.Sums.{sum_by-cons}
 use Rattle.share_model.specs.declared.funding.OpenFlow.{OpenFlow}
-use Rattle.share_model.specs.funding.Graph.{NameBytes, Graph}
+use Rattle.share_model.specs.funding.Graph.{NameBytes}
 use Rattle.share_model.specs.funding.Changes.{is_open_as, active_as, with_activity}
 use Rattle.share_model.specs.lists.Change.{change_first}
 use Rattle.share_model.specs.lists.Each.{Each}
@@ -14,7 +14,7 @@ use Rattle.share_ledger.specs.declared.net.Net.{Net}
 use Rattle.share_ledger.specs.declared.routes.Route.{Route}
 use Rattle.share_ledger.specs.declared.seats.Seat.{Seat}
 use Rattle.share_ledger.specs.Rounds.{flags_of, numbers_of}
-use Rattle.share_ledger.specs.Nets.{activity_of, IsBegun, IsReady}
+use Rattle.share_ledger.specs.Nets.{IsBegun, IsReady}
 use Rattle.share_ledger.specs.Seats.{IsSeatWithin, seat_worth, seats_at, taken, weighed}
 use Rattle.share_ledger.proofs.NetSteps.{array-set}
 use Rattle.share_ledger.proofs.Positions.{IsFirstAt}

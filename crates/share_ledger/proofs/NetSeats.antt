@@ -1,20 +1,18 @@
 -- Seats that are given one by one, and what follows where none is awake yet.
-use Rattle.std.proofs.Common.{◌≡◌, ◌≤◌, ◌<◌, ◌+◌, ◌^◌, ℕ, zero, suc, Bool, true, false, not, cond, ◌&&◌, List, [], ◌∷◌, ◌++◌}
+use Rattle.std.proofs.Common.{◌≡◌, ◌≤◌, ◌<◌, ◌+◌, ℕ, zero, suc, Bool, true, false, cond, ◌&&◌, List, [], ◌∷◌, ◌++◌}
 use Rattle.std.proofs.Common.{nat_eq, nat_lt, take, sum_by, length, get_or, map, refl, sym, ap, subst, ◌∙◌, arith, option_map}
 use Rattle.std.proofs.Common.{Some, slice_get}
-use Rattle.std.specs.List.{list_all}
 use Rattle.std.proofs.lemmas.Bool.Decides.{nat_tests}
 use Rattle.std.proofs.lemmas.List.Sums.{sum_by-cons, sum_by_push, sum_by_more}
 use Rattle.std.proofs.lemmas.Option.{same_Some}
 use Rattle.share_model.specs.lists.Each.{Each}
 use Rattle.share_model.specs.lists.Laws.{each-append}
-use Rattle.share_model.specs.lists.SumLaws.{sum_by-same_of}
 use Rattle.share_model.specs.declared.funding.OpenFlow.{OpenFlow}
 use Rattle.share_model.specs.funding.Graph.{NameBytes, Graph}
 use Rattle.share_ledger.specs.declared.routes.Route.{Route}
 use Rattle.share_ledger.specs.declared.seats.Seat.{Seat}
-use Rattle.share_ledger.specs.Routes.{IsRouteWithin, gathered}
-use Rattle.share_ledger.specs.Seats.{seat_of, seat_worth, taken, seats_at, weighed, IsSeatWithin}
+use Rattle.share_ledger.specs.Routes.{gathered}
+use Rattle.share_ledger.specs.Seats.{seat_of, seats_at}
 use Rattle.share_ledger.specs.Nets.{activity_of}
 
 same_number : (a b : ℕ) → nat_eq a b ≡ true → a ≡ b

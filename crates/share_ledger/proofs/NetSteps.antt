@@ -1,6 +1,6 @@
 -- What one holder that wakes or rests does to the weights.
-use Rattle.std.proofs.Common.{◌≡◌, ◌≤◌, ◌<◌, ◌+◌, ◌*◌, ◌^◌, ℕ, ◌/◌, zero, suc, Bool, true, false, not, cond, ◌&&◌, List, [], ◌∷◌}
-use Rattle.std.proofs.Common.{nat_eq, nat_lt, set, get_or, sum_by, length, refl, sym, ap, subst, ◌∙◌, arith}
+use Rattle.std.proofs.Common.{◌≡◌, ◌≤◌, ◌<◌, ◌+◌, ◌*◌, ◌^◌, ℕ, ◌/◌, zero, suc, Bool, true, false, cond, ◌&&◌, List, [], ◌∷◌}
+use Rattle.std.proofs.Common.{nat_eq, set, get_or, sum_by, length, refl, sym, ap, ◌∙◌, arith}
 use Rattle.std.proofs.lemmas.Bool.Decides.{nat_tests}
 use Rattle.std.proofs.lemmas.List.{get_or-set_other}
 use Rattle.std.proofs.lemmas.Grind.{get_or-set_at}
@@ -10,7 +10,7 @@ use Rattle.share_model.specs.funding.Kept.{IsKept}
 use Rattle.share_model.specs.lists.Each.{Each}
 use Rattle.share_ledger.specs.declared.routes.Route.{Route}
 use Rattle.share_ledger.specs.declared.seats.Seat.{Seat}
-use Rattle.share_ledger.specs.Routes.{gathered, routes_of}
+use Rattle.share_ledger.specs.Routes.{gathered}
 use Rattle.share_model.specs.lists.SumLaws.{sum_by-same_of}
 use Rattle.share_ledger.specs.Seats.{seat_of, taken, AreSeated, AreOrdered, AreCounted, seats_at, backs_of, funds_of}
 use Rattle.share_ledger.specs.Seats.{seat_worth, weighed}

@@ -251,23 +251,23 @@ kept-opened net ready before after g name n ok at wrote more kept = record {
 -- A flow that becomes active or idle leaves the routes
 module _ (g : Graph) (ok : IsKept g) (net : Net) (shares : List ℕ) (f : ℕ) (a : Bool) (i : ℕ)
     (found : position (λ (o : OpenFlow). nat_eq f o.number) (map (λ (e : NameBytes × OpenFlow). e.1) g.flows) ≡ Some i)
-    where
-  pub turned-below : i < 64
-  turned-below =
-      let inside = first-below (is_open_as f) g.flows i (flow-first f g.flows i (position-first _ _ i found)) in
-      let few = ok.few_flows in omega arith
+  where
+    pub turned-below : i < 64
+    turned-below =
+        let inside = first-below (is_open_as f) g.flows i (flow-first f g.flows i (position-first _ _ i found)) in
+        let few = ok.few_flows in omega arith
 
-  pub turned-ready : IsReady net shares (backs_of g) (funds_of g) (activity_of g)
-      → IsReady net shares (backs_of (set_active g f a)) (funds_of (set_active g f a)) (flags_of net.active.value)
-  turned-ready ready =
-      relit net shares (backs_of (set_active g f a)) (funds_of (set_active g f a)) (activity_of g)
-      (flags_of net.active.value)
-      (subst (λ rs. IsReady net shares (backs_of (set_active g f a)) rs (activity_of g)) (routes-set_active g ok f a false)
-      (subst (λ rs. IsReady net shares rs (funds_of g) (activity_of g)) (routes-set_active g ok f a true) ready))
-      (λ k. sym (ready.begun.active_is k))
+    pub turned-ready : IsReady net shares (backs_of g) (funds_of g) (activity_of g)
+        → IsReady net shares (backs_of (set_active g f a)) (funds_of (set_active g f a)) (flags_of net.active.value)
+    turned-ready ready =
+        relit net shares (backs_of (set_active g f a)) (funds_of (set_active g f a)) (activity_of g)
+        (flags_of net.active.value)
+        (subst (λ rs. IsReady net shares (backs_of (set_active g f a)) rs (activity_of g)) (routes-set_active g ok f a false)
+        (subst (λ rs. IsReady net shares rs (funds_of g) (activity_of g)) (routes-set_active g ok f a true) ready))
+        (λ k. sym (ready.begun.active_is k))
 
-  pub turned-activity : IsReady net shares (backs_of g) (funds_of g) (activity_of g) → (k : ℕ)
-      → activity_of (set_active g f a) k ≡ cond (nat_eq i k) a (flags_of net.active.value k)
-  turned-activity ready k =
-      activity-turned f a g.flows i k (flow-first f g.flows i (position-first _ _ i found))
-      ∙ ap (cond (nat_eq i k) a) (sym (ready.begun.active_is k))
+    pub turned-activity : IsReady net shares (backs_of g) (funds_of g) (activity_of g) → (k : ℕ)
+        → activity_of (set_active g f a) k ≡ cond (nat_eq i k) a (flags_of net.active.value k)
+    turned-activity ready k =
+        activity-turned f a g.flows i k (flow-first f g.flows i (position-first _ _ i found))
+        ∙ ap (cond (nat_eq i k) a) (sym (ready.begun.active_is k))

@@ -1,7 +1,7 @@
 -- Weights, values and tickets that meet the equations of one step, place by place, are those of the definition.
-use Rattle.std.proofs.Common.{◌≡◌, ◌≤◌, ◌<◌, ◌+◌, ◌*◌, ◌/◌, ◌^◌, ℕ, zero, suc, Bool, true, false, cond, ◌&&◌, ◌||◌}
-use Rattle.std.proofs.Common.{min, List, [], ◌∷◌, filter, map, take, sum_by, length, bytes_eq, nat_eq, nat_lt, get_or}
-use Rattle.std.proofs.Common.{Some, option_map, slice_get, refl, sym, ap, subst, ◌∙◌, arith, true≢false}
+use Rattle.std.proofs.Common.{◌≡◌, ◌≤◌, ◌<◌, ◌+◌, ◌*◌, ◌/◌, ◌^◌, ℕ, suc, Bool, true, false, cond, ◌&&◌, ◌||◌}
+use Rattle.std.proofs.Common.{List, [], ◌∷◌, map, take, sum_by, length, bytes_eq, nat_eq, nat_lt, get_or}
+use Rattle.std.proofs.Common.{Some, option_map, slice_get, refl, sym, ap, ◌∙◌, arith}
 use Rattle.std.specs.List.{list_any}
 use Rattle.std.proofs.lemmas.List.Sums.{sum_by-cons}
 use Rattle.std.proofs.lemmas.Bool.Decides.{nat_tests}
@@ -23,14 +23,13 @@ use Rattle.share_ledger.specs.declared.routes.Route.{Route}
 use Rattle.share_ledger.specs.declared.seats.Seat.{Seat}
 use Rattle.share_ledger.specs.Places.{place}
 use Rattle.share_ledger.specs.Rounds.{flags_of, numbers_of}
-use Rattle.share_ledger.specs.Routes.{flow_place, holder_place, route_of, is_kind, routes_of, gathered, carried, poured}
-use Rattle.share_ledger.specs.Seats.{seat_of, seat_worth, seats_at, weighed, AreSeated, AreCounted, AreAwake, AreValued}
+use Rattle.share_ledger.specs.Routes.{flow_place, routes_of, gathered, carried, poured}
+use Rattle.share_ledger.specs.Seats.{seat_worth, seats_at, weighed, AreSeated, AreCounted, AreAwake, AreValued}
 use Rattle.share_ledger.specs.Seats.{AreShared, backs_of, funds_of}
 use Rattle.share_ledger.specs.declared.net.Net.{Net}
 use Rattle.share_ledger.specs.Nets.{IsReady, activity_of}
 use Rattle.share_ledger.specs.Shares.{shares_of}
-use Rattle.share_ledger.proofs.LinkPlaces.{place-base, IsPlaced, placed}
-use Rattle.share_ledger.proofs.NetSteps.{sum_two}
+use Rattle.share_ledger.proofs.LinkPlaces.{place-base}
 use Rattle.share_ledger.proofs.RouteLists.{share-at, activity-at}
 use Rattle.share_ledger.proofs.RouteWorths.{below, lead, gathered-is, whole-is, poured-currency, poured-flow}
 use Rattle.share_ledger.proofs.RouteWorths.{flow-place-below}

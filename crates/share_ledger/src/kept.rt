@@ -121,7 +121,9 @@ impl Kept {
     {
         self.backing.list(tables, true);
         self.funding.list(tables, false);
-        let begun = self.net.begin(tables, self.backing.routes(), self.funding.routes());
+        let begun = self
+            .net
+            .begin(tables, self.backing.routes(), self.funding.routes());
         if begun {
             self.settle(tables);
             return;

@@ -75,9 +75,7 @@ impl Seats {
     fn place_of(&self, seat: Seat) -> Option<usize>
         ensures { result ≡ position (is_like seat) self.now }
     {
-        self.seats()
-            .iter()
-            .position(|other| seat.from == other.from && seat.amount == other.amount)
+        self.seats().iter().position(|other| seat.from == other.from && seat.amount == other.amount)
     }
 
     /// Takes out one seat like this, where there is one.

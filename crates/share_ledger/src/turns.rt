@@ -237,12 +237,7 @@ impl Net {
             &mut self.awake,
             &mut self.weights,
         );
-        if !net::revalue(
-            &self.backing,
-            &self.awake,
-            &self.weights,
-            &mut self.values,
-        ) {
+        if !net::revalue(&self.backing, &self.awake, &self.weights, &mut self.values) {
             return false;
         }
         net::reshare(

@@ -1,5 +1,4 @@
-use Rattle.std.proofs.Common.{◌≡◌, ◌≤◌, ◌<◌, ◌+◌, ◌^◌, ℕ, Bool, true, false, List, [], set, length, sym, ap, subst, ◌∙◌, arith}
-use Rattle.share_ledger.specs.declared.seats.Seat.{Seat}
+use Rattle.std.proofs.Common.{◌≡◌, ◌+◌, ℕ, true, false, [], set, ap, ◌∙◌, arith}
 use Rattle.share_ledger.specs.Rounds.{flags_of, numbers_of}
 use Rattle.share_ledger.specs.Seats.{taken, seats_at, backs_of, funds_of}
 use Rattle.share_ledger.proofs.NetSteps.{array-set, at-default, woken, rested-held, rested, counted-bound, taken-none}

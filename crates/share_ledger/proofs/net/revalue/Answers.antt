@@ -1,4 +1,4 @@
-use Rattle.std.proofs.Common.{◌≡◌, ◌≤◌, ◌<◌, ◌*◌, ◌^◌, ℕ, Bool, true, false, cond, nat_eq, set, length, sym, ap, subst, ◌∙◌, arith}
+use Rattle.std.proofs.Common.{◌≤◌, ◌*◌, ◌^◌, ℕ, Bool, true, false, cond, nat_eq, set, sym, subst, ◌∙◌, arith}
 use Rattle.std.proofs.lemmas.List.{length-set}
 use Rattle.share_ledger.specs.Rounds.{flags_of, numbers_of}
 use Rattle.share_ledger.proofs.NetSteps.{array-set, valued-more}

@@ -1,4 +1,4 @@
-use Rattle.std.proofs.Common.{◌≡◌, ◌^◌, ℕ, List, set, min, length, sym, subst, refl, ap, ◌∙◌}
+use Rattle.std.proofs.Common.{◌≡◌, ◌^◌, ℕ, List, set, min, length, sym, subst, refl, ◌∙◌}
 use Rattle.share_ledger.specs.Nets.{activity_of, IsReady}
 use Rattle.share_ledger.specs.Rounds.{flags_of, numbers_of}
 use Rattle.share_ledger.specs.Seats.{backs_of, funds_of, weighed}

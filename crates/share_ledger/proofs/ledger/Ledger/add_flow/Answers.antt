@@ -1,4 +1,4 @@
-use Rattle.std.proofs.Common.{◌≡◌, Bool, List, ℕ, sym, subst}
+use Rattle.std.proofs.Common.{Bool, sym, subst}
 use Rattle.share_model.specs.funding.Changes.{add_flow}
 use Rattle.share_ledger.specs.Shares.{AreKept}
 use Rattle.share_ledger.specs.declared.net.Net.{Net}

@@ -1,4 +1,4 @@
-use Rattle.std.proofs.Common.{◌≡◌, ℕ, ◌∙◌, cond, nat_eq, sym, subst}
+use Rattle.std.proofs.Common.{◌≡◌, ◌∙◌, cond, nat_eq, sym, subst}
 use Rattle.share_model.specs.funding.Graph.{Graph}
 use Rattle.share_ledger.specs.Nets.{activity_of, IsReady}
 use Rattle.share_ledger.specs.Rounds.{flags_of}

@@ -1,4 +1,4 @@
-use Rattle.std.proofs.Common.{◌≡◌, ◌+◌, ℕ, arith}
+use Rattle.std.proofs.Common.{◌≡◌, ◌+◌, arith}
 use Rattle.share_ledger.specs.Rounds.{numbers_of}
 use Rattle.share_ledger.specs.Seats.{taken, seats_at}
 use Rattle.share_ledger.proofs.NetQuiet.{taken-base}

@@ -1,6 +1,5 @@
-use Rattle.std.proofs.Common.{◌≡◌, ◌+◌, ◌<◌, ◌-◌, List, None, Some, position, sum_by, take, length, sym, ap, subst, ◌∙◌, arith}
+use Rattle.std.proofs.Common.{◌≡◌, ◌+◌, ◌<◌, ◌-◌, List, sum_by, take, length, sym, ap, ◌∙◌, arith}
 use Rattle.std.proofs.Common.{true≢false, get_or, set}
-use Rattle.std.specs.List.{list_any}
 use Rattle.std.proofs.lemmas.List.{get_or-take, length-take}
 use Rattle.share_ledger.specs.declared.seats.Seat.{Seat}
 use Rattle.share_ledger.specs.Seats.{is_like}

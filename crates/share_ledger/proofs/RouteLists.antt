@@ -90,9 +90,14 @@ listed-skip g b ts rs i n t lt at kind so_far =
     ∙ sym (routes-step g b ts i t lt at)
 
 -- Routes are within the places, and few
-pub routes-within : (g : Graph) (b : Bool) → IsKept g → Each IsRouteWithin (routes_of g b g.tickets)
-unfolding routes_of
-routes-within g b ok = all g.tickets (placed g ok)
+pub route-within : (g : Graph) → IsKept g → (t : Ticket) → IsPlaced g t → IsRouteWithin (route_of g t)
+route-within g ok t at = record {
+  from_place =
+      let below = place-below t.denomination (names_of g) at.denomination_known in
+      let few = ok.few_currencies in omega arith;
+  to_place = spot t.holder at.holder_known;
+  small = at.amount_small;
+}
   where
     spot : (h : Holder) → IsHolderKnown g h → holder_place g h < 65
     spot Nobody known = omega arith
@@ -101,15 +106,10 @@ routes-within g b ok = all g.tickets (placed g ok)
     spot (Flow f) known =
         let below = flow-place-below f g.flows known in let few = ok.few_flows in omega arith
 
-    own : (t : Ticket) → IsPlaced g t → IsRouteWithin (route_of g t)
-    own t at = record {
-      from_place =
-          let below = place-below t.denomination (names_of g) at.denomination_known in
-          let few = ok.few_currencies in omega arith;
-      to_place = spot t.holder at.holder_known;
-      small = at.amount_small;
-    }
-
+pub routes-within : (g : Graph) (b : Bool) → IsKept g → Each IsRouteWithin (routes_of g b g.tickets)
+unfolding routes_of
+routes-within g b ok = all g.tickets (placed g ok)
+  where
     all : (ts : List Ticket) → Each (IsPlaced g) ts → Each IsRouteWithin (routes_of g b ts)
     all [] each = tt
     all (t ∷ ts) each = by (is_kind b t.holder) (all ts each.1)
@@ -117,7 +117,7 @@ routes-within g b ok = all g.tickets (placed g ok)
         by : (k : Bool) → Each IsRouteWithin (routes_of g b ts)
             → Each IsRouteWithin (map (route_of g) (cond k (t ∷ filter (λ (t : Ticket). is_kind b t.holder) ts)
             (filter (λ (t : Ticket). is_kind b t.holder) ts)))
-        by true rest = (own t each.0, rest)
+        by true rest = (route-within g ok t each.0, rest)
         by false rest = rest
 
 pub routes-few : (g : Graph) (b : Bool) (ts : List Ticket) → length (routes_of g b ts) ≤ length ts

@@ -1,11 +1,11 @@
 -- What is kept of currencies and flows by their places.
-use Rattle.std.specs.Prelude.{◌≡◌, ℕ, Bool, false, List, map, slice_index_or}
+use Rattle.std.specs.Prelude.{◌≡◌, ◌+◌, ℕ, Bool, false, not, List, map, sum_by, slice_index_or, if◌then◌else◌}
 use Rattle.share_model.specs.declared.funding.OpenFlow.{OpenFlow}
 use Rattle.share_model.specs.funding.Graph.{NameBytes, Graph}
 use Rattle.share_ledger.specs.declared.net.Net.{Net}
 use Rattle.share_ledger.specs.declared.routes.Route.{Route}
 use Rattle.share_ledger.specs.Rounds.{flags_of, numbers_of}
-use Rattle.share_ledger.specs.Seats.{AreSeated, AreOrdered, AreCounted, AreAwake, AreValued, AreShared, AreSmall}
+use Rattle.share_ledger.specs.Seats.{backs_of, funds_of, AreSeated, AreOrdered, AreCounted, AreAwake, AreValued, AreShared, AreSmall}
 
 -- whether the flow at a place is active
 abbrev pub activity_of : Graph → ℕ → Bool
@@ -28,3 +28,19 @@ pub record IsReady (n : Net) (shares : List ℕ) (backs funds : List Route) (lit
       (numbers_of n.weights.value)
   pub shared : AreShared n.funding.items (flags_of n.active.value) (numbers_of n.values.value)
       (numbers_of n.weights.value) (numbers_of shares)
+
+-- Any sum over some routes grows by what one more route counts for, if it is one of them.
+abbrev pub GrowsBy : Bool → List Route → List Route → Route → Type 0
+GrowsBy counts rs more r = (F : Route → ℕ) → sum_by F more ≡ sum_by F rs + (if counts then F r else 0)
+
+-- A route that is to be one more: of the backing, or of what funds flows.
+abbrev pub ComesToFund : Net → Graph → Route → Bool → Type 0
+ComesToFund n g r backing = (backs : List Route) × ((funds : List Route)
+    × (IsBegun n backs funds (activity_of g) × GrowsBy backing backs (backs_of g) r
+    × GrowsBy (not backing) funds (funds_of g) r))
+
+-- And one that is to be there no longer.
+abbrev pub CeasesToFund : Net → Graph → Route → Bool → Type 0
+CeasesToFund n g r backing = (backs : List Route) × ((funds : List Route)
+    × (IsBegun n backs funds (activity_of g) × GrowsBy backing (backs_of g) backs r
+    × GrowsBy (not backing) (funds_of g) funds r))

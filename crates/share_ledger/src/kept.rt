@@ -1,9 +1,9 @@
 //! What is kept beside the tables: the net of seats, weights and values by place, and the tickets of each open flow.
 ghost use Rattle.std.specs.Prelude.{◌≡◌, ℕ, ◌<◌, ◌+◌, ◌++◌, ◌∷◌, [], take, length, true, false, nat_eq, slice_index_or, IfOk};
 ghost use Rattle.std.specs.Prelude.{if◌then◌else◌};
-ghost use Rattle.share_ledger.specs.Nets.{activity_of, IsBegun, IsReady};
+ghost use Rattle.share_ledger.specs.Nets.{activity_of, ComesToFund, CeasesToFund, IsBegun, IsReady};
 ghost use Rattle.share_ledger.specs.Rounds.{flags_of};
-ghost use Rattle.share_ledger.specs.Routes.{routes_of};
+ghost use Rattle.share_ledger.specs.Routes.{IsRouteWithin, routes_of};
 ghost use Rattle.share_ledger.specs.Seats.{backs_of, funds_of};
 ghost use Rattle.share_ledger.specs.Shares.{AreKept};
 
@@ -153,6 +153,44 @@ impl Kept {
         }
         self.net.turn(tables, place, active);
         self.settle(tables);
+    }
+
+    /// A ticket has come to back a currency, or to fund a flow.
+    pub(crate) fn give(&mut self, tables: &Tables, route: &Route, backing: bool)
+        requires within { IsRouteWithin route.now }
+        requires places { (length self.old.net.backing.items ≡ 65) × (length self.old.net.funding.items ≡ 65) }
+        requires begun { self.old.ready ≡ true → ComesToFund self.old.net tables.now route.now backing }
+        ensures { AreKept self.new.net self.new.ready self.new.shares.value tables.now }
+    {
+        if !self.ready {
+            self.renew(tables);
+            return;
+        }
+        let begun = self.net.give(tables, route, backing);
+        if begun {
+            self.settle(tables);
+            return;
+        }
+        self.renew(tables);
+    }
+
+    /// A ticket has ceased to back a currency, or to fund a flow.
+    pub(crate) fn take(&mut self, tables: &Tables, route: &Route, backing: bool)
+        requires within { IsRouteWithin route.now }
+        requires places { (length self.old.net.backing.items ≡ 65) × (length self.old.net.funding.items ≡ 65) }
+        requires begun { self.old.ready ≡ true → CeasesToFund self.old.net tables.now route.now backing }
+        ensures { AreKept self.new.net self.new.ready self.new.shares.value tables.now }
+    {
+        if !self.ready {
+            self.renew(tables);
+            return;
+        }
+        let begun = self.net.take(tables, route, backing);
+        if begun {
+            self.settle(tables);
+            return;
+        }
+        self.renew(tables);
     }
 
     /// Behind the tickets of the first flows stand none of one more.

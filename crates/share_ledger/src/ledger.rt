@@ -115,8 +115,12 @@ impl Ledger {
         ensures refused { IfErr result
             (λ e. (fund_currency_refusal self.old ticket currency ≡ Some e) × (self.new ≡ self.old)) }
     {
+        self.tables.is_kept();
         self.tables.fund_currency(ticket, currency)?;
-        self.kept.renew(&self.tables);
+        match self.tables.route_of(ticket) {
+            Some((route, backing)) => self.kept.give(&self.tables, &route, backing),
+            None => self.kept.renew(&self.tables),
+        }
         Ok(())
     }
 
@@ -128,8 +132,12 @@ impl Ledger {
         ensures refused { IfErr result
             (λ e. (fund_flow_refusal self.old ticket flow ≡ Some e) × (self.new ≡ self.old)) }
     {
+        self.tables.is_kept();
         self.tables.fund_flow(ticket, flow)?;
-        self.kept.renew(&self.tables);
+        match self.tables.route_of(ticket) {
+            Some((route, backing)) => self.kept.give(&self.tables, &route, backing),
+            None => self.kept.renew(&self.tables),
+        }
         Ok(())
     }
 
@@ -140,8 +148,13 @@ impl Ledger {
         ensures refused { IfErr result
             (λ e. (unfund_refusal self.old ticket ≡ Some e) × (self.new ≡ self.old)) }
     {
+        self.tables.is_kept();
+        let found = self.tables.route_of(ticket);
         self.tables.unfund(ticket)?;
-        self.kept.renew(&self.tables);
+        match found {
+            Some((route, backing)) => self.kept.take(&self.tables, &route, backing),
+            None => self.kept.renew(&self.tables),
+        }
         Ok(())
     }
 

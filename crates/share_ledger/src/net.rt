@@ -55,6 +55,26 @@ pub(crate) fn lower(seats: &[Seat], weights: &mut [u64; PLACES])
     }
 }
 
+/// Adds to the weight of a place.
+pub(crate) fn grow(weights: &mut [u64; PLACES], place: usize, amount: u32)
+    requires place { place < 65 }
+    requires small { (p : ℕ) → p < 65 → numbers_of weights.old p ≤ 2 ^ 31 }
+    ensures { (p : ℕ) → p < 65
+        → numbers_of weights.new p ≡ numbers_of weights.old p + (if nat_eq p place then amount else 0) }
+{
+    weights[place] += u64::from(amount);
+}
+
+/// Takes from the weight of a place.
+pub(crate) fn shrink(weights: &mut [u64; PLACES], place: usize, amount: u32)
+    requires place { place < 65 }
+    requires held { amount ≤ numbers_of weights.old place }
+    ensures { (p : ℕ) → p < 65
+        → numbers_of weights.new p + (if nat_eq p place then amount else 0) ≡ numbers_of weights.old p }
+{
+    weights[place] -= u64::from(amount);
+}
+
 fn worth(seat: &Seat, values: &[u64; PLACES], weights: &[u64; PLACES]) -> u64
     requires within { IsSeatWithin seat.now }
     requires small { (p : ℕ) → p < 65 → numbers_of values.now p ≤ 9 * 2 ^ 30 }

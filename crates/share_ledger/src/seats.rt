@@ -78,14 +78,15 @@ impl Seats {
         self.seats().iter().position(|other| seat.from == other.from && seat.amount == other.amount)
     }
 
-    /// Takes out one seat like this, where there is one.
-    pub(crate) fn remove(&mut self, seat: Seat)
-        requires { list_any (is_like seat) self.old ≡ true }
-        ensures { (F : Seat → ℕ) → sum_by F self.new + F seat ≡ sum_by F self.old }
+    /// Takes out one seat like this, where there is one, and says whether.
+    pub(crate) fn remove(&mut self, seat: Seat) -> bool
+        ensures { result ≡ true → (F : Seat → ℕ) → sum_by F self.new + F seat ≡ sum_by F self.old }
     {
-        if let Some(place) = self.place_of(seat) {
-            self.count -= 1;
-            self.room[place] = self.room[self.count];
-        }
+        let Some(place) = self.place_of(seat) else {
+            return false;
+        };
+        self.count -= 1;
+        self.room[place] = self.room[self.count];
+        true
     }
 }

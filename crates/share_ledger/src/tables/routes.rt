@@ -1,9 +1,11 @@
 //! The routes of the tickets that have a holder, and the tickets of each open flow that follow from them.
-ghost use Rattle.std.specs.Prelude.{◌≡◌, ℕ, ◌≤◌, ◌<◌, length, map, take, slice_get, option_map, Some, true, false};
+ghost use Rattle.std.specs.Prelude.{◌≡◌, ℕ, ◌≤◌, ◌<◌, length, map, take, slice_get, option_map, Some, IfSome, true, false};
 ghost use Rattle.share_model.specs.funding.Kept.{names_of, times, times_open, IsHolderKnown};
 ghost use Rattle.share_model.specs.funding.Laws.{uncapped};
 ghost use Rattle.share_ledger.specs.Rounds.{numbers_of};
-ghost use Rattle.share_ledger.specs.Routes.{flow_place, holder_place, route_of, routes_of};
+ghost use Rattle.share_ledger.specs.Routes.{flow_place, holder_place, is_kind, route_of, routes_of, IsRouteWithin};
+ghost use Rattle.share_model.specs.declared.funding.Ticket.{Ticket};
+ghost use Rattle.share_model.specs.funding.Changes.{ticket_of, is_held};
 ghost use Rattle.share_ledger.specs.Shares.{shares_of};
 
 use super::{MAX_AMOUNT, MAX_FLOWS, MAX_TICKETS, Tables};
@@ -38,6 +40,25 @@ impl Tables {
             to: self.holder_place(&ticket.holder),
             amount: ticket.amount,
         }
+    }
+
+    /// The route of a ticket that has a holder, and whether it backs a currency.
+    pub(crate) fn route_of(&self, number: u64) -> Option<(Route, bool)>
+        ensures { IfSome result (λ found. IsRouteWithin found.0
+            × ((t : Ticket) × ((ticket_of self.now number ≡ Some t) × (found.0 ≡ route_of self.now t)
+            × (is_held t.holder ≡ true) × (found.1 ≡ is_kind true t.holder)))) }
+    {
+        self.is_kept();
+        let Some(ticket) = self.ticket(number) else {
+            return None;
+        };
+        if !holders::is_held(&ticket.holder) {
+            return None;
+        }
+        Some((
+            self.route(ticket),
+            holders::is_kind(&ticket.holder, true),
+        ))
     }
 
     /// Lists the routes of the tickets that back currencies, or of those that fund flows, and says how many they are.

@@ -8,8 +8,8 @@ use Rattle.share_ledger.proofs.Positions.{position-first, position-none}
 use Rattle.share_ledger.proofs.SeatSums.{first-passes, first-below, like-same, sum-taken_out}
 use Rattle.share_ledger.proofs.seats.Seats.remove.Goals as goal
 
-pub returns-in-Some : goal.returns-in-Some
-returns-in-Some c = λ F.
+pub returns : goal.returns
+returns c = λ e F.
     let none : Seat = record { from = 0; amount = 0 } in
     let room = c.self.inside.room in
     let n = c.self.inside.count in
@@ -27,10 +27,3 @@ returns-in-Some c = λ F.
     ap (λ s. sum_by F (take (n - 1) (set room i (get_or room (n - 1) none))) + F s) (sym same)
     ∙ sum-taken_out F room n i none (omega arith) fits
     ∙ ap (sum_by F) c.self.view_is
-
-pub returns-in_default : goal.returns-in_default
-returns-in_default c =
-    absurd (true≢false
-    (sym c.requires
-    ∙ none_any (is_like c.args.seat) c.args.self.now
-    (position-none (is_like c.args.seat) c.args.self.now (sym c.place_of.ensures ∙ c.in_default.is))))

@@ -1,0 +1,57 @@
+use Rattle.std.proofs.Common.{◌≡◌, ◌≤◌, ◌<◌, ◌+◌, ◌^◌, ℕ, Bool, true, false, cond, nat_eq, List, refl, sym, ap, ◌∙◌, arith}
+use Rattle.share_ledger.specs.declared.routes.Route.{Route}
+use Rattle.share_ledger.specs.Rounds.{flags_of, numbers_of}
+use Rattle.share_ledger.specs.Routes.{gathered}
+use Rattle.share_ledger.specs.Seats.{backs_of, funds_of}
+use Rattle.share_ledger.proofs.NetMore.{gain, counted-given, less-bound, seated-more, seated-same, ordered-more, sum-bound}
+use Rattle.share_ledger.proofs.net.Net.add_backing.Goals as goal
+
+pub grow-requires-clause-small : goal.grow-requires-clause-small
+grow-requires-clause-small c = λ p lt.
+    let g = c.args.tables.now in
+    let old = c.args.self.now in
+    let b = c.requires.begun in
+    let bound : numbers_of old.weights.value p ≤ 2 ^ 31 =
+    less-bound b.0 b.1.0 (backs_of g) (funds_of g) c.args.route.now true false (flags_of old.awake.value)
+    (flags_of old.active.value) b.1.1.1 b.1.1.2 (numbers_of old.weights.value) b.1.1.0.counted p (2 ^ 31) lt
+    (sum-bound g (flags_of old.awake.value) (flags_of old.active.value) c.is_kept.ensures p) in
+    let same : numbers_of c.deref_mut.result.now p ≡ numbers_of old.weights.value p =
+    ap (λ (ws : List ℕ). numbers_of ws p) c.deref_mut.ensures.value in
+    omega (arith, bound, same)
+
+either_more : (w n : ℕ) → w + n ≡ w + (n + 0)
+either_more w n = omega arith
+
+pub returns-clause-begun : goal.returns-clause-begun
+returns-clause-begun c = λ e.
+    let g = c.args.tables.now in
+    let old = c.args.self.now in
+    let r = c.args.route.now in
+    let b = c.requires.begun in
+    let backs = b.0 in
+    let funds = b.1.0 in
+    let was = b.1.1.0 in
+    let gb = b.1.1.1 in
+    let gf = b.1.1.2 in
+    let joined = c.seat.ensures.seated c.if-not-seat.false in
+    record {
+      backing = seated-more backs (backs_of g) r old.backing.items c.seat.new.holders.items was.backing c.requires.within gb
+          joined c.seat.ensures.places;
+      funding = seated-same funds (funds_of g) r old.funding.items was.funding gf;
+      ordered = ordered-more old.backing.items c.seat.new.holders.items r was.ordered (c.seat.ensures.before c.if-not-seat.false refl)
+          joined;
+      active_is = was.active_is;
+      counted = counted-given backs funds (backs_of g) (funds_of g) r true false (flags_of old.awake.value)
+          (flags_of old.active.value) gb gf (numbers_of old.weights.value) (numbers_of c.grow.new.weights) was.counted
+          (λ p lt.
+          let grew = c.grow.ensures p lt in
+          let amount : c.counted-amount.result ≡ cond (flags_of old.awake.value r.to) r.amount 0 =
+          let own = c.counted-amount.ensures in cc in
+          let same : numbers_of c.grow.new.weights p
+          ≡ numbers_of old.weights.value p + cond (nat_eq p r.from) c.counted-amount.result 0 = cc in
+          same
+          ∙ ap (λ n. numbers_of old.weights.value p + cond (nat_eq p r.from) n 0) amount
+          ∙ either_more (numbers_of old.weights.value p)
+          (cond (nat_eq p r.from) (cond (flags_of old.awake.value r.to) r.amount 0) 0));
+      small = was.small;
+    }

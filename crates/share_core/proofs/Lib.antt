@@ -10,4 +10,5 @@ pub mod Places
 pub mod Sendings
 pub mod Tallies
 pub mod Turns
+pub mod Unmet
 pub mod Writes

@@ -1,7 +1,6 @@
 -- A ticket that gets a holder is one route more, one that loses it one route fewer.
 use Rattle.std.proofs.Common.{◌≡◌, ◌≤◌, ◌<◌, ◌+◌, ◌^◌, ℕ, Bool, true, false, cond, ◌&&◌, List, [], ◌∷◌, ◌++◌, find, None, Some, Option, option_map, not}
 use Rattle.std.proofs.Common.{bytes_eq, is_some, nat_eq, nat_lt, nat_le, sum_by, length, refl, sym, ap, subst, ◌∙◌, arith, true≢false}
-use Rattle.std.specs.List.{list_any}
 use Rattle.std.proofs.lemmas.Bool.Decides.{nat_tests}
 use Rattle.std.proofs.lemmas.List.Sums.{sum_by-cons}
 use Rattle.std.proofs.lemmas.Option.{same_Some}
@@ -365,24 +364,38 @@ comes-to-fund g h n o net r b e unheld begun routed =
         ∙ found.1.0) in
         let kind : is_kind true o ≡ b = ap (λ (x : Ticket). is_kind true x.holder) same ∙ sym found.1.3 in
         let other : is_kind false o ≡ not b =
-        ap (λ (x : Ticket). is_kind false x.holder) same ∙ other-kind u.holder b found.1.2 found.1.3 in
-        (backs_of g, (funds_of g, (begun,
-        subst (λ q. GrowsBy b (backs_of g) (backs_of (record g { tickets = with_holder n o g.tickets })) q) (sym found.1.1)
-        (funded-grows g n o t u true b q free found.1.0 kind),
-        subst (λ q. GrowsBy (not b) (funds_of g) (funds_of (record g { tickets = with_holder n o g.tickets })) q)
-        (sym found.1.1) (funded-grows g n o t u false (not b) q free found.1.0 other))))
+        ap (λ (x : Ticket). is_kind false x.holder) same ∙ other-kind u.holder b found.1.2 found.1.3 in (
+          backs_of g,
+          (
+            funds_of g,
+            (
+              begun,
+              subst (λ q. GrowsBy b (backs_of g) (backs_of (record g { tickets = with_holder n o g.tickets })) q) (sym found.1.1)
+                  (funded-grows g n o t u true b q free found.1.0 kind),
+              subst (λ q. GrowsBy (not b) (funds_of g) (funds_of (record g { tickets = with_holder n o g.tickets })) q)
+                  (sym found.1.1) (funded-grows g n o t u false (not b) q free found.1.0 other),
+            ),
+          ),
+        )
 
 pub ceases-to-fund : (g h : Graph) (n : ℕ) (net : Net) (r : Route) (b : Bool)
     → h ≡ record g { tickets = with_holder n Nobody g.tickets }
     → IsBegun net (backs_of g) (funds_of g) (activity_of g) → IsRouted g n r b → CeasesToFund net h r b
 ceases-to-fund g h n net r b e begun found =
     subst (λ h. CeasesToFund net h r b) (sym e)
-    (let t = found.0 in
-    (backs_of g, (funds_of g, (begun,
-    subst (λ q. GrowsBy b (backs_of (record g { tickets = with_holder n Nobody g.tickets })) (backs_of g) q)
-    (sym found.1.1) (unfunded-grows g n t true b found.1.0 (sym found.1.3)),
-    subst (λ q. GrowsBy (not b) (funds_of (record g { tickets = with_holder n Nobody g.tickets })) (funds_of g) q)
-    (sym found.1.1) (unfunded-grows g n t false (not b) found.1.0 (other-kind t.holder b found.1.2 found.1.3))))))
+    (let t = found.0 in (
+      backs_of g,
+      (
+        funds_of g,
+        (
+          begun,
+          subst (λ q. GrowsBy b (backs_of (record g { tickets = with_holder n Nobody g.tickets })) (backs_of g) q)
+              (sym found.1.1) (unfunded-grows g n t true b found.1.0 (sym found.1.3)),
+          subst (λ q. GrowsBy (not b) (funds_of (record g { tickets = with_holder n Nobody g.tickets })) (funds_of g) q)
+              (sym found.1.1) (unfunded-grows g n t false (not b) found.1.0 (other-kind t.holder b found.1.2 found.1.3)),
+        ),
+      ),
+    ))
 
 -- a ticket that may fund has no holder yet
 pub unheld-currency : (g : Graph) (n : ℕ) (c : NameBytes) → fund_currency_refusal g n c ≡ None

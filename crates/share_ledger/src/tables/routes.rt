@@ -55,10 +55,7 @@ impl Tables {
         if !holders::is_held(&ticket.holder) {
             return None;
         }
-        Some((
-            self.route(ticket),
-            holders::is_kind(&ticket.holder, true),
-        ))
+        Some((self.route(ticket), holders::is_kind(&ticket.holder, true)))
     }
 
     /// Lists the routes of the tickets that back currencies, or of those that fund flows, and says how many they are.

@@ -1,4 +1,3 @@
-use Rattle.std.proofs.Common.{◌≡◌}
 use Rattle.share_model.specs.declared.funding.Holder.TheVariants.{Currency}
 use Rattle.share_ledger.proofs.NetMore.{comes-to-fund, unheld-currency}
 use Rattle.share_ledger.proofs.ledger.Ledger.fund_currency.Goals as goal

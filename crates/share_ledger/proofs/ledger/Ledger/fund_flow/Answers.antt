@@ -1,4 +1,3 @@
-use Rattle.std.proofs.Common.{◌≡◌}
 use Rattle.share_model.specs.declared.funding.Holder.TheVariants.{Flow}
 use Rattle.share_model.specs.funding.Changes.{flow_number, flow_named}
 use Rattle.share_ledger.proofs.NetMore.{comes-to-fund, unheld-flow}

@@ -1,4 +1,3 @@
-use Rattle.std.proofs.Common.{◌≡◌}
 use Rattle.share_ledger.proofs.NetMore.{ceases-to-fund}
 use Rattle.share_ledger.proofs.ledger.Ledger.unfund.Goals as goal
 

@@ -1,9 +1,7 @@
-use Rattle.std.proofs.Common.{◌≡◌, ◌≤◌, ◌<◌, ◌+◌, ◌^◌, ℕ, Bool, true, false, cond, nat_eq, List, refl, sym, ap, ◌∙◌, arith}
-use Rattle.share_ledger.specs.declared.routes.Route.{Route}
+use Rattle.std.proofs.Common.{◌≡◌, ◌≤◌, ◌+◌, ◌^◌, ℕ, true, false, cond, nat_eq, List, ap, ◌∙◌, arith}
 use Rattle.share_ledger.specs.Rounds.{flags_of, numbers_of}
-use Rattle.share_ledger.specs.Routes.{gathered}
 use Rattle.share_ledger.specs.Seats.{backs_of, funds_of}
-use Rattle.share_ledger.proofs.NetMore.{gain, counted-given, less-bound, seated-more, seated-same, ordered-more, sum-bound}
+use Rattle.share_ledger.proofs.NetMore.{counted-given, less-bound, seated-more, seated-same, sum-bound}
 use Rattle.share_ledger.proofs.net.Net.add_funding.Goals as goal
 
 pub grow-requires-clause-small : goal.grow-requires-clause-small

@@ -1,4 +1,4 @@
-use Rattle.std.proofs.Common.{Bool, not, subst}
+use Rattle.std.proofs.Common.{not, subst}
 use Rattle.share_ledger.specs.Nets.{GrowsBy}
 use Rattle.share_ledger.specs.Seats.{backs_of, funds_of}
 use Rattle.share_ledger.proofs.net.Net.take.Goals as goal

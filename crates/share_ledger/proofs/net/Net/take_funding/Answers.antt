@@ -1,9 +1,8 @@
-use Rattle.std.proofs.Common.{◌≡◌, ◌≤◌, ◌<◌, ◌+◌, ℕ, Bool, true, false, cond, nat_eq, List, refl, sym, ap, ◌∙◌, arith}
+use Rattle.std.proofs.Common.{◌≡◌, ◌+◌, ℕ, true, false, cond, nat_eq, List, sym, ap, ◌∙◌, arith}
 use Rattle.std.proofs.lemmas.Bool.Decides.{nat_tests}
-use Rattle.share_ledger.specs.declared.routes.Route.{Route}
 use Rattle.share_ledger.specs.Rounds.{flags_of, numbers_of}
 use Rattle.share_ledger.specs.Seats.{backs_of, funds_of}
-use Rattle.share_ledger.proofs.NetMore.{gain, gain-held, counted-taken, seated-less, seated-back, ordered-less}
+use Rattle.share_ledger.proofs.NetMore.{gain-held, counted-taken, seated-less, seated-back}
 use Rattle.share_ledger.proofs.net.Net.take_funding.Goals as goal
 
 self_from : (n : ℕ) → nat_eq n n ≡ true

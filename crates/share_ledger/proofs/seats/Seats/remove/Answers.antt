@@ -1,10 +1,9 @@
 use Rattle.std.proofs.Common.{◌≡◌, ◌+◌, ◌<◌, ◌-◌, List, sum_by, take, length, sym, ap, ◌∙◌, arith}
-use Rattle.std.proofs.Common.{true≢false, get_or, set}
+use Rattle.std.proofs.Common.{get_or, set}
 use Rattle.std.proofs.lemmas.List.{get_or-take, length-take}
 use Rattle.share_ledger.specs.declared.seats.Seat.{Seat}
 use Rattle.share_ledger.specs.Seats.{is_like}
-use Rattle.share_model.specs.funding.SettleLaws.{none_any}
-use Rattle.share_ledger.proofs.Positions.{position-first, position-none}
+use Rattle.share_ledger.proofs.Positions.{position-first}
 use Rattle.share_ledger.proofs.SeatSums.{first-passes, first-below, like-same, sum-taken_out}
 use Rattle.share_ledger.proofs.seats.Seats.remove.Goals as goal
 

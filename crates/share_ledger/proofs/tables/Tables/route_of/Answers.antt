@@ -1,6 +1,5 @@
 use Rattle.std.proofs.Common.{◌≡◌, Some, option_copied, sym, ap, subst, ◌∙◌}
 use Rattle.share_model.specs.lists.Laws.{each-find}
-use Rattle.share_model.specs.declared.funding.Ticket.{Ticket}
 use Rattle.share_model.specs.funding.Changes.{ticket_of, is_numbered}
 use Rattle.share_ledger.specs.Routes.{IsRouteWithin}
 use Rattle.share_ledger.proofs.LinkPlaces.{IsPlaced, placed}

@@ -3,6 +3,7 @@ pub mod Lays
 pub mod LinkChains
 pub mod LinkPlaces
 pub mod LinkSteps
+pub mod NetFunds
 pub mod NetMore
 pub mod NetQuiet
 pub mod NetSeats

@@ -1,6 +1,7 @@
 -- Seats that are given one by one, and what follows where none is awake yet.
 use Rattle.std.proofs.Common.{◌≡◌, ◌≤◌, ◌<◌, ◌+◌, ℕ, zero, suc, Bool, true, false, cond, ◌&&◌, List, [], ◌∷◌, ◌++◌}
-use Rattle.std.proofs.Common.{nat_eq, nat_lt, take, sum_by, length, get_or, map, refl, sym, ap, subst, ◌∙◌, arith, option_map}
+use Rattle.std.proofs.Common.{nat_eq, nat_lt, take, sum_by, length, get_or, map, refl, sym, ap, subst, ◌∙◌, arith}
+use Rattle.std.proofs.Common.{option_map}
 use Rattle.std.proofs.Common.{Some, slice_get}
 use Rattle.std.proofs.lemmas.Bool.Decides.{nat_tests}
 use Rattle.std.proofs.lemmas.List.Sums.{sum_by-cons, sum_by_push, sum_by_more}
@@ -77,7 +78,8 @@ gathered-none rs flag p dark = all rs
         omega (arith, sum_by-cons (λ (r : Route). cond (nat_eq p r.from && flag r.to) r.amount 0) r qs)
 
 -- what is gathered by flags that are the same
-pub gathered-same : (rs : List Route) (f h : ℕ → Bool) (p : ℕ) → ((k : ℕ) → f k ≡ h k) → gathered rs f p ≡ gathered rs h p
+pub gathered-same : (rs : List Route) (f h : ℕ → Bool) (p : ℕ) → ((k : ℕ) → f k ≡ h k)
+    → gathered rs f p ≡ gathered rs h p
 unfolding gathered
 gathered-same rs f h p same = all rs
   where
@@ -137,7 +139,8 @@ beyond [] d k le = refl
 beyond (x ∷ xs) d zero le = absurd (omega arith)
 beyond (x ∷ xs) d (suc k) le = beyond xs d k (omega arith)
 
-length-parts : (es : List (NameBytes × OpenFlow)) → length (map (λ (e : NameBytes × OpenFlow). e.1.active) es) ≡ length es
+length-parts : (es : List (NameBytes × OpenFlow)) → length (map
+    (λ (e : NameBytes × OpenFlow). e.1.active) es) ≡ length es
 length-parts [] = refl
 length-parts (e ∷ es) = let rest = length-parts es in omega arith
 

@@ -378,7 +378,8 @@ module _ (g : Graph) (ok : IsKept g) (lit held : ℕ → Bool)
         by n Nobody there = omega arith
         by n (Flow f) there = omega arith
         by n (Currency d) there =
-            rw (held-are d there) (at_most (nat_eq p (place (names_of g) d)) (list_any (act g 8) (issued g.tickets d)) n)
+            rw (held-are d there) (at_most (nat_eq p (place (names_of g) d)) (list_any (act g 8)
+            (issued g.tickets d)) n)
 
     pub valued-bound : (n p : ℕ) → n ≤ 9 → p < 65 → valued (routes_of g true g.tickets) held whole n p ≤ 9 * 2 ^ 30
     unfolding valued

@@ -77,7 +77,8 @@ module _ (g : Graph) (ok : IsKept g) (backs funds : List Route) (backing : backs
       ∙ poured-flow g ok lit held flows (held-is g ok lit begun held flows first_of rounds_of) whole wholes v
       (λ c there. values (place (names_of g) c) (below c there)
       ∙ ap (λ rs. valued rs held whole 9 (place (names_of g) c)) backing
-      ∙ valued-is g ok lit held flows (held-is g ok lit begun held flows first_of rounds_of) whole wholes 9 c there) f known
+      ∙ valued-is g ok lit held flows (held-is g ok lit begun held flows first_of rounds_of) whole wholes 9 c
+      there) f known
     where
       below : (c : NameBytes) → 1 ≤ times c (names_of g) → place (names_of g) c < 65
       below c there = let under = place-below c (names_of g) there in let few = ok.few_currencies in omega arith

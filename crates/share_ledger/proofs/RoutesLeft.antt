@@ -44,7 +44,8 @@ kept-left net ready shares g h routes flows same kept = record {
   net_ready = λ e. relit net shares (backs_of h) (funds_of h) (activity_of g) (activity_of h)
       (subst (λ rs. IsReady net shares (backs_of h) rs (activity_of g)) (routes false)
       (subst (λ rs. IsReady net shares rs (funds_of g) (activity_of g)) (routes true) (kept.net_ready e)))
-      (λ k. ap (λ (es : List (NameBytes × OpenFlow)). get_or (map (λ (e : NameBytes × OpenFlow). e.1.active) es) k false)
+      (λ k. ap (λ (es : List (NameBytes × OpenFlow)). get_or (map
+      (λ (e : NameBytes × OpenFlow). e.1.active) es) k false)
       flows);
   backing_places = kept.backing_places;
   funding_places = kept.funding_places;
@@ -262,7 +263,8 @@ module _ (g : Graph) (ok : IsKept g) (net : Net) (shares : List ℕ) (f : ℕ) (
     turned-ready ready =
         relit net shares (backs_of (set_active g f a)) (funds_of (set_active g f a)) (activity_of g)
         (flags_of net.active.value)
-        (subst (λ rs. IsReady net shares (backs_of (set_active g f a)) rs (activity_of g)) (routes-set_active g ok f a false)
+        (subst (λ rs. IsReady net shares (backs_of (set_active g f a)) rs (activity_of g))
+        (routes-set_active g ok f a false)
         (subst (λ rs. IsReady net shares rs (funds_of g) (activity_of g)) (routes-set_active g ok f a true) ready))
         (λ k. sym (ready.begun.active_is k))
 

@@ -10,7 +10,8 @@ use Rattle.share_model.specs.declared.funding.Holder.{Holder}
 use Rattle.share_model.specs.declared.funding.Holder.TheVariants.{Nobody, Currency, Flow}
 use Rattle.share_model.specs.declared.funding.Ticket.{Ticket}
 use Rattle.share_model.specs.declared.funding.OpenFlow.{OpenFlow}
-use Rattle.share_model.specs.funding.Graph.{NameBytes, base, Graph, is_held_by_currency, issued, backing, is_active_flow}
+use Rattle.share_model.specs.funding.Graph.{NameBytes, base, Graph, is_held_by_currency, issued, backing}
+use Rattle.share_model.specs.funding.Graph.{is_active_flow}
 use Rattle.share_model.specs.funding.Graph.{is_active_holder, act, is_active, active, worth_by, val, tickets}
 use Rattle.share_model.specs.lists.Each.{Each}
 use Rattle.share_model.specs.lists.Laws.{each_map}

@@ -5,7 +5,8 @@ use Rattle.share_model.specs.funding.Graph.{NameBytes, Graph}
 use Rattle.share_ledger.specs.declared.net.Net.{Net}
 use Rattle.share_ledger.specs.declared.routes.Route.{Route}
 use Rattle.share_ledger.specs.Rounds.{flags_of, numbers_of}
-use Rattle.share_ledger.specs.Seats.{backs_of, funds_of, AreSeated, AreOrdered, AreCounted, AreAwake, AreValued, AreShared, AreSmall}
+use Rattle.share_ledger.specs.Seats.{backs_of, funds_of, AreSeated, AreOrdered, AreCounted, AreAwake, AreValued}
+use Rattle.share_ledger.specs.Seats.{AreShared, AreSmall}
 
 -- whether the flow at a place is active
 abbrev pub activity_of : Graph → ℕ → Bool

@@ -1,5 +1,6 @@
 //! What is kept beside the tables: the net of seats, weights and values by place, and the tickets of each open flow.
-ghost use Rattle.std.specs.Prelude.{◌≡◌, ℕ, ◌<◌, ◌+◌, ◌++◌, ◌∷◌, [], take, length, true, false, nat_eq, slice_index_or, IfOk};
+ghost use Rattle.std.specs.Prelude.{◌≡◌, ℕ, ◌<◌, ◌+◌, ◌++◌, ◌∷◌, [], take, length, true, false, nat_eq};
+ghost use Rattle.std.specs.Prelude.{slice_index_or, IfOk};
 ghost use Rattle.std.specs.Prelude.{if◌then◌else◌};
 ghost use Rattle.share_ledger.specs.Nets.{activity_of, ComesToFund, CeasesToFund, IsBegun, IsReady};
 ghost use Rattle.share_ledger.specs.Rounds.{flags_of};
@@ -207,7 +208,8 @@ impl Kept {
 
 fn append_none(shares: &mut [u32; MAX_FLOWS], count: usize)
     requires { count < 64 }
-    ensures shares { (k : ℕ) → slice_index_or shares.new k 0 ≡ (if nat_eq count k then 0 else slice_index_or shares.old k 0) }
+    ensures shares { (k : ℕ) → slice_index_or shares.new k 0
+        ≡ (if nat_eq count k then 0 else slice_index_or shares.old k 0) }
     ensures first { take (count + 1) shares.new ≡ take count shares.old ++ 0 ∷ [] }
 {
     shares[count] = 0;

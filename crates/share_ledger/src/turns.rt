@@ -1,4 +1,4 @@
-//! What commands do to the net: a flow that wakes or rests, and all seats anew.
+//! What changes the net: a flow that wakes or rests, one seat more or fewer, and all seats anew.
 ghost use Rattle.share_ledger.specs.declared.seats.Seat.{Seat};
 ghost use Rattle.std.specs.Prelude.{◌≡◌, ℕ, sum_by, ◌+◌, ◌<◌, ◌++◌, ◌∷◌, [], length, true, false, not, nat_eq, IfOk};
 ghost use Rattle.std.specs.Prelude.{◌^◌, min, take, slice_set, if◌then◌else◌};
@@ -42,7 +42,7 @@ fn clear(holders: &mut Vec<Seats>)
 
 // The holder of a route gets its seat. Not so where it has no room, or where seats have to come from before their
 // holder and this one does not.
-fn seat(route: &Route, holders: &mut Vec<Seats>, ordered: bool) -> bool
+pub(crate) fn seat(route: &Route, holders: &mut Vec<Seats>, ordered: bool) -> bool
     requires within { IsRouteWithin route.now }
     requires places { length holders.old.items ≡ 65 }
     ensures places { length holders.new.items ≡ 65 }
@@ -66,7 +66,7 @@ fn seat(route: &Route, holders: &mut Vec<Seats>, ordered: bool) -> bool
 }
 
 // The holder of a route loses its seat, if it has it.
-fn unseat(route: &Route, holders: &mut Vec<Seats>) -> bool
+pub(crate) fn unseat(route: &Route, holders: &mut Vec<Seats>) -> bool
     requires within { IsRouteWithin route.now }
     requires places { length holders.old.items ≡ 65 }
     ensures places { length holders.new.items ≡ 65 }
@@ -84,7 +84,7 @@ fn unseat(route: &Route, holders: &mut Vec<Seats>) -> bool
 }
 
 // What a ticket counts for, where its holder is awake.
-fn counted(holds: bool, amount: u32) -> u32
+pub(crate) fn counted(holds: bool, amount: u32) -> u32
     ensures { result ≡ (if holds then amount else 0) }
 {
     if holds {
@@ -315,101 +315,5 @@ impl Net {
             &mut self.values,
         );
         true
-    }
-
-    // One more ticket backs a currency. Not so where it would not come from before it.
-    fn add_backing(&mut self, tables: &Tables, route: &Route) -> bool
-        requires within { IsRouteWithin route.now }
-        requires begun { ComesToFund self.old tables.now route.now true }
-        ensures begun { result ≡ true
-            → IsBegun self.new (backs_of tables.now) (funds_of tables.now) (activity_of tables.now) }
-        ensures places { (length self.new.backing.items ≡ 65) × (length self.new.funding.items ≡ 65) }
-    {
-        tables.is_kept();
-        if !seat(route, &mut self.backing, true) {
-            return false;
-        }
-        let amount = counted(self.awake[route.to], route.amount);
-        net::grow(&mut self.weights, route.from, amount);
-        true
-    }
-
-    // One more ticket funds a flow.
-    fn add_funding(&mut self, tables: &Tables, route: &Route) -> bool
-        requires within { IsRouteWithin route.now }
-        requires begun { ComesToFund self.old tables.now route.now false }
-        ensures begun { result ≡ true
-            → IsBegun self.new (backs_of tables.now) (funds_of tables.now) (activity_of tables.now) }
-        ensures places { (length self.new.backing.items ≡ 65) × (length self.new.funding.items ≡ 65) }
-    {
-        tables.is_kept();
-        if !seat(route, &mut self.funding, false) {
-            return false;
-        }
-        let amount = counted(self.active[route.to], route.amount);
-        net::grow(&mut self.weights, route.from, amount);
-        true
-    }
-
-    // A ticket backs a currency no longer.
-    fn take_backing(&mut self, tables: &Tables, route: &Route) -> bool
-        requires within { IsRouteWithin route.now }
-        requires begun { CeasesToFund self.old tables.now route.now true }
-        ensures begun { result ≡ true
-            → IsBegun self.new (backs_of tables.now) (funds_of tables.now) (activity_of tables.now) }
-        ensures places { (length self.new.backing.items ≡ 65) × (length self.new.funding.items ≡ 65) }
-    {
-        tables.is_kept();
-        if !unseat(route, &mut self.backing) {
-            return false;
-        }
-        let amount = counted(self.awake[route.to], route.amount);
-        net::shrink(&mut self.weights, route.from, amount);
-        true
-    }
-
-    // A ticket funds a flow no longer.
-    fn take_funding(&mut self, tables: &Tables, route: &Route) -> bool
-        requires within { IsRouteWithin route.now }
-        requires begun { CeasesToFund self.old tables.now route.now false }
-        ensures begun { result ≡ true
-            → IsBegun self.new (backs_of tables.now) (funds_of tables.now) (activity_of tables.now) }
-        ensures places { (length self.new.backing.items ≡ 65) × (length self.new.funding.items ≡ 65) }
-    {
-        tables.is_kept();
-        if !unseat(route, &mut self.funding) {
-            return false;
-        }
-        let amount = counted(self.active[route.to], route.amount);
-        net::shrink(&mut self.weights, route.from, amount);
-        true
-    }
-
-    /// A ticket backs one currency more or funds one flow more. Not so where it would not come from before its holder.
-    pub(crate) fn give(&mut self, tables: &Tables, route: &Route, backing: bool) -> bool
-        requires within { IsRouteWithin route.now }
-        requires begun { ComesToFund self.old tables.now route.now backing }
-        ensures begun { result ≡ true
-            → IsBegun self.new (backs_of tables.now) (funds_of tables.now) (activity_of tables.now) }
-        ensures places { (length self.new.backing.items ≡ 65) × (length self.new.funding.items ≡ 65) }
-    {
-        if backing {
-            return self.add_backing(tables, route);
-        }
-        self.add_funding(tables, route)
-    }
-
-    /// A ticket backs a currency or funds a flow no longer.
-    pub(crate) fn take(&mut self, tables: &Tables, route: &Route, backing: bool) -> bool
-        requires within { IsRouteWithin route.now }
-        requires begun { CeasesToFund self.old tables.now route.now backing }
-        ensures begun { result ≡ true
-            → IsBegun self.new (backs_of tables.now) (funds_of tables.now) (activity_of tables.now) }
-        ensures places { (length self.new.backing.items ≡ 65) × (length self.new.funding.items ≡ 65) }
-    {
-        if backing {
-            return self.take_backing(tables, route);
-        }
-        self.take_funding(tables, route)
     }
 }

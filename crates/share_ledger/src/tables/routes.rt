@@ -1,5 +1,6 @@
 //! The routes of the tickets that have a holder, and the tickets of each open flow that follow from them.
-ghost use Rattle.std.specs.Prelude.{◌≡◌, ℕ, ◌≤◌, ◌<◌, length, map, take, slice_get, option_map, Some, IfSome, true, false};
+ghost use Rattle.std.specs.Prelude.{◌≡◌, ℕ, ◌≤◌, ◌<◌, length, map, take, slice_get, option_map, Some, IfSome, true};
+ghost use Rattle.std.specs.Prelude.{false};
 ghost use Rattle.share_model.specs.funding.Kept.{names_of, times, times_open, IsHolderKnown};
 ghost use Rattle.share_model.specs.funding.Laws.{uncapped};
 ghost use Rattle.share_ledger.specs.Rounds.{numbers_of};

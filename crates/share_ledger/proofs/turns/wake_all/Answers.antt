@@ -15,7 +15,8 @@ loop-place-preserved c =
     elim c.if-is_active_at.branch [
       | then-is_active_at w ↦ record {
         counted = λ p lt. ap (λ (ws : List ℕ). numbers_of ws p) w.weights-is ∙ w.wake.ensures.counted p lt
-            ∙ ap (λ (flags : List Bool). gathered backs (flags_of c.args.awake.now) p + gathered funds (flags_of flags) p)
+            ∙ ap (λ (flags : List Bool). gathered backs (flags_of c.args.awake.now) p + gathered funds
+            (flags_of flags) p)
             (sym w.active-is);
         woken = λ k. ap (λ (flags : List Bool). flags_of flags k) w.active-is
             ∙ before-wakes (activity_of c.args.tables.now) (flags_of c.loop-place.active)
@@ -24,7 +25,8 @@ loop-place-preserved c =
       }
       | else-is_active_at w ↦ record {
         counted = λ p lt. ap (λ (ws : List ℕ). numbers_of ws p) w.weights-is ∙ c.loop-place.invariant.counted p lt
-            ∙ ap (λ (flags : List Bool). gathered backs (flags_of c.args.awake.now) p + gathered funds (flags_of flags) p)
+            ∙ ap (λ (flags : List Bool). gathered backs (flags_of c.args.awake.now) p + gathered funds
+            (flags_of flags) p)
             (sym w.active-is);
         woken = λ k. ap (λ (flags : List Bool). flags_of flags k) w.active-is
             ∙ before-idle (activity_of c.args.tables.now) (flags_of c.loop-place.active) c.loop-place.place

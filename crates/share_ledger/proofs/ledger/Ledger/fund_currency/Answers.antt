@@ -1,5 +1,5 @@
 use Rattle.share_model.specs.declared.funding.Holder.TheVariants.{Currency}
-use Rattle.share_ledger.proofs.NetMore.{comes-to-fund, unheld-currency}
+use Rattle.share_ledger.proofs.NetFunds.{comes-to-fund, unheld-currency}
 use Rattle.share_ledger.proofs.ledger.Ledger.fund_currency.Goals as goal
 
 pub give-requires-clause-begun : goal.give-requires-clause-begun
@@ -8,5 +8,6 @@ give-requires-clause-begun c = λ e.
     let found = c.in-Some.ensures.1 in
     comes-to-fund g c.fund_currency.new.self c.args.ticket (Currency c.args.currency) c.self.inside.kept.net
     c.in-Some.route c.in-Some.backing c.in_ok-fund_currency.ensures.done.1
-    (unheld-currency g c.args.ticket c.args.currency c.in_ok-fund_currency.ensures.done.0) (c.self.invariant.net_ready e).begun
+    (unheld-currency g c.args.ticket c.args.currency c.in_ok-fund_currency.ensures.done.0)
+    (c.self.invariant.net_ready e).begun
     (found.0, (found.1.0, (cc), found.1.2, (cc)))

@@ -1,13 +1,14 @@
 use Rattle.share_model.specs.declared.funding.Holder.TheVariants.{Flow}
 use Rattle.share_model.specs.funding.Changes.{flow_number, flow_named}
-use Rattle.share_ledger.proofs.NetMore.{comes-to-fund, unheld-flow}
+use Rattle.share_ledger.proofs.NetFunds.{comes-to-fund, unheld-flow}
 use Rattle.share_ledger.proofs.ledger.Ledger.fund_flow.Goals as goal
 
 pub give-requires-clause-begun : goal.give-requires-clause-begun
 give-requires-clause-begun c = λ e.
     let g = c.self.inside.tables in
     let found = c.in-Some.ensures.1 in
-    comes-to-fund g c.fund_flow.new.self c.args.ticket (Flow (flow_number (flow_named g c.args.flow))) c.self.inside.kept.net
+    comes-to-fund g c.fund_flow.new.self c.args.ticket (Flow (flow_number
+    (flow_named g c.args.flow))) c.self.inside.kept.net
     c.in-Some.route c.in-Some.backing c.in_ok-fund_flow.ensures.done.1
     (unheld-flow g c.args.ticket c.args.flow c.in_ok-fund_flow.ensures.done.0) (c.self.invariant.net_ready e).begun
     (found.0, (found.1.0, (cc), found.1.2, (cc)))

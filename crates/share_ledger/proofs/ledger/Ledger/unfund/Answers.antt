@@ -1,4 +1,4 @@
-use Rattle.share_ledger.proofs.NetMore.{ceases-to-fund}
+use Rattle.share_ledger.proofs.NetFunds.{ceases-to-fund}
 use Rattle.share_ledger.proofs.ledger.Ledger.unfund.Goals as goal
 
 pub take-requires-clause-begun : goal.take-requires-clause-begun

@@ -33,10 +33,12 @@ returns-clause-begun c = λ e.
     let gf = b.1.1.2 in
     let joined = c.seat.ensures.seated c.if-not-seat.false in
     record {
-      backing = seated-more backs (backs_of g) r old.backing.items c.seat.new.holders.items was.backing c.requires.within gb
+      backing = seated-more backs (backs_of g) r old.backing.items c.seat.new.holders.items was.backing
+          c.requires.within gb
           joined c.seat.ensures.places;
       funding = seated-same funds (funds_of g) r old.funding.items was.funding gf;
-      ordered = ordered-more old.backing.items c.seat.new.holders.items r was.ordered (c.seat.ensures.before c.if-not-seat.false refl)
+      ordered = ordered-more old.backing.items c.seat.new.holders.items r was.ordered
+          (c.seat.ensures.before c.if-not-seat.false refl)
           joined;
       active_is = was.active_is;
       counted = counted-given backs funds (backs_of g) (funds_of g) r true false (flags_of old.awake.value)

@@ -34,7 +34,8 @@ returns-clause-begun c = λ e.
     let joined = c.seat.ensures.seated c.if-not-seat.false in
     record {
       backing = seated-same backs (backs_of g) r old.backing.items was.backing gb;
-      funding = seated-more funds (funds_of g) r old.funding.items c.seat.new.holders.items was.funding c.requires.within gf
+      funding = seated-more funds (funds_of g) r old.funding.items c.seat.new.holders.items was.funding
+          c.requires.within gf
           joined c.seat.ensures.places;
       ordered = was.ordered;
       active_is = was.active_is;

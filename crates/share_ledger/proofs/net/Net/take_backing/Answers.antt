@@ -40,7 +40,8 @@ returns-clause-begun c = λ e.
     let gf = b.1.1.2 in
     let out = c.unseat.ensures.out c.if-not-unseat.false in
     record {
-      backing = seated-less backs (backs_of g) r old.backing.items c.unseat.new.holders.items was.backing gb c.unseat.ensures.others
+      backing = seated-less backs (backs_of g) r old.backing.items c.unseat.new.holders.items was.backing gb
+          c.unseat.ensures.others
           out c.unseat.ensures.places;
       funding = seated-back funds (funds_of g) r old.funding.items was.funding gf;
       ordered = ordered-less backs (backs_of g) r old.backing.items c.unseat.new.holders.items was.backing gb

@@ -41,7 +41,8 @@ returns-clause-begun c = λ e.
     let out = c.unseat.ensures.out c.if-not-unseat.false in
     record {
       backing = seated-back backs (backs_of g) r old.backing.items was.backing gb;
-      funding = seated-less funds (funds_of g) r old.funding.items c.unseat.new.holders.items was.funding gf c.unseat.ensures.others
+      funding = seated-less funds (funds_of g) r old.funding.items c.unseat.new.holders.items was.funding gf
+          c.unseat.ensures.others
           out c.unseat.ensures.places;
       ordered = was.ordered;
       active_is = was.active_is;

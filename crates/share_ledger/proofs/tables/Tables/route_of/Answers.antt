@@ -11,7 +11,8 @@ route-requires-clause-denomination c =
     let g = c.args.self.now in
     let t = c.in-Some.ticket.now in
     let found : ticket_of g c.args.number ≡ Some t = sym c.ticket.ensures ∙ ap option_copied c.in-Some.is in
-    (each-find (IsPlaced g) (is_numbered c.args.number) g.tickets t (placed g c.is_kept.ensures) found).denomination_known
+    (each-find (IsPlaced g) (is_numbered c.args.number) g.tickets t
+    (placed g c.is_kept.ensures) found).denomination_known
 
 pub route-requires-clause-holder : goal.route-requires-clause-holder
 route-requires-clause-holder c =

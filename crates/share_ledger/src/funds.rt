@@ -1,0 +1,115 @@
+//! What commands do to the net: a ticket that comes to fund or ceases to.
+ghost use Rattle.share_ledger.specs.declared.seats.Seat.{Seat};
+ghost use Rattle.std.specs.Prelude.{◌≡◌, ℕ, sum_by, ◌+◌, ◌<◌, ◌++◌, ◌∷◌, [], length, true, false, not, nat_eq, IfOk};
+ghost use Rattle.std.specs.Prelude.{◌^◌, min, take, slice_set, if◌then◌else◌};
+ghost use Rattle.std.specs.List.{list_all};
+ghost use Rattle.share_model.specs.lists.Each.{Each};
+ghost use Rattle.share_ledger.specs.Rounds.{flags_of, numbers_of};
+ghost use Rattle.share_ledger.specs.Routes.{IsRouteWithin};
+ghost use Rattle.share_ledger.specs.Seats.{seats_at, seat_of, AreSeated, AreOrdered, AreCounted, backs_of, funds_of};
+ghost use Rattle.share_ledger.specs.Seats.{IsSeatWithin, AreSmall, weighed};
+ghost use Rattle.share_ledger.specs.Nets.{activity_of, ComesToFund, CeasesToFund, IsBegun, IsReady};
+ghost use Rattle.share_ledger.specs.Shares.{shares_of};
+
+use crate::net::{self, Net};
+use crate::routes::Route;
+use crate::tables::Tables;
+use crate::turns::{counted, seat, unseat};
+
+impl Net {
+    // One more ticket backs a currency. Not so where it would not come from before it.
+    fn add_backing(&mut self, tables: &Tables, route: &Route) -> bool
+        requires within { IsRouteWithin route.now }
+        requires begun { ComesToFund self.old tables.now route.now true }
+        ensures begun { result ≡ true
+            → IsBegun self.new (backs_of tables.now) (funds_of tables.now) (activity_of tables.now) }
+        ensures places { (length self.new.backing.items ≡ 65) × (length self.new.funding.items ≡ 65) }
+    {
+        tables.is_kept();
+        if !seat(route, &mut self.backing, true) {
+            return false;
+        }
+        let amount = counted(self.awake[route.to], route.amount);
+        net::grow(&mut self.weights, route.from, amount);
+        true
+    }
+
+    // One more ticket funds a flow.
+    fn add_funding(&mut self, tables: &Tables, route: &Route) -> bool
+        requires within { IsRouteWithin route.now }
+        requires begun { ComesToFund self.old tables.now route.now false }
+        ensures begun { result ≡ true
+            → IsBegun self.new (backs_of tables.now) (funds_of tables.now) (activity_of tables.now) }
+        ensures places { (length self.new.backing.items ≡ 65) × (length self.new.funding.items ≡ 65) }
+    {
+        tables.is_kept();
+        if !seat(route, &mut self.funding, false) {
+            return false;
+        }
+        let amount = counted(self.active[route.to], route.amount);
+        net::grow(&mut self.weights, route.from, amount);
+        true
+    }
+
+    // A ticket backs a currency no longer.
+    fn take_backing(&mut self, tables: &Tables, route: &Route) -> bool
+        requires within { IsRouteWithin route.now }
+        requires begun { CeasesToFund self.old tables.now route.now true }
+        ensures begun { result ≡ true
+            → IsBegun self.new (backs_of tables.now) (funds_of tables.now) (activity_of tables.now) }
+        ensures places { (length self.new.backing.items ≡ 65) × (length self.new.funding.items ≡ 65) }
+    {
+        tables.is_kept();
+        if !unseat(route, &mut self.backing) {
+            return false;
+        }
+        let amount = counted(self.awake[route.to], route.amount);
+        net::shrink(&mut self.weights, route.from, amount);
+        true
+    }
+
+    // A ticket funds a flow no longer.
+    fn take_funding(&mut self, tables: &Tables, route: &Route) -> bool
+        requires within { IsRouteWithin route.now }
+        requires begun { CeasesToFund self.old tables.now route.now false }
+        ensures begun { result ≡ true
+            → IsBegun self.new (backs_of tables.now) (funds_of tables.now) (activity_of tables.now) }
+        ensures places { (length self.new.backing.items ≡ 65) × (length self.new.funding.items ≡ 65) }
+    {
+        tables.is_kept();
+        if !unseat(route, &mut self.funding) {
+            return false;
+        }
+        let amount = counted(self.active[route.to], route.amount);
+        net::shrink(&mut self.weights, route.from, amount);
+        true
+    }
+
+    /// A ticket backs one currency more or funds one flow more. Not so where it would not come from before its holder.
+    pub(crate) fn give(&mut self, tables: &Tables, route: &Route, backing: bool) -> bool
+        requires within { IsRouteWithin route.now }
+        requires begun { ComesToFund self.old tables.now route.now backing }
+        ensures begun { result ≡ true
+            → IsBegun self.new (backs_of tables.now) (funds_of tables.now) (activity_of tables.now) }
+        ensures places { (length self.new.backing.items ≡ 65) × (length self.new.funding.items ≡ 65) }
+    {
+        if backing {
+            return self.add_backing(tables, route);
+        }
+        self.add_funding(tables, route)
+    }
+
+    /// A ticket backs a currency or funds a flow no longer.
+    pub(crate) fn take(&mut self, tables: &Tables, route: &Route, backing: bool) -> bool
+        requires within { IsRouteWithin route.now }
+        requires begun { CeasesToFund self.old tables.now route.now backing }
+        ensures begun { result ≡ true
+            → IsBegun self.new (backs_of tables.now) (funds_of tables.now) (activity_of tables.now) }
+        ensures places { (length self.new.backing.items ≡ 65) × (length self.new.funding.items ≡ 65) }
+    {
+        if backing {
+            return self.take_backing(tables, route);
+        }
+        self.take_funding(tables, route)
+    }
+}

@@ -1,4 +1,4 @@
-use Rattle.std.proofs.Common.{◌≡◌, ◌+◌, ◌∙◌, ap, arith}
+use Rattle.std.proofs.Common.{◌+◌, ◌∙◌, ap, arith}
 use Rattle.share_tariff.proofs.Cells.{one_more, covered-units}
 use Rattle.share_tariff.proofs.tests.closures.units_by_steps.Goals as goal
 

@@ -9,7 +9,7 @@ use std::process::Abort;
 use std::test::Fail;
 
 /// The steps of each run.
-const STEPS: u32 = 13000;
+const STEPS: u32 = 12500;
 
 // The next number of an xorshift generator.
 fn next(state: &mut u64) -> u64 {

@@ -31,3 +31,4 @@ test:
 
 bench: bin/stridelink
 	python3 bench/bench.py
+	python3 bench/ingress.py

@@ -126,24 +126,25 @@ LEDGER_LOOPS = (
 )
 
 
-def build_loops(folder):
-    """Builds the loops over the ledger and the stride queue, in a repository of their own over copies of the crates."""
-    used = ["share_base", "share_model", "share_ledger", "share_stride"]
+def build_crate(folder, name, sources, used, also, words):
+    """Builds a crate of the bench in a repository of its own over copies of the crates that it uses, and runs it once
+    with these words. `also` are the other libraries that it uses."""
     for crate in used:
         shutil.copytree(os.path.join(TOP, "crates", crate), os.path.join(folder, "crates", crate))
-    source = os.path.join(folder, "crates", "loops", "src")
+    shutil.copy(os.path.join(TOP, "HANDLES"), folder)
+    source = os.path.join(folder, "crates", name, "src")
     os.makedirs(source)
-    for name in ("main", "ledger", "stride"):
-        shutil.copy(os.path.join(TOP, "bench", "loops", name + ".rt.txt"), os.path.join(source, name + ".rt"))
+    for part in sources:
+        shutil.copy(os.path.join(TOP, "bench", name, part + ".rt.txt"), os.path.join(source, part + ".rt"))
     with open(os.path.join(TOP, "crates.txt")) as lines, open(os.path.join(folder, "crates.txt"), "w") as sink:
         for line in lines:
             if line.split(":")[0] in used:
                 sink.write(line)
-        sink.write("loops: share_base share_ledger share_stride anyhow\n")
-    print("building the loops over the ledger and the stride queue", file=sys.stderr)
-    subprocess.run(["rt", "run", "--", "stride", "8", "1"], cwd=os.path.dirname(source), check=True,
+        sink.write("%s: %s\n" % (name, " ".join([*used, *also])))
+    print("building bench/%s" % name, file=sys.stderr)
+    subprocess.run(["rt", "run", "--", *words], cwd=os.path.dirname(source), check=True,
                    stdout=subprocess.DEVNULL, stderr=subprocess.DEVNULL)
-    return os.path.join(folder, "crates", "loops", "out", "loops")
+    return os.path.join(folder, "crates", name, "out", name)
 
 
 def per_round(program, kind, size, few, many):
@@ -158,7 +159,8 @@ def per_round(program, kind, size, few, many):
 def measure_loops():
     """Prints what a round of each loop costs."""
     with tempfile.TemporaryDirectory() as folder:
-        program = build_loops(folder)
+        used = ["share_base", "share_model", "share_ledger", "share_stride"]
+        program = build_crate(folder, "loops", ["main", "ledger", "stride"], used, ["anyhow"], ["stride", "8", "1"])
         for flows in (8, 64):
             print("least and charge, %2d flows: %.3f us" % (flows, per_round(program, "stride", flows, 1, 2_000_000)))
         for kind, what in LEDGER_LOOPS:

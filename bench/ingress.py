@@ -7,13 +7,10 @@ one run, and their ratio is the median of the rounds' ratios. Nothing is written
 folder, which is removed.
 """
 import os
-import shutil
-import subprocess
-import sys
 import tempfile
 import time
 
-from bench import ROUNDS, TOP, median, run
+from bench import ROUNDS, build_crate, median, run
 
 USED = ("share_base", "share_model", "share_ingress")
 SOURCES = ("main", "records", "queues", "threads")
@@ -21,26 +18,6 @@ RECORDS = 1000
 PATTERN = 90
 WORKERS = 2
 NANOSECONDS = 1e9
-
-
-def build(folder):
-    """Builds the loops in a repository of their own over copies of the crates."""
-    for crate in USED:
-        shutil.copytree(os.path.join(TOP, "crates", crate), os.path.join(folder, "crates", crate))
-    shutil.copy(os.path.join(TOP, "HANDLES"), folder)
-    source = os.path.join(folder, "crates", "ingress", "src")
-    os.makedirs(source)
-    for name in SOURCES:
-        shutil.copy(os.path.join(TOP, "bench", "ingress", name + ".rt.txt"), os.path.join(source, name + ".rt"))
-    with open(os.path.join(TOP, "crates.txt")) as lines, open(os.path.join(folder, "crates.txt"), "w") as sink:
-        for line in lines:
-            if line.split(":")[0] in USED:
-                sink.write(line)
-        sink.write("ingress: share_base share_model share_ingress crossbeam_queue anyhow\n")
-    print("building the loops over the ingress side", file=sys.stderr)
-    subprocess.run(["rt", "run", "--", "next", "1", "1"], cwd=os.path.dirname(source), check=True,
-                   stdout=subprocess.DEVNULL, stderr=subprocess.DEVNULL)
-    return os.path.join(folder, "crates", "ingress", "out", "ingress")
 
 
 def timed(program, kind, size, rounds):
@@ -58,7 +35,7 @@ def per_record(program, kind, size, few, many, records):
 
 def main():
     with tempfile.TemporaryDirectory() as folder:
-        program = build(folder)
+        program = build_crate(folder, "ingress", SOURCES, USED, ["crossbeam_queue", "anyhow"], ["next", "1", "1"])
         for size in (1, 700, 1490):
             found = [per_record(program, "next", size, 10, 1010, RECORDS) for _ in range(ROUNDS)]
             print("next, a payload of %d bytes: %.0f ns" % (size, median(spent for spent, _ in found)))

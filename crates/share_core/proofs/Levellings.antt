@@ -1,7 +1,7 @@
 -- Levelling one flow after the other: what is left to do, and that it can be done.
-use Rattle.std.proofs.Common.{◌≡◌, ◌≢◌, ◌<◌, ◌≤◌, ◌+◌, ◌^◌, ◌∙◌, ℕ, zero, suc, Bool, List, [], ◌∷◌, ◌++◌, length, take, drop}
+use Rattle.std.proofs.Common.{◌≡◌, ◌≢◌, ◌<◌, ◌≤◌, ◌+◌, ◌^◌, ◌∙◌, ℕ, zero, suc, Bool, List, [], ◌∷◌, ◌++◌, length}
 use Rattle.std.proofs.Common.{map, set, get_or, slice_get, Option, None, Some, IsSome, refl, sym, ap, subst, add-one}
-use Rattle.std.proofs.Common.{arith}
+use Rattle.std.proofs.Common.{take, drop, arith}
 use Rattle.std.proofs.lemmas.List.{length-map, drop_all, take_all, take_more_set, get_or-set_other}
 use Rattle.std.proofs.lemmas.Option.{same_Some}
 use Rattle.std.specs.FinMap.{get}

@@ -28,8 +28,8 @@ use std::marker::Model;
 /// The longest life, in events.
 const MAX_LIFE: u64 = 1 << 24;
 
-/// The ledger, the queue, the buffers, the books and the counts of a link, and its shelf of tariffs. Beside the queue it
-/// keeps the tickets with which each open flow was levelled last, by its place.
+/// The ledger, the queue, the buffers, the books and the counts of a link, and its shelf of tariffs. Beside the queue
+/// it keeps the tickets with which each open flow was levelled last, by its place.
 #[derive(Drop)]
 pub struct Link<S: Rates> {
     alloc: Global,

@@ -8,7 +8,7 @@ ghost use Rattle.std.specs.Cmp.Lexicographic.{nat_list_eq_equiv, nat_list_cmp_to
 ghost use Rattle.std.specs.Cmp.{partial_equiv_from_equiv};
 ghost use Rattle.std.specs.Cmp.Rules.{hashing};
 ghost use Rattle.std.proofs.Common.{rules};
-ghost use Rattle.share_base.specs.Name.{is_letter, is_name_byte, is_name};
+ghost use Rattle.share_base.specs.Name.{is_letter, is_name_byte, is_name, padded};
 
 use std::cmp::Ordering;
 use std::hash::{Hash, Hasher};
@@ -48,22 +48,15 @@ impl Name {
     pub fn read(bytes: &[u8]) -> Option<Name>
         ensures { result ≡ (if is_name bytes.now then Some bytes.now else None) }
     {
-        if !spells_name(bytes) {
+        if !begins_well(bytes) || bytes.len() > MAX_NAME {
             return None;
         }
-        Some(Name::padded(bytes))
-    }
-
-    fn padded(bytes: &[u8]) -> Name
-        requires short { length bytes.now ≤ 16 }
-        requires name { is_name bytes.now ≡ true }
-        ensures { result ≡ bytes.now }
-    {
-        let mut padded = [0; MAX_NAME];
-        padded[..bytes.len()].copy_from_slice(bytes);
-        Name {
-            bytes: padded,
-            len: bytes.len(),
+        match copied(bytes) {
+            None => None,
+            Some(copy) => Some(Name {
+                bytes: copy,
+                len: bytes.len(),
+            }),
         }
     }
 
@@ -77,12 +70,6 @@ impl Name {
     }
 }
 
-fn spells_name(bytes: &[u8]) -> bool
-    ensures { result ≡ is_name bytes.now }
-{
-    begins_well(bytes) && bytes.len() <= MAX_NAME && has_name_bytes(bytes)
-}
-
 fn begins_well(bytes: &[u8]) -> bool
     ensures { result ≡ is_letter (slice_index bytes.now 0) }
 {
@@ -92,10 +79,20 @@ fn begins_well(bytes: &[u8]) -> bool
     }
 }
 
-fn has_name_bytes(bytes: &[u8]) -> bool
-    ensures { result ≡ list_all is_name_byte bytes.now }
+// The bytes of a name, and zeros behind them. `None` where one of them is in no name. They are copied as they are
+// tested: a name is short, and a call to copy it would take longer than the loop.
+fn copied(bytes: &[u8]) -> Option<[u8; 16]>
+    requires { length bytes.now ≤ 16 }
+    ensures { result ≡ (if list_all is_name_byte bytes.now then Some (padded bytes.now) else None) }
 {
-    bytes.iter().all(|byte| is_name_byte(*byte))
+    let mut copy = [0; MAX_NAME];
+    for place in 0..bytes.len() {
+        if !is_name_byte(bytes[place]) {
+            return None;
+        }
+        copy[place] = bytes[place];
+    }
+    Some(copy)
 }
 
 fn is_letter(byte: u8) -> bool

@@ -1,5 +1,6 @@
 pub mod FlowShares
 pub mod Lays
+pub mod LevelChains
 pub mod LinkChains
 pub mod LinkPlaces
 pub mod LinkSteps
@@ -8,12 +9,16 @@ pub mod NetMore
 pub mod NetQuiet
 pub mod NetSeats
 pub mod NetSteps
+pub mod Numbers
 pub mod Positions
 pub mod RouteLists
 pub mod RouteSteps
 pub mod RouteWorths
+pub mod RoutesBefore
 pub mod RoutesDone
 pub mod RoutesLeft
+pub mod SeatCounts
 pub mod SeatSums
 pub mod Settled
+pub mod StaleSteps
 pub mod Walks

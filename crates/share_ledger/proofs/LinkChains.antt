@@ -1,5 +1,5 @@
 -- Rounds over the links of the tickets find the chains of the definitions.
-use Rattle.std.proofs.Common.{None, Some, find, get_or, set, ◌≡◌, ◌≤◌, ◌<◌, ℕ, zero, suc, Bool, true, false, not, cond}
+use Rattle.std.proofs.Common.{Some, find, get_or, set, ◌≡◌, ◌≤◌, ◌<◌, ℕ, zero, suc, Bool, true, false, not, cond}
 use Rattle.std.proofs.Common.{◌&&◌, ◌||◌, List, [], ◌∷◌, map, length, bytes_eq, nat_eq, refl, sym, ap, subst, ◌∙◌}
 use Rattle.std.proofs.Common.{arith}
 use Rattle.std.specs.List.{list_any}
@@ -101,10 +101,6 @@ first-below : {X : Type 0} (p : X → Bool) (xs : List X) (i : ℕ) → IsFirstA
 first-below p [] i first = absurd first
 first-below p (x ∷ xs) zero first = omega arith
 first-below p (x ∷ xs) (suc i) first = let rest = first-below p xs i first.1 in omega arith
-
-pub find-none : {X : Type 0} (p : X → Bool) (xs : List X) → Each (λ x. p x ≡ false) xs → find p xs ≡ None
-find-none p [] none = refl
-find-none p (x ∷ xs) none = ap (λ b. cond b (Some x) (find p xs)) none.0 ∙ find-none p xs none.1
 
 module _ (g : Graph) (n : ℕ) where
   linked-at : (ts : List Ticket) (i : ℕ) (d : Link) → IsFirstAt (is_numbered n) ts i

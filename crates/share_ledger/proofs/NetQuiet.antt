@@ -60,12 +60,12 @@ weighed-quiet ss on v w u p within same =
 pub quiet-ready : (old new : Net) (shares : List ℕ) (backs funds : List Route) (lit : ℕ → Bool) (place n : ℕ) (b : Bool)
     → IsReady old shares backs funds (flags_of old.active.value) → IsBegun new backs funds lit
     → new.backing ≡ old.backing → new.funding ≡ old.funding → new.awake ≡ old.awake → new.values ≡ old.values
-    → ((k : ℕ) → 0 < k → k < 65 → numbers_of new.weights.value k ≡ numbers_of old.weights.value k)
+    → new.seen ≡ old.seen → ((k : ℕ) → 0 < k → k < 65 → numbers_of new.weights.value k ≡ numbers_of old.weights.value k)
     → ((k : ℕ) → lit k ≡ cond (nat_eq place k) b (flags_of old.active.value k)) → place < 64 → length shares ≡ 64
     → n ≡ min (weighed new.funding.items (flags_of new.active.value) (numbers_of new.values.value)
     (numbers_of new.weights.value) place) (2 ^ 20)
     → IsReady new (set shares place n) backs funds lit
-quiet-ready old new shares backs funds lit place n b ready begun backing funding awake values still turned lt long own =
+quiet-ready old new shares backs funds lit place n b ready begun backing funding awake values seen still turned lt long own =
     record {
       begun = begun;
       awake_is = λ p above below. ap (λ a. flags_of a.value p) awake ∙ ready.awake_is p above below
@@ -80,6 +80,8 @@ quiet-ready old new shares backs funds lit place n b ready begun backing funding
           ∙ ap (λ v. weighed new.backing.items (flags_of new.awake.value) (numbers_of v.value)
           (numbers_of new.weights.value) p) (sym values);
       shared = λ p below. array-set shares place p n 0 (omega arith) ∙ shared p below (nat_eq place p) refl;
+      seen_is = λ p above below. ap (λ w. numbers_of w.value p) seen ∙ ready.seen_is p above below
+          ∙ sym (still p above below);
     }
   where
     same_number : (x y : ℕ) → nat_eq x y ≡ true → x ≡ y
@@ -155,4 +157,5 @@ relit n shares backs funds lit other ready same = record {
   awake_is = ready.awake_is;
   valued = ready.valued;
   shared = ready.shared;
+  seen_is = ready.seen_is;
 }

@@ -1,6 +1,6 @@
 -- The first element that passes a test, and lists that are changed there.
 use Rattle.std.proofs.Common.{◌≡◌, ℕ, ◌+◌, ◌≤◌, ◌<◌, zero, suc, Bool, true, false, not, cond, List, [], ◌∷◌, ◌++◌, map}
-use Rattle.std.proofs.Common.{length, get_or, set, position, nat_lt, nat_eq, Option, None, Some, Result, Ok, Err, IfOk}
+use Rattle.std.proofs.Common.{length, get_or, set, find, position, nat_lt, nat_eq, Option, None, Some, Result, Ok, Err, IfOk}
 use Rattle.std.proofs.Common.{refl, sym, ap, subst, ◌∙◌, arith, bytes_eq, if◌then◌else◌, remove}
 use Rattle.std.specs.List.{list_any}
 use Rattle.std.specs.List.{position_or_len}
@@ -74,6 +74,17 @@ module _ {X : Type 0} (p : X → Bool) where
           → Each (λ x. p x ≡ false) xs
       by true lt e = absurd cc
       by false lt e = place-none xs (above (position_or_len p xs) (length xs) lt)
+
+  -- what stands at the first place that passes is found
+  pub find-first : (xs : List X) (i : ℕ) (x : X) → IsFirstAt p xs i → x ≡ get_or xs i x → find p xs ≡ Some x
+  find-first [] i x h e = absurd h
+  find-first (y ∷ ys) zero x h e = ap (λ b. cond b (Some y) (find p ys)) h ∙ ap Some (sym e)
+  find-first (y ∷ ys) (suc i) x h e =
+      ap (λ b. cond b (Some y) (find p ys)) h.0 ∙ find-first ys i x h.1 e
+
+  pub find-none : (xs : List X) → Each (λ x. p x ≡ false) xs → find p xs ≡ None
+  find-none [] none = refl
+  find-none (x ∷ xs) none = ap (λ b. cond b (Some x) (find p xs)) none.0 ∙ find-none xs none.1
 
   -- what stands at the first place that passes is taken out
   pub remove-first : (xs : List X) (i : ℕ) → IsFirstAt p xs i → remove xs i ≡ remove_key p xs

@@ -72,7 +72,7 @@ routes-same g h b P (t ∷ ts) each same =
     ∙ ap (λ rs. cond (is_kind b t.holder) (route_of h t ∷ []) [] ++ rs) (routes-same g h b P ts each.1 same)
     ∙ sym (routes-cons h b t ts)
 
-route-same : (g h : Graph) (t : Ticket) → place (names_of g) t.denomination ≡ place (names_of h) t.denomination
+pub route-same : (g h : Graph) (t : Ticket) → place (names_of g) t.denomination ≡ place (names_of h) t.denomination
     → holder_place g t.holder ≡ holder_place h t.holder → route_of g t ≡ route_of h t
 route-same g h t from to =
     ap {B = Route} (λ p. record { from = p; to = holder_place g t.holder; amount = t.amount }) from
@@ -236,6 +236,7 @@ kept-opened net ready before after g name n ok at wrote more kept = record {
       awake_is = ready.awake_is;
       valued = ready.valued;
       shared = λ p lt. wrote p ∙ by p (nat_eq n p) refl lt;
+      seen_is = ready.seen_is;
     }
       where
         by : (p : ℕ) (b : Bool) → nat_eq n p ≡ b → p < 64

@@ -1,6 +1,10 @@
+pub mod Bounds
+pub mod Levels
 pub mod Nets
+pub mod Numbers
 pub mod Places
 pub mod Rounds
 pub mod Routes
 pub mod Seats
 pub mod Shares
+pub mod Stale

@@ -1,5 +1,5 @@
 -- What is kept of currencies and flows by their places.
-use Rattle.std.specs.Prelude.{◌≡◌, ◌+◌, ℕ, Bool, false, not, List, map, sum_by, slice_index_or, if◌then◌else◌}
+use Rattle.std.specs.Prelude.{◌≡◌, ◌<◌, ◌+◌, ℕ, Bool, false, not, List, map, sum_by, slice_index_or, if◌then◌else◌}
 use Rattle.share_model.specs.declared.funding.OpenFlow.{OpenFlow}
 use Rattle.share_model.specs.funding.Graph.{NameBytes, Graph}
 use Rattle.share_ledger.specs.declared.net.Net.{Net}
@@ -29,6 +29,7 @@ pub record IsReady (n : Net) (shares : List ℕ) (backs funds : List Route) (lit
       (numbers_of n.weights.value)
   pub shared : AreShared n.funding.items (flags_of n.active.value) (numbers_of n.values.value)
       (numbers_of n.weights.value) (numbers_of shares)
+  pub seen_is : (p : ℕ) → 0 < p → p < 65 → numbers_of n.seen.value p ≡ numbers_of n.weights.value p
 
 -- Any sum over some routes grows by what one more route counts for, if it is one of them.
 abbrev pub GrowsBy : Bool → List Route → List Route → Route → Type 0

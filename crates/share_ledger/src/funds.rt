@@ -8,8 +8,8 @@ ghost use Rattle.share_ledger.specs.Rounds.{flags_of, numbers_of};
 ghost use Rattle.share_ledger.specs.Routes.{IsRouteWithin};
 ghost use Rattle.share_ledger.specs.Seats.{seats_at, seat_of, AreSeated, AreOrdered, AreCounted, backs_of, funds_of};
 ghost use Rattle.share_ledger.specs.Seats.{IsSeatWithin, AreSmall, weighed};
-ghost use Rattle.share_ledger.specs.Nets.{activity_of, ComesToFund, CeasesToFund, IsBegun, IsReady};
-ghost use Rattle.share_ledger.specs.Shares.{shares_of};
+ghost use Rattle.share_ledger.specs.Nets.{activity_of, ComesToFund, CeasesToFund, IsBegun};
+ghost use Rattle.share_ledger.specs.Stale.{IsLeft};
 
 use crate::net::{self, Net};
 use crate::routes::Route;
@@ -24,6 +24,7 @@ impl Net {
         ensures begun { result ≡ true
             → IsBegun self.new (backs_of tables.now) (funds_of tables.now) (activity_of tables.now) }
         ensures places { (length self.new.backing.items ≡ 65) × (length self.new.funding.items ≡ 65) }
+        ensures left { result ≡ true → IsLeft self.old self.new route.now.to 64 }
     {
         tables.is_kept();
         if !seat(route, &mut self.backing, true) {
@@ -41,6 +42,7 @@ impl Net {
         ensures begun { result ≡ true
             → IsBegun self.new (backs_of tables.now) (funds_of tables.now) (activity_of tables.now) }
         ensures places { (length self.new.backing.items ≡ 65) × (length self.new.funding.items ≡ 65) }
+        ensures left { result ≡ true → IsLeft self.old self.new 0 route.now.to }
     {
         tables.is_kept();
         if !seat(route, &mut self.funding, false) {
@@ -58,6 +60,7 @@ impl Net {
         ensures begun { result ≡ true
             → IsBegun self.new (backs_of tables.now) (funds_of tables.now) (activity_of tables.now) }
         ensures places { (length self.new.backing.items ≡ 65) × (length self.new.funding.items ≡ 65) }
+        ensures left { result ≡ true → IsLeft self.old self.new route.now.to 64 }
     {
         tables.is_kept();
         if !unseat(route, &mut self.backing) {
@@ -75,6 +78,7 @@ impl Net {
         ensures begun { result ≡ true
             → IsBegun self.new (backs_of tables.now) (funds_of tables.now) (activity_of tables.now) }
         ensures places { (length self.new.backing.items ≡ 65) × (length self.new.funding.items ≡ 65) }
+        ensures left { result ≡ true → IsLeft self.old self.new 0 route.now.to }
     {
         tables.is_kept();
         if !unseat(route, &mut self.funding) {
@@ -92,6 +96,8 @@ impl Net {
         ensures begun { result ≡ true
             → IsBegun self.new (backs_of tables.now) (funds_of tables.now) (activity_of tables.now) }
         ensures places { (length self.new.backing.items ≡ 65) × (length self.new.funding.items ≡ 65) }
+        ensures left { result ≡ true → IsLeft self.old self.new
+            (if backing then route.now.to else 0) (if backing then 64 else route.now.to) }
     {
         if backing {
             return self.add_backing(tables, route);
@@ -106,6 +112,8 @@ impl Net {
         ensures begun { result ≡ true
             → IsBegun self.new (backs_of tables.now) (funds_of tables.now) (activity_of tables.now) }
         ensures places { (length self.new.backing.items ≡ 65) × (length self.new.funding.items ≡ 65) }
+        ensures left { result ≡ true → IsLeft self.old self.new
+            (if backing then route.now.to else 0) (if backing then 64 else route.now.to) }
     {
         if backing {
             return self.take_backing(tables, route);

@@ -1,15 +1,19 @@
 //! What is kept beside the tables: the net of seats, weights and values by place, and the tickets of each open flow.
 ghost use Rattle.std.specs.Prelude.{◌≡◌, ℕ, ◌<◌, ◌+◌, ◌++◌, ◌∷◌, [], take, length, true, false, nat_eq};
-ghost use Rattle.std.specs.Prelude.{slice_index_or, IfOk};
+ghost use Rattle.std.specs.Prelude.{slice_index_or, IfOk, IfSome};
 ghost use Rattle.std.specs.Prelude.{if◌then◌else◌};
+ghost use Rattle.share_ledger.specs.Bounds.{AreBefore};
 ghost use Rattle.share_ledger.specs.Nets.{activity_of, ComesToFund, CeasesToFund, IsBegun, IsReady};
 ghost use Rattle.share_ledger.specs.Rounds.{flags_of};
 ghost use Rattle.share_ledger.specs.Routes.{IsRouteWithin, routes_of};
 ghost use Rattle.share_ledger.specs.Seats.{backs_of, funds_of};
 ghost use Rattle.share_ledger.specs.Shares.{AreKept};
+ghost use Rattle.share_ledger.specs.Stale.{WasSettled};
 
+use crate::bounds;
 use crate::net::{self, Net};
 use crate::routes::Route;
+use crate::seats::Seats;
 use crate::tables::{MAX_FLOWS, MAX_TICKETS, Tables};
 use std::alloc::{AllocError, Global};
 use std::marker::Model;
@@ -89,6 +93,35 @@ impl Kept {
         })
     }
 
+    /// The seats of the currencies by their places, where they are ready.
+    pub(crate) fn backing(&self) -> Option<&[Seats]>
+        ensures { IfSome result (λ ss. (self.now.ready ≡ true) × (ss.now ≡ self.now.net.backing.items)) }
+    {
+        if self.ready {
+            return Some(&self.net.backing);
+        }
+        None
+    }
+
+    /// The seats of the flows by their places, where they are ready.
+    pub(crate) fn funding(&self) -> Option<&[Seats]>
+        ensures { IfSome result (λ ss. (self.now.ready ≡ true) × (ss.now ≡ self.now.net.funding.items)) }
+    {
+        if self.ready {
+            return Some(&self.net.funding);
+        }
+        None
+    }
+
+    /// Whether no currency from a place on backs or is backed, and none of them funds a flow, so far as that is kept.
+    pub(crate) fn is_before(&self, place: usize) -> bool
+        requires places { (length self.now.net.backing.items ≡ 65) × (length self.now.net.funding.items ≡ 65) }
+        ensures { result ≡ true → (self.now.ready ≡ true)
+            × AreBefore self.now.net.backing.items self.now.net.funding.items place }
+    {
+        self.ready && bounds::are_before(&self.net.backing, &self.net.funding, place)
+    }
+
     // The tickets of all flows by rounds over the routes, in whatever order the places stand.
     fn count(&mut self, tables: &Tables)
         requires places { (length self.old.net.backing.items ≡ 65) × (length self.old.net.funding.items ≡ 65) }
@@ -110,6 +143,20 @@ impl Kept {
         ensures { AreKept self.new.net self.new.ready self.new.shares.value tables.now }
     {
         self.ready = self.net.settle(tables, &mut self.shares);
+        if !self.ready {
+            self.count(tables);
+        }
+    }
+
+    // What follows where the seats of one currency, and the seats or the activity of one flow, have changed at most.
+    fn settle_changed(&mut self, tables: &Tables, currency: usize, flow: usize)
+        requires begun { IsBegun self.old.net (backs_of tables.now) (funds_of tables.now) (activity_of tables.now) }
+        requires was { WasSettled self.old.net self.old.shares.value currency flow }
+        ensures { AreKept self.new.net self.new.ready self.new.shares.value tables.now }
+    {
+        self.ready = self
+            .net
+            .settle_changed(tables, currency, flow, &mut self.shares);
         if !self.ready {
             self.count(tables);
         }
@@ -153,7 +200,21 @@ impl Kept {
             return;
         }
         self.net.turn(tables, place, active);
-        self.settle(tables);
+        self.settle_changed(tables, 0, place);
+    }
+
+    // What follows where the seats of the holder of a route have changed at most.
+    fn follow(&mut self, tables: &Tables, route: &Route, backing: bool)
+        requires begun { IsBegun self.old.net (backs_of tables.now) (funds_of tables.now) (activity_of tables.now) }
+        requires was { WasSettled self.old.net self.old.shares.value (if backing then route.now.to else 0)
+            (if backing then 64 else route.now.to) }
+        ensures { AreKept self.new.net self.new.ready self.new.shares.value tables.now }
+    {
+        if backing {
+            self.settle_changed(tables, route.to, MAX_FLOWS);
+            return;
+        }
+        self.settle_changed(tables, 0, route.to);
     }
 
     /// A ticket has come to back a currency, or to fund a flow.
@@ -161,6 +222,7 @@ impl Kept {
         requires within { IsRouteWithin route.now }
         requires places { (length self.old.net.backing.items ≡ 65) × (length self.old.net.funding.items ≡ 65) }
         requires begun { self.old.ready ≡ true → ComesToFund self.old.net tables.now route.now backing }
+        requires was { self.old.ready ≡ true → WasSettled self.old.net self.old.shares.value 0 64 }
         ensures { AreKept self.new.net self.new.ready self.new.shares.value tables.now }
     {
         if !self.ready {
@@ -169,7 +231,7 @@ impl Kept {
         }
         let begun = self.net.give(tables, route, backing);
         if begun {
-            self.settle(tables);
+            self.follow(tables, route, backing);
             return;
         }
         self.renew(tables);
@@ -180,6 +242,7 @@ impl Kept {
         requires within { IsRouteWithin route.now }
         requires places { (length self.old.net.backing.items ≡ 65) × (length self.old.net.funding.items ≡ 65) }
         requires begun { self.old.ready ≡ true → CeasesToFund self.old.net tables.now route.now backing }
+        requires was { self.old.ready ≡ true → WasSettled self.old.net self.old.shares.value 0 64 }
         ensures { AreKept self.new.net self.new.ready self.new.shares.value tables.now }
     {
         if !self.ready {
@@ -188,7 +251,7 @@ impl Kept {
         }
         let begun = self.net.take(tables, route, backing);
         if begun {
-            self.settle(tables);
+            self.follow(tables, route, backing);
             return;
         }
         self.renew(tables);

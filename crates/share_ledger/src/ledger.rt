@@ -75,7 +75,14 @@ impl Ledger {
         ensures refused { IfErr result
             (λ e. (remove_currency_refusal self.old name ≡ Some e) × (self.new ≡ self.old)) }
     {
+        self.tables.is_kept();
+        let place = self.tables.place_made(name);
         self.tables.remove_currency(name)?;
+        if let Some(place) = place {
+            if self.kept.is_before(place) {
+                return Ok(());
+            }
+        }
         self.kept.renew(&self.tables);
         Ok(())
     }
@@ -116,7 +123,8 @@ impl Ledger {
             (λ e. (fund_currency_refusal self.old ticket currency ≡ Some e) × (self.new ≡ self.old)) }
     {
         self.tables.is_kept();
-        self.tables.fund_currency(ticket, currency)?;
+        self.tables
+            .fund_currency(ticket, currency, self.kept.backing())?;
         match self.tables.route_of(ticket) {
             Some((route, backing)) => self.kept.give(&self.tables, &route, backing),
             None => self.kept.renew(&self.tables),
@@ -133,7 +141,7 @@ impl Ledger {
             (λ e. (fund_flow_refusal self.old ticket flow ≡ Some e) × (self.new ≡ self.old)) }
     {
         self.tables.is_kept();
-        self.tables.fund_flow(ticket, flow)?;
+        self.tables.fund_flow(ticket, flow, self.kept.funding())?;
         match self.tables.route_of(ticket) {
             Some((route, backing)) => self.kept.give(&self.tables, &route, backing),
             None => self.kept.renew(&self.tables),

@@ -8,18 +8,23 @@
 //! walk over the paths, of which there can be 16^8.
 #![tactic(auto)]
 
+mod bounds;
 mod funds;
 mod holders;
 mod kept;
 mod laws;
 mod ledger;
+mod levels;
 mod net;
 mod rounds;
 mod routes;
 mod seats;
+mod settles;
+mod stale;
 mod tables;
 #[cfg(test)]
 mod tests;
+mod tickets;
 mod turns;
 
 pub use ledger::Ledger;

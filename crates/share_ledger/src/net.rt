@@ -16,10 +16,10 @@ use crate::seats::{Seat, Seats};
 use crate::tables::{MAX_AMOUNT, MAX_FLOWS, Tables};
 
 /// More than any currency can be worth: nine times the amounts of all tickets.
-const MAX_VALUE: u64 = 9 << 30;
+pub(crate) const MAX_VALUE: u64 = 9 << 30;
 
 /// The seats of the currencies and of the flows by their places, which flows are active and which currencies awake,
-/// what weighs on each place, and the value of each currency.
+/// what weighs on each place and weighed on it when all was settled last, and the value of each currency.
 #[derive(Drop)]
 pub(crate) struct Net {
     pub(crate) backing: Vec<Seats>,
@@ -27,6 +27,7 @@ pub(crate) struct Net {
     pub(crate) active: Box<[bool; PLACES]>,
     pub(crate) awake: Box<[bool; PLACES]>,
     pub(crate) weights: Box<[u64; PLACES]>,
+    pub(crate) seen: Box<[u64; PLACES]>,
     pub(crate) values: Box<[u64; PLACES]>,
 }
 
@@ -220,6 +221,28 @@ fn settle_place(
     }
 }
 
+// Whether each currency is awake where its weight is not zero.
+fn are_settled(awake: &[bool; PLACES], weights: &[u64; PLACES]) -> bool
+    ensures { result ≡ true → AreAwake (flags_of awake.now) (numbers_of weights.now) }
+{
+    let mut settled = true;
+    for place in 1..PLACES {
+        settled &= awake[place] == (weights[place] > 0);
+    }
+    settled
+}
+
+/// Whether the weights of all places but that of `base` are the same.
+pub(crate) fn are_same(weights: &[u64; PLACES], seen: &[u64; PLACES]) -> bool
+    ensures { result ≡ true → (p : ℕ) → 0 < p → p < 65 → numbers_of weights.now p ≡ numbers_of seen.now p }
+{
+    let mut same = true;
+    for place in 1..PLACES {
+        same &= weights[place] == seen[place];
+    }
+    same
+}
+
 /// Wakes and rests the currencies, from the last place to the first.
 pub(crate) fn spread(
     tables: &Tables,
@@ -236,12 +259,15 @@ pub(crate) fn spread(
         (flags_of active.now) (numbers_of weights.new) }
     ensures awake { AreAwake (flags_of awake.new) (numbers_of weights.new) }
 {
+    if are_settled(awake, weights) {
+        return;
+    }
     for i in 0..64_usize {
         settle_place(tables, backing, active, 64 - i, awake, weights);
     }
 }
 
-fn value_at(
+pub(crate) fn value_at(
     holders: &[Seats],
     awake: &[bool; PLACES],
     weights: &[u64; PLACES],

@@ -1,17 +1,18 @@
 //! The tables of the ledger, and what is looked up in them.
 ghost use Rattle.std.specs.Prelude.{◌≡◌, ℕ, ◌+◌, ◌≤◌, length, bytes_eq, nat_eq, map, position, option_map};
-ghost use Rattle.std.specs.Prelude.{option_copied, slice_get};
+ghost use Rattle.std.specs.Prelude.{option_copied, slice_get, Some, MatchOption, IsTrue, ◌-◌};
 ghost use Rattle.share_model.specs.funding.Graph.{base, backing, funding, empty_graph};
 ghost use Rattle.share_model.specs.funding.Changes.{ticket_of, is_currency, flow_named, is_numbered};
 ghost use Rattle.share_model.specs.funding.Kept.{IsKept};
 ghost use Rattle.share_model.specs.declared.funding.OpenFlow.{OpenFlow};
 
 mod changes;
+mod counts;
 mod links;
 mod refusals;
 mod routes;
 
-use crate::holders;
+use crate::tickets;
 use indexmap::{IndexMap, IndexSet};
 use share_base::{FlowNo, Name};
 use share_model::{OpenFlow, Ticket};
@@ -118,17 +119,16 @@ impl Tables {
     fn ticket(&self, number: u64) -> Option<&Ticket>
         ensures { option_copied result ≡ ticket_of self.now number }
     {
-        self.tickets
-            .iter()
-            .find(|ticket| number == u64::from(ticket.number.number()))
+        match self.place_of_ticket(number) {
+            None => None,
+            Some(place) => Some(&self.tickets[place]),
+        }
     }
 
     fn place_of_ticket(&self, number: u64) -> Option<usize>
         ensures { result ≡ position (is_numbered number) self.now.tickets }
     {
-        self.tickets
-            .iter()
-            .position(|ticket| number == u64::from(ticket.number.number()))
+        tickets::place_of(&self.tickets, number)
     }
 
     fn flow_named(&self, name: Name) -> Option<OpenFlow>
@@ -169,24 +169,33 @@ impl Tables {
         ensures { result
             ≡ position (λ (o : OpenFlow). nat_eq flow o.number) (map (λ e. e.1) self.now.flows) }
     {
+        let place = self.flows_past_first(flow);
+        if self.is_flow_at(flow, place) {
+            return Some(place);
+        }
         self.flows.values().position(|open| flow == open.number)
     }
 
-    fn count_backing(&self, name: Name) -> usize
-        ensures { result ≡ length (backing self.now.tickets name) }
+    // As many flows after the first as the flow's number is past that of the first: it stands there where none between
+    // them was closed.
+    fn flows_past_first(&self, flow: FlowNo) -> usize
+        ensures { MatchOption (slice_get self.now.flows 0) (result ≡ 0) (λ first. result ≡ flow - first.1.number) }
     {
-        self.tickets
-            .iter()
-            .filter(|ticket| holders::is_currency(&ticket.holder, name))
-            .count()
+        match self.flow_at(0) {
+            None => 0,
+            Some((_, first)) => flow.number().saturating_sub(first.number.number()) as usize,
+        }
     }
 
-    fn count_funding(&self, flow: FlowNo) -> usize
-        ensures { result ≡ length (funding self.now.tickets flow) }
+    // Whether the open flow of a number stands at a place.
+    fn is_flow_at(&self, flow: FlowNo, place: usize) -> bool
+        ensures { IsTrue result
+            → position (λ (o : OpenFlow). nat_eq flow o.number) (map (λ e. e.1) self.now.flows) ≡ Some place }
     {
-        self.tickets
-            .iter()
-            .filter(|ticket| holders::is_flow(&ticket.holder, flow))
-            .count()
+        self.is_kept();
+        match self.flow_at(place) {
+            None => false,
+            Some((_, open)) => flow == open.number,
+        }
     }
 }

@@ -8,8 +8,7 @@ ghost use Rattle.share_ledger.specs.Rounds.{flags_of, numbers_of};
 ghost use Rattle.share_ledger.specs.Routes.{IsRouteWithin};
 ghost use Rattle.share_ledger.specs.Seats.{seats_at, seat_of, AreSeated, AreOrdered, AreCounted, backs_of, funds_of};
 ghost use Rattle.share_ledger.specs.Seats.{IsSeatWithin, AreSmall, weighed};
-ghost use Rattle.share_ledger.specs.Nets.{activity_of, ComesToFund, CeasesToFund, IsBegun, IsReady};
-ghost use Rattle.share_ledger.specs.Shares.{shares_of};
+ghost use Rattle.share_ledger.specs.Nets.{activity_of, IsBegun};
 
 use crate::net::{self, Net};
 use crate::rounds::PLACES;
@@ -182,6 +181,7 @@ impl Net {
             active: Box::new(alloc, [false; PLACES])?,
             awake: Box::new(alloc, [false; PLACES])?,
             weights: Box::new(alloc, [0; PLACES])?,
+            seen: Box::new(alloc, [0; PLACES])?,
             values: Box::new(alloc, [0; PLACES])?,
         })
     }
@@ -195,7 +195,8 @@ impl Net {
             ≡ (if nat_eq place k then active else flags_of self.old.active.value k) }
         ensures begun { IsBegun self.new (backs_of tables.now) (funds_of tables.now) (activity_of tables.now) }
         ensures left { (self.new.backing ≡ self.old.backing) × (self.new.funding ≡ self.old.funding)
-            × (self.new.awake ≡ self.old.awake) × (self.new.values ≡ self.old.values) }
+            × (self.new.awake ≡ self.old.awake) × (self.new.values ≡ self.old.values)
+            × (self.new.seen ≡ self.old.seen) }
         ensures still { list_all (λ s. nat_eq s.from 0) (seats_at self.old.funding.items place) ≡ true
             → (k : ℕ) → 0 < k → k < 65
             → numbers_of self.new.weights.value k ≡ numbers_of self.old.weights.value k }
@@ -249,48 +250,6 @@ impl Net {
             &self.values,
             place,
         );
-    }
-
-    // What follows from the seats and the activity.
-    fn follow(&mut self, tables: &Tables, shares: &mut [u32; MAX_FLOWS]) -> bool
-        requires { IsBegun self.old (backs_of tables.now) (funds_of tables.now) (activity_of tables.now) }
-        ensures ready { result ≡ true
-            → IsReady self.new shares.new (backs_of tables.now) (funds_of tables.now) (activity_of tables.now) }
-        ensures long { length shares.new ≡ 64 }
-        ensures places { (length self.new.backing.items ≡ 65) × (length self.new.funding.items ≡ 65) }
-    {
-        net::spread(
-            tables,
-            &self.backing,
-            &self.active,
-            &mut self.awake,
-            &mut self.weights,
-        );
-        if !net::revalue(&self.backing, &self.awake, &self.weights, &mut self.values) {
-            return false;
-        }
-        net::reshare(
-            &self.funding,
-            &self.active,
-            &self.weights,
-            &self.values,
-            shares,
-        );
-        true
-    }
-
-    /// What follows from the seats and the activity: what is awake, the values, and the tickets of the flows. Not so
-    /// where a value would be too great, which none ever is.
-    pub(crate) fn settle(&mut self, tables: &Tables, shares: &mut [u32; MAX_FLOWS]) -> bool
-        requires { IsBegun self.old (backs_of tables.now) (funds_of tables.now) (activity_of tables.now) }
-        ensures ready { result ≡ true
-            → IsReady self.new shares.new (backs_of tables.now) (funds_of tables.now) (activity_of tables.now) }
-        ensures shares { result ≡ true → take (length tables.now.flows) shares.new ≡ shares_of tables.now }
-        ensures long { length shares.new ≡ 64 }
-        ensures places { (length self.new.backing.items ≡ 65) × (length self.new.funding.items ≡ 65) }
-    {
-        tables.is_kept();
-        self.follow(tables, shares)
     }
 
     /// All seats and the activity anew. Not so where some seat would not come from before its holder.

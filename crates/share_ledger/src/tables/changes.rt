@@ -1,5 +1,5 @@
 //! The commands: each changes the graph as its rule says, or is refused with nothing changed.
-ghost use Rattle.std.specs.Prelude.{◌≡◌, ◌-◌, ◌^◌, ◌<◌, false, map, Some, None, IfOk, IfErr};
+ghost use Rattle.std.specs.Prelude.{◌≡◌, ◌-◌, ◌^◌, ◌<◌, false, map, Some, None, IfOk, IfErr, IfSome};
 ghost use Rattle.share_base.specs.Refusal.{IsRefused};
 ghost use Rattle.share_model.specs.funding.Changes.{with_holder, make_currency_refusal, make_currency};
 ghost use Rattle.share_model.specs.funding.Changes.{remove_currency_refusal, remove_currency, make_ticket_refusal};
@@ -8,9 +8,12 @@ ghost use Rattle.share_model.specs.funding.Changes.{fund_currency_refusal, fund_
 ghost use Rattle.share_model.specs.funding.Changes.{unfund_refusal, unfund, add_flow_refusal, add_flow, released};
 ghost use Rattle.share_model.specs.funding.Changes.{remove_flow, set_active};
 ghost use Rattle.share_model.specs.funding.Kept.{IsKept};
+ghost use Rattle.share_ledger.specs.Levels.{AreBacking};
+ghost use Rattle.share_ledger.specs.Seats.{AreSeated, funds_of};
 
 use super::Tables;
 use crate::holders;
+use crate::seats::Seats;
 use share_base::{FlowNo, Name, Refusal, TicketNo};
 use share_model::{Holder, OpenFlow, Ticket};
 
@@ -95,7 +98,14 @@ impl Tables {
         }
     }
 
-    pub(crate) fn fund_currency(&mut self, ticket: u64, currency: Name) -> Result<(), Refusal>
+    /// `seats` are those of the currencies, where they are kept.
+    pub(crate) fn fund_currency(
+        &mut self,
+        ticket: u64,
+        currency: Name,
+        seats: Option<&[Seats]>,
+    ) -> Result<(), Refusal>
+        requires { IfSome seats (λ ss. AreBacking self.old ss.now) }
         ensures done { IfOk result
             (λ _. (fund_currency_refusal self.old ticket currency ≡ None)
             × (self.new ≡ fund_currency self.old ticket currency)) }
@@ -103,21 +113,28 @@ impl Tables {
             (λ e. (fund_currency_refusal self.old ticket currency ≡ Some e) × (self.new ≡ self.old)) }
     {
         self.is_kept();
-        if let Some(refusal) = self.fund_currency_refusal(ticket, currency) {
+        if let Some(refusal) = self.fund_currency_refusal(ticket, currency, seats) {
             return Err(refusal);
         }
         self.give(ticket, &Holder::Currency(currency));
         Ok(())
     }
 
-    pub(crate) fn fund_flow(&mut self, ticket: u64, flow: Name) -> Result<(), Refusal>
+    /// `seats` are those of the flows, where they are kept.
+    pub(crate) fn fund_flow(
+        &mut self,
+        ticket: u64,
+        flow: Name,
+        seats: Option<&[Seats]>,
+    ) -> Result<(), Refusal>
+        requires { IfSome seats (λ ss. AreSeated (funds_of self.old) ss.now) }
         ensures done { IfOk result
             (λ _. (fund_flow_refusal self.old ticket flow ≡ None) × (self.new ≡ fund_flow self.old ticket flow)) }
         ensures refused { IfErr result
             (λ e. (fund_flow_refusal self.old ticket flow ≡ Some e) × (self.new ≡ self.old)) }
     {
         self.is_kept();
-        if let Some(refusal) = self.fund_flow_refusal(ticket, flow) {
+        if let Some(refusal) = self.fund_flow_refusal(ticket, flow, seats) {
             return Err(refusal);
         }
         if let Some(open) = self.flow_named(flow) {

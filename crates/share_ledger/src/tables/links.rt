@@ -1,5 +1,5 @@
 //! The tickets as links between the places of currencies, and what follows from rounds over them.
-ghost use Rattle.std.specs.Prelude.{◌≡◌, ◌≤◌, ◌<◌, ◌&&◌, nat_eq, [], ◌∷◌, true, is_some, length, map};
+ghost use Rattle.std.specs.Prelude.{◌≡◌, ◌≤◌, ◌<◌, ◌&&◌, nat_eq, [], ◌∷◌, true, is_some, length, map, IfSome};
 ghost use Rattle.std.specs.List.{list_any};
 ghost use Rattle.share_base.specs.Refusal.{first_refusal};
 ghost use Rattle.share_model.specs.declared.funding.OpenFlow.{OpenFlow};
@@ -35,6 +35,19 @@ impl Tables {
         match self.currencies.get_index_of(&name) {
             Some(place) => place + 1,
             None => 0,
+        }
+    }
+
+    /// The place of a currency that was made, if it is there.
+    pub(crate) fn place_made(&self, name: Name) -> Option<usize>
+        ensures { IfSome result (λ p. p ≡ place (names_of self.now) name) }
+    {
+        if is_base(name) {
+            return None;
+        }
+        match self.currencies.get_index_of(&name) {
+            Some(place) => Some(place + 1),
+            None => None,
         }
     }
 

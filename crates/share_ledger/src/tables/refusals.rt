@@ -1,13 +1,16 @@
 //! When each command is refused, want of memory aside.
-ghost use Rattle.std.specs.Prelude.{◌≡◌, Some};
+ghost use Rattle.std.specs.Prelude.{◌≡◌, Some, IfSome};
 ghost use Rattle.share_model.specs.funding.Changes.{ticket_of, found_denomination, uses, make_currency_refusal};
 ghost use Rattle.share_model.specs.funding.Changes.{remove_currency_refusal, make_ticket_refusal};
 ghost use Rattle.share_model.specs.funding.Changes.{remove_ticket_refusal, fund_currency_refusal, fund_flow_refusal};
 ghost use Rattle.share_model.specs.funding.Changes.{unfund_refusal, add_flow_refusal};
 ghost use Rattle.std.specs.List.{list_any};
+ghost use Rattle.share_ledger.specs.Levels.{AreBacking};
+ghost use Rattle.share_ledger.specs.Seats.{AreSeated, funds_of};
 
 use super::{MAX_AMOUNT, MAX_CURRENCIES, MAX_FLOWS, MAX_FUNDING, MAX_TICKETS, Tables, is_base};
 use crate::holders;
+use crate::seats::Seats;
 use share_base::{Name, Refusal};
 
 impl Tables {
@@ -76,7 +79,14 @@ impl Tables {
         }
     }
 
-    pub(crate) fn fund_currency_refusal(&self, number: u64, currency: Name) -> Option<Refusal>
+    /// `seats` are those of the currencies, where they are kept.
+    pub(crate) fn fund_currency_refusal(
+        &self,
+        number: u64,
+        currency: Name,
+        seats: Option<&[Seats]>,
+    ) -> Option<Refusal>
+        requires { IfSome seats (λ ss. AreBacking self.now ss.now) }
         ensures { result ≡ fund_currency_refusal self.now number currency }
     {
         let Some(ticket) = self.ticket(number) else {
@@ -91,13 +101,23 @@ impl Tables {
         if holders::is_held(&ticket.holder) {
             return Some(Refusal::Funding);
         }
-        if self.count_backing(currency) >= MAX_FUNDING {
+        if self.count_backing(currency, seats) >= MAX_FUNDING {
             return Some(Refusal::Crowded);
+        }
+        if self.is_above(number, currency, seats) {
+            return None;
         }
         self.chain_refusal(number, currency)
     }
 
-    pub(crate) fn fund_flow_refusal(&self, number: u64, flow: Name) -> Option<Refusal>
+    /// `seats` are those of the flows, where they are kept.
+    pub(crate) fn fund_flow_refusal(
+        &self,
+        number: u64,
+        flow: Name,
+        seats: Option<&[Seats]>,
+    ) -> Option<Refusal>
+        requires { IfSome seats (λ ss. AreSeated (funds_of self.now) ss.now) }
         ensures { result ≡ fund_flow_refusal self.now number flow }
     {
         let Some(ticket) = self.ticket(number) else {
@@ -109,7 +129,7 @@ impl Tables {
         if holders::is_held(&ticket.holder) {
             return Some(Refusal::Funding);
         }
-        if self.count_funding(open.number) >= MAX_FUNDING {
+        if self.count_funding(open.number, seats) >= MAX_FUNDING {
             return Some(Refusal::Crowded);
         }
         None

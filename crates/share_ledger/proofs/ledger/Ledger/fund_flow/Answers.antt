@@ -1,6 +1,9 @@
 use Rattle.share_model.specs.declared.funding.Holder.TheVariants.{Flow}
 use Rattle.share_model.specs.funding.Changes.{flow_number, flow_named}
 use Rattle.share_ledger.proofs.NetFunds.{comes-to-fund, unheld-flow}
+use Rattle.share_ledger.proofs.StaleSteps.{ready-was}
+use Rattle.share_ledger.specs.Nets.{activity_of}
+use Rattle.share_ledger.specs.Seats.{backs_of, funds_of}
 use Rattle.share_ledger.proofs.ledger.Ledger.fund_flow.Goals as goal
 
 pub give-requires-clause-begun : goal.give-requires-clause-begun
@@ -12,3 +15,9 @@ give-requires-clause-begun c = λ e.
     c.in-Some.route c.in-Some.backing c.in_ok-fund_flow.ensures.done.1
     (unheld-flow g c.args.ticket c.args.flow c.in_ok-fund_flow.ensures.done.0) (c.self.invariant.net_ready e).begun
     (found.0, (found.1.0, (cc), found.1.2, (cc)))
+
+pub give-requires-clause-was : goal.give-requires-clause-was
+give-requires-clause-was c = λ e.
+    let g = c.self.inside.tables in
+    ready-was c.self.inside.kept.net c.self.inside.kept.shares.value (backs_of g) (funds_of g) (activity_of g) 0 64
+    (c.self.invariant.net_ready e)

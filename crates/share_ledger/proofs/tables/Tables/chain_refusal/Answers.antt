@@ -6,10 +6,10 @@ use Rattle.share_model.specs.funding.Graph.{is_deep}
 use Rattle.share_model.specs.funding.Changes.{is_numbered, with_holder}
 use Rattle.share_ledger.specs.declared.rounds.Target.TheVariants.{Asleep}
 use Rattle.share_ledger.specs.declared.rounds.Link.{Link}
-use Rattle.share_ledger.proofs.LinkChains.{find-none, chain-within_links, chain-from, chain-meets, chain-long}
+use Rattle.share_ledger.proofs.LinkChains.{chain-within_links, chain-from, chain-meets, chain-long}
 use Rattle.share_ledger.proofs.LinkChains.{chain-written_within}
 use Rattle.share_model.specs.funding.ChangeLaws.{stands}
-use Rattle.share_ledger.proofs.Positions.{position-first, position-none}
+use Rattle.share_ledger.proofs.Positions.{find-none, position-first, position-none}
 use Rattle.share_ledger.proofs.tables.Tables.chain_refusal.Goals as goal
 
 abbrev idle : Link

@@ -1,0 +1,228 @@
+-- Routes are the same where a currency behind all of them is removed.
+use Rattle.std.proofs.Common.{◌≡◌, ◌≤◌, ◌<◌, ℕ, suc, Bool, true, false, cond, not, ◌&&◌, List, [], ◌∷◌, ◌++◌}
+use Rattle.std.proofs.Common.{length, sum_by, bytes_eq, nat_eq, nat_lt, None, refl, sym, ap, ◌∙◌, arith}
+use Rattle.std.proofs.Common.{true≢false}
+use Rattle.std.specs.List.{list_all}
+use Rattle.std.specs.Set.{remove_key}
+use Rattle.std.proofs.lemmas.List.Sums.{sum_by-cons}
+use Rattle.std.proofs.lemmas.Bool.Decides.{nat_tests}
+use Rattle.share_base.specs.declared.refusal.Refusal.TheVariants.{NoCurrency, Base}
+use Rattle.share_model.specs.declared.funding.Holder.{Holder}
+use Rattle.share_model.specs.declared.funding.Holder.TheVariants.{Nobody, Currency, Flow}
+use Rattle.share_model.specs.declared.funding.Ticket.{Ticket}
+use Rattle.share_model.specs.funding.Graph.{NameBytes, base, Graph}
+use Rattle.share_model.specs.funding.ChangeLaws.{not-refused}
+use Rattle.share_model.specs.funding.Changes.{is_currency, remove_currency_refusal, remove_currency}
+use Rattle.share_model.specs.funding.Kept.{names_of, IsKept}
+use Rattle.share_model.specs.lists.Each.{Each}
+use Rattle.share_ledger.specs.Bounds.{AreBefore}
+use Rattle.share_ledger.specs.declared.routes.Route.{Route}
+use Rattle.share_ledger.specs.declared.seats.Seat.{Seat}
+use Rattle.share_ledger.specs.Places.{place}
+use Rattle.share_ledger.specs.Routes.{holder_place, is_kind, route_of, routes_of}
+use Rattle.share_ledger.specs.Seats.{seats_at, seat_of, AreSeated, AreOrdered, backs_of, funds_of}
+use Rattle.share_ledger.proofs.LinkPlaces.{IsPlaced, placed}
+use Rattle.share_ledger.proofs.RouteLists.{routes-cons, route-within}
+use Rattle.share_ledger.proofs.RouteWorths.{sum-routes}
+use Rattle.share_ledger.proofs.RoutesLeft.{route-same}
+
+-- a name before one that is taken out keeps its place
+place-removed : (c d : NameBytes) (cs : List NameBytes) → place cs d < place cs c
+    → place cs d ≡ place (remove_key (bytes_eq c) cs) d
+unfolding place
+place-removed c d [] lt = absurd (omega arith)
+place-removed c d (x ∷ cs) lt = by (bytes_eq d x) (bytes_eq c x) refl lt (place-removed c d cs)
+  where
+    by : (a b : Bool) → bytes_eq d x ≡ a → cond a 0 (suc (place cs d)) < cond b 0 (suc (place cs c))
+        → (place cs d < place cs c → place cs d ≡ place (remove_key (bytes_eq c) cs) d)
+        → cond a 0 (suc (place cs d)) ≡ place (cond b cs (x ∷ remove_key (bytes_eq c) cs)) d
+    by a true e lt rest = absurd (omega arith)
+    by true false e lt rest = sym (ap (λ k. cond k 0 (suc (place (remove_key (bytes_eq c) cs) d))) e)
+    by false false e lt rest =
+        ap suc (rest (omega arith)) ∙ sym (ap (λ k. cond k 0 (suc (place (remove_key (bytes_eq c) cs) d))) e)
+
+-- what holds of all seats holds of all routes
+module _ (g : Graph) (b : Bool) (ss : List (List Seat)) (seated : AreSeated (routes_of g b g.tickets) ss)
+    (Q : ℕ → Seat → Bool) (each : (p : ℕ) → p < 65 → Each (λ s. Q p s ≡ true) (seats_at ss p)) where
+  abbrev fault : ℕ → Seat → ℕ
+  fault p s = cond (Q p s) 0 1
+
+  abbrev ticket-part : ℕ → Ticket → ℕ
+  ticket-part p t =
+      cond (is_kind b t.holder) (cond (nat_eq p (route_of g t).to) (fault p (seat_of (route_of g t))) 0) 0
+
+  no-faults : (p : ℕ) (xs : List Seat) → Each (λ s. Q p s ≡ true) xs → sum_by (fault p) xs ≡ 0
+  no-faults p [] each = refl
+  no-faults p (x ∷ xs) each =
+      let rest = no-faults p xs each.1 in
+      let here = ap {B = ℕ} (λ b. cond b 0 1) each.0 in
+      sum_by-cons (fault p) x xs ∙ omega arith
+
+  no-term : (f : Ticket → ℕ) (ts : List Ticket) → sum_by f ts ≡ 0 → Each (λ t. f t ≡ 0) ts
+  no-term f [] none = tt
+  no-term f (t ∷ ts) none =
+      let sum = sum_by-cons f t ts in (omega arith, no-term f ts (omega arith))
+
+  each-swap : (R : ℕ → Ticket → Type 0) (ts : List Ticket) → ((p : ℕ) → p < 65 → Each (R p) ts)
+      → Each (λ t. (p : ℕ) → p < 65 → R p t) ts
+  each-swap R [] all = tt
+  each-swap R (t ∷ ts) all = (λ p lt. (all p lt).0, each-swap R ts (λ p lt. (all p lt).1))
+
+  pub seats-tell : Each (λ t. (p : ℕ) → p < 65 → ticket-part p t ≡ 0) g.tickets
+  seats-tell =
+      each-swap (λ p t. ticket-part p t ≡ 0) g.tickets
+      (λ p lt. no-term (ticket-part p) g.tickets
+      (sym
+      (sym (no-faults p (seats_at ss p) (each p lt)) ∙ seated.seated (fault p) p lt
+      ∙ sum-routes g (λ (r : Route). cond (nat_eq p r.to) (fault p (seat_of r)) 0) b)))
+
+  itself : (p : ℕ) → nat_eq p p ≡ true
+  itself p = grind (arith, nat_tests)
+
+  pub route-tells : (t : Ticket) → (route_of g t).to < 65 → is_kind b t.holder ≡ true
+      → ((p : ℕ) → p < 65 → ticket-part p t ≡ 0) → Q (route_of g t).to (seat_of (route_of g t)) ≡ true
+  route-tells t inside kind none =
+      let p = (route_of g t).to in
+      let s = seat_of (route_of g t) in
+      let part : ◌≡◌ {A = ℕ} (ticket-part p t) (cond (Q p s) 0 1) =
+      ap {B = ℕ} (λ k. cond k (cond (nat_eq p p) (fault p s) 0) 0) kind
+      ∙ ap {B = ℕ} (λ k. cond k (fault p s) 0) (itself p) in
+      by (Q p s) (sym part ∙ none p inside)
+    where
+      by : (a : Bool) → ◌≡◌ {A = ℕ} (cond a 0 1) 0 → a ≡ true
+      by true e = refl
+      by false e = absurd (omega arith)
+
+all-each : {X : Type 0} (p : X → Bool) (xs : List X) → list_all p xs ≡ true → Each (λ x. p x ≡ true) xs
+all-each p [] e = tt
+all-each p (x ∷ xs) e = by (p x) refl e (all-each p xs)
+  where
+    by : (b : Bool) → p x ≡ b → (b && list_all p xs) ≡ true → (list_all p xs ≡ true → Each (λ x. p x ≡ true) xs)
+        → (p x ≡ true) × Each (λ x. p x ≡ true) xs
+    by true q all rest = (q, rest all)
+    by false q all rest = absurd (true≢false (sym all))
+
+routes-none : (g h : Graph) (b : Bool) → routes_of g b [] ≡ routes_of h b []
+unfolding routes_of
+routes-none g h b = refl
+
+-- A currency is removed
+module _ (g : Graph) (ok : IsKept g) (c : NameBytes) (unused : remove_currency_refusal g c ≡ None) where
+  apart : bytes_eq c base ≡ false
+  apart = (not-refused (bytes_eq c base) Base _ (not-refused (not (is_currency g c)) NoCurrency _ unused).1).0
+
+  stays : (d : NameBytes) → place (names_of g) d < place (names_of g) c
+      → place (names_of g) d ≡ place (names_of (remove_currency g c)) d
+  stays d lt =
+      place-removed c d (names_of g) lt
+      ∙ ap (λ b. place (cond b g.currencies (base ∷ remove_key (bytes_eq c) g.currencies)) d) apart
+
+  -- a ticket that is a route, from before the currency and to before it
+  abbrev IsEarly : Bool → Ticket → Type 0
+  IsEarly b t = is_kind b t.holder ≡ true
+      → (place (names_of g) t.denomination < place (names_of g) c)
+      × (b ≡ true → (route_of g t).to < place (names_of g) c)
+
+  early-holder : (b : Bool) (h : Holder) → is_kind b h ≡ true
+      → (b ≡ true → holder_place g h < place (names_of g) c) → holder_place g h ≡ holder_place (remove_currency g c) h
+  early-holder b Nobody kind early = refl
+  early-holder b (Flow f) kind early = refl
+  early-holder b (Currency d) kind early = stays d (early kind)
+
+  early-routes : (b : Bool) (ts : List Ticket) → Each (IsEarly b) ts
+      → routes_of g b ts ≡ routes_of (remove_currency g c) b ts
+  early-routes b [] each = routes-none g (remove_currency g c) b
+  early-routes b (t ∷ ts) each =
+      routes-cons g b t ts
+      ∙ by (is_kind b t.holder) refl
+      ∙ ap (λ rs. cond (is_kind b t.holder) (route_of (remove_currency g c) t ∷ []) [] ++ rs) (early-routes b ts each.1)
+      ∙ sym (routes-cons (remove_currency g c) b t ts)
+    where
+      by : (k : Bool) → is_kind b t.holder ≡ k
+          → cond k (route_of g t ∷ []) [] ++ routes_of g b ts
+          ≡ cond k (route_of (remove_currency g c) t ∷ []) [] ++ routes_of g b ts
+      by true e =
+          let early = each.0 e in
+          ap (λ r. r ∷ routes_of g b ts)
+          (route-same g (remove_currency g c) t (stays t.denomination early.0) (early-holder b t.holder e early.1))
+      by false e = refl
+
+  module _ (bs fs : List (List Seat)) (backs : AreSeated (backs_of g) bs) (funds : AreSeated (funds_of g) fs)
+      (ordered : AreOrdered bs) (before : AreBefore bs fs (place (names_of g) c)) where
+    less : (m n : ℕ) → nat_lt m n ≡ true → m < n
+    less m n e = grind (arith, nat_tests)
+
+    is_less : (m n : ℕ) → m < n → nat_lt m n ≡ true
+    is_less m n lt = grind (arith, nat_tests)
+
+    abbrev is_early : ℕ → Seat → Bool
+    is_early p s = nat_lt p (place (names_of g) c) && nat_lt s.from (place (names_of g) c)
+
+    back-seats : (p : ℕ) → p < 65 → Each (λ s. is_early p s ≡ true) (seats_at bs p)
+    back-seats p lt = by (nat_lt p (place (names_of g) c)) refl
+      where
+        all : p < place (names_of g) c → (xs : List Seat) → Each (λ (s : Seat). s.from < p) xs
+            → Each (λ s. is_early p s ≡ true) xs
+        all under [] each = tt
+        all under (x ∷ xs) each = (
+          ap (λ k. k && nat_lt x.from (place (names_of g) c)) (is_less p (place (names_of g) c) under)
+              ∙ is_less x.from (place (names_of g) c) (omega (arith, each.0)),
+          all under xs each.1,
+        )
+
+        none : (xs : List Seat) → length xs ≡ 0 → Each (λ s. is_early p s ≡ true) xs
+        none [] e = tt
+        none (x ∷ xs) e = absurd (omega arith)
+
+        past : (m n : ℕ) → nat_lt m n ≡ false → n ≤ m
+        past m n e = grind (arith, nat_tests)
+
+        by : (b : Bool) → nat_lt p (place (names_of g) c) ≡ b → Each (λ s. is_early p s ≡ true) (seats_at bs p)
+        by true e = all (less p (place (names_of g) c) e) (seats_at bs p) (ordered p lt)
+        by false e = none (seats_at bs p) (before.empty p (past p (place (names_of g) c) e) lt)
+
+    fund-seats : (p : ℕ) → p < 65 → Each (λ s. nat_lt s.from (place (names_of g) c) ≡ true) (seats_at fs p)
+    fund-seats p lt =
+        all-each (λ (s : Seat). nat_lt s.from (place (names_of g) c)) (seats_at fs p) (before.before p lt)
+
+    both : (a b : Bool) → (a && b) ≡ true → (a ≡ true) × (b ≡ true)
+    both true true e = (refl, refl)
+    both true false e = absurd (true≢false (sym e))
+    both false b e = absurd (true≢false (sym e))
+
+    early-backs : (ts : List Ticket) → Each (IsPlaced g) ts
+        → Each (λ t. (p : ℕ) → p < 65 → ticket-part g true bs backs is_early back-seats p t ≡ 0) ts
+        → Each (IsEarly true) ts
+    early-backs [] known none = tt
+    early-backs (t ∷ ts) known none = (
+      λ kind.
+          let inside = (route-within g ok t known.0).to_place in
+          let told =
+          both _ _ (route-tells g true bs backs is_early back-seats t inside kind none.0) in
+          (less _ _ told.1, λ _. less _ _ told.0),
+      early-backs ts known.1 none.1,
+    )
+
+    early-funds : (ts : List Ticket) → Each (IsPlaced g) ts
+        → Each (λ t. (p : ℕ) → p < 65 → ticket-part g false fs funds (λ p s. nat_lt s.from (place (names_of g) c))
+        fund-seats p t ≡ 0) ts
+        → Each (IsEarly false) ts
+    early-funds [] known none = tt
+    early-funds (t ∷ ts) known none = (
+      λ kind.
+          let inside = (route-within g ok t known.0).to_place in
+          let told =
+          route-tells g false fs funds (λ p s. nat_lt s.from (place (names_of g) c)) fund-seats t inside kind none.0 in
+          (less _ _ told, λ e. absurd (true≢false (sym e))),
+      early-funds ts known.1 none.1,
+    )
+
+    pub routes-remove_currency : (b : Bool)
+        → routes_of g b g.tickets ≡ routes_of (remove_currency g c) b g.tickets
+    routes-remove_currency true =
+        early-routes true g.tickets
+        (early-backs g.tickets (placed g ok) (seats-tell g true bs backs is_early back-seats))
+    routes-remove_currency false =
+        early-routes false g.tickets
+        (early-funds g.tickets (placed g ok)
+        (seats-tell g false fs funds (λ p s. nat_lt s.from (place (names_of g) c)) fund-seats))

@@ -1,0 +1,284 @@
+-- What is left where no weight and no value that seats rest on has changed.
+use Rattle.std.proofs.Common.{◌≡◌, ◌<◌, ◌≤◌, ◌+◌, ◌*◌, ◌/◌, ◌^◌, ℕ, Bool, true, false, cond, not, ◌&&◌, ◌||◌, min, List, [], ◌∷◌}
+use Rattle.std.proofs.Common.{sum_by, nat_eq, nat_lt, length, set, refl, sym, ap, ◌∙◌, arith}
+use Rattle.std.specs.List.{list_any}
+use Rattle.std.proofs.lemmas.Bool.Decides.{nat_tests}
+use Rattle.share_model.specs.funding.SettleLaws.{any_none}
+use Rattle.share_model.specs.lists.Each.{Each}
+use Rattle.share_model.specs.lists.Laws.{each_map}
+use Rattle.share_model.specs.lists.SumLaws.{sum_by-same_of}
+use Rattle.share_ledger.specs.declared.net.Net.{Net}
+use Rattle.share_ledger.specs.declared.routes.Route.{Route}
+use Rattle.share_ledger.specs.declared.seats.Seat.{Seat}
+use Rattle.share_ledger.specs.Nets.{IsBegun, IsReady}
+use Rattle.share_ledger.specs.Rounds.{flags_of, numbers_of}
+use Rattle.share_ledger.specs.Seats.{IsSeatWithin, seat_worth, seats_at, weighed, AreOrdered, AreAwake, AreShared}
+use Rattle.share_ledger.specs.Stale.{is_stale, WereValued, AreMoved, WasSettled, IsLeft}
+use Rattle.share_ledger.proofs.NetQuiet.{weighed-quiet}
+use Rattle.share_ledger.proofs.NetSteps.{array-set}
+
+-- seats from places that did not move are worth what they were
+module _ (moved : ℕ → Bool) (v w s u : ℕ → ℕ) where
+  each-both : (P : Seat → Type 0) (xs : List Seat) → Each P xs → Each (λ (x : Seat). moved x.from ≡ false) xs
+      → Each (λ (x : Seat). P x × (moved x.from ≡ false)) xs
+  each-both P [] p q = tt
+  each-both P (x ∷ xs) p q = ((p.0, q.0), each-both P xs p.1 q.1)
+
+  pub weighed-still : (ss : List (List Seat)) (on other : ℕ → Bool) (n p : ℕ) → on p ≡ other p
+      → Each (λ (x : Seat). x.from < n) (seats_at ss p)
+      → ((k : ℕ) → 0 < k → k < n → moved k ≡ false → (w k ≡ v k) × (u k ≡ s k))
+      → list_any (λ (x : Seat). moved x.from) (seats_at ss p) ≡ false
+      → weighed ss on v s p ≡ weighed ss other w u p
+  weighed-still ss on other n p lit before still none =
+      ap (λ b. cond b (sum_by (seat_worth v s) (seats_at ss p)) 0) lit
+      ∙ ap (λ k. cond (other p) k 0)
+      (sum_by-same_of (λ (x : Seat). (x.from < n) × (moved x.from ≡ false)) (seat_worth v s) (seat_worth w u)
+      (seats_at ss p)
+      (each-both (λ (x : Seat). x.from < n) (seats_at ss p) before
+      (any_none (λ (x : Seat). moved x.from) (seats_at ss p) none))
+      (λ x at. by (nat_eq x.from 0) x refl at))
+    where
+      above : (n : ℕ) → nat_eq n 0 ≡ false → 0 < n
+      above n e = grind (arith, nat_tests)
+
+      by : (b : Bool) (x : Seat) → nat_eq x.from 0 ≡ b → (x.from < n) × (moved x.from ≡ false)
+          → cond b x.amount (v x.from * x.amount / s x.from) ≡ cond b x.amount (w x.from * x.amount / u x.from)
+      by true x e at = refl
+      by false x e at =
+          let same = still x.from (above x.from e) at.0 at.1 in
+          ap (λ n. n * x.amount / s x.from) (sym same.0) ∙ ap (λ n. w x.from * x.amount / n) (sym same.1)
+
+  -- one place more that is not stale
+  module _ (ss : List (List Seat)) (awake : ℕ → Bool) (changed p : ℕ) (ordered : AreOrdered ss)
+      (lit : AreAwake awake u) (were : WereValued ss v s changed) (up : 0 < p) (lt : p < 65)
+      (fresh : is_stale ss moved u s changed p ≡ false) (left : (k : ℕ) → p ≤ k → w k ≡ v k)
+      (same : (k : ℕ) → 0 < k → k < p → moved k ≡ false → (w k ≡ v k) × (u k ≡ s k)) where
+    parts : (a b c : Bool) → (a || b || c) ≡ false → (a ≡ false) × ((b ≡ false) × (c ≡ false))
+    parts false false false e = (refl, (refl, refl))
+    parts false false true e = absurd (cc)
+    parts false true c e = absurd (cc)
+    parts true b c e = absurd (cc)
+
+    all : (nat_eq changed p ≡ false) × ((not (nat_eq (u p) (s p)) ≡ false)
+        × (list_any (λ (x : Seat). moved x.from) (seats_at ss p) ≡ false))
+    all =
+        parts (nat_eq changed p) (not (nat_eq (u p) (s p))) (list_any (λ (x : Seat). moved x.from) (seats_at ss p)) fresh
+
+    weight : u p ≡ s p
+    weight = by (u p) (s p) all.1.0
+      where
+        by : (a b : ℕ) → not (nat_eq a b) ≡ false → a ≡ b
+        by a b e = grind (arith, nat_tests)
+
+    pub fresh-same : (k : ℕ) → 0 < k → k < p + 1 → moved k ≡ false → (w k ≡ v k) × (u k ≡ s k)
+    fresh-same k above under still = by (nat_eq k p) refl
+      where
+        is : (a b : ℕ) → nat_eq a b ≡ true → a ≡ b
+        is a b e = grind (arith, nat_tests)
+
+        less : (a b : ℕ) → nat_eq a b ≡ false → a < b + 1 → a < b
+        less a b e l = grind (arith, nat_tests)
+
+        by : (b : Bool) → nat_eq k p ≡ b → (w k ≡ v k) × (u k ≡ s k)
+        by true e = (left k (let at = is k p e in omega arith), ap u (is k p e) ∙ weight ∙ ap s (sym (is k p e)))
+        by false e = same k above (less k p e under) still
+
+    pub fresh-valued : ((k : ℕ) → 0 < k → k < p → w k ≡ weighed ss awake w u k)
+        → (k : ℕ) → 0 < k → k < p + 1 → w k ≡ weighed ss awake w u k
+    fresh-valued before k above under = by (nat_eq k p) refl
+      where
+        is : (a b : ℕ) → nat_eq a b ≡ true → p ≡ p → a ≡ b
+        is a b e _ = grind (arith, nat_tests)
+
+        less : (a b : ℕ) → nat_eq a b ≡ false → a < b + 1 → a < b
+        less a b e l = grind (arith, nat_tests)
+
+        here : w p ≡ weighed ss awake w u p
+        here =
+            left p (omega arith) ∙ were p up lt all.0
+            ∙ weighed-still ss (λ k. nat_lt 0 (s k)) awake p p (sym (lit p up lt ∙ ap (nat_lt 0) weight)) (ordered p lt)
+            same all.1.1
+
+        by : (b : Bool) → nat_eq k p ≡ b → w k ≡ weighed ss awake w u k
+        by true e = let at = is k p e refl in ap w at ∙ here ∙ ap (weighed ss awake w u) (sym at)
+        by false e = before k above (less k p e under)
+
+-- one place more that is computed anew
+module _ (moved next : ℕ → Bool) (v w x s u : ℕ → ℕ) (p n : ℕ)
+    (wrote : (k : ℕ) → x k ≡ cond (nat_eq p k) n (w k))
+    (flagged : (k : ℕ) → next k ≡ cond (nat_eq p k) (not (nat_eq (u p) (s p)) || not (nat_eq (x p) (w p))) (moved k))
+    (left : (k : ℕ) → p ≤ k → w k ≡ v k)
+    (same : (k : ℕ) → 0 < k → k < p → moved k ≡ false → (w k ≡ v k) × (u k ≡ s k)) where
+  apart : (a b : ℕ) → a < b → nat_eq a b ≡ false
+  apart a b lt = grind (arith, nat_tests)
+
+  pub stale-left : (k : ℕ) → p + 1 ≤ k → x k ≡ v k
+  stale-left k past = wrote k ∙ ap (λ b. cond b n (w k)) (apart p k (omega arith)) ∙ left k (omega arith)
+
+  pub stale-same : (k : ℕ) → 0 < k → k < p + 1 → next k ≡ false → (x k ≡ v k) × (u k ≡ s k)
+  stale-same k up under still = by (nat_eq p k) refl
+    where
+      is : (a b : ℕ) → nat_eq a b ≡ true → a ≡ b
+      is a b e = grind (arith, nat_tests)
+
+      less : (a b : ℕ) → nat_eq a b ≡ false → b < a + 1 → b < a
+      less a b e l = grind (arith, nat_tests)
+
+      neither : (a b c d : ℕ) → (not (nat_eq a b) || not (nat_eq c d)) ≡ false → (a ≡ b) × (c ≡ d)
+      neither a b c d e = both (nat_eq a b) (nat_eq c d) refl refl e
+        where
+          both : (f g : Bool) → nat_eq a b ≡ f → nat_eq c d ≡ g → (not f || not g) ≡ false → (a ≡ b) × (c ≡ d)
+          both true true i j e = (is a b i, is c d j)
+          both true false i j e = absurd (cc)
+          both false g i j e = absurd (cc)
+
+      by : (b : Bool) → nat_eq p k ≡ b → (x k ≡ v k) × (u k ≡ s k)
+      by true e =
+          let at = is p k e in
+          let two =
+          neither (u p) (s p) (x p) (w p)
+          (sym (flagged k ∙ ap (λ b. cond b (not (nat_eq (u p) (s p)) || not (nat_eq (x p) (w p))) (moved k)) e)
+          ∙ still) in
+          (ap x (sym at) ∙ two.1 ∙ left p (omega arith) ∙ ap v at, ap u (sym at) ∙ two.0 ∙ ap s at)
+      by false e =
+          let old =
+          same k up (less p k e under)
+          (sym (flagged k ∙ ap (λ b. cond b (not (nat_eq (u p) (s p)) || not (nat_eq (x p) (w p))) (moved k)) e)
+          ∙ still) in
+          (wrote k ∙ ap (λ b. cond b n (w k)) e ∙ old.0, old.1)
+
+-- the tickets of flows that were computed anew, or did not have to be
+pub shared-still : (moved : ℕ → Bool) (v w s u : ℕ → ℕ) (fs : List (List Seat)) (on : ℕ → Bool) (old next : ℕ → ℕ)
+    (f : ℕ) → ((p : ℕ) → p < 65 → Each IsSeatWithin (seats_at fs p)) → AreMoved moved v w s u
+    → ((p : ℕ) → p < 64
+    → next p ≡ cond (nat_eq f p || (on p && list_any (λ (x : Seat). moved x.from) (seats_at fs p)))
+    (min (weighed fs on w u p) (2 ^ 20)) (old p))
+    → ((p : ℕ) → p < 64 → nat_eq f p ≡ false → old p ≡ min (weighed fs on v s p) (2 ^ 20))
+    → AreShared fs on w u next
+shared-still moved v w s u fs on old next f within still wrote were p lt =
+    wrote p lt ∙ by (nat_eq f p) (on p) (list_any (λ (x : Seat). moved x.from) (seats_at fs p)) refl refl refl
+  where
+    places : Each (λ (x : Seat). x.from < 65) (seats_at fs p)
+    places = each_map IsSeatWithin (λ (x : Seat). x.from < 65) (λ x e. e.from_place) (seats_at fs p)
+        (within p (omega arith))
+
+    by : (a l b : Bool) → nat_eq f p ≡ a → on p ≡ l → list_any (λ (x : Seat). moved x.from) (seats_at fs p) ≡ b
+        → cond (a || (l && b)) (min (weighed fs on w u p) (2 ^ 20)) (old p) ≡ min (weighed fs on w u p) (2 ^ 20)
+    by true l b e lit n = refl
+    by false true true e lit n = refl
+    by false true false e lit n =
+        were p lt e
+        ∙ ap (λ k. min k (2 ^ 20)) (weighed-still moved v w s u fs on on 65 p refl places
+        (λ k up under no. still k up under no) n)
+    by false false b e lit n =
+        were p lt e
+        ∙ ap (λ l. min (cond l (sum_by (seat_worth v s) (seats_at fs p)) 0) (2 ^ 20)) lit
+        ∙ sym (ap (λ l. min (cond l (sum_by (seat_worth w u) (seats_at fs p)) 0) (2 ^ 20)) lit)
+
+-- what is ready followed from the weights that were seen
+pub ready-was : (n : Net) (shares : List ℕ) (backs funds : List Route) (lit : ℕ → Bool) (c f : ℕ)
+    → IsReady n shares backs funds lit → WasSettled n shares c f
+ready-was n shares backs funds lit c f ready = record {
+  awake_was = λ p up lt. ready.awake_is p up lt ∙ ap (nat_lt 0) (sym (ready.seen_is p up lt));
+  valued = λ p up lt _. ready.valued p up lt
+      ∙ weighed-quiet n.backing.items (flags_of n.awake.value) (numbers_of n.values.value) (numbers_of n.weights.value)
+      (numbers_of n.seen.value) p (ready.begun.backing.within p lt) ready.seen_is
+      ∙ ap (λ b. cond b (sum_by (seat_worth (numbers_of n.values.value) (numbers_of n.seen.value))
+      (seats_at n.backing.items p)) 0)
+      (ready.awake_is p up lt ∙ ap (nat_lt 0) (sym (ready.seen_is p up lt)));
+  shared = λ p lt _. ready.shared p lt
+      ∙ ap (λ k. min k (2 ^ 20))
+      (weighed-quiet n.funding.items (flags_of n.active.value) (numbers_of n.values.value) (numbers_of n.weights.value)
+      (numbers_of n.seen.value) p (ready.begun.funding.within p (omega arith)) ready.seen_is);
+}
+
+-- and so did what is left of it
+module _ (old new : Net) (shares : List ℕ) (c f : ℕ) (values : new.values ≡ old.values) (seen : new.seen ≡ old.seen)
+    (was : WasSettled old shares 0 64) where
+  none : (k p : ℕ) → p < k → nat_eq k p ≡ false
+  none k p lt = grind (arith, nat_tests)
+
+  nought : (p : ℕ) → 0 < p → nat_eq 0 p ≡ false
+  nought p up = grind (arith, nat_tests)
+
+  -- what seats are worth with the same values and the same weights that were seen
+  worth-left : (ss other : List (List Seat)) (on lit : ℕ → Bool) (p : ℕ) → on p ≡ lit p
+      → seats_at ss p ≡ seats_at other p
+      → weighed ss on (numbers_of old.values.value) (numbers_of old.seen.value) p
+      ≡ weighed other lit (numbers_of new.values.value) (numbers_of new.seen.value) p
+  worth-left ss other on lit p same seats =
+      ap (λ b. cond b (sum_by (seat_worth (numbers_of old.values.value) (numbers_of old.seen.value))
+      (seats_at ss p)) 0) same
+      ∙ ap (λ xs. cond (lit p) (sum_by (seat_worth (numbers_of old.values.value) (numbers_of old.seen.value)) xs) 0)
+      seats
+      ∙ ap (λ v. cond (lit p) (sum_by (seat_worth (numbers_of v.value) (numbers_of old.seen.value))
+      (seats_at other p)) 0) (sym values)
+      ∙ ap (λ s. cond (lit p) (sum_by (seat_worth (numbers_of new.values.value) (numbers_of s.value))
+      (seats_at other p)) 0) (sym seen)
+
+  pub left-was : new.awake ≡ old.awake → ((k : ℕ) → nat_eq c k ≡ false → seats_at new.backing.items k ≡ seats_at old.backing.items k)
+      → ((k : ℕ) → nat_eq f k ≡ false → seats_at new.funding.items k ≡ seats_at old.funding.items k)
+      → ((k : ℕ) → nat_eq f k ≡ false → flags_of new.active.value k ≡ flags_of old.active.value k)
+      → WasSettled new shares c f
+  left-was awake backing funding active = record {
+    awake_was = λ p up lt. ap (λ a. flags_of a.value p) awake ∙ was.awake_was p up lt
+        ∙ ap (λ s. nat_lt 0 (numbers_of s.value p)) (sym seen);
+    valued = λ p up lt e. ap (λ v. numbers_of v.value p) values ∙ was.valued p up lt (nought p up)
+        ∙ worth-left old.backing.items new.backing.items (λ k. nat_lt 0 (numbers_of old.seen.value k))
+        (λ k. nat_lt 0 (numbers_of new.seen.value k)) p (ap (λ s. nat_lt 0 (numbers_of s.value p)) (sym seen))
+        (sym (backing p e));
+    shared = λ p lt e. was.shared p lt (none 64 p lt)
+        ∙ ap (λ k. min k (2 ^ 20))
+        (worth-left old.funding.items new.funding.items (flags_of old.active.value) (flags_of new.active.value) p
+        (sym (active p e)) (sym (funding p e)));
+  }
+
+-- the same of a net that is the other but for the weights and the seats of one holder
+pub lefts-was : (old new : Net) (shares : List ℕ) (c f : ℕ) → WasSettled old shares 0 64 → IsLeft old new c f
+    → WasSettled new shares c f
+lefts-was old new shares c f was left =
+    left-was old new shares c f left.values left.seen was left.awake left.backing left.funding
+    (λ k _. ap (λ a. flags_of a.value k) left.active)
+
+-- where no weight but that of `base` is another one, only the flow's own tickets may be
+pub quiet-settled : (n : Net) (shares : List ℕ) (backs funds : List Route) (lit : ℕ → Bool) (f k : ℕ)
+    → IsBegun n backs funds lit → WasSettled n shares 0 f
+    → ((p : ℕ) → 0 < p → p < 65 → numbers_of n.weights.value p ≡ numbers_of n.seen.value p) → f < 64
+    → length shares ≡ 64
+    → k ≡ min (weighed n.funding.items (flags_of n.active.value) (numbers_of n.values.value)
+    (numbers_of n.weights.value) f) (2 ^ 20)
+    → IsReady n (set shares f k) backs funds lit
+quiet-settled n shares backs funds lit f k begun was same below long own = record {
+  begun = begun;
+  awake_is = awake;
+  valued = λ p up lt. was.valued p up lt (nought p up)
+      ∙ ap (λ b. cond b (sum_by (seat_worth (numbers_of n.values.value) (numbers_of n.seen.value))
+      (seats_at n.backing.items p)) 0) (sym (was.awake_was p up lt))
+      ∙ weighed-quiet n.backing.items (flags_of n.awake.value) (numbers_of n.values.value) (numbers_of n.seen.value)
+      (numbers_of n.weights.value) p (begun.backing.within p lt) same;
+  shared = λ p lt. array-set shares f p k 0 (omega arith) ∙ by p lt (nat_eq f p) refl;
+  seen_is = λ p up lt. sym (same p up lt);
+}
+  where
+    nought : (p : ℕ) → 0 < p → nat_eq 0 p ≡ false
+    nought p up = grind (arith, nat_tests)
+
+    is : (x y : ℕ) → nat_eq x y ≡ true → x ≡ y
+    is x y e = grind (arith, nat_tests)
+
+    awake : (p : ℕ) → 0 < p → p < 65 → flags_of n.awake.value p ≡ nat_lt 0 (numbers_of n.weights.value p)
+    awake p up lt = was.awake_was p up lt ∙ ap (nat_lt 0) (sym (same p up lt))
+
+    by : (p : ℕ) → p < 64 → (b : Bool) → nat_eq f p ≡ b
+        → cond b k (numbers_of shares p)
+        ≡ min (weighed n.funding.items (flags_of n.active.value) (numbers_of n.values.value)
+        (numbers_of n.weights.value) p) (2 ^ 20)
+    by p lt true e =
+        own
+        ∙ ap (λ q. min (weighed n.funding.items (flags_of n.active.value) (numbers_of n.values.value)
+        (numbers_of n.weights.value) q) (2 ^ 20)) (is f p e)
+    by p lt false e =
+        was.shared p lt e
+        ∙ ap (λ q. min q (2 ^ 20))
+        (weighed-quiet n.funding.items (flags_of n.active.value) (numbers_of n.values.value) (numbers_of n.seen.value)
+        (numbers_of n.weights.value) p (begun.funding.within p (omega arith)) same)

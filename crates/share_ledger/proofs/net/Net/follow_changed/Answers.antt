@@ -1,0 +1,27 @@
+use Rattle.std.proofs.Common.{rules}
+use Rattle.share_ledger.specs.Rounds.{flags_of, numbers_of}
+use Rattle.share_ledger.proofs.StaleSteps.{shared-still}
+use Rattle.share_ledger.proofs.net.Net.follow_changed.Goals as goal
+
+pub returns-clause-ready : goal.returns-clause-ready
+returns-clause-ready c = λ _.
+    let old = c.args.self.now in
+    let begun = c.requires.begun in
+    record {
+      begun = record {
+        backing = begun.backing;
+        funding = begun.funding;
+        ordered = begun.ordered;
+        active_is = begun.active_is;
+        counted = search rules;
+        small = search rules;
+      };
+      awake_is = search rules;
+      valued = search rules;
+      shared = shared-still (flags_of c.in-Some.moved) (numbers_of old.values.value)
+          (numbers_of c.revalue-moved.new.values) (numbers_of old.seen.value) (numbers_of c.spread.new.weights)
+          old.funding.items (flags_of old.active.value) (numbers_of c.args.shares.now) (numbers_of c.reshare.new.shares)
+          c.args.flow begun.funding.within (search rules) (λ p lt. let own = c.reshare.ensures p lt in cc)
+          c.requires.was.shared;
+      seen_is = search rules;
+    }

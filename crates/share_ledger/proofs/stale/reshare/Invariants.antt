@@ -1,0 +1,18 @@
+use Rattle.std.proofs.Common.{◌≡◌, ◌<◌, ◌≤◌, ◌^◌, ◌&&◌, ◌||◌, ℕ, length, min, nat_eq, if◌then◌else◌}
+use Rattle.std.specs.List.{list_any}
+use Rattle.share_ledger.specs.declared.seats.Seat.{Seat}
+use Rattle.share_ledger.specs.Rounds.{flags_of, numbers_of}
+use Rattle.share_ledger.specs.Seats.{seats_at, weighed}
+use Rattle.share_ledger.proofs.stale.reshare.Given as goal
+
+abbrev pub invariant-loop-place : goal.invariant-loop-place
+invariant-loop-place l = record {
+  long : length l.shares ≡ 64;
+  left : (k : ℕ) → l.place ≤ k → numbers_of l.shares k ≡ numbers_of l.fn.shares k;
+  shared : (k : ℕ) → k < l.place
+      → numbers_of l.shares k
+      ≡ (if nat_eq l.changed k
+      || (flags_of l.active k && list_any (λ (s : Seat). flags_of l.moved s.from) (seats_at l.funding k))
+      then min (weighed l.funding (flags_of l.active) (numbers_of l.values) (numbers_of l.weights) k) (2 ^ 20)
+      else numbers_of l.fn.shares k);
+}

@@ -1,0 +1,135 @@
+//! What follows where a few weights have changed: only the values and the tickets that rest on them are computed anew.
+ghost use Rattle.std.specs.Prelude.{◌≡◌, ◌<◌, ◌^◌, ◌&&◌, ◌||◌, ℕ, length, min, nat_eq, not, true, IfSome, if◌then◌else◌};
+ghost use Rattle.std.specs.List.{list_any};
+ghost use Rattle.share_model.specs.lists.Each.{Each};
+ghost use Rattle.share_ledger.specs.Rounds.{flags_of, numbers_of};
+ghost use Rattle.share_ledger.specs.Seats.{IsSeatWithin, seats_at, weighed, AreOrdered, AreSmall, AreAwake, AreValued};
+ghost use Rattle.share_ledger.specs.Stale.{is_stale, WereValued, AreMoved};
+
+use crate::net::{self, MAX_VALUE};
+use crate::rounds::PLACES;
+use crate::seats::{Seat, Seats};
+use crate::tables::MAX_FLOWS;
+
+// Whether one of some seats comes from a flagged place.
+fn touches(seats: &[Seat], moved: &[bool; PLACES]) -> bool
+    requires { Each IsSeatWithin seats.now }
+    ensures { result ≡ list_any (λ s. flags_of moved.now s.from) seats.now }
+{
+    for seat in seats {
+        if moved[seat.from as usize] {
+            return true;
+        }
+    }
+    false
+}
+
+// Whether the value of a currency may be another one: its seats or its weight are others, or what a seat is worth.
+fn is_stale(
+    backing: &[Seats],
+    weights: &[u64; PLACES],
+    seen: &[u64; PLACES],
+    moved: &[bool; PLACES],
+    changed: usize,
+    place: usize,
+) -> bool
+    requires within { (p : ℕ) → p < 65 → Each IsSeatWithin (seats_at backing.now p) }
+    requires places { length backing.now ≡ 65 }
+    requires place { place < 65 }
+    ensures { result ≡ is_stale backing.now (flags_of moved.now) (numbers_of weights.now)
+        (numbers_of seen.now) changed place }
+{
+    let holder = &backing[place];
+    changed == place || weights[place] != seen[place] || touches(holder.seats(), moved)
+}
+
+// Computes the value of a currency, and flags its place where the value is another one or the weight is.
+fn revalue_at(
+    backing: &[Seats],
+    awake: &[bool; PLACES],
+    weights: &[u64; PLACES],
+    seen: &[u64; PLACES],
+    place: usize,
+    moved: &mut [bool; PLACES],
+    values: &mut [u64; PLACES],
+) -> bool
+    requires within { (p : ℕ) → p < 65 → Each IsSeatWithin (seats_at backing.now p) }
+    requires places { length backing.now ≡ 65 }
+    requires place { place < 65 }
+    requires small { AreSmall (numbers_of values.old) }
+    ensures small { AreSmall (numbers_of values.new) }
+    ensures values { result ≡ true → (k : ℕ) → numbers_of values.new k
+        ≡ (if nat_eq place k then weighed backing.now (flags_of awake.now) (numbers_of values.old)
+        (numbers_of weights.now) place else numbers_of values.old k) }
+    ensures moved { result ≡ true → (k : ℕ) → flags_of moved.new k
+        ≡ (if nat_eq place k then not (nat_eq (numbers_of weights.now place) (numbers_of seen.now place))
+        || not (nat_eq (numbers_of values.new place) (numbers_of values.old place)) else flags_of moved.old k) }
+{
+    let value = net::value_at(backing, awake, weights, values, place);
+    if value > MAX_VALUE {
+        return false;
+    }
+    moved[place] = weights[place] != seen[place] || value != values[place];
+    values[place] = value;
+    true
+}
+
+/// Computes the values of the currencies that may be others, from the first place to the last, and flags the places
+/// whose value or weight is another one. Gives up where a value would be too great, which none ever is.
+pub(crate) fn revalue(
+    backing: &[Seats],
+    awake: &[bool; PLACES],
+    weights: &[u64; PLACES],
+    seen: &[u64; PLACES],
+    changed: usize,
+    values: &mut [u64; PLACES],
+) -> Option<[bool; PLACES]>
+    requires within { (p : ℕ) → p < 65 → Each IsSeatWithin (seats_at backing.now p) }
+    requires places { length backing.now ≡ 65 }
+    requires ordered { AreOrdered backing.now }
+    requires small { AreSmall (numbers_of values.old) }
+    requires awake { AreAwake (flags_of awake.now) (numbers_of weights.now) }
+    requires were { WereValued backing.now (numbers_of values.old) (numbers_of seen.now) changed }
+    ensures small { AreSmall (numbers_of values.new) }
+    ensures valued { IfSome result (λ _. AreValued backing.now (flags_of awake.now)
+        (numbers_of values.new) (numbers_of weights.now)) }
+    ensures moved { IfSome result (λ moved. AreMoved (flags_of moved) (numbers_of values.old) (numbers_of values.new)
+        (numbers_of seen.now) (numbers_of weights.now)) }
+{
+    let mut moved = [false; PLACES];
+    for place in 1..PLACES {
+        if is_stale(backing, weights, seen, &moved, changed, place)
+            && !revalue_at(backing, awake, weights, seen, place, &mut moved, values)
+        {
+            return None;
+        }
+    }
+    Some(moved)
+}
+
+/// Computes the tickets of the flow at a place, and of the active ones that have a seat from a flagged place.
+pub(crate) fn reshare(
+    funding: &[Seats],
+    active: &[bool; PLACES],
+    weights: &[u64; PLACES],
+    values: &[u64; PLACES],
+    moved: &[bool; PLACES],
+    changed: usize,
+    shares: &mut [u32; MAX_FLOWS],
+)
+    requires within { (p : ℕ) → p < 65 → Each IsSeatWithin (seats_at funding.now p) }
+    requires places { length funding.now ≡ 65 }
+    requires small { AreSmall (numbers_of values.now) }
+    ensures { (p : ℕ) → p < 64 → numbers_of shares.new p
+        ≡ (if nat_eq changed p || (flags_of active.now p
+        && list_any (λ s. flags_of moved.now s.from) (seats_at funding.now p))
+        then min (weighed funding.now (flags_of active.now) (numbers_of values.now) (numbers_of weights.now) p) (2 ^ 20)
+        else numbers_of shares.old p) }
+{
+    for place in 0..MAX_FLOWS {
+        let holder = &funding[place];
+        if changed == place || active[place] && touches(holder.seats(), moved) {
+            shares[place] = net::share_at(funding, active, weights, values, place);
+        }
+    }
+}

@@ -1,12 +1,12 @@
 -- A flow whose activity stands already, and a queue that is level.
-use Rattle.std.proofs.Common.{◌≡◌, ◌+◌, ◌∙◌, ℕ, Bool, true, false, List, [], ◌∷◌, map, find, Option, None, Some}
-use Rattle.std.proofs.Common.{nat_eq, refl, sym, ap, subst, true≢false, if◌then◌else◌}
+use Rattle.std.proofs.Common.{◌≡◌, ◌+◌, ◌∙◌, ℕ, Bool, true, false, List, [], ◌∷◌, map}
+use Rattle.std.proofs.Common.{nat_eq, refl, sym, ap, subst, true≢false}
 use Rattle.share_model.specs.lists.Change.{change_first}
 use Rattle.share_model.specs.declared.funding.OpenFlow.{OpenFlow}
 use Rattle.share_model.specs.declared.rates.Rate.{Rate}
 use Rattle.share_model.specs.funding.Graph.{NameBytes, Graph, flow_numbers}
 use Rattle.share_model.specs.funding.Changes.{with_activity, set_active}
-use Rattle.share_model.specs.link.Buffers.{Buffer, buffer_of, is_some_packet, is_busy}
+use Rattle.share_model.specs.link.Buffers.{Buffer, is_some_packet, is_busy}
 use Rattle.share_model.specs.link.Live.{Live, wants}
 use Rattle.share_model.specs.link.BufferLaws.{numbers-with_activity}
 use Rattle.share_model.specs.run.QueueLaws.{wants-can_level}

@@ -1,22 +1,25 @@
 -- Packets that come for a flow by its name.
 use Rattle.std.proofs.Common.{◌≡◌, ◌<◌, ◌≤◌, ◌^◌, ◌∙◌, ℕ, true, List, map, length, find, Option, None, Some, option_map}
-use Rattle.std.proofs.Common.{IsSome, bytes_eq, refl, sym, ap, subst, arith}
+use Rattle.std.proofs.Common.{IsSome, IfSome, false, bytes_eq, refl, sym, ap, subst, arith}
 use Rattle.std.proofs.lemmas.List.{length-map}
+use Rattle.share_base.specs.declared.command.Reply.{Reply}
+use Rattle.share_base.specs.declared.command.Reply.TheVariants.{Refused, Packet as PacketReply}
+use Rattle.share_base.specs.declared.refusal.Refusal.TheVariants.{BufferFull}
 use Rattle.share_model.specs.declared.link.Book.{Book}
 use Rattle.share_model.specs.declared.rates.Rate.{Rate}
-use Rattle.share_model.specs.link.Live.{Live, is_book_of, accept}
+use Rattle.share_model.specs.link.Live.{Live, is_book_of, counted, accept, arrive_in}
 use Rattle.share_model.specs.link.Fields.{IsBody}
 use Rattle.share_model.specs.lists.Laws.{has_number, each-find, is_some-find_number}
 use Rattle.std.specs.FinMap.{get}
-use Rattle.share_core.specs.Held.{IfFound}
 use Rattle.share_model.specs.declared.funding.OpenFlow.{OpenFlow}
-use Rattle.share_model.specs.link.Buffers.{Buffer, buffer_of, is_buffer_of}
+use Rattle.share_model.specs.link.Buffers.{Buffer, buffer_of, is_buffer_of, is_full}
 use Rattle.share_model.specs.funding.Graph.{NameBytes, Graph, flow_numbers}
 use Rattle.share_model.specs.funding.Changes.{flow_named}
 use Rattle.share_model.specs.run.Sound.{Sound, IsSoundBuffer}
 use Rattle.share_model.specs.run.SoundLaws.{flow-buffered}
 use Rattle.share_model.specs.run.SoundStepLaws.{sound-accept}
 use Rattle.share_model.specs.link.BufferLaws.{number-of_named}
+use Rattle.share_model.specs.link.Did.{Stepped}
 use Rattle.share_model.specs.link.Seen.{Seen}
 
 -- the entry of which a number was read
@@ -49,14 +52,7 @@ same_length : {A B C : Type 0} (f : A → C) (g : B → C) (xs : List A) (ys : L
     → length xs ≡ length ys
 same_length f g xs ys same = sym (length-map xs f) ∙ ap length same ∙ length-map ys g
 
--- as many buffers as open flows
-pub buffer_count : {life : ℕ} {rates : List Rate} {l : Live} → Sound life rates l
-    → length l.buffers ≡ length l.graph.flows
-buffer_count {l = l} sound =
-    same_length (λ (b : Buffer). b.flow) (λ (e : NameBytes × OpenFlow). e.1.number) l.buffers l.graph.flows
-    sound.flows.buffered
-
--- and as many books
+-- as many books as open flows
 pub book_count : {life : ℕ} {rates : List Rate} {l : Live} → Sound life rates l
     → length l.books ≡ length l.graph.flows
 book_count {l = l} sound =
@@ -65,14 +61,55 @@ book_count {l = l} sound =
 
 -- the next number of a buffer fits its field
 pub few_numbers : {life : ℕ} {rates : List Rate} {l : Live} → Sound life rates l → life ≤ 2 ^ 24 → (f : ℕ)
-    → IfFound (buffer_of l.buffers f) (λ b. b.next < 4294967295)
+    → IfSome (buffer_of l.buffers f) (λ b. is_full b ≡ false → b.next < 2 ^ 32)
 few_numbers {l = l} sound short f = by_buffer (buffer_of l.buffers f) refl
   where
-    by_buffer : (o : Option Buffer) → buffer_of l.buffers f ≡ o → IfFound o (λ b. b.next < 4294967295)
+    by_buffer : (o : Option Buffer) → buffer_of l.buffers f ≡ o → IfSome o (λ b. is_full b ≡ false → b.next < 2 ^ 32)
     by_buffer None found = tt
     by_buffer (Some b) found =
         let is = each-find (IsSoundBuffer l.counts.events) (is_buffer_of f) l.buffers b sound.buffers found in
-        omega (arith, is.numbers, sound.counts.events, short)
+        λ _. omega (arith, is.numbers, sound.counts.events, short)
+
+-- what comes of a packet for a flow with a buffer: it takes the next number, or the buffer is full
+module _ (l : Live) (f : ℕ) (body : List ℕ) where
+  pub came : (o : Option Buffer) (n : ℕ) → IsSome o → IfSome o (λ b. (n ≡ b.next) × (is_full b ≡ false))
+      → (accept l f body, PacketReply f n) ≡ arrive_in l f body o
+  came None n some is = absurd (cc)
+  came (Some b) n some is = rw (is.1, is.0) refl
+
+  pub came_full : (o : Option Buffer) → IsSome o → IfSome o (λ b. is_full b ≡ true)
+      → (counted l, Refused BufferFull) ≡ arrive_in l f body o
+  came_full None some full = absurd (cc)
+  came_full (Some b) some full = rw full refl
+
+-- the event of a packet that a full buffer, which stays as it is, handed back
+pub refused_full : (k n new : Seen (Unit {0})) (f : ℕ) (body : List ℕ) (reply : Reply) (bs : List Buffer) → k ≡ n
+    → bs ≡ k.live.buffers → IsSome (buffer_of k.live.buffers f)
+    → IfSome (buffer_of k.live.buffers f) (λ b. is_full b ≡ true)
+    → Stepped (counted (record k.live { buffers = bs }), Refused BufferFull)
+    (record k { live = record k.live { buffers = bs } }) reply new
+    → Stepped (arrive_in n.live f body (buffer_of n.live.buffers f)) n reply new
+refused_full k n new f body reply bs same unchanged some full did =
+    subst (λ (n : Seen (Unit {0})). Stepped (arrive_in n.live f body (buffer_of n.live.buffers f)) n reply new) same
+    (subst (λ (next : Live × Reply). Stepped next k reply new)
+    (came_full k.live f body (buffer_of k.live.buffers f) some full)
+    (subst (λ (bs : List Buffer). Stepped (counted (record k.live { buffers = bs }), Refused BufferFull)
+    (record k { live = record k.live { buffers = bs } }) reply new) unchanged did))
+
+-- the event of a packet that took the next number
+pub took_number : (k n new : Seen (Unit {0})) (f : ℕ) (body : List ℕ) (number : ℕ) → k ≡ n
+    → IsSome (buffer_of k.live.buffers f)
+    → IfSome (buffer_of k.live.buffers f) (λ b. (number ≡ b.next) × (is_full b ≡ false))
+    → new ≡ record k { live = accept k.live f body }
+    → Stepped (arrive_in n.live f body (buffer_of n.live.buffers f)) n (PacketReply f number) new
+took_number k n new f body number same some taken is =
+    subst (λ (n : Seen (Unit {0})). Stepped (arrive_in n.live f body (buffer_of n.live.buffers f)) n
+    (PacketReply f number) new) same
+    (subst (λ (next : Live × Reply). Stepped next k (PacketReply f number) new)
+    (came k.live f body (buffer_of k.live.buffers f) number some taken)
+    (subst (λ (new : Seen (Unit {0})). Stepped (accept k.live f body, PacketReply f number) k
+    (PacketReply f number) new) (sym is)
+    (record { live = refl; answer_is = refl; rest = record { life = refl; rates = refl; writer = refl } })))
 
 -- a packet that comes for an open flow
 pub sound-came : {life : ℕ} {rates : List Rate} {l : Live} → Sound life rates l → l.counts.events < life → (f : ℕ)

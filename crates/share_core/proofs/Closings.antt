@@ -1,8 +1,7 @@
 -- A flow that is closed, and the queue from which its client is removed.
-use Rattle.std.proofs.Common.{◌≡◌, ◌+◌, ◌*◌, ◌-◌, ◌<◌, ◌≤◌, ◌^◌, ◌∙◌, ℕ, Bool, true, false, List, sym, ap, subst, arith}
+use Rattle.std.proofs.Common.{◌≡◌, ◌+◌, ◌<◌, ◌≤◌, ◌^◌, ℕ, Bool, true, false, List, sym, subst, arith}
 use Rattle.std.proofs.Common.{IsTrue, refl}
 use Rattle.share_model.specs.declared.rates.Rate.{Rate}
-use Rattle.share_model.specs.declared.stride.Client.{Client}
 use Rattle.share_model.specs.funding.Changes.{remove_flow}
 use Rattle.share_model.specs.funding.Graph.{flow_numbers}
 use Rattle.share_model.specs.link.CommandLaws.{IsClosable}
@@ -15,7 +14,7 @@ use Rattle.share_model.specs.run.Sound.{Sound, QueueIsSound}
 use Rattle.share_model.specs.run.SoundLaws.{sound-numbered}
 use Rattle.share_model.specs.run.SoundCloseLaws.{numbers-without}
 use Rattle.share_model.specs.stride.Moves.{Stride, client, remove}
-use Rattle.share_model.specs.stride.Level.{level_one, CanLevel, HasTickets}
+use Rattle.share_model.specs.stride.Level.{level_one, CanLevel}
 use Rattle.share_model.specs.stride.LevelLaws.{has_tickets-level_one}
 
 pub closable : (k n : Seen (Unit {0})) (f : ℕ) → k ≡ n → IsClosable n.live f → IsClosable k.live f

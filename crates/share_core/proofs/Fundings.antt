@@ -1,5 +1,5 @@
 -- Links after commands that are not refused, and their queues before they are levelled.
-use Rattle.std.proofs.Common.{◌≡◌, ◌<◌, ◌+◌, ◌∙◌, ℕ, List, None, ap, sym, subst}
+use Rattle.std.proofs.Common.{◌≡◌, ◌<◌, ◌∙◌, ℕ, List, None, ap, sym, subst}
 use Rattle.share_base.specs.declared.command.Command.{Command}
 use Rattle.share_model.specs.declared.rates.Rate.{Rate}
 use Rattle.share_model.specs.funding.Graph.{Graph, flow_numbers}

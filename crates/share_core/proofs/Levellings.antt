@@ -15,7 +15,7 @@ use Rattle.share_model.specs.link.BufferLaws.{numbers-with_activity}
 use Rattle.share_model.specs.link.Live.{wants}
 use Rattle.share_model.specs.run.QueueLaws.{wants-distinct}
 use Rattle.share_model.specs.stride.Moves.{Stride, client}
-use Rattle.share_model.specs.stride.Level.{level_move, moved_if, level_one, level_all, CanLevel, IsLevel, HasTickets}
+use Rattle.share_model.specs.stride.Level.{moved_if, level_one, level_all, CanLevel, IsLevel, HasTickets}
 use Rattle.share_model.specs.stride.Level.{AreDistinctFlows}
 use Rattle.share_model.specs.stride.LevelLaws.{can_level-level_one, client-level_one_other, level_move-none}
 use Rattle.share_core.specs.Held.{IfFound}

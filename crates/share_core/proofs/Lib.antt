@@ -6,8 +6,8 @@ pub mod Fundings
 pub mod Levellings
 pub mod Living
 pub mod Openings
-pub mod Places
 pub mod Sendings
+pub mod Standing
 pub mod Tallies
 pub mod Turns
 pub mod Unmet

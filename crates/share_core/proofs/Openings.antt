@@ -1,20 +1,24 @@
 -- A flow that is opened, and the queue to which its client is added.
-use Rattle.std.proofs.Common.{◌≡◌, ◌<◌, ◌+◌, ◌∙◌, ℕ, Bool, true, false, List, length, nat_le, Option, None, Some}
+use Rattle.std.proofs.Common.{◌≡◌, ◌<◌, ◌+◌, ◌∙◌, ℕ, Bool, true, false, List, [], ◌∷◌, length, nat_le, nat_eq, Option}
+use Rattle.std.proofs.Common.{None, Some, IsSome}
 use Rattle.std.proofs.Common.{Result}
-use Rattle.std.proofs.Common.{Ok, Err, OnOk, IfErr, is_some, refl, sym, ap, subst, arith}
+use Rattle.std.proofs.Common.{Ok, Err, OnOk, IfErr, inl, is_some, refl, sym, ap, subst, arith}
 use Rattle.std.proofs.lemmas.Bool.Decides.{nat_tests}
 use Rattle.std.proofs.lemmas.List.{length-map}
 use Rattle.std.specs.FinMap.{get, len}
 use Rattle.share_base.specs.declared.refusal.Refusal.{Refusal}
-use Rattle.share_base.specs.declared.refusal.Refusal.TheVariants.{TableFull}
-use Rattle.share_base.specs.Refusal.{first_refusal}
+use Rattle.share_base.specs.declared.command.Command.TheVariants.{OpenFlow as OpensFlow}
+use Rattle.share_base.specs.declared.command.Reply.TheVariants.{Refused}
+use Rattle.share_base.specs.declared.refusal.Refusal.TheVariants.{NoMemory}
 use Rattle.share_model.specs.declared.funding.OpenFlow.{OpenFlow}
 use Rattle.share_model.specs.declared.rates.Rate.{Rate}
 use Rattle.share_model.specs.funding.Graph.{NameBytes, flow_numbers}
 use Rattle.share_model.specs.funding.Changes.{add_flow}
 use Rattle.share_model.specs.link.Live.{Live, open_flow_refusal, wants}
+use Rattle.share_model.specs.link.Did.{is_spent, CommandDid}
 use Rattle.share_model.specs.link.Seen.{Seen}
-use Rattle.share_model.specs.lists.Laws.{has_number, rises-fresh}
+use Rattle.share_model.specs.link.Buffers.{Buffer, buffer_of, opened, closed}
+use Rattle.share_model.specs.lists.Laws.{has_number, rises-fresh, is_some-find_number}
 use Rattle.share_model.specs.run.QueueLaws.{queue-added, wants-can_level}
 use Rattle.share_model.specs.run.Sound.{Sound, QueueIsSound}
 use Rattle.share_model.specs.run.SoundLaws.{sound-numbered}
@@ -43,6 +47,30 @@ added old new f (Err e) done refused room = absurd (no_refusal (sym refused.1 �
     no_refusal : Some e ≡ None → ⊥
     no_refusal is = cc
 
+-- a buffer that is opened is there, and where it is closed again the buffers are what they were
+pub opened-found : (bs : List Buffer) (f limit : ℕ) → buffer_of bs f ≡ None → IsSome (buffer_of (opened bs f limit) f)
+opened-found [] f limit none = grind (arith, nat_tests)
+opened-found (b ∷ bs) f limit none = by_test (nat_eq f b.flow) refl none (opened-found bs f limit)
+  where
+    by_test : (t : Bool) → nat_eq f b.flow ≡ t → buffer_of (b ∷ bs) f ≡ None
+        → (buffer_of bs f ≡ None → IsSome (buffer_of (opened bs f limit) f))
+        → IsSome (buffer_of (opened (b ∷ bs) f limit) f)
+    by_test true is none rest = rw is refl
+    by_test false is none rest = rw is (rest (rw is at none))
+
+pub closed-opened : (bs : List Buffer) (f limit : ℕ) → buffer_of bs f ≡ None → closed (opened bs f limit) f ≡ bs
+closed-opened [] f limit none = grind (arith, nat_tests)
+closed-opened (b ∷ bs) f limit none = by_test (nat_eq f b.flow) refl none (closed-opened bs f limit)
+  where
+    no_buffer : Some b ≡ None → ⊥
+    no_buffer is = cc
+
+    by_test : (t : Bool) → nat_eq f b.flow ≡ t → buffer_of (b ∷ bs) f ≡ None
+        → (buffer_of bs f ≡ None → closed (opened bs f limit) f ≡ bs)
+        → closed (opened (b ∷ bs) f limit) f ≡ b ∷ bs
+    by_test true is none rest = absurd (no_buffer (rw is at none))
+    by_test false is none rest = rw is (ap (λ bs. b ∷ bs) (rest (rw is at none)))
+
 module _ {life : ℕ} {rates : List Rate} {l : Live} (sound : Sound life rates l) where
   fresh : has_number l.graph.next_flow (flow_numbers l.graph.flows) ≡ false
   fresh = rises-fresh l.graph.next_flow (flow_numbers l.graph.flows) (sound-numbered sound)
@@ -51,6 +79,13 @@ module _ {life : ℕ} {rates : List Rate} {l : Live} (sound : Sound life rates l
   pub next-unjoined : get l.queue.clients l.graph.next_flow ≡ None
   next-unjoined =
       none_of (get l.queue.clients l.graph.next_flow) (sound.queue.clients l.graph.next_flow ∙ fresh)
+
+  -- and has no buffer
+  pub next-unbuffered : buffer_of l.buffers l.graph.next_flow ≡ None
+  next-unbuffered =
+      none_of (buffer_of l.buffers l.graph.next_flow)
+      (is_some-find_number (λ (b : Buffer). b.flow) l.graph.next_flow l.buffers
+      ∙ (ap (has_number l.graph.next_flow) sound.flows.buffered ∙ fresh))
 
   client_count : len l.queue.clients ≡ length l.graph.flows
   client_count = sound.queue.count ∙ length-map l.graph.flows (λ (e : NameBytes × OpenFlow). e.1.number)
@@ -79,3 +114,15 @@ pub allowed_of : (k n : Seen (Unit {0})) (name : NameBytes) (limit tariff : ℕ)
     → open_flow_refusal k.rates k.live name limit tariff ≡ None
 allowed_of k n name limit tariff same allowed =
     subst (λ (k : Seen (Unit {0})). open_flow_refusal k.rates k.live name limit tariff ≡ None) (sym same) allowed
+
+-- nothing changed where no memory was found
+pub found_none : (k n new : Seen (Unit {0})) (name : NameBytes) (limit tariff : ℕ) → k ≡ n → new ≡ k
+    → is_spent n ≡ false → open_flow_refusal n.rates n.live name limit tariff ≡ None
+    → CommandDid n (OpensFlow name limit tariff) (Refused NoMemory) new
+found_none k n new name limit tariff same unchanged living allowed = inl record {
+  reply_is = refl;
+  unchanged = unchanged ∙ same;
+  living = living;
+  takes = refl;
+  allowed = allowed;
+}

@@ -1,55 +1,46 @@
 -- Where a write goes on.
-use Rattle.std.proofs.Common.{◌≡◌, ℕ, ◌+◌, List, length, Option, None, Some, option_map, option_and_then, refl, sym}
-use Rattle.std.proofs.Common.{◌∙◌, ap}
+use Rattle.std.proofs.Common.{◌≡◌, ℕ, ◌+◌, List, length, Option, None, Some, option_map, MatchOption, refl, sym, ◌∙◌}
+use Rattle.std.proofs.Common.{ap, subst}
 use Rattle.share_model.specs.declared.link.Part.{Part}
 use Rattle.share_model.specs.link.Frame.{Packet}
 use Rattle.share_model.specs.link.FrameLaws.{length-frame}
-use Rattle.share_model.specs.link.Buffers.{Buffer, buffer_of, head_of_buffer, head_of}
-use Rattle.share_model.specs.link.BufferLaws.{head_of-flow}
-use Rattle.share_model.specs.link.Live.{Live, sending_at, sending}
+use Rattle.share_model.specs.link.Buffers.{Buffer, head_of}
+use Rattle.share_model.specs.link.Live.{Live, Sending, sending_at, sending}
 use Rattle.share_model.specs.stride.Moves.{next}
+use Rattle.share_flows.specs.Places.{Stands}
 use Rattle.share_core.specs.declared.place.Place.{Place}
-use Rattle.share_core.specs.Place.{place_of}
-
-abbrev place_at : ℕ → Packet → Place
-place_at out h = place_of (sending_at out h)
-
--- the place at the head packet of a buffer that is found
-pub place_found : (bs : List Buffer) (f out : ℕ) (b : Buffer) (h : Packet) → buffer_of bs f ≡ Some b
-    → head_of_buffer b ≡ Some h
-    → Some record { flow = f; seq = h.seq; out = out; length = 12 + length h.payload }
-    ≡ option_map (place_at out) (head_of bs f)
-place_found bs f out b h found head =
-    let is : head_of bs f ≡ Some h = ap (option_and_then head_of_buffer) found ∙ head in
-    rw is (ap2_place (sym (head_of-flow bs f h is)) (sym (length-frame h)))
-  where
-    ap2_place : {g n : ℕ} → f ≡ g → 12 + length h.payload ≡ n
-        → ◌≡◌ {A = Option Place} (Some record { flow = f; seq = h.seq; out = out; length = 12 + length h.payload })
-        (Some record { flow = g; seq = h.seq; out = out; length = n })
-    ap2_place e q = cc
-
-map-map : (out : ℕ) (o : Option Packet) → option_map place_of (option_map (sending_at out) o)
-    ≡ option_map (place_at out) o
-map-map out None = refl
-map-map out (Some h) = refl
+use Rattle.share_core.specs.Place.{IsPlaceOf}
 
 pub sending-part : (l : Live) (p : Part) → l.part ≡ Some p
-    → option_map (place_at p.out) (head_of l.buffers p.flow) ≡ option_map place_of (sending l)
+    → sending l ≡ option_map (sending_at p.out) (head_of l.buffers p.flow)
 unfolding sending
-sending-part l p is = rw is (sym (map-map p.out (head_of l.buffers p.flow)))
+sending-part l p is = rw is refl
 
 pub sending-next : (l : Live) (f : ℕ) → l.part ≡ None → next l.queue.clients ≡ Some f
-    → option_map (place_at 0) (head_of l.buffers f) ≡ option_map place_of (sending l)
+    → sending l ≡ option_map (sending_at 0) (head_of l.buffers f)
 unfolding sending
-sending-next l f none is = rw (none, is) (sym (map-map 0 (head_of l.buffers f)))
+sending-next l f none is = rw (none, is) refl
 
-pub sending-none : (l : Live) → l.part ≡ None → next l.queue.clients ≡ None → None ≡ option_map place_of (sending l)
+pub sending-none : (l : Live) → l.part ≡ None → next l.queue.clients ≡ None → sending l ≡ None
 unfolding sending
 sending-none l none is = rw (none, is) refl
 
--- the head packet of a buffer that is found, by the flow's number
-pub head_found : (bs : List Buffer) (f : ℕ) (b : Buffer) (h : Packet) → buffer_of bs f ≡ Some b
-    → head_of_buffer b ≡ Some h → head_of bs f ≡ Some record { flow = f; seq = h.seq; payload = h.payload }
-head_found bs f b h found head =
-    let is : head_of bs f ≡ Some h = ap (option_and_then head_of_buffer) found ∙ head in
-    is ∙ ap (λ (n : ℕ). Some record { flow = n; seq = h.seq; payload = h.payload }) (head_of-flow bs f h is)
+-- the place at the head packet of a flow is that of the frame that is sent, or there is neither
+pub sending_placed : (l : Live) (out : ℕ) (o : Option Packet) (r : Option Place)
+    → sending l ≡ option_map (sending_at out) o
+    → MatchOption r (o ≡ None) (λ p. IsPlaceOf (option_map (sending_at out) o) p × Stands l.buffers p.buffer)
+    → MatchOption r (sending l ≡ None) (λ p. IsPlaceOf (sending l) p × Stands l.buffers p.buffer)
+sending_placed l out o None is none = is ∙ ap (option_map (sending_at out)) none
+sending_placed l out o (Some p) is placed =
+    (subst (λ (s : Option Sending). IsPlaceOf s p) (sym is) placed.0, placed.1)
+
+-- a head packet, with the length of its frame, is at its place
+pub head_placed : (bs : List Buffer) (place : Place) (payload : List ℕ)
+    → head_of bs place.buffer.flow
+    ≡ Some record { flow = place.buffer.flow; seq = place.seq; payload = payload }
+    → place.length ≡ 12 + length payload
+    → IsPlaceOf (option_map (sending_at place.out) (head_of bs place.buffer.flow)) place
+head_placed bs place payload head long =
+    subst (λ (o : Option Packet). IsPlaceOf (option_map (sending_at place.out) o) place) (sym head)
+    (ap (λ n. record { buffer = place.buffer; seq = place.seq; out = place.out; length = n })
+    (long ∙ sym (length-frame record { flow = place.buffer.flow; seq = place.seq; payload = payload })))

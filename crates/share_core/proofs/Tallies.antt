@@ -1,25 +1,13 @@
 -- How many packets wait, in one buffer and in all.
-use Rattle.std.proofs.Common.{◌≡◌, ◌+◌, ◌-◌, ◌≤◌, ◌^◌, ℕ, Bool, true, false, List, length, Option, None, Some, refl}
+use Rattle.std.proofs.Common.{◌≡◌, ◌+◌, ◌-◌, ◌≤◌, ℕ, Bool, true, false, List, Option, None, Some}
 use Rattle.std.proofs.Common.{arith, true≢false, sym, ap, ◌∙◌}
 use Rattle.std.proofs.lemmas.Bool.{eqb-true}
 use Rattle.share_model.specs.declared.rates.Rate.{Rate}
-use Rattle.share_model.specs.link.Buffers.{Buffer, buffer_of, is_buffer_of, count_by, count_in, head_of}
+use Rattle.share_model.specs.link.Buffers.{Buffer, count_in, head_of}
 use Rattle.share_model.specs.link.Live.{Live, is_torn_of}
 use Rattle.share_model.specs.link.Totals.{packets_in, torn_packets, torn_count, waiting}
-use Rattle.share_model.specs.lists.Laws.{each-find}
 use Rattle.share_model.specs.run.CountLaws.{some-held, count-within}
-use Rattle.share_model.specs.run.Sound.{Sound, IsSoundBuffer, TornIsNamed, torn_gone}
-
--- no buffer holds more packets than there were events
-pub few_held : {life : ℕ} {rates : List Rate} {l : Live} → Sound life rates l → life ≤ 2 ^ 24 → (f : ℕ)
-    → count_in l.buffers f ≤ 2 ^ 24
-few_held {l = l} sound short f = by_buffer (buffer_of l.buffers f) refl
-  where
-    by_buffer : (o : Option Buffer) → buffer_of l.buffers f ≡ o → count_by o ≤ 2 ^ 24
-    by_buffer None found = omega arith
-    by_buffer (Some b) found =
-        let is = each-find (IsSoundBuffer l.counts.events) (is_buffer_of f) l.buffers b sound.buffers found in
-        omega (arith, is.given, is.numbers, sound.counts.events, short)
+use Rattle.share_model.specs.run.Sound.{Sound, TornIsNamed, torn_gone}
 
 -- a torn packet is in the buffer of its flow
 pub torn_held : {life : ℕ} {rates : List Rate} {l : Live} → Sound life rates l → (f : ℕ)

@@ -25,9 +25,9 @@ of_sent l place P t h = subst (λ (o : Option Sending). IfSome o P) t.is h
 
 -- the flow of the frame that is sent has a head packet, its own
 pub sent_head : {life : ℕ} {rates : List Rate} (l : Live) (place : Place) → Sound life rates l → (t : IsSent l place)
-    → head_of l.buffers place.flow ≡ Some t.s.head
+    → head_of l.buffers place.buffer.flow ≡ Some t.s.head
 sent_head l place sound t =
-    subst (λ (p : Place). head_of l.buffers p.flow ≡ Some t.s.head) (sym t.place_is) (sending-head sound t.is)
+    subst (λ (p : Place). head_of l.buffers p.buffer.flow ≡ Some t.s.head) (sym t.place_is) (sending-head sound t.is)
 
 head_of_at : (out : ℕ) (o : Option Packet) (s : Sending) → option_map (sending_at out) o ≡ Some s
     → (s.out ≡ out) × (o ≡ Some s.head)

@@ -16,7 +16,7 @@ use Rattle.share_core.proofs.Activities.{can-settle}
 use Rattle.share_model.specs.stride.Moves.{charge}
 use Rattle.std.specs.FinMap.{get}
 use Rattle.share_model.specs.run.Sound.{Sound}
-use Rattle.share_model.specs.run.SoundLaws.{sending-head, sending-few, sending-short, rest-short, head-booked}
+use Rattle.share_model.specs.run.SoundLaws.{sending-head, sending-few, sending-short, rest-short}
 use Rattle.share_model.specs.run.SoundLaws.{book-known, book-account, head-stands, units_due-few}
 use Rattle.share_model.specs.run.SoundWriteLaws.{sound-whole, sound-in_part, sound-failed}
 use Rattle.share_model.specs.link.Tariff.{rate_at, AreInRange}
@@ -29,7 +29,7 @@ use Rattle.share_core.specs.Place.{place_of, IsPlaceOf, IsWithin}
 pub record IsSent (l : Live) (place : Place) : Type 0 where
   pub s : Sending
   pub is : sending l ≡ Some s
-  pub place_is : place ≡ place_of s
+  pub place_is : place ≡ place_of place.buffer.at s
 
 sent_by : (l : Live) (place : Place) (o : Option Sending) → sending l ≡ o → IsPlaceOf o place → IsSent l place
 sent_by l place None is h = absurd h
@@ -43,13 +43,13 @@ sent k n place same h =
 -- a link of which the last k bytes of the frame at a place are out, and one of which it was torn
 abbrev pub whole_at : List Rate → Live → Place → ℕ → Live
 whole_at rates l place k =
-    let units = units_due rates l.books place.flow place.length in
-    let left = popped l.buffers place.flow in
+    let units = units_due rates l.books place.buffer.flow place.length in
+    let left = popped l.buffers place.buffer.flow in
     levelled (record l {
-      graph = set_active l.graph place.flow (is_busy left place.flow);
-      queue = charge l.queue place.flow units;
+      graph = set_active l.graph place.buffer.flow (is_busy left place.buffer.flow);
+      queue = charge l.queue place.buffer.flow units;
       buffers = left;
-      books = posted rates l.books place.flow units;
+      books = posted rates l.books place.buffer.flow units;
       part = None;
       counts = record l.counts {
         events = l.counts.events + 1;
@@ -60,12 +60,12 @@ whole_at rates l place k =
 
 abbrev pub torn_at : List Rate → Live → Place → Live
 torn_at rates l place =
-    let units = units_due rates l.books place.flow place.out in
+    let units = units_due rates l.books place.buffer.flow place.out in
     record l {
-      queue = charge l.queue place.flow units;
-      books = posted rates l.books place.flow units;
+      queue = charge l.queue place.buffer.flow units;
+      books = posted rates l.books place.buffer.flow units;
       part = None;
-      torn = Some place.flow;
+      torn = Some place.buffer.flow;
       broken = true;
       counts = record l.counts { events = l.counts.events + 1 };
     }
@@ -93,21 +93,17 @@ head_busy bs f h is = by_buffer (buffer_of bs f) is
 
 module _ (life : ℕ) (rates : List Rate) (l : Live) (place : Place) (sound : Sound life rates l)
     (t : IsSent l place) where
-  -- its flow has a book, under a tariff of the shelf, with room for one more event
-  pub booked : IsSome (find (is_book_of place.flow) l.books)
-  booked =
-      subst (λ (p : Place). IsSome (find (is_book_of p.flow) l.books)) (sym t.place_is)
-      (head-booked sound t.s.head.flow (sending-head sound t.is))
-
-  pub known : IfFound (find (is_book_of place.flow) l.books) (λ b. IsTrue (is_some (rate_at rates b.tariff)))
+  -- the book of its flow has a tariff of the shelf, and room for one more event
+  pub known : IfFound (find (is_book_of place.buffer.flow) l.books) (λ b. IsTrue (is_some (rate_at rates b.tariff)))
   known =
-      if_found (find (is_book_of place.flow) l.books) (λ b. IsTrue (is_some (rate_at rates b.tariff)))
-      (λ b found. book-known sound place.flow found)
+      if_found (find (is_book_of place.buffer.flow) l.books) (λ b. IsTrue (is_some (rate_at rates b.tariff)))
+      (λ b found. book-known sound place.buffer.flow found)
 
-  pub posts : life ≤ 2 ^ 24 → IfFound (find (is_book_of place.flow) l.books) (λ b. b.account ≤ 4611686018427387904)
+  pub posts :
+      life ≤ 2 ^ 24 → IfFound (find (is_book_of place.buffer.flow) l.books) (λ b. b.account ≤ 4611686018427387904)
   posts few =
-      if_found (find (is_book_of place.flow) l.books) (λ b. b.account ≤ 4611686018427387904)
-      (λ b found. omega (arith, book-account sound place.flow found, sound.counts.events, few))
+      if_found (find (is_book_of place.buffer.flow) l.books) (λ b. b.account ≤ 4611686018427387904)
+      (λ b found. omega (arith, book-account sound place.buffer.flow found, sound.counts.events, few))
 
   -- its frame is short, and not all of it is out
   pub short : place.length ≤ 1502
@@ -118,31 +114,17 @@ module _ (life : ℕ) (rates : List Rate) (l : Live) (place : Place) (sound : So
       let few = sending-few sound t.is in let most = sending-short sound t.is in
       subst (λ (p : Place). p.out ≤ 1502) (sym t.place_is) (omega (arith, few, most))
 
-  -- its flow has a buffer
-  pub held : IsSome (buffer_of l.buffers place.flow)
-  held =
-      subst (λ (p : Place). IsSome (buffer_of l.buffers p.flow)) (sym t.place_is)
-      (of_head (buffer_of l.buffers t.s.head.flow) refl (sending-head sound t.is))
-    where
-      of_head : (o : Option Buffer) → buffer_of l.buffers t.s.head.flow ≡ o
-          → head_of l.buffers t.s.head.flow ≡ Some t.s.head → IsSome (buffer_of l.buffers t.s.head.flow)
-      of_head None is h = absurd (no_head (rw is at h))
-        where
-          no_head : None ≡ Some t.s.head → ⊥
-          no_head e = cc
-      of_head (Some b) is h = rw is refl
-
   -- its flow is a client of the queue
-  pub joined : IsSome (get l.queue.clients place.flow)
+  pub joined : IsSome (get l.queue.clients place.buffer.flow)
   joined =
-      subst (λ (p : Place). IsSome (get l.queue.clients p.flow)) (sym t.place_is)
+      subst (λ (p : Place). IsSome (get l.queue.clients p.buffer.flow)) (sym t.place_is)
       (sound.queue.clients t.s.head.flow ∙ head-stands sound t.s.head.flow (sending-head sound t.is))
 
   -- the clock has room for its units
   pub clock : AreInRange rates → life ≤ 2 ^ 24 → l.counts.events < life → (n : ℕ) → n ≤ 1502
-      → l.queue.clock + units_due rates l.books place.flow n ≤ 2 ^ 40
+      → l.queue.clock + units_due rates l.books place.buffer.flow n ≤ 2 ^ 40
   clock range short_life living n few =
-      omega (arith, sound.queue.clock, units_due-few rates l.books place.flow n range few)
+      omega (arith, sound.queue.clock, units_due-few rates l.books place.buffer.flow n range few)
 
   -- a link stays sound where the frame is whole, is in part, or was torn
   pub sound-finish : AreInRange rates → l.counts.events < life → l.broken ≡ false → (k : ℕ)
@@ -154,11 +136,11 @@ module _ (life : ℕ) (rates : List Rate) (l : Live) (place : Place) (sound : So
 
   pub sound-advance : l.counts.events < life → l.broken ≡ false → (k : ℕ) → 0 < k → place.out + k < place.length
       → Sound life rates (record l {
-        part = Some record { flow = place.flow; out = place.out + k };
+        part = Some record { flow = place.buffer.flow; out = place.out + k };
         counts = record l.counts { events = l.counts.events + 1; sent = l.counts.sent + k };
       })
   sound-advance living unbroken k some few = subst (λ (p : Place). Sound life rates (record l {
-    part = Some record { flow = p.flow; out = p.out + k };
+    part = Some record { flow = p.buffer.flow; out = p.out + k };
     counts = record l.counts { events = l.counts.events + 1; sent = l.counts.sent + k };
   })) (sym t.place_is)
       (sound-in_part sound living unbroken t.is k some (subst (λ (p : Place). p.out + k < p.length) t.place_is few))
@@ -170,23 +152,23 @@ module _ (life : ℕ) (rates : List Rate) (l : Live) (place : Place) (sound : So
       (sound-failed range sound living unbroken t.is)
 
   -- its flow is open, and holds a packet
-  pub stands : has_number place.flow (flow_numbers l.graph.flows) ≡ true
+  pub stands : has_number place.buffer.flow (flow_numbers l.graph.flows) ≡ true
   stands =
-      subst (λ (p : Place). has_number p.flow (flow_numbers l.graph.flows) ≡ true) (sym t.place_is)
+      subst (λ (p : Place). has_number p.buffer.flow (flow_numbers l.graph.flows) ≡ true) (sym t.place_is)
       (head-stands sound t.s.head.flow (sending-head sound t.is))
 
-  pub busy : is_busy l.buffers place.flow ≡ true
+  pub busy : is_busy l.buffers place.buffer.flow ≡ true
   busy =
-      subst (λ (p : Place). is_busy l.buffers p.flow ≡ true) (sym t.place_is)
+      subst (λ (p : Place). is_busy l.buffers p.buffer.flow ≡ true) (sym t.place_is)
       (head_busy l.buffers t.s.head.flow t.s.head (sending-head sound t.is))
 
   -- after its flow was charged the queue is level still, and can be levelled whether the flow is active or not
   module _ (units : ℕ) where
-    pub charged-level : IsLevel (charge l.queue place.flow units) (wants l.graph)
-    charged-level = level-charged l.queue place.flow units (wants l.graph) sound.level
+    pub charged-level : IsLevel (charge l.queue place.buffer.flow units) (wants l.graph)
+    charged-level = level-charged l.queue place.buffer.flow units (wants l.graph) sound.level
 
     pub charged-can : l.counts.events < life → units ≤ 4026 → (active : Bool)
-        → CanLevel (charge l.queue place.flow units) (wants (set_active l.graph place.flow active))
+        → CanLevel (charge l.queue place.buffer.flow units) (wants (set_active l.graph place.buffer.flow active))
     charged-can living few active =
-        can-settle sound (charge l.queue place.flow units)
-        (queue-charged place.flow units stands living few sound.queue) place.flow active
+        can-settle sound (charge l.queue place.buffer.flow units)
+        (queue-charged place.buffer.flow units stands living few sound.queue) place.buffer.flow active

@@ -3,4 +3,3 @@ pub mod Held
 pub mod Levels
 pub mod Life
 pub mod Place
-pub mod Shelf

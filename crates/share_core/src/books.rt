@@ -75,9 +75,10 @@ impl Books {
         }
     }
 
-    /// Posts a flow for `count` bytes of a frame, and gives the units that they are charged.
-    pub fn charge<S: Rates>(&mut self, shelf: &S, flow: FlowNo, count: u32) -> u64
-        requires there { IsSome (find (is_book_of flow) self.old) }
+    /// Posts a flow, whose book stands at a place, for `count` bytes of a frame, and gives the units that they are
+    /// charged.
+    pub fn charge_at<S: Rates>(&mut self, shelf: &S, place: usize, flow: FlowNo, count: u32) -> u64
+        requires there { position (is_book_of flow) self.old ≡ Some place }
         requires known { IfFound (find (is_book_of flow) self.old)
             (λ b. IsTrue (is_some (rate_at (S.rates shelf.now) b.tariff))) }
         requires account { IfFound (find (is_book_of flow) self.old) (λ b. b.account ≤ 2 ^ 62) }
@@ -85,7 +86,6 @@ impl Books {
         ensures units { result ≡ units_due (S.rates shelf.now) self.old flow count }
         ensures posted { self.new ≡ posted (S.rates shelf.now) self.old flow result }
     {
-        let place = self.place(flow);
         let book = &mut self.books[place];
         post(book, shelf, count)
     }

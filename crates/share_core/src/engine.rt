@@ -18,6 +18,7 @@ ghost use Rattle.share_model.specs.link.Frame.{frame};
 ghost use Rattle.share_model.specs.io.Told.{Fits};
 ghost use Rattle.share_core.specs.Framed.{IsFrameOf};
 ghost use Rattle.share_core.specs.Place.{IsPlaceOf};
+ghost use Rattle.share_flows.specs.Places.{Stands};
 ghost use Rattle.share_core.specs.Life.{life_refusal};
 
 use crate::fields;
@@ -82,6 +83,13 @@ impl<W: Drop, S: Rates + Drop> Engine<W, S> {
 }
 
 impl<W, S: Rates> Engine<W, S> {
+    /// How many events the link makes at most.
+    pub fn life(&self) -> u64
+        ensures { result ≡ self.now.life }
+    {
+        self.link.life()
+    }
+
     /// How many events were made, at most the life. A link is sound after whatever events.
     pub fn events(&self) -> u64
         ensures events { result ≡ self.now.live.counts.events }
@@ -237,6 +245,7 @@ impl<W, S: Rates> Engine<W, S> {
         requires living { is_spent self.old ≡ false }
         requires unbroken { self.old.live.broken ≡ false }
         requires sends { IsPlaceOf (sending self.old.live) place }
+        requires stands { Stands self.old.live.buffers place.buffer }
         ensures { IfSome (sending self.old.live)
             (λ s. Offered W.answers self.old most s result self.new) }
     {
@@ -281,6 +290,7 @@ impl<W, S: Rates + Drop> Engine<W, S> {
 // Sees to it that the buffer holds the frame that is sent: it does where that is in part.
 fn load<S: Rates>(link: &Link<S>, place: &Place, buffer: &mut Vec<u8>)
     requires sends { IsPlaceOf (sending link.now.live) place.now }
+    requires stands { Stands link.now.live.buffers place.now.buffer }
     requires kept { IsFrameOf link.now.live.buffers link.now.live.part buffer.old.items }
     requires room { 1502 ≤ vec_capacity buffer.old }
     ensures sound { Sound link.now.life link.now.rates link.now.live }
@@ -289,7 +299,7 @@ fn load<S: Rates>(link: &Link<S>, place: &Place, buffer: &mut Vec<u8>)
 {
     let _ = link.spent();
     if place.out == 0 {
-        link.fill(place.flow, buffer);
+        link.fill(&place.buffer, buffer);
     }
 }
 

@@ -17,8 +17,8 @@ mod sending;
 
 use crate::MAX_FLOWS;
 use crate::books::Books;
-use crate::buffers::Buffers;
 use share_base::{FlowNo, Refusal, Reply};
+use share_flows::Buffers;
 use share_ledger::Ledger;
 use share_model::{Counts, Part, Rates};
 use share_stride::Queue;

@@ -1,118 +1,102 @@
-//! Worked figures of whole packets, and what the other tests share: calls and their outcomes as rows of a table.
+//! Worked figures of whole packets, and what the other tests share: calls and their answers as rows of a table.
 
 mod currencies;
 mod cuts;
 mod plain;
 mod random;
 mod refusals;
-mod tariffs;
 
-use crate::{Engine, Shelf, Tariff};
+use crate::Engine;
 use share_base::{Body, Command, FlowNo, Name, Outcome, Refusal, Reply, TicketNo, Turn};
 use share_model::{Answer, Rates, Scripted, Tape, Telling};
 use std::alloc::Global;
 use std::process::Abort;
+use std::test::Fail;
 
 /// The frame of the first packet of the first flow, whose payload is `hi`.
 const FRAME: [u8; 14] = [0x4c, 0x01, 0, 0, 0, 1, 0, 0, 0, 1, 0, 2, 0x68, 0x69];
 
 const FLOW: FlowNo = FlowNo(1);
 
+/// A turn that offers a whole frame.
+const TURN: Call = Call::Turn(65535);
+
 /// A call of a link. A turn offers at least one byte.
 #[derive(Clone, Copy, Debug)]
 enum Call {
     Open(&'static str, u64, u64),
     MakeCurrency(&'static str),
-    RemoveCurrency(&'static str),
     MakeTicket(u64, &'static str),
-    RemoveTicket(u64),
     Back(u64, &'static str),
     Fund(u64, &'static str),
     Unfund(u64),
     Send(&'static str, &'static [u8]),
     Turn(u32),
     Tear,
+    Events,
+    Account(u32),
+    Tickets(u32),
+    Flow(&'static str),
 }
 
-fn name(rt: &impl Abort, text: &str) -> Name {
-    Name::read(text.as_bytes()).expect(rt, "a name")
+/// What a call answers, in few words: a packet and a frame are of the first flow, and a frame of its first packet.
+#[derive(Clone, Copy, Debug)]
+enum Wanted {
+    Done,
+    Opened,
+    Ticket(u32),
+    Packet(u32),
+    Refused(Refusal),
+    Part(u32),
+    Whole(u32),
+    Torn(u32),
+    Is(Turn),
+    Number(u64),
+    Nothing,
 }
 
-fn answer_to<W: Telling, S: Rates>(
-    rt: &impl Abort,
-    alloc: Global,
-    engine: &mut Engine<W, S>,
-    call: Call,
-) -> Outcome {
-    match call {
-        Call::Open(flow, limit, tariff) => Outcome::Replied(engine.command(Command::OpenFlow {
-            name: name(rt, flow),
-            limit,
-            tariff,
-        })),
-        Call::MakeCurrency(currency) => {
-            Outcome::Replied(engine.command(Command::MakeCurrency(name(rt, currency))))
+/// What a call answered.
+#[derive(Clone, Copy, Debug, PartialEq, Eq)]
+enum Seen {
+    Told(Outcome),
+    Read(Option<u64>),
+}
+
+/// A call with what it answers.
+type Row = (Call, Wanted);
+
+impl Wanted {
+    fn seen(self) -> Seen {
+        match self {
+            Wanted::Done => replied(Reply::Done),
+            Wanted::Opened => replied(Reply::Flow(FLOW)),
+            Wanted::Ticket(number) => replied(Reply::Ticket(TicketNo(number))),
+            Wanted::Packet(seq) => replied(Reply::Packet { flow: FLOW, seq }),
+            Wanted::Refused(refusal) => replied(Reply::Refused(refusal)),
+            Wanted::Part(k) => wrote(k, false),
+            Wanted::Whole(k) => wrote(k, true),
+            Wanted::Torn(j) => turned(Turn::Torn {
+                flow: FLOW,
+                seq: 1,
+                j,
+            }),
+            Wanted::Is(turn) => turned(turn),
+            Wanted::Number(number) => Seen::Read(Some(number)),
+            Wanted::Nothing => Seen::Read(None),
         }
-        Call::RemoveCurrency(currency) => {
-            Outcome::Replied(engine.command(Command::RemoveCurrency(name(rt, currency))))
-        }
-        Call::MakeTicket(amount, currency) => {
-            let currency = name(rt, currency);
-            Outcome::Replied(engine.command(Command::MakeTicket { amount, currency }))
-        }
-        Call::RemoveTicket(ticket) => Outcome::Replied(engine.command(Command::RemoveTicket(
-            ticket,
-        ))),
-        Call::Back(ticket, currency) => {
-            let currency = name(rt, currency);
-            Outcome::Replied(engine.command(Command::FundCurrency { ticket, currency }))
-        }
-        Call::Fund(ticket, flow) => {
-            let flow = name(rt, flow);
-            Outcome::Replied(engine.command(Command::FundFlow { ticket, flow }))
-        }
-        Call::Unfund(ticket) => Outcome::Replied(engine.command(Command::Unfund(ticket))),
-        Call::Send(flow, payload) => {
-            let body = Body::new(alloc, payload).expect(rt, "a payload");
-            Outcome::Replied(engine.arrive(name(rt, flow), body))
-        }
-        Call::Turn(most) => Outcome::Turned(engine.turn(most.max(1))),
-        Call::Tear => Outcome::Turned(engine.tear()),
     }
 }
 
-// Makes each call, and compares its outcome.
-fn play<W: Telling, S: Rates>(
-    rt: &impl Abort,
-    alloc: Global,
-    engine: &mut Engine<W, S>,
-    rows: &[(Call, Outcome)],
-) {
-    for row in rows {
-        let (asked, wanted) = *row;
-        assert_eq!(rt; answer_to(rt, alloc, engine, asked), wanted, "at {asked:?}");
-    }
+fn replied(reply: Reply) -> Seen {
+    Seen::Told(Outcome::Replied(reply))
 }
 
-const DONE: Outcome = Outcome::Replied(Reply::Done);
-
-const OPENED: Outcome = Outcome::Replied(Reply::Flow(FLOW));
-
-fn ticket(number: u32) -> Outcome {
-    Outcome::Replied(Reply::Ticket(TicketNo(number)))
+fn turned(turn: Turn) -> Seen {
+    Seen::Told(Outcome::Turned(turn))
 }
 
-fn packet(seq: u32) -> Outcome {
-    Outcome::Replied(Reply::Packet { flow: FLOW, seq })
-}
-
-fn refused(refusal: Refusal) -> Outcome {
-    Outcome::Replied(Reply::Refused(refusal))
-}
-
-// k more bytes of the first packet's frame.
-fn wrote(k: u32, whole: bool) -> Outcome {
-    Outcome::Turned(Turn::Wrote {
+fn wrote(k: u32, whole: bool) -> Seen {
+    turned(Turn::Wrote {
         flow: FLOW,
         seq: 1,
         k,
@@ -120,92 +104,152 @@ fn wrote(k: u32, whole: bool) -> Outcome {
     })
 }
 
-// The first packet's frame was torn after j bytes.
-fn torn(j: u32) -> Outcome {
-    Outcome::Turned(Turn::Torn {
-        flow: FLOW,
-        seq: 1,
-        j,
-    })
+fn name(rt: &impl Abort, text: &str) -> Name {
+    Name::read(text.as_bytes()).expect(rt, "a name")
 }
 
-// Four tariffs: by the byte; by cells of 48; by cells of 1024; by cells of 2048.
-fn shelf(rt: &impl Abort, alloc: Global) -> Shelf {
-    let mut tariffs = Vec::new(alloc);
-    for (cell, overhead, price) in [(1, 0, 1), (48, 16, 2), (1024, 0, 1), (2048, 1024, 3)] {
-        let tariff = Tariff::new(cell, overhead, price).expect(rt, "a tariff");
-        tariffs.push(tariff).expect(rt, "memory");
+// The command of a call, if it is one.
+fn command_of(rt: &impl Abort, call: Call) -> Option<Command> {
+    let command = match call {
+        Call::Open(flow, limit, tariff) => Command::OpenFlow {
+            name: name(rt, flow),
+            limit,
+            tariff,
+        },
+        Call::MakeCurrency(currency) => Command::MakeCurrency(name(rt, currency)),
+        Call::MakeTicket(amount, currency) => Command::MakeTicket {
+            amount,
+            currency: name(rt, currency),
+        },
+        Call::Back(ticket, currency) => Command::FundCurrency {
+            ticket,
+            currency: name(rt, currency),
+        },
+        Call::Fund(ticket, flow) => Command::FundFlow {
+            ticket,
+            flow: name(rt, flow),
+        },
+        Call::Unfund(ticket) => Command::Unfund(ticket),
+        _ => return None,
+    };
+    Some(command)
+}
+
+fn ask<W: Telling, S: Rates>(
+    rt: &impl Abort,
+    alloc: Global,
+    engine: &mut Engine<W, S>,
+    call: Call,
+) -> Seen {
+    if let Some(command) = command_of(rt, call) {
+        return replied(engine.command(command));
     }
-    Shelf::new(tariffs).expect(rt, "a shelf")
+    match call {
+        Call::Send(flow, payload) => {
+            let body = Body::new(alloc, payload).expect(rt, "a payload");
+            replied(engine.arrive(name(rt, flow), body))
+        }
+        Call::Turn(most) => turned(engine.turn(most.max(1))),
+        Call::Tear => turned(engine.tear()),
+        _ => Seen::Read(read(rt, engine, call)),
+    }
+}
+
+// What a reader gives.
+fn read<W, S: Rates>(rt: &impl Abort, engine: &Engine<W, S>, call: Call) -> Option<u64> {
+    match call {
+        Call::Events => Some(engine.events()),
+        Call::Account(flow) => engine.account(FlowNo(flow)),
+        Call::Tickets(flow) => engine.tickets(FlowNo(flow)).map(u64::from),
+        Call::Flow(flow) => engine
+            .flow(name(rt, flow))
+            .map(|found| u64::from(found.number())),
+        _ => None,
+    }
+}
+
+// Makes each call, and compares its answer.
+fn play<W: Telling, S: Rates>(
+    rt: &impl Abort,
+    alloc: Global,
+    engine: &mut Engine<W, S>,
+    rows: &[Row],
+) {
+    for row in rows {
+        let (asked, wanted) = *row;
+        assert_eq!(rt;
+            ask(rt, alloc, engine, asked),
+            wanted.seen(),
+            "at {asked:?}"
+        );
+    }
 }
 
 // A new link over a tape.
-fn taped(rt: &impl Abort, alloc: Global, life: u64) -> Engine<Tape, Shelf> {
-    Engine::new(alloc, shelf(rt, alloc), life, Tape::new(alloc)).expect(rt, "a link")
+fn taped<S: Rates + Copy>(rt: &impl Abort, alloc: Global, shelf: S, life: u64) -> Engine<Tape, S> {
+    Engine::new(alloc, shelf, life, Tape::new(alloc)).expect(rt, "a link")
 }
 
 // A new link over a writer with this script.
-fn scripted(rt: &impl Abort, alloc: Global, script: &[Answer]) -> Engine<Scripted, Shelf> {
+fn scripted<S: Rates + Copy>(
+    rt: &impl Abort,
+    alloc: Global,
+    shelf: S,
+    script: &[Answer],
+) -> Engine<Scripted, S> {
     let script = Vec::from_slice(alloc, script).expect(rt, "memory");
     let writer = Scripted::new(alloc, script);
-    Engine::new(alloc, shelf(rt, alloc), 65536, writer).expect(rt, "a link")
+    Engine::new(alloc, shelf, 65536, writer).expect(rt, "a link")
 }
 
-#[test]
-fn sends_one_packet(rt: HostRuntime) {
-    let alloc = rt.alloc();
-    let mut engine = taped(&rt, alloc, 65536);
-    play(
-        &rt,
-        alloc,
-        &mut engine,
-        &[
-            (Call::Open("a", 4, 1), OPENED),
-            (Call::MakeTicket(10, "base"), ticket(1)),
-            (Call::Fund(1, "a"), DONE),
-            (Call::Send("a", b"hi"), packet(1)),
-            (Call::Turn(65535), wrote(14, true)),
-            (Call::Turn(65535), Outcome::Turned(Turn::Idle)),
-        ],
-    );
-    assert_eq!(rt; engine.account(FLOW), Some(14));
-    assert_eq!(rt; engine.tickets(FLOW), Some(0), "while it is idle");
-    assert_eq!(rt; engine.events(), 5);
+fn plays_on_a_new_link<S: Rates + Copy>(rt: &impl Abort, alloc: Global, shelf: S, rows: &[Row]) {
+    play(rt, alloc, &mut taped(rt, alloc, shelf, 65536), rows);
+}
+
+const ONE_PACKET: [Row; 12] = [
+    (Call::Open("a", 4, 1), Wanted::Opened),
+    (Call::MakeTicket(10, "base"), Wanted::Ticket(1)),
+    (Call::Fund(1, "a"), Wanted::Done),
+    (Call::Send("a", b"hi"), Wanted::Packet(1)),
+    (TURN, Wanted::Whole(14)),
+    (TURN, Wanted::Is(Turn::Idle)),
+    (Call::Events, Wanted::Number(5)),
+    (Call::Account(1), Wanted::Number(14)),
+    (Call::Tickets(1), Wanted::Number(0)),
+    (Call::Flow("a"), Wanted::Number(1)),
+    (Call::Flow("b"), Wanted::Nothing),
+    (Call::Account(2), Wanted::Nothing),
+];
+
+fn sends_one_packet<S: Rates + Copy>(rt: &impl Abort, alloc: Global, shelf: S) {
+    let mut engine = taped(rt, alloc, shelf, 65536);
+    play(rt, alloc, &mut engine, &ONE_PACKET);
     assert!(rt; !engine.spent());
-    assert_eq!(rt; engine.flow(name(&rt, "a")), Some(FLOW));
-    assert_eq!(rt; engine.flow(name(&rt, "b")), None);
-    assert_eq!(rt; engine.account(FlowNo(2)), None);
     assert_eq!(rt; engine.tickets(FlowNo(2)), None);
     assert_eq!(rt; engine.writer().bytes(), FRAME.as_slice());
     let tape = engine.into_writer();
     assert_eq!(rt; tape.bytes(), FRAME.as_slice());
 }
 
-#[test]
-fn sends_the_largest_payload(rt: HostRuntime) {
-    let alloc = rt.alloc();
-    let mut engine = taped(&rt, alloc, 65536);
-    play(
-        &rt,
-        alloc,
-        &mut engine,
-        &[
-            (Call::Open("a", 4, 2), OPENED),
-            (Call::MakeTicket(10, "base"), ticket(1)),
-            (Call::Fund(1, "a"), DONE),
-        ],
-    );
+const FUNDED: [Row; 3] = [
+    (Call::Open("a", 4, 2), Wanted::Opened),
+    (Call::MakeTicket(10, "base"), Wanted::Ticket(1)),
+    (Call::Fund(1, "a"), Wanted::Done),
+];
+
+const LARGEST_SENT: [Row; 2] = [
+    (TURN, Wanted::Whole(1502)),
+    (Call::Account(1), Wanted::Number(3104)),
+];
+
+fn sends_the_largest_payload<S: Rates + Copy>(rt: &impl Abort, alloc: Global, shelf: S) {
+    let mut engine = taped(rt, alloc, shelf, 65536);
+    play(rt, alloc, &mut engine, &FUNDED);
     let payload = [0; 1490];
-    let body = Body::new(alloc, payload.as_slice()).expect(&rt, "a payload");
-    let accepted = engine.arrive(name(&rt, "a"), body);
-    assert_eq!(rt; Outcome::Replied(accepted), packet(1));
-    play(
-        &rt,
-        alloc,
-        &mut engine,
-        &[(Call::Turn(65535), wrote(1502, true))],
-    );
-    assert_eq!(rt; engine.account(FLOW), Some(3104));
+    let body = Body::new(alloc, payload.as_slice()).expect(rt, "a payload");
+    let accepted = engine.arrive(name(rt, "a"), body);
+    assert_eq!(rt; replied(accepted), Wanted::Packet(1).seen());
+    play(rt, alloc, &mut engine, &LARGEST_SENT);
     let bytes = engine.writer().bytes();
     assert_eq!(rt; bytes.len(), 1502);
     assert_eq!(rt;
@@ -215,28 +259,28 @@ fn sends_the_largest_payload(rt: HostRuntime) {
     assert!(rt; bytes[12..].iter().all(|byte| *byte == 0));
 }
 
+const UP_TO_THE_CAP: [Row; 8] = [
+    (Call::Open("a", 4, 1), Wanted::Opened),
+    (Call::MakeTicket(1048576, "base"), Wanted::Ticket(1)),
+    (Call::MakeTicket(1048576, "base"), Wanted::Ticket(2)),
+    (Call::Fund(1, "a"), Wanted::Done),
+    (Call::Fund(2, "a"), Wanted::Done),
+    (Call::Tickets(1), Wanted::Number(0)),
+    (Call::Send("a", b"hi"), Wanted::Packet(1)),
+    (Call::Tickets(1), Wanted::Number(1048576)),
+];
+
+// The shelf has four tariffs: by the byte; by cells of 48; by cells of 1024; by cells of 2048. Its boxes are made in
+// this body, and it is lent to the rows.
 #[test]
-fn counts_tickets_up_to_the_cap(rt: HostRuntime) {
+fn links_answer_as_worked_and_as_a_plain_link(rt: HostRuntime) -> Result<(), Fail> {
     let alloc = rt.alloc();
-    let mut engine = taped(&rt, alloc, 65536);
-    play(
-        &rt,
-        alloc,
-        &mut engine,
-        &[
-            (Call::Open("a", 4, 1), OPENED),
-            (Call::MakeTicket(1048576, "base"), ticket(1)),
-            (Call::MakeTicket(1048576, "base"), ticket(2)),
-            (Call::Fund(1, "a"), DONE),
-            (Call::Fund(2, "a"), DONE),
-        ],
-    );
-    assert_eq!(rt; engine.tickets(FLOW), Some(0));
-    play(
-        &rt,
-        alloc,
-        &mut engine,
-        &[(Call::Send("a", b"hi"), packet(1))],
-    );
-    assert_eq!(rt; engine.tickets(FLOW), Some(1048576));
+    let shelf = share_tariff::shelf!(alloc, (1, 0, 1), (48, 16, 2), (1024, 0, 1), (2048, 1024, 3));
+    sends_one_packet(&rt, alloc, &shelf);
+    sends_the_largest_payload(&rt, alloc, &shelf);
+    plays_on_a_new_link(&rt, alloc, &shelf, &UP_TO_THE_CAP);
+    refusals::all(&rt, alloc, &shelf);
+    cuts::all(&rt, alloc, &shelf);
+    currencies::all(&rt, alloc, &shelf);
+    random::all(&rt, alloc, &shelf)
 }

@@ -1,11 +1,11 @@
 //! The buffers of the open flows, found by the numbers of the flows.
-ghost use Rattle.std.specs.Prelude.{◌≡◌, ◌<◌, ◌≤◌, ◌^◌, ◌∷◌, [], true, false, position, IfOk, IfErr, OnOk};
-ghost use Rattle.std.specs.Prelude.{MatchOption, None, Some, IsSome, IfSome, IsTrue, option_map};
+ghost use Rattle.std.specs.Prelude.{◌≡◌, ◌<◌, ◌≤◌, ◌^◌, ◌∷◌, [], true, false, position, IfOk, IfErr, OnOk, ◌-◌};
+ghost use Rattle.std.specs.Prelude.{length, slice_get, MatchOption, None, Some, IsSome, IfSome, IsTrue, option_map};
 ghost use Rattle.share_base.specs.Refusal.{IsRefused};
 ghost use Rattle.share_base.specs.declared.refusal.Refusal.TheVariants.{NoMemory};
 ghost use Rattle.share_model.specs.link.Buffers.{buffer_of, is_buffer_of, opened, closed, count_in, pushed, popped};
 ghost use Rattle.share_model.specs.link.Buffers.{is_full, head_of, is_busy};
-ghost use Rattle.share_flows.specs.Places.{Stands};
+ghost use Rattle.share_flows.specs.Places.{Stands, AreApart};
 ghost use Rattle.share_flows.specs.Limit.{limit_refusal};
 
 use crate::ring::{MAX_LIMIT, Ring};
@@ -34,10 +34,13 @@ pub struct Buffers {
 impl Model for Buffers {
     ghost use Rattle.std.specs.Prelude.{List};
     ghost use Rattle.share_model.specs.link.Buffers.{Buffer};
+    ghost use Rattle.share_flows.specs.Places.{AreApart};
 
     ghost Value = { List Buffer };
 
     ghost view = { λ b. b.rings.items };
+
+    ghost invariant = { λ b. AreApart b.rings.items };
 }
 
 impl Buffers {
@@ -221,9 +224,55 @@ impl Buffers {
     }
 }
 
-// Where the ring of a flow stands, if there is one.
+// Where the ring of a flow stands, if there is one. Flows are mostly opened in the order of their numbers. So the place
+// is tried at which it stands where none between it and the first was closed; then it is sought by halves, and only
+// where it is not found that way is each ring asked.
 fn place_of(rings: &[Ring], flow: FlowNo) -> Option<usize>
+    requires { AreApart rings.now }
     ensures { result ≡ position (is_buffer_of flow) rings.now }
 {
+    let place = past_first(rings, flow);
+    if stands_at(rings, flow, place) {
+        return Some(place);
+    }
+    let place = by_halves(rings, flow);
+    if stands_at(rings, flow, place) {
+        return Some(place);
+    }
     rings.iter().position(|ring| ring.is_of(flow))
+}
+
+// Whether the ring at a place is there, and of this flow.
+fn stands_at(rings: &[Ring], flow: FlowNo, place: usize) -> bool
+    requires { AreApart rings.now }
+    ensures { IsTrue result → position (is_buffer_of flow) rings.now ≡ Some place }
+{
+    place < rings.len() && rings[place].is_of(flow)
+}
+
+// As many places past the first ring as the flow's number is past that of the first.
+fn past_first(rings: &[Ring], flow: FlowNo) -> usize
+    ensures { MatchOption (slice_get rings.now 0) (result ≡ 0) (λ first. result ≡ flow - first.flow) }
+{
+    match rings.first() {
+        None => 0,
+        Some(first) => first.numbers_to(flow) as usize,
+    }
+}
+
+// Where the ring of a flow stands if the rings are in the order of their flows' numbers, and it is one of them.
+fn by_halves(rings: &[Ring], flow: FlowNo) -> usize
+    ensures { result ≤ length rings.now }
+{
+    let mut low = 0;
+    let mut high = rings.len();
+    while low < high {
+        let middle = low + (high - low) / 2;
+        if rings[middle].is_before(flow) {
+            low = middle + 1;
+        } else {
+            high = middle;
+        }
+    }
+    low
 }

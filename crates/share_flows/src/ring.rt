@@ -1,6 +1,6 @@
 //! The buffer of one flow.
-ghost use Rattle.std.specs.Prelude.{◌≡◌, ◌<◌, ◌≤◌, ◌^◌, ◌∷◌, true, false, not, length, IfOk, IfErr, MatchOption};
-ghost use Rattle.std.specs.Prelude.{None, Some};
+ghost use Rattle.std.specs.Prelude.{◌≡◌, ◌<◌, ◌≤◌, ◌^◌, ◌-◌, ◌∷◌, true, false, not, length, nat_lt, IfOk, IfErr};
+ghost use Rattle.std.specs.Prelude.{MatchOption, None, Some};
 ghost use Rattle.share_model.specs.link.Buffers.{Buffer, is_buffer_of, new_buffer, is_full, with_packet, without_head};
 ghost use Rattle.share_model.specs.link.Buffers.{head_of_buffer, is_some_packet};
 
@@ -57,6 +57,20 @@ impl Ring {
         ensures { result ≡ is_buffer_of flow self.now }
     {
         flow.number() == self.flow.number()
+    }
+
+    /// How far the number of a flow is past that of its own, and 0 where it is not.
+    pub fn numbers_to(&self, flow: FlowNo) -> u32
+        ensures { result ≡ flow - self.now.flow }
+    {
+        flow.number().saturating_sub(self.flow.number())
+    }
+
+    /// Whether the number of its flow is less than this one.
+    pub fn is_before(&self, flow: FlowNo) -> bool
+        ensures { result ≡ nat_lt self.now.flow flow }
+    {
+        self.flow.number() < flow.number()
     }
 
     /// The sequence number that the next packet takes.

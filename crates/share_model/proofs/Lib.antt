@@ -5,3 +5,4 @@ pub mod FundingHeld
 pub mod FundingLawsHold
 pub mod FundingLong
 pub mod FundingShares
+mod OutputLemmas

@@ -3,6 +3,7 @@ pub mod BufferLaws
 pub mod Buffers
 pub mod CommandLaws
 pub mod Did
+pub mod FieldLaws
 pub mod Fields
 pub mod Frame
 pub mod FrameLaws

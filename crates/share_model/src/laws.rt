@@ -1,7 +1,7 @@
 //! What holds of every run of a link. Each function here does nothing: its contract is a law, which is proved with it.
 ghost use Rattle.std.specs.Prelude.{◌≡◌, ◌≢◌, ◌<◌, ◌≤◌, ◌+◌, ◌^◌, ℕ, Bool, true, List, []};
 ghost use Rattle.std.specs.Prelude.{◌∷◌, ◌++◌};
-ghost use Rattle.std.specs.Prelude.{length, find, filter, nat_eq, None, Some, is_some};
+ghost use Rattle.std.specs.Prelude.{length, find, filter, nat_eq, None, Some, is_some, codes};
 ghost use Rattle.share_base.specs.declared.command.Event.{Event};
 ghost use Rattle.share_model.specs.declared.link.Book.{Book};
 ghost use Rattle.share_model.specs.declared.rates.Rate.{Rate};
@@ -27,6 +27,7 @@ ghost use Rattle.share_model.specs.link.Totals.{torn_count, waiting};
 ghost use Rattle.share_model.specs.funding.Graph.{flow_numbers};
 ghost use Rattle.share_model.specs.lists.Laws.{has_number};
 ghost use Rattle.share_model.specs.text.Events.{made_of, events_of, texts_of};
+ghost use Rattle.share_model.specs.text.Report.{report};
 ghost use Rattle.share_model.specs.text.Talk.{start, talk, after};
 
 /// Events that a link may make one after another leave it sound.
@@ -174,8 +175,9 @@ pub fn shares_of_runs()
 
 /// A script is a run of its events, of which a line makes one or none. They may follow one another;
 /// they leave the state that the script comes to; and each line is answered with the text of its
-/// event's outcome, or of its own where it made none. So every law of runs holds of every script,
-/// whatever its lines, and wherever memory was lacking.
+/// event's outcome, or of its own where it made none. A line `report` makes none: wherever it stands,
+/// its text is the report of what the run of the events of the lines before it left. So every law of
+/// runs holds of every script, whatever its lines, and wherever memory was lacking.
 pub fn scripts_are_runs()
     ensures follow { (life : ℕ) (rates : List Rate) (lacks : List Bool) (lines : List (List ℕ))
         → AreInRange rates
@@ -187,4 +189,9 @@ pub fn scripts_are_runs()
         → talk life rates start lacks lines
         ≡ texts_of (made_of life rates start lacks lines)
         (outcomes rates empty_state (events_of life rates start lacks lines)) }
+    ensures reports { (life : ℕ) (rates : List Rate) (lacks : List Bool) (lines rest : List (List ℕ))
+        → (more : List ℕ)
+        × (talk life rates start lacks (lines ++ codes "report" ∷ rest)
+        ≡ talk life rates start lacks lines
+        ++ (report (run rates (events_of life rates start lacks lines)).live ++ more)) }
 {}

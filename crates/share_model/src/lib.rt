@@ -9,6 +9,7 @@ mod ingress;
 mod laws;
 mod line;
 mod link;
+mod output;
 mod rates;
 mod reader;
 mod scripted;
@@ -26,7 +27,8 @@ pub use laws::{
     runs_are_level, scripts_are_runs, shares_are_within_of_runs, shares_of_runs,
 };
 pub use line::{HolderKind, Line};
-pub use link::{Book, Counts, LinkState, Part, Row, Totals};
+pub use link::{Book, Counts, FlowLine, LinkState, Part, Row, Totals};
+pub use output::{NotWritten, put};
 pub use rates::{Rate, Rates};
 pub use reader::{Got, PlainReader, Source};
 pub use scripted::Scripted;

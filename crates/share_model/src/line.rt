@@ -20,4 +20,8 @@ pub enum Line {
     Turn(u64),
     /// The writer is declared failed.
     Torn,
+    /// The report of the link is asked for.
+    Report,
+    /// The script is the audit of a journal, version 1; it stands as the first line alone.
+    Audit,
 }

@@ -78,3 +78,18 @@ pub struct Row {
     pub name: Name,
     pub waiting: u32,
 }
+
+/// What a report says of an open flow.
+#[derive(Clone, Copy, Debug)]
+pub struct FlowLine {
+    pub flow: FlowNo,
+    pub name: Name,
+    /// The tickets that it has now: 0 while it is idle.
+    pub tickets: u32,
+    /// The packets in its buffer, a torn one not counted.
+    pub waiting: u32,
+    pub account: u64,
+    pub competing: bool,
+    /// Its pass while it competes, its remain otherwise, which is 0 before it first competes.
+    pub place: i128,
+}

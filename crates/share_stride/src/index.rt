@@ -1,5 +1,5 @@
 //! The keys of a slab by flow number.
-ghost use Rattle.std.specs.Prelude.{◌≡◌, ◌<◌, None, IfOk, IfErr};
+ghost use Rattle.std.specs.Prelude.{◌≡◌, ◌<◌, ◌-◌, ◌↔◌, None, IfOk, IfErr, IsTrue, MatchOption, slice_get};
 ghost use Rattle.std.specs.FinMap as map;
 ghost use Rattle.share_stride.specs.Index.{IsRising, IsAt, IsGapFor};
 
@@ -77,11 +77,33 @@ impl Index {
     }
 }
 
-// Where the pair of a flow is, or where it would go.
+// Where the pair of a flow is, or where it would go. Where no flow between it and the first was removed, it stands as
+// far past the first as its number is, so that place is tried before the search.
 fn place_of(pairs: &[(FlowNo, usize)], flow: FlowNo) -> Result<usize, usize>
     requires { IsRising pairs.now }
     ensures found { IfOk result (IsAt pairs.now flow) }
     ensures absent { IfErr result (IsGapFor pairs.now flow) }
 {
+    let place = past_first(pairs, flow);
+    if place < pairs.len() && is_of(pairs[place], flow) {
+        return Ok(place);
+    }
     pairs.binary_search_by_key(&flow, |pair| pair.0)
+}
+
+// How far the number of a flow is past that of the first pair, and 0 where it is not.
+fn past_first(pairs: &[(FlowNo, usize)], flow: FlowNo) -> usize
+    ensures { MatchOption (slice_get pairs.now 0) (result ≡ 0) (λ first. result ≡ flow - first.0) }
+{
+    match pairs.first() {
+        None => 0,
+        Some((first, _)) => flow.number().saturating_sub(first.number()) as usize,
+    }
+}
+
+// Whether a pair is that of a flow.
+fn is_of(pair: (FlowNo, usize), flow: FlowNo) -> bool
+    ensures { IsTrue result ↔ (pair.0 ≡ flow) }
+{
+    pair.0.number() == flow.number()
 }

@@ -19,7 +19,8 @@ impl Entry {
     fn is_before(&self, other: &Entry) -> bool
         ensures { IsTrue result ↔ IsBefore self.now other.now }
     {
-        self.pass < other.pass || (self.pass == other.pass && self.flow < other.flow)
+        // Without branches: how two passes compare cannot be foretold.
+        (self.pass < other.pass) | ((self.pass == other.pass) & (self.flow < other.flow))
     }
 }
 
@@ -118,11 +119,9 @@ impl Seating {
         }
         let left = 2 * hole + 1;
         let right = left + 1;
-        if right < count && self.entries[right].is_before(&self.entries[left]) {
-            Some(right)
-        } else {
-            Some(left)
-        }
+        // Which of the two is first cannot be foretold, so it is added and not branched on.
+        let later = right < count && self.entries[right].is_before(&self.entries[left]);
+        Some(left + usize::from(later))
     }
 
     // That seat, if its entry is earlier than this one.

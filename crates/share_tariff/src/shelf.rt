@@ -72,3 +72,24 @@ impl Rates for Shelf {
         }
     }
 }
+
+/// A shelf that is lent charges and posts alike, so that several links can stand over one.
+impl Rates for &Shelf {
+    ghost use Rattle.share_tariff.specs.Shelf.{rates_of, rates_in_range};
+
+    ghost rates = { λ s. rates_of s.now };
+
+    ghost in_range = { λ s. rates_in_range s.now };
+
+    fn has(&self, number: u64) -> bool {
+        Shelf::has(*self, number)
+    }
+
+    fn units(&self, number: u64, count: u32) -> u64 {
+        Shelf::units(*self, number, count)
+    }
+
+    fn post(&self, number: u64, account: u64, units: u64) -> u64 {
+        Shelf::post(*self, number, account, units)
+    }
+}

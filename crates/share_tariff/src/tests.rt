@@ -1,8 +1,8 @@
 //! Worked units, and the ranges of tariffs and shelves. The boxes of a tariff are made in the test that uses them.
 mod closures;
 
-use crate::{Book, Charge, Shelf, Tariff};
-use closures::{posted, units_by_division, units_by_steps};
+use crate::{Book, Charge, Shelf, Tariff, posted, shelf, units_by_division};
+use closures::units_by_steps;
 use share_base::Refusal;
 use share_model::Rates;
 use std::process::Abort;
@@ -61,17 +61,7 @@ fn shows<S: Rates>(rt: &impl Abort, shelf: &S, number: u64, units: [u64; 5], acc
 #[test]
 fn shelves_number_their_tariffs(rt: HostRuntime) -> Result<(), Fail> {
     let alloc = rt.alloc();
-    let mut tariffs = Vec::new(alloc);
-    for (cell, overhead, price) in [(1, 0, 1), (48, 16, 2), (1024, 0, 1), (2048, 1024, 3)] {
-        let charge: Charge = Box::new(alloc, move |count: u32| -> u64 {
-            units_by_division(cell, overhead, count)
-        })?;
-        let book: Book = Box::new(alloc, move |account: u64, units: u64| -> u64 {
-            posted(price, account, units)
-        })?;
-        tariffs.push(Tariff::new(cell, overhead, price, charge, book)?)?;
-    }
-    let shelf = Shelf::new(tariffs)?;
+    let shelf = shelf!(alloc, (1, 0, 1), (48, 16, 2), (1024, 0, 1), (2048, 1024, 3));
     for (number, units, account) in [
         (1, [0, 1, 48, 49, 1502], 107),
         (2, BY_48, 207),
@@ -79,6 +69,8 @@ fn shelves_number_their_tariffs(rt: HostRuntime) -> Result<(), Fail> {
         (4, [0, 3072, 3072, 3072, 3072], 307),
     ] {
         shows(&rt, &shelf, number, units, account);
+        let lent = &shelf;
+        shows(&rt, &lent, number, units, account);
     }
     assert!(rt; shelf.get(2).map(|tariff| tariff.units(49)) == Some(112));
     assert!(rt; shelf.get(0).is_none() && shelf.get(5).is_none());

@@ -9,15 +9,16 @@ use Rattle.share_model.specs.run.Fold.{out}
 use Rattle.share_model.specs.link.Seen.{Seen}
 use Rattle.share_model.specs.io.Told.{Told}
 use Rattle.share_model.specs.text.Talk.{start, talk, after, lines_of}
-use Rattle.stridelink.specs.Printing.{AppendsPart, out_line}
+use Rattle.share_model.specs.io.Printing.{AppendsPart}
+use Rattle.share_script.specs.Printing.{out_line}
 use Rattle.share_model.specs.declared.reader.Got.{Got}
 use Rattle.share_model.specs.declared.writer.Answer.{Answer}
 use Rattle.share_model.specs.io.Calls.{HasRead, OfferRefused}
-use Rattle.stridelink.specs.declared.script.ScriptFault.{ScriptFault}
-use Rattle.stridelink.specs.declared.script.ScriptFault.TheVariants.{Output}
-use Rattle.stridelink.specs.Script.{Printed, PrintedPart, IsFault}
+use Rattle.share_script.specs.declared.script.ScriptFault.{ScriptFault}
+use Rattle.share_script.specs.declared.script.ScriptFault.TheVariants.{Output}
+use Rattle.share_script.specs.Script.{Printed, PrintedPart, IsFault}
 use Rattle.stridelink.specs.Program.{printout, Ran, RanPart}
-use Rattle.stridelink.proofs.PrintLemmas.{appends_none}
+use Rattle.std.proofs.KnownBytes.{Appends-nil}
 use Rattle.std.proofs.KnownBytes.{Appends-trans}
 
 -- nothing was printed
@@ -29,7 +30,7 @@ ran_nothing (Some script) a life rates =
       lacks = [];
       text = [];
       rest = printout life rates [] script;
-      printed = appends_none a [] refl;
+      printed = Appends-nil a;
       begins =
           refl;
     }

@@ -4,7 +4,7 @@ use Rattle.std.specs.Io.KnownBytes.{Appends}
 use Rattle.share_model.specs.declared.rates.Rate.{Rate}
 use Rattle.share_model.specs.run.Fold.{out}
 use Rattle.share_model.specs.text.Talk.{start, talk, after, lines_of}
-use Rattle.stridelink.specs.Printing.{out_line}
+use Rattle.share_script.specs.Printing.{out_line}
 
 -- the tariffs of the program, numbered from 1
 abbrev pub program_rates : List Rate

@@ -4,34 +4,30 @@
 ghost use Rattle.std.specs.Prelude.{◌≡◌, ◌≢◌, ◌⊎◌, [], IfOk, IfErr, IfSome, OnOk, MatchResult, IsOkAnd};
 ghost use Rattle.std.specs.Process.{exit_status};
 ghost use Rattle.clap.specs.Values.{kind_of};
-ghost use Rattle.stridelink.specs.declared.script.ScriptFault.TheVariants.{Output, NoMemory};
+ghost use Rattle.share_script.specs.declared.script.ScriptFault.TheVariants.{Output, NoMemory};
 ghost use Rattle.std.specs.Io.KnownBytes.{IsAtEnd};
-ghost use Rattle.share_core.specs.Shelf.{rates_of};
 ghost use Rattle.share_model.specs.io.Calls.{ReadsToEnd, Offers};
 ghost use Rattle.share_model.specs.io.Told.{TapeAnswers};
-ghost use Rattle.stridelink.specs.Printing.{bytes_told};
+ghost use Rattle.share_model.specs.io.Printing.{bytes_told};
 ghost use Rattle.stridelink.specs.Program.{program_rates, Ran, RanPart};
-ghost use Rattle.stridelink.specs.Script.{IsFault};
+ghost use Rattle.share_script.specs.Script.{IsFault};
 
-mod carry;
-mod hex;
-mod output;
-mod payload;
-mod reading;
-mod replies;
-mod script;
-mod spool;
+// The shelf of the program: tariffs 1 to 4. Their boxes are made in the body that calls it, which returns where memory
+// is refused.
+macro_rules! program_shelf {
+    ($alloc:expr) => {
+        share_tariff::shelf!($alloc, (1, 0, 1), (48, 16, 2), (1024, 0, 1), (2048, 1024, 3))
+    };
+}
+
 #[cfg(test)]
 mod tests;
-mod words;
 
-use crate::hex::print_bytes;
-use crate::script::{MAX_READS, ScriptFault, run_script};
 use clap::error::ErrorKind;
 use clap::{Arg, ArgAction, Command, value_parser};
-use share_base::Refusal;
-use share_core::{Engine, Shelf, Tariff};
+use share_core::Engine;
 use share_model::{PlainReader, PlainWriter, Rates, Source, Tape, Telling};
+use share_script::{MAX_READS, ScriptFault, print_bytes, run_script};
 use std::alloc::{AllocError, Global};
 use std::process::ExitCode;
 use std::{env, io};
@@ -45,6 +41,28 @@ const USAGE: u8 = 2;
 /// The version of the program.
 const VERSION: &str = "0.1.0";
 
+/// The lines of a script and their answers, as help tells them.
+const LINES: &str = "Lines of a script:
+  mkcur NAME, rmcur NAME                make or remove a currency
+  mktkt AMOUNT NAME, rmtkt TICKET       make or remove a ticket in a currency
+  fund TICKET cur NAME                  let a ticket fund a currency
+  fund TICKET flow NAME, unfund TICKET  let it fund a flow, or nothing
+  open NAME LIMIT TARIFF, close NAME    open or close a flow; tariffs are 1 to 4
+  send NAME HEX                         a packet comes for a flow
+  turn BYTES                            the link writes at most so many bytes
+  torn                                  the writer is declared failed
+  report                                show what the link holds
+  audit 1                               the first line of an audit; no answer
+Answers:
+  ok, ticket TICKET, flow FLOW          it is done
+  closed FLOW DROPPED ACCOUNT           a flow was closed
+  packet FLOW SEQ                       the packet waits
+  wrote FLOW SEQ BYTES whole (or part)  bytes of a frame went out
+  torn FLOW SEQ BYTES                   the writer failed after so many of a frame
+  idle                                  nothing is to be sent
+  no NUMBER NAME                        the line is refused
+  out HEX                               at the end: all bytes that were written";
+
 /// What is wrong with a word that is no UTF-8.
 const NOT_TEXT: &str = "invalid UTF-8 was detected in one or more arguments";
 
@@ -55,20 +73,6 @@ enum Asked {
     Run { life: u64 },
     /// To show a text: help, the version, or what is wrong with the words.
     Text(clap::Error),
-}
-
-/// The shelf of the program: tariffs 1 to 4. It is refused only where memory is.
-fn shelf(alloc: Global) -> Result<Shelf, Refusal>
-    ensures rates { IfOk result (λ shelf. rates_of shelf ≡ program_rates) }
-    ensures memory { IfErr result (λ refusal. refusal ≡ Refusal.NoMemory) }
-{
-    let tariffs = [
-        Tariff::new(1, 0, 1)?,
-        Tariff::new(48, 16, 2)?,
-        Tariff::new(1024, 0, 1)?,
-        Tariff::new(2048, 1024, 3)?,
-    ];
-    Shelf::new(Vec::from_array(alloc, tariffs)?)
 }
 
 // Runs a script on a new link over this shelf, and prints the bytes of the link in hexadecimal. On a fault a beginning
@@ -99,14 +103,25 @@ fn run<S: Rates + Drop, I: Source, O: Telling>(
     Ok(())
 }
 
-// Runs the script of standard input; the replies go to standard output.
-fn run_on_standard(rt: &(impl Input + Print), alloc: Global, life: u64) -> Result<(), ScriptFault> {
-    let Ok(shelf) = shelf(alloc) else {
-        return Err(ScriptFault::NoMemory);
-    };
+// Runs the script of standard input over this shelf, whose tariffs are the program's; the replies go to standard
+// output.
+fn run_on_tariffs<S: Rates + Drop>(
+    rt: &(impl Input + Print),
+    alloc: Global,
+    shelf: S,
+    life: u64,
+) -> Result<(), ScriptFault>
+    requires rates { S.rates shelf ≡ program_rates }
+{
     let mut input = PlainReader(rt.reader());
     let mut output = PlainWriter(io::writer(rt));
     run(alloc, shelf, life, &mut input, &mut output)
+}
+
+// Runs the script of standard input over a shelf that is made here.
+fn run_on_standard(rt: &(impl Input + Print), alloc: Global, life: u64) -> Result<(), ScriptFault> {
+    let shelf = program_shelf!(alloc);
+    run_on_tariffs(rt, alloc, shelf, life)
 }
 
 // The words of the command line, `None` where one of them is no UTF-8.
@@ -135,6 +150,7 @@ fn command_line<'a>(alloc: Global) -> Result<Command<'a>, AllocError> {
     Command::new(alloc, "stridelink")
         .version(VERSION)
         .about("a link that shares its bandwidth among packet flows by tickets")
+        .after_help(LINES)
         .subcommand_required(true)
         .subcommand(run)
 }

@@ -4,10 +4,12 @@ ghost use Rattle.share_model.specs.link.Buffers.{buffer_of};
 ghost use Rattle.share_model.specs.link.Did.{is_spent, Stepped, Steps};
 ghost use Rattle.share_model.specs.link.Fields.{IsBody};
 ghost use Rattle.share_model.specs.link.Live.{arrive_in, arrive_step};
+ghost use Rattle.share_flows.specs.Places.{Stands};
 
 use super::Link;
 use super::levelling::settle;
 use share_base::{Body, FlowNo, Name, Refusal, Reply};
+use share_flows::Place;
 use share_model::Rates;
 
 impl<S: Rates> Link<S> {
@@ -19,18 +21,27 @@ impl<S: Rates> Link<S> {
         ensures { Stepped (arrive_in self.old.live flow body (buffer_of self.old.live.buffers flow))
             self.old result self.new }
     {
-        match self.buffers.ring(flow) {
+        match self.buffers.find(flow) {
             None => unreachable!(),
-            Some(ring) => {
-                if ring.is_full() {
-                    return self.refuse(Refusal::BufferFull);
-                }
-            }
+            Some(place) => self.accept_at(&place, body),
         }
-        let busy = self.buffers.is_busy(flow);
-        let seq = self.buffers.push(flow, body);
+    }
+
+    // A packet comes for the flow of the buffer at a place.
+    fn accept_at(&mut self, place: &Place, body: Body) -> Reply
+        requires living { is_spent self.old ≡ false }
+        requires body { IsBody body }
+        requires stands { Stands self.old.live.buffers place.now }
+        ensures { Stepped (arrive_in self.old.live place.now.flow body (buffer_of self.old.live.buffers place.now.flow))
+            self.old result self.new }
+    {
+        let busy = self.buffers.is_busy_at(place);
+        let Ok(seq) = self.buffers.push_at(place, body) else {
+            return self.refuse(Refusal::BufferFull);
+        };
         self.counts.accepted += 1;
         self.counts.events += 1;
+        let flow = place.flow;
         settle(
             &mut self.queue,
             &mut self.ledger,

@@ -8,12 +8,9 @@ ghost use Rattle.share_model.specs.link.Live.{close_flow, closed_reply};
 
 use super::Link;
 use super::levelling::level_anew;
-use crate::ring::Ring;
 use share_base::{FlowNo, Name, Refusal, Reply};
+use share_flows::MAX_LIMIT;
 use share_model::Rates;
-
-/// The greatest limit of a buffer, in packets.
-const MAX_LIMIT: u64 = 1024;
 
 impl<S: Rates> Link<S> {
     // Why a flow would not be opened, memory aside.
@@ -46,14 +43,16 @@ impl<S: Rates> Link<S> {
         ensures { CommandDid self.old (OpenFlow name limit tariff) result self.new }
     {
         let flow = FlowNo(self.ledger.next_flow());
-        let Ok(ring) = Ring::new(self.alloc, flow, limit as u32) else {
+        let Ok(()) = self.buffers.open(flow, limit) else {
             return Reply::Refused(Refusal::NoMemory);
         };
         match self.ledger.add_flow(name) {
-            Err(_) => Reply::Refused(Refusal::NoMemory),
+            Err(_) => {
+                self.buffers.close(flow);
+                Reply::Refused(Refusal::NoMemory)
+            }
             Ok(flow) => {
                 let _ = self.queue.add(flow);
-                self.buffers.open(ring);
                 self.books.open(flow, tariff);
                 self.counts.events += 1;
                 level_anew(&mut self.queue, &self.ledger, &mut self.levels);
@@ -86,7 +85,7 @@ impl<S: Rates> Link<S> {
     pub fn waiting_of(&self, flow: FlowNo) -> u32
         ensures { result ≡ waiting_of self.now.live flow }
     {
-        let held = self.buffers.count(flow) as u32;
+        let held = self.buffers.len(flow);
         if self.is_torn(flow) { held - 1 } else { held }
     }
 

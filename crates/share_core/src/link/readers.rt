@@ -16,6 +16,13 @@ use share_base::{FlowNo, Name};
 use share_model::{GlobalPart, LinkState, Position, Rates, Row, Totals};
 
 impl<S: Rates> Link<S> {
+    /// How many events it makes at most.
+    pub fn life(&self) -> u64
+        ensures { result ≡ self.now.life }
+    {
+        self.life
+    }
+
     /// How many events were made. A link is sound after whatever events.
     pub fn events(&self) -> u64
         ensures events { result ≡ self.now.live.counts.events }

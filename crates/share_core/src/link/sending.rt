@@ -1,41 +1,43 @@
 //! The frame that is sent, and what the writer's answers make of it.
-ghost use Rattle.std.specs.Prelude.{◌≡◌, ◌<◌, ◌≤◌, ◌+◌, true, false, option_map, IsSome, IfSome};
+ghost use Rattle.std.specs.Prelude.{◌≡◌, ◌<◌, ◌≤◌, ◌+◌, true, false, option_map, IsSome, IfSome, MatchOption, None};
 ghost use Rattle.std.specs.Prelude.{vec_capacity};
 ghost use Rattle.share_model.specs.link.Buffers.{head_of};
 ghost use Rattle.share_model.specs.link.Did.{is_spent, Stepped};
 ghost use Rattle.share_model.specs.link.Frame.{frame};
 ghost use Rattle.share_model.specs.link.Live.{sending_at, sending, whole, in_part, wrote_turn, write_step, fault_step};
-ghost use Rattle.share_core.specs.Place.{place_of, IsPlaceOf, IsWithin};
+ghost use Rattle.share_core.specs.Place.{IsPlaceOf, IsWithin};
+ghost use Rattle.share_flows.specs.Places.{Stands};
 
 use super::Link;
 use super::levelling::settle;
 use crate::frame;
 use crate::place::Place;
 use share_base::{FlowNo, Turn};
+use share_frame::HEADER;
 use share_model::{Part, Rates};
-
-/// The length of a frame's header, in bytes.
-const HEADER: u32 = 12;
 
 impl<S: Rates> Link<S> {
     // The place at the head packet of a flow.
     fn place(&self, flow: FlowNo, out: u32) -> Option<Place>
-        ensures { result
-            ≡ option_map (λ h. place_of (sending_at out h)) (head_of self.now.live.buffers flow) }
+        ensures { MatchOption result (head_of self.now.live.buffers flow ≡ None) (λ p.
+            IsPlaceOf (option_map (sending_at out) (head_of self.now.live.buffers flow)) p
+            × Stands self.now.live.buffers p.buffer) }
     {
-        let (seq, body) = self.buffers.ring(flow)?.head()?;
+        let buffer = self.buffers.find(flow)?;
+        let (seq, body) = self.buffers.head_at(&buffer)?;
         Some(Place {
-            flow,
+            buffer,
             seq,
             out,
-            length: HEADER + body.as_slice().len() as u32,
+            length: (HEADER + body.as_slice().len()) as u32,
         })
     }
 
     /// Where a write goes on: at the frame in part, and otherwise at a new frame of the next flow.
     #[inline(always)]
     pub fn sending(&self) -> Option<Place>
-        ensures { result ≡ option_map place_of (sending self.now.live) }
+        ensures { MatchOption result (sending self.now.live ≡ None) (λ p.
+            IsPlaceOf (sending self.now.live) p × Stands self.now.live.buffers p.buffer) }
     {
         match self.part {
             Some(part) => self.place(part.flow, part.out),
@@ -51,29 +53,34 @@ impl<S: Rates> Link<S> {
         requires living { is_spent self.old ≡ false }
         requires unbroken { self.old.live.broken ≡ false }
         requires place { IsPlaceOf (sending self.old.live) place }
+        requires stands { Stands self.old.live.buffers place.buffer }
         requires within { IsWithin (sending self.old.live) k }
         ensures { IfSome (sending self.old.live) (λ s.
             Stepped (whole self.old.rates self.old.live s k, wrote_turn s k true)
             self.old result self.new) }
     {
-        let units = self.books.charge(&self.shelf, place.flow, place.length);
-        self.queue.charge(place.flow, units);
-        self.buffers.pop(place.flow);
+        let buffer = place.buffer;
+        let flow = buffer.flow;
+        let units = self
+            .books
+            .charge_at(&self.shelf, buffer.at, flow, place.length);
+        self.queue.charge(flow, units);
+        let _ = self.buffers.pop_at(&buffer);
         self.part = None;
         self.counts.events += 1;
         self.counts.written += 1;
         self.counts.sent += u64::from(k);
-        let busy = self.buffers.is_busy(place.flow);
+        let busy = self.buffers.is_busy_at(&buffer);
         settle(
             &mut self.queue,
             &mut self.ledger,
             &mut self.levels,
-            place.flow,
+            flow,
             busy,
             busy,
         );
         Turn::Wrote {
-            flow: place.flow,
+            flow,
             seq: place.seq,
             k,
             whole: true,
@@ -90,14 +97,15 @@ impl<S: Rates> Link<S> {
         ensures { IfSome (sending self.old.live)
             (λ s. Stepped (in_part self.old.live s k, wrote_turn s k false) self.old result self.new) }
     {
+        let buffer = place.buffer;
         self.part = Some(Part {
-            flow: place.flow,
+            flow: buffer.flow,
             out: place.out + k,
         });
         self.counts.events += 1;
         self.counts.sent += u64::from(k);
         Turn::Wrote {
-            flow: place.flow,
+            flow: buffer.flow,
             seq: place.seq,
             k,
             whole: false,
@@ -109,6 +117,7 @@ impl<S: Rates> Link<S> {
         requires living { is_spent self.old ≡ false }
         requires unbroken { self.old.live.broken ≡ false }
         requires place { IsPlaceOf (sending self.old.live) place }
+        requires stands { Stands self.old.live.buffers place.buffer }
         requires within { IsWithin (sending self.old.live) k }
         ensures { IfSome (sending self.old.live)
             (λ s. Stepped (write_step self.old.rates self.old.live s k) self.old result self.new) }
@@ -125,36 +134,40 @@ impl<S: Rates> Link<S> {
         requires living { is_spent self.old ≡ false }
         requires unbroken { self.old.live.broken ≡ false }
         requires place { IsPlaceOf (sending self.old.live) place }
+        requires stands { Stands self.old.live.buffers place.buffer }
         ensures { IfSome (sending self.old.live)
             (λ s. Stepped (fault_step self.old.rates self.old.live s) self.old result self.new) }
     {
-        let units = self.books.charge(&self.shelf, place.flow, place.out);
-        self.queue.charge(place.flow, units);
+        let buffer = place.buffer;
+        let flow = buffer.flow;
+        let units = self
+            .books
+            .charge_at(&self.shelf, buffer.at, flow, place.out);
+        self.queue.charge(flow, units);
         self.part = None;
-        self.torn = Some(place.flow);
+        self.torn = Some(flow);
         self.broken = true;
         self.counts.events += 1;
         Turn::Torn {
-            flow: place.flow,
+            flow,
             seq: place.seq,
             j: place.out,
         }
     }
 
-    /// Puts the frame of the head packet of a flow into a buffer that has room for it. It takes no memory.
-    pub fn fill(&self, flow: FlowNo, buffer: &mut Vec<u8>)
-        requires there { IsSome (head_of self.now.live.buffers flow) }
+    /// Puts the frame of the head packet of a flow, whose buffer stands at a place, into a buffer that has room for it.
+    /// It takes no memory.
+    pub fn fill(&self, place: &share_flows::Place, buffer: &mut Vec<u8>)
+        requires stands { Stands self.now.live.buffers place.now }
+        requires there { IsSome (head_of self.now.live.buffers place.now.flow) }
         requires room { 1502 ≤ vec_capacity buffer.old }
-        ensures frame { IfSome (head_of self.now.live.buffers flow)
+        ensures frame { IfSome (head_of self.now.live.buffers place.now.flow)
             (λ h. buffer.new.items ≡ frame h) }
         ensures room { 1502 ≤ vec_capacity buffer.new }
     {
-        match self.buffers.ring(flow) {
+        match self.buffers.head_at(place) {
             None => unreachable!(),
-            Some(ring) => match ring.head() {
-                None => unreachable!(),
-                Some((seq, body)) => frame::fill(buffer, flow, seq, body.as_slice()),
-            },
+            Some((seq, body)) => frame::fill(buffer, place.flow, seq, body.as_slice()),
         }
     }
 }

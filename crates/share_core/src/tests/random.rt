@@ -1,22 +1,25 @@
 //! Long runs of events, drawn by a generator, of a link and of the plain link beside it.
 
 mod draws;
+mod frames;
 
+use super::name;
 use super::plain::{Plain, Told};
-use super::{name, shelf};
-use crate::{Engine, Shelf};
+use crate::Engine;
 use draws::{Asked, World};
+use frames::Accepted;
 use share_base::{Body, FlowNo, Outcome, Refusal, Reply, Turn};
-use share_model::{Answer, Scripted};
+use share_model::{Answer, Rates, Scripted};
 use std::alloc::{AllocError, Global};
 use std::process::Abort;
 use std::test::Fail;
 
-/// The link, the plain link beside it, and the state of the generator.
+/// The link, the plain link beside it, the packets that were accepted, and the state of the generator.
 #[derive(Drop)]
-struct Pair {
-    engine: Engine<Scripted, Shelf>,
+struct Pair<S: Rates> {
+    engine: Engine<Scripted, S>,
     plain: Plain,
+    accepted: Vec<Accepted>,
     state: u64,
 }
 
@@ -80,24 +83,30 @@ impl Met {
     }
 }
 
-fn begun(rt: &impl Abort, alloc: Global, world: &World) -> Result<Pair, Fail> {
+fn begun<S: Rates + Copy>(
+    rt: &impl Abort,
+    alloc: Global,
+    shelf: S,
+    world: &World,
+) -> Result<Pair<S>, Fail> {
     let mut state = world.seed;
     let answers = draws::answers(alloc, &mut state, world)?;
     let writer = Scripted::new(alloc, answers.as_slice().to_vec(alloc)?);
-    let engine = Engine::new(alloc, shelf(rt, alloc), world.life, writer)?;
+    let engine = Engine::new(alloc, shelf, world.life, writer)?;
     let plain = Plain::new(alloc, name(rt, "base"), world.life, answers)?;
     Ok(Pair {
         engine,
         plain,
+        accepted: Vec::new(alloc),
         state,
     })
 }
 
 // Asks both the same.
-fn answers(
+fn answers<S: Rates + Copy>(
     rt: &impl Abort,
     alloc: Global,
-    pair: &mut Pair,
+    pair: &mut Pair<S>,
     asked: Asked,
 ) -> Result<(Outcome, Outcome), AllocError> {
     match asked {
@@ -112,6 +121,7 @@ fn answers(
             let body = Body::new(alloc, payload.as_slice()).expect(rt, "a payload");
             let ours = pair.engine.arrive(flow, body);
             let plain = pair.plain.arrive(flow, payload.as_slice())?;
+            frames::keep(alloc, &mut pair.accepted, &plain, payload.as_slice())?;
             Ok((Outcome::Replied(ours), Outcome::Replied(plain)))
         }
         Asked::Turn(most) => {
@@ -128,10 +138,10 @@ fn answers(
 }
 
 // Asks both the same, and compares the answers.
-fn ask(
+fn ask<S: Rates + Copy>(
     rt: &impl Abort,
     alloc: Global,
-    pair: &mut Pair,
+    pair: &mut Pair<S>,
     asked: Asked,
 ) -> Result<Outcome, AllocError> {
     let (ours, plain) = answers(rt, alloc, pair, asked)?;
@@ -140,14 +150,14 @@ fn ask(
 }
 
 // The link shows nothing of a flow with this number.
-fn is_gone(rt: &impl Abort, engine: &Engine<Scripted, Shelf>, flow: FlowNo) {
+fn is_gone<S: Rates + Copy>(rt: &impl Abort, engine: &Engine<Scripted, S>, flow: FlowNo) {
     assert_eq!(rt; engine.account(flow), None);
     assert_eq!(rt; engine.tickets(flow), None);
     assert_eq!(rt; engine.position(flow), None);
 }
 
 // The link shows the same of an open flow, which is the n-th.
-fn shows(rt: &impl Abort, engine: &Engine<Scripted, Shelf>, n: u32, told: &Told) {
+fn shows<S: Rates + Copy>(rt: &impl Abort, engine: &Engine<Scripted, S>, n: u32, told: &Told) {
     let row = engine.row(n).expect(rt, "a flow");
     assert_eq!(rt;
         (row.flow, row.name, row.waiting),
@@ -160,7 +170,7 @@ fn shows(rt: &impl Abort, engine: &Engine<Scripted, Shelf>, n: u32, told: &Told)
 }
 
 // The link shows the same of all flows.
-fn shows_flows(rt: &impl Abort, pair: &Pair) {
+fn shows_flows<S: Rates + Copy>(rt: &impl Abort, pair: &Pair<S>) {
     let mut n: u32 = 0;
     for place in 0..pair.plain.flows() {
         if let Some(told) = pair.plain.told(place) {
@@ -172,7 +182,7 @@ fn shows_flows(rt: &impl Abort, pair: &Pair) {
 }
 
 // Both show the same, and wrote the same bytes after the first so many.
-fn agree(rt: &impl Abort, pair: &Pair, written: usize) {
+fn agree<S: Rates + Copy>(rt: &impl Abort, pair: &Pair<S>, written: usize) {
     assert_eq!(rt; pair.engine.events(), pair.plain.events());
     assert_eq!(rt; pair.engine.spent(), pair.plain.spent());
     assert_eq!(rt; pair.engine.totals(), pair.plain.totals());
@@ -193,8 +203,13 @@ fn closed_by(outcome: &Outcome) -> Option<FlowNo> {
 }
 
 // Runs both through a world, and compares them after each event.
-fn run(rt: &impl Abort, alloc: Global, world: &World) -> Result<Met, Fail> {
-    let mut pair = begun(rt, alloc, world)?;
+fn run<S: Rates + Copy>(
+    rt: &impl Abort,
+    alloc: Global,
+    shelf: S,
+    world: &World,
+) -> Result<Met, Fail> {
+    let mut pair = begun(rt, alloc, shelf, world)?;
     let mut met = NOTHING;
     let mut after: u32 = 0;
     for step in 0..world.steps {
@@ -215,7 +230,10 @@ fn run(rt: &impl Abort, alloc: Global, world: &World) -> Result<Met, Fail> {
             break;
         }
     }
-    assert_eq!(rt; pair.engine.writer().bytes(), pair.plain.bytes());
+    let bytes = pair.engine.writer().bytes();
+    assert_eq!(rt; bytes, pair.plain.bytes());
+    let whole = frames::are_frames(rt, bytes, pair.accepted.as_slice());
+    assert_eq!(rt; whole, met.whole, "frames of the run");
     met.events = pair.plain.events();
     Ok(met)
 }
@@ -243,11 +261,10 @@ const FEW_NAMES: World = World {
     after: 0,
 };
 
-#[test]
-fn few_names(rt: HostRuntime) -> Result<(), Fail> {
-    let met = run(&rt, rt.alloc(), &FEW_NAMES)?;
+fn few_names<S: Rates + Copy>(rt: &impl Abort, alloc: Global, shelf: S) -> Result<(), Fail> {
+    let met = run(rt, alloc, shelf, &FEW_NAMES)?;
     has_met(
-        &rt,
+        rt,
         &met,
         &[
             Refusal::Range,
@@ -272,8 +289,7 @@ fn few_names(rt: HostRuntime) -> Result<(), Fail> {
     Ok(())
 }
 
-#[test]
-fn long_chains(rt: HostRuntime) -> Result<(), Fail> {
+fn long_chains<S: Rates + Copy>(rt: &impl Abort, alloc: Global, shelf: S) -> Result<(), Fail> {
     let world = World {
         seed: 2_463_534_242,
         steps: 5000,
@@ -282,14 +298,13 @@ fn long_chains(rt: HostRuntime) -> Result<(), Fail> {
         closing: 1,
         ..FEW_NAMES
     };
-    let met = run(&rt, rt.alloc(), &world)?;
-    has_met(&rt, &met, &[Refusal::Cycle, Refusal::Deep]);
+    let met = run(rt, alloc, shelf, &world)?;
+    has_met(rt, &met, &[Refusal::Cycle, Refusal::Deep]);
     assert!(rt; met.events > 4000 && met.whole > 300, "{met:?}");
     Ok(())
 }
 
-#[test]
-fn many_flows(rt: HostRuntime) -> Result<(), Fail> {
+fn many_flows<S: Rates + Copy>(rt: &impl Abort, alloc: Global, shelf: S) -> Result<(), Fail> {
     let world = World {
         seed: 1_181_783_497_276_652_981,
         steps: 3000,
@@ -298,14 +313,13 @@ fn many_flows(rt: HostRuntime) -> Result<(), Fail> {
         closing: 1,
         ..FEW_NAMES
     };
-    let met = run(&rt, rt.alloc(), &world)?;
-    has_met(&rt, &met, &[Refusal::TableFull, Refusal::BufferFull]);
+    let met = run(rt, alloc, shelf, &world)?;
+    has_met(rt, &met, &[Refusal::TableFull, Refusal::BufferFull]);
     assert!(rt; met.events > 2500 && met.whole > 200, "{met:?}");
     Ok(())
 }
 
-#[test]
-fn full_tables(rt: HostRuntime) -> Result<(), Fail> {
+fn full_tables<S: Rates + Copy>(rt: &impl Abort, alloc: Global, shelf: S) -> Result<(), Fail> {
     let world = World {
         seed: 7_046_029_254_386_353_131,
         steps: 4000,
@@ -313,14 +327,13 @@ fn full_tables(rt: HostRuntime) -> Result<(), Fail> {
         making: 2000,
         ..FEW_NAMES
     };
-    let met = run(&rt, rt.alloc(), &world)?;
-    has_met(&rt, &met, &[Refusal::TableFull]);
+    let met = run(rt, alloc, shelf, &world)?;
+    has_met(rt, &met, &[Refusal::TableFull]);
     assert!(rt; met.events > 3000 && met.whole > 100, "{met:?}");
     Ok(())
 }
 
-#[test]
-fn failing_writer(rt: HostRuntime) -> Result<(), Fail> {
+fn failing_writer<S: Rates + Copy>(rt: &impl Abort, alloc: Global, shelf: S) -> Result<(), Fail> {
     for (seed, fault) in [(521_288_629, 500), (362_436_069, 350), (88_675_123, 0)] {
         let world = World {
             seed,
@@ -329,7 +342,7 @@ fn failing_writer(rt: HostRuntime) -> Result<(), Fail> {
             after: 250,
             ..FEW_NAMES
         };
-        let met = run(&rt, rt.alloc(), &world)?;
+        let met = run(rt, alloc, shelf, &world)?;
         assert!(rt;
             met.torn == 1 && met.broken > 20 && met.closed > 5,
             "{met:?}"
@@ -338,8 +351,7 @@ fn failing_writer(rt: HostRuntime) -> Result<(), Fail> {
     Ok(())
 }
 
-#[test]
-fn declared_faults(rt: HostRuntime) -> Result<(), Fail> {
+fn declared_faults<S: Rates + Copy>(rt: &impl Abort, alloc: Global, shelf: S) -> Result<(), Fail> {
     for (seed, tear) in [(123_456_789, 1500), (987_654_321, 500), (5_783_321, 50)] {
         let world = World {
             seed,
@@ -348,7 +360,7 @@ fn declared_faults(rt: HostRuntime) -> Result<(), Fail> {
             after: 250,
             ..FEW_NAMES
         };
-        let met = run(&rt, rt.alloc(), &world)?;
+        let met = run(rt, alloc, shelf, &world)?;
         assert!(rt;
             met.torn == 1 && met.broken > 20 && met.closed > 5,
             "{met:?}"
@@ -357,16 +369,25 @@ fn declared_faults(rt: HostRuntime) -> Result<(), Fail> {
     Ok(())
 }
 
-#[test]
-fn spent_life(rt: HostRuntime) -> Result<(), Fail> {
+fn spent_life<S: Rates + Copy>(rt: &impl Abort, alloc: Global, shelf: S) -> Result<(), Fail> {
     let world = World {
         seed: 6_616_326_155_283,
         steps: 1200,
         life: 1000,
         ..FEW_NAMES
     };
-    let met = run(&rt, rt.alloc(), &world)?;
-    has_met(&rt, &met, &[Refusal::Spent]);
+    let met = run(rt, alloc, shelf, &world)?;
+    has_met(rt, &met, &[Refusal::Spent]);
     assert_eq!(rt; met.events, 1000);
     Ok(())
+}
+
+pub fn all<S: Rates + Copy>(rt: &impl Abort, alloc: Global, shelf: S) -> Result<(), Fail> {
+    few_names(rt, alloc, shelf)?;
+    many_flows(rt, alloc, shelf)?;
+    long_chains(rt, alloc, shelf)?;
+    full_tables(rt, alloc, shelf)?;
+    failing_writer(rt, alloc, shelf)?;
+    declared_faults(rt, alloc, shelf)?;
+    spent_life(rt, alloc, shelf)
 }

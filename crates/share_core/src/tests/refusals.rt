@@ -1,166 +1,173 @@
 //! The order of refusals, the limits, and the end of a life.
 
-use super::{
-    Call, DONE, FLOW, OPENED, name, packet, play, refused, shelf, taped, ticket, torn, wrote,
-};
+use super::{Call, Row, TURN, Wanted, play, plays_on_a_new_link, taped};
 use crate::Engine;
-use share_base::{FlowNo, Outcome, Refusal, Turn};
-use share_model::Tape;
+use share_base::{Refusal, Turn};
+use share_model::{Rates, Tape};
 use std::alloc::Global;
 use std::process::Abort;
 
-#[test]
-fn refuses_on_a_new_link(rt: HostRuntime) {
-    let alloc = rt.alloc();
-    let mut engine = taped(&rt, alloc, 65536);
-    let rows = [
-        (Call::MakeTicket(0, "nope"), Refusal::Range),
-        (Call::MakeTicket(1048577, "base"), Refusal::Range),
-        (Call::MakeTicket(4294967297, "base"), Refusal::Range),
-        (Call::MakeTicket(1, "nope"), Refusal::NoCurrency),
-        (Call::Fund(9, "zz"), Refusal::NoTicket),
-        (Call::Open("a", 0, 9), Refusal::Range),
-        (Call::Open("a", 1025, 1), Refusal::Range),
-        (Call::Open("a", 4294967297, 1), Refusal::Range),
-        (Call::Open("a", 1, 0), Refusal::NoTariff),
-        (Call::Open("a", 1, 9), Refusal::NoTariff),
-        (Call::Open("a", 1, 4294967297), Refusal::NoTariff),
-        (Call::Send("zz", b"hi"), Refusal::NoFlow),
-    ];
-    for (asked, refusal) in rows {
-        let events = engine.events().saturating_add(1);
-        play(&rt, alloc, &mut engine, &[(asked, refused(refusal))]);
-        assert_eq!(rt; engine.events(), events);
-        assert_eq!(rt; engine.flow(name(&rt, "a")), None);
-        assert_eq!(rt; engine.account(FLOW), None);
+/// Each row is one event and changes nothing else.
+const ON_A_NEW_LINK: [(Call, Refusal); 12] = [
+    (Call::MakeTicket(0, "nope"), Refusal::Range),
+    (Call::MakeTicket(1048577, "base"), Refusal::Range),
+    (Call::MakeTicket(4294967297, "base"), Refusal::Range),
+    (Call::MakeTicket(1, "nope"), Refusal::NoCurrency),
+    (Call::Fund(9, "zz"), Refusal::NoTicket),
+    (Call::Open("a", 0, 9), Refusal::Range),
+    (Call::Open("a", 1025, 1), Refusal::Range),
+    (Call::Open("a", 4294967297, 1), Refusal::Range),
+    (Call::Open("a", 1, 0), Refusal::NoTariff),
+    (Call::Open("a", 1, 9), Refusal::NoTariff),
+    (Call::Open("a", 1, 4294967297), Refusal::NoTariff),
+    (Call::Send("zz", b"hi"), Refusal::NoFlow),
+];
+
+const STILL_NEW: [Row; 2] = [
+    (Call::Flow("a"), Wanted::Nothing),
+    (Call::Account(1), Wanted::Nothing),
+];
+
+const AFTER_REFUSALS: [Row; 5] = [
+    (TURN, Wanted::Is(Turn::Idle)),
+    (Call::Tear, Wanted::Is(Turn::Idle)),
+    (Call::Open("a", 1024, 4), Wanted::Opened),
+    (Call::MakeTicket(1, "base"), Wanted::Ticket(1)),
+    (Call::Events, Wanted::Number(14)),
+];
+
+fn refuses_on_a_new_link<S: Rates + Copy>(rt: &impl Abort, alloc: Global, shelf: S) {
+    let mut engine = taped(rt, alloc, shelf, 65536);
+    let mut events: u64 = 0;
+    for row in &ON_A_NEW_LINK {
+        let (asked, refusal) = *row;
+        events = events.saturating_add(1);
+        let rows = [
+            (asked, Wanted::Refused(refusal)),
+            (Call::Events, Wanted::Number(events)),
+        ];
+        play(rt, alloc, &mut engine, &rows);
+        play(rt, alloc, &mut engine, &STILL_NEW);
     }
-    play(
-        &rt,
-        alloc,
-        &mut engine,
-        &[
-            (Call::Turn(65535), Outcome::Turned(Turn::Idle)),
-            (Call::Tear, Outcome::Turned(Turn::Idle)),
-            (Call::Open("a", 1024, 4), OPENED),
-            (Call::MakeTicket(1, "base"), ticket(1)),
-        ],
-    );
-    assert_eq!(rt; engine.events(), 14);
+    play(rt, alloc, &mut engine, &AFTER_REFUSALS);
     assert!(rt; engine.writer().bytes().is_empty());
 }
 
-#[test]
-fn refuses_beside_an_open_flow(rt: HostRuntime) {
-    let alloc = rt.alloc();
-    let mut engine = taped(&rt, alloc, 65536);
-    play(
-        &rt,
-        alloc,
-        &mut engine,
-        &[
-            (Call::Open("a", 1, 1), OPENED),
-            (Call::MakeTicket(1, "base"), ticket(1)),
-            (Call::Open("a", 0, 1), refused(Refusal::Range)),
-            (Call::Open("a", 1, 9), refused(Refusal::NoTariff)),
-            (Call::Open("a", 1, 1), refused(Refusal::Taken)),
-            (Call::Fund(4294967297, "a"), refused(Refusal::NoTicket)),
-            (Call::Fund(1, "zz"), refused(Refusal::NoFlow)),
-            (Call::Fund(1, "a"), DONE),
-            (Call::Fund(1, "zz"), refused(Refusal::NoFlow)),
-            (Call::Fund(1, "a"), refused(Refusal::Funding)),
-        ],
-    );
-    assert_eq!(rt; engine.events(), 10);
-    assert_eq!(rt; engine.flow(name(&rt, "a")), Some(FLOW));
-    assert_eq!(rt; engine.account(FLOW), Some(0));
-    assert_eq!(rt; engine.account(FlowNo(2)), None);
-}
+const BESIDE_AN_OPEN_FLOW: [Row; 14] = [
+    (Call::Open("a", 1, 1), Wanted::Opened),
+    (Call::MakeTicket(1, "base"), Wanted::Ticket(1)),
+    (Call::Open("a", 0, 1), Wanted::Refused(Refusal::Range)),
+    (Call::Open("a", 1, 9), Wanted::Refused(Refusal::NoTariff)),
+    (Call::Open("a", 1, 1), Wanted::Refused(Refusal::Taken)),
+    (
+        Call::Fund(4294967297, "a"),
+        Wanted::Refused(Refusal::NoTicket),
+    ),
+    (Call::Fund(1, "zz"), Wanted::Refused(Refusal::NoFlow)),
+    (Call::Fund(1, "a"), Wanted::Done),
+    (Call::Fund(1, "zz"), Wanted::Refused(Refusal::NoFlow)),
+    (Call::Fund(1, "a"), Wanted::Refused(Refusal::Funding)),
+    (Call::Events, Wanted::Number(10)),
+    (Call::Flow("a"), Wanted::Number(1)),
+    (Call::Account(1), Wanted::Number(0)),
+    (Call::Account(2), Wanted::Nothing),
+];
 
-#[test]
-fn refuses_one_ticket_too_many(rt: HostRuntime) {
-    let alloc = rt.alloc();
-    let mut engine = taped(&rt, alloc, 65536);
-    play(&rt, alloc, &mut engine, &[(Call::Open("a", 1, 1), OPENED)]);
+const FULL_TABLE: [Row; 8] = [
+    (Call::MakeTicket(0, "base"), Wanted::Refused(Refusal::Range)),
+    (
+        Call::MakeTicket(3, "nope"),
+        Wanted::Refused(Refusal::NoCurrency),
+    ),
+    (
+        Call::MakeTicket(3, "base"),
+        Wanted::Refused(Refusal::TableFull),
+    ),
+    (Call::Fund(16, "a"), Wanted::Refused(Refusal::Funding)),
+    (Call::Fund(17, "a"), Wanted::Refused(Refusal::Crowded)),
+    (Call::Send("a", b"hi"), Wanted::Packet(1)),
+    (Call::Tickets(1), Wanted::Number(48)),
+    (Call::Events, Wanted::Number(1047)),
+];
+
+fn refuses_one_ticket_too_many<S: Rates + Copy>(rt: &impl Abort, alloc: Global, shelf: S) {
+    let mut engine = taped(rt, alloc, shelf, 65536);
+    let opened = [(Call::Open("a", 1, 1), Wanted::Opened)];
+    play(rt, alloc, &mut engine, &opened);
     for number in 1..1025 {
-        play(
-            &rt,
-            alloc,
-            &mut engine,
-            &[(Call::MakeTicket(3, "base"), ticket(number))],
-        );
+        let made = [(Call::MakeTicket(3, "base"), Wanted::Ticket(number))];
+        play(rt, alloc, &mut engine, &made);
     }
     for number in 1..17 {
-        play(&rt, alloc, &mut engine, &[(Call::Fund(number, "a"), DONE)]);
+        let funds = [(Call::Fund(number, "a"), Wanted::Done)];
+        play(rt, alloc, &mut engine, &funds);
     }
-    play(
-        &rt,
-        alloc,
-        &mut engine,
-        &[
-            (Call::MakeTicket(0, "base"), refused(Refusal::Range)),
-            (Call::MakeTicket(3, "nope"), refused(Refusal::NoCurrency)),
-            (Call::MakeTicket(3, "base"), refused(Refusal::TableFull)),
-            (Call::Fund(16, "a"), refused(Refusal::Funding)),
-            (Call::Fund(17, "a"), refused(Refusal::Crowded)),
-            (Call::Send("a", b"hi"), packet(1)),
-        ],
-    );
-    assert_eq!(rt; engine.tickets(FLOW), Some(48));
-    assert_eq!(rt; engine.events(), 1047);
+    play(rt, alloc, &mut engine, &FULL_TABLE);
 }
 
-// Makes the calls, each one event, until the life is spent; then each kind of call is refused.
-fn lives(rt: &impl Abort, alloc: Global, life: u64, rows: &[(Call, Outcome)]) {
-    let mut engine = taped(rt, alloc, life);
-    for row in rows {
-        let (asked, wanted) = *row;
-        if !engine.spent() {
-            play(rt, alloc, &mut engine, &[(asked, wanted)]);
-        }
-    }
-    assert_eq!(rt; engine.events(), life);
-    play(
-        rt,
-        alloc,
-        &mut engine,
-        &[
-            (Call::MakeTicket(0, "nope"), refused(Refusal::Spent)),
-            (Call::Send("zz", b"hi"), refused(Refusal::Spent)),
-            (Call::Turn(65535), Outcome::Turned(Turn::Spent)),
-            (Call::Tear, Outcome::Turned(Turn::Spent)),
-        ],
-    );
+/// Each row is one event.
+const ENDS_WITH_A_FRAME: [Row; 5] = [
+    (Call::Open("a", 1, 1), Wanted::Opened),
+    (Call::MakeTicket(1, "base"), Wanted::Ticket(1)),
+    (Call::Fund(1, "a"), Wanted::Done),
+    (Call::Send("a", b"hi"), Wanted::Packet(1)),
+    (TURN, Wanted::Whole(14)),
+];
+
+/// Each row is one event.
+const ENDS_WITH_A_FAULT: [Row; 5] = [
+    (Call::Open("a", 1, 1), Wanted::Opened),
+    (Call::MakeTicket(1, "base"), Wanted::Ticket(1)),
+    (Call::Fund(1, "a"), Wanted::Done),
+    (Call::Send("a", b"hi"), Wanted::Packet(1)),
+    (Call::Tear, Wanted::Torn(0)),
+];
+
+const SPENT: [Row; 4] = [
+    (Call::MakeTicket(0, "nope"), Wanted::Refused(Refusal::Spent)),
+    (Call::Send("zz", b"hi"), Wanted::Refused(Refusal::Spent)),
+    (TURN, Wanted::Is(Turn::Spent)),
+    (Call::Tear, Wanted::Is(Turn::Spent)),
+];
+
+// Makes as many events as the life has; then each kind of call is refused.
+fn lives<S: Rates + Copy>(rt: &impl Abort, alloc: Global, shelf: S, life: usize, rows: &[Row]) {
+    let mut engine = taped(rt, alloc, shelf, life as u64);
+    assert!(rt; !engine.spent());
+    play(rt, alloc, &mut engine, &rows[..life.min(rows.len())]);
     assert!(rt; engine.spent());
-    assert_eq!(rt; engine.events(), life);
+    play(rt, alloc, &mut engine, &SPENT);
+    assert!(rt; engine.spent());
+    assert_eq!(rt; engine.events(), life as u64);
 }
 
-#[test]
-fn lives_so_many_events(rt: HostRuntime) {
-    for (last, outcome) in [(Call::Turn(65535), wrote(14, true)), (Call::Tear, torn(0))] {
-        let rows = [
-            (Call::Open("a", 1, 1), OPENED),
-            (Call::MakeTicket(1, "base"), ticket(1)),
-            (Call::Fund(1, "a"), DONE),
-            (Call::Send("a", b"hi"), packet(1)),
-            (last, outcome),
-        ];
-        for life in 1..6 {
-            lives(&rt, rt.alloc(), life, &rows);
-        }
+fn lives_so_many_events<S: Rates + Copy>(rt: &impl Abort, alloc: Global, shelf: S) {
+    for life in 1..6 {
+        lives(rt, alloc, shelf, life, &ENDS_WITH_A_FRAME);
+        lives(rt, alloc, shelf, life, &ENDS_WITH_A_FAULT);
     }
 }
 
-#[test]
-fn lives_up_to_the_longest_life(rt: HostRuntime) {
-    let alloc = rt.alloc();
-    for (life, refusal) in [
-        (0, Some(Refusal::Range)),
-        (1, None),
-        (16777216, None),
-        (16777217, Some(Refusal::Range)),
-        (4294967297, Some(Refusal::Range)),
-    ] {
-        let made = Engine::new(alloc, shelf(&rt, alloc), life, Tape::new(alloc));
+const LIVES: [(u64, Option<Refusal>); 5] = [
+    (0, Some(Refusal::Range)),
+    (1, None),
+    (16777216, None),
+    (16777217, Some(Refusal::Range)),
+    (4294967297, Some(Refusal::Range)),
+];
+
+fn lives_up_to_the_longest_life<S: Rates + Copy>(rt: &impl Abort, alloc: Global, shelf: S) {
+    for row in &LIVES {
+        let (life, refusal) = *row;
+        let made = Engine::new(alloc, shelf, life, Tape::new(alloc));
         assert_eq!(rt; made.err(), refusal, "a life of {life}");
     }
+}
+
+pub fn all<S: Rates + Copy>(rt: &impl Abort, alloc: Global, shelf: S) {
+    refuses_on_a_new_link(rt, alloc, shelf);
+    plays_on_a_new_link(rt, alloc, shelf, &BESIDE_AN_OPEN_FLOW);
+    refuses_one_ticket_too_many(rt, alloc, shelf);
+    lives_so_many_events(rt, alloc, shelf);
+    lives_up_to_the_longest_life(rt, alloc, shelf);
 }

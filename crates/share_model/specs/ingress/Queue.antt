@@ -1,6 +1,6 @@
 -- The rule of the queue from the workers to the link: of each worker, what its end pushed is what the intake popped of
 -- it and then what the queue holds of it.
-use Rattle.std.specs.Prelude.{◌≡◌, ◌≤◌, ◌<◌, ◌+◌, ℕ, suc, Bool, true, false, ◌||◌, nat_eq, List, [], ◌∷◌, ◌++◌, length}
+use Rattle.std.specs.Prelude.{◌≡◌, ◌<◌, ℕ, suc, Bool, true, false, ◌||◌, nat_eq, List, [], ◌∷◌, ◌++◌, length}
 use mathlib.Core.Option.{some}
 use lib.ListN.{get_elem?}
 use Rattle.share_model.specs.lists.Each.{Each}

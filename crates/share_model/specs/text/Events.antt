@@ -7,24 +7,24 @@ use Rattle.share_model.specs.text.Lines.{reading}
 use Rattle.share_model.specs.text.Talk.{Progress, read_event, answer, first_flag}
 use Rattle.share_model.specs.text.Texts.{line_text}
 
--- what each line makes: its event, or its outcome without one
-unfoldable pub made_of : ℕ → List Rate → Progress → List Bool → List (List ℕ) → List (Result Event Outcome)
+-- what each line makes: its event, or its text without one
+unfoldable pub made_of : ℕ → List Rate → Progress → List Bool → List (List ℕ) → List (Result Event (List ℕ))
 made_of life rates p lacks [] = []
 made_of life rates p lacks (l ∷ ls) =
-    read_event life rates p.state (first_flag lacks) (reading l)
+    read_event life rates p (first_flag lacks) (reading l)
     ∷ made_of life rates (answer life rates p (first_flag lacks) l).0 (drop 1 lacks) ls
 
-abbrev pub events_by : Result Event Outcome → List Event
+abbrev pub events_by : Result Event (List ℕ) → List Event
 events_by (Ok e) = e ∷ []
-events_by (Err o) = []
+events_by (Err text) = []
 
 -- the events of the lines
 abbrev pub events_of : ℕ → List Rate → Progress → List Bool → List (List ℕ) → List Event
 events_of life rates p lacks ls = flat_map events_by (made_of life rates p lacks ls)
 
--- a text for each line: that of the next of the run's outcomes where the line made an event, else that of its own
-abbrev pub texts_of : List (Result Event Outcome) → List Outcome → List ℕ
+-- the texts of the lines: that of the next of the run's outcomes where the line made an event, else its own
+abbrev pub texts_of : List (Result Event (List ℕ)) → List Outcome → List ℕ
 texts_of [] outcomes = []
-texts_of (Err o ∷ rs) outcomes = line_text o ++ texts_of rs outcomes
+texts_of (Err text ∷ rs) outcomes = text ++ texts_of rs outcomes
 texts_of (Ok e ∷ rs) [] = []
 texts_of (Ok e ∷ rs) (o ∷ outcomes) = line_text o ++ texts_of rs outcomes

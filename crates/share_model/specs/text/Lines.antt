@@ -19,7 +19,7 @@ use Rattle.share_base.specs.declared.command.Command.TheVariants.{OpenFlow, Clos
 use Rattle.share_model.specs.declared.line.HolderKind.{HolderKind}
 use Rattle.share_model.specs.declared.line.HolderKind.TheVariants.{Currency as CurrencyKind, Flow as FlowKind}
 use Rattle.share_model.specs.declared.line.Line.{Line}
-use Rattle.share_model.specs.declared.line.Line.TheVariants.{Change, Send, Turn, Torn}
+use Rattle.share_model.specs.declared.line.Line.TheVariants.{Change, Send, Turn, Torn, Report, Audit}
 use Rattle.share_model.specs.link.Fields.{max_payload}
 pub use Rattle.share_model.specs.link.Fields.{IsName, IsNumber, is_byte, HasCommandFields}
 
@@ -68,6 +68,8 @@ words (Change c) = command_words c
 words (Send flow payload) = codes "send" ∷ flow ∷ hex payload ∷ []
 words (Turn most) = codes "turn" ∷ decimal most ∷ []
 words Torn = codes "torn" ∷ []
+words Report = codes "report" ∷ []
+words Audit = codes "audit" ∷ codes "1" ∷ []
 
 -- the bytes of a line before its line feed
 abbrev pub spelled : Line → List ℕ
@@ -84,6 +86,8 @@ HasFields (Change c) = HasCommandFields c
 HasFields (Send flow payload) = IsName flow × IsPayload payload
 HasFields (Turn most) = IsNumber most
 HasFields Torn = Unit {0}
+HasFields Report = Unit {0}
+HasFields Audit = Unit {0}
 
 -- a line has at most 20480 bytes
 pub record IsLine (l : Line) : Type 0 where
@@ -96,6 +100,8 @@ is_in_range (Change c) = true
 is_in_range (Send flow payload) = nat_le (length payload) max_payload
 is_in_range (Turn most) = nat_le 1 most && nat_le most 65535
 is_in_range Torn = true
+is_in_range Report = true
+is_in_range Audit = true
 
 -- What bytes are read as
 
@@ -195,6 +201,14 @@ turn_of ws = do
 abbrev pub torn_of : List (List ℕ) → Option Line
 torn_of ws = ended ws Torn
 
+abbrev pub report_of : List (List ℕ) → Option Line
+report_of ws = ended ws Report
+
+-- the version is 1, and no other
+abbrev pub audit_of : List (List ℕ) → Option Line
+audit_of [] = None
+audit_of (w ∷ ws) = if bytes_eq w (codes "1") then ended ws Audit else None
+
 unfoldable pub line_by : List ℕ → List (List ℕ) → Option Line
 line_by w ws =
     if bytes_eq w (codes "send") then send_of ws
@@ -208,6 +222,8 @@ line_by w ws =
     else if bytes_eq w (codes "mkcur") then named_of MakeCurrency ws
     else if bytes_eq w (codes "rmcur") then named_of RemoveCurrency ws
     else if bytes_eq w (codes "torn") then torn_of ws
+    else if bytes_eq w (codes "report") then report_of ws
+    else if bytes_eq w (codes "audit") then audit_of ws
     else None
 
 abbrev pub line_of : List (List ℕ) → Option Line
@@ -235,6 +251,8 @@ is_send (Change c) = false
 is_send (Send flow payload) = true
 is_send (Turn most) = false
 is_send Torn = false
+is_send Report = false
+is_send Audit = false
 
 -- Syntax where no line has these bytes, Range where a line out of range has them, NoMemory where a packet in range
 -- does

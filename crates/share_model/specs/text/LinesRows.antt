@@ -7,7 +7,7 @@ use Rattle.share_base.specs.declared.command.Command.TheVariants.{MakeCurrency, 
 use Rattle.share_base.specs.declared.command.Command.TheVariants.{RemoveTicket, FundCurrency, FundFlow, Unfund}
 use Rattle.share_base.specs.declared.command.Command.TheVariants.{OpenFlow, CloseFlow}
 use Rattle.share_model.specs.declared.line.Line.{Line}
-use Rattle.share_model.specs.declared.line.Line.TheVariants.{Change, Send, Turn, Torn}
+use Rattle.share_model.specs.declared.line.Line.TheVariants.{Change, Send, Turn, Torn, Report, Audit}
 use Rattle.share_model.specs.text.Lines.{number_of, line_by, reading, spelled}
 
 read : List (List ℕ) → List (Result Line Refusal)
@@ -28,6 +28,18 @@ funding_is_read : read (
     ∷ Ok (Change (RemoveTicket 7)) ∷ Ok (Change (FundCurrency 1 (codes "x"))) ∷ Ok (Change (Unfund 2)) ∷ []
 unfolding read reading line_by number_of digits
 funding_is_read = refl
+
+reports_and_audits_are_read : read (codes "report" ∷ codes "audit 1" ∷ []) ≡ Ok Report ∷ Ok Audit ∷ []
+unfolding read reading line_by
+reports_and_audits_are_read = refl
+
+-- another version, and other spellings of this one
+other_audits_are_syntax : read (
+    codes "audit" ∷ codes "audit 2" ∷ codes "audit 01" ∷ codes "audit 11" ∷ codes "audit 1 " ∷ codes "audit 1 1"
+    ∷ codes "audit  1" ∷ codes "audit 0" ∷ codes "report 1" ∷ codes "reports" ∷ codes "report " ∷ [])
+    ≡ replicate 11 (Err Syntax)
+unfolding read reading line_by
+other_audits_are_syntax = refl
 
 limits_are_read : read (codes "open a-1_z 0 18446744073709551615" ∷ codes "send z 00ff" ∷ [])
     ≡ Ok (Change (OpenFlow (codes "a-1_z") 0 18446744073709551615)) ∷ Ok (Send (codes "z") (0 ∷ 255 ∷ [])) ∷ []
@@ -54,8 +66,10 @@ turns_out_of_range = refl
 lines_are_spelled : map spelled (
     Change (OpenFlow (codes "a") 4 1) ∷ Change (FundFlow 1 (codes "a")) ∷ Change (FundCurrency 1 (codes "x"))
     ∷ Change (MakeCurrency (codes "x")) ∷ Change (RemoveCurrency (codes "x")) ∷ Change (RemoveTicket 1)
-    ∷ Change (Unfund 1) ∷ Change (CloseFlow (codes "a")) ∷ Send (codes "a") (104 ∷ 255 ∷ []) ∷ Torn ∷ [])
+    ∷ Change (Unfund 1) ∷ Change (CloseFlow (codes "a")) ∷ Send (codes "a") (104 ∷ 255 ∷ []) ∷ Torn
+    ∷ Report ∷ Audit ∷ [])
     ≡ codes "open a 4 1" ∷ codes "fund 1 flow a" ∷ codes "fund 1 cur x" ∷ codes "mkcur x" ∷ codes "rmcur x"
-    ∷ codes "rmtkt 1" ∷ codes "unfund 1" ∷ codes "close a" ∷ codes "send a 68ff" ∷ codes "torn" ∷ []
+    ∷ codes "rmtkt 1" ∷ codes "unfund 1" ∷ codes "close a" ∷ codes "send a 68ff" ∷ codes "torn"
+    ∷ codes "report" ∷ codes "audit 1" ∷ []
 unfolding digits
 lines_are_spelled = refl

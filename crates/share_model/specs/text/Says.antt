@@ -1,6 +1,5 @@
 -- What a line of a script came to, for a link that holds what the lines before it left.
 use Rattle.std.specs.Prelude.{◌≡◌, ℕ, Bool, List, Option, IfSome, ⊤, length}
-use Rattle.share_base.specs.declared.command.Outcome.{Outcome}
 use Rattle.share_model.specs.declared.line.Line.{Line}
 use Rattle.share_model.specs.declared.writer.Answer.{Answer}
 use Rattle.share_model.specs.declared.writer.Answer.TheVariants.{Accepted, Interrupted, Failed}
@@ -9,7 +8,7 @@ use Rattle.share_model.specs.link.Seen.{Seen}
 use Rattle.share_model.specs.run.Fold.{State}
 use Rattle.share_model.specs.run.Ends.{IsEndOf, TellsRun}
 use Rattle.share_model.specs.io.Told.{Told}
-use Rattle.share_model.specs.text.Talk.{Progress, line_answer, answer}
+use Rattle.share_model.specs.text.Talk.{Progress, is_first, line_answer, answer}
 
 -- the link holds this state; and where its writer tells its bytes, they are that state's
 pub record Holds {W : Type 0} (told : W → Option Told) (link : Seen W) (s : State) : Type 0 where
@@ -18,22 +17,8 @@ pub record Holds {W : Type 0} (told : W → Option Told) (link : Seen W) (s : St
   pub tells : IfSome (told link.writer) (TellsRun s writes)
   pub range : AreInRange link.rates
 
--- the outcome is that of this answer, for some flag, and the link then holds the answer's state
-pub record SaidBy {W : Type 0} (told : W → Option Told) (next : Bool → State × Outcome)
-    (old : Seen W) (o : Outcome) (new : Seen W) : Type 0 where
-  pub lack : Bool
-  pub outcome_is : o ≡ (next lack).1
-  pub holds : Holds told new (next lack).0
-  pub life : new.life ≡ old.life
-  pub rates : new.rates ≡ old.rates
-
--- whatever state the link held, the line was answered as that state says
-abbrev pub SaysLine : {W : Type 0} → (W → Option Told) → Seen W → Line → Outcome → Seen W → Type 0
-SaysLine told old l o new =
-    (s : State) → Holds told old s → SaidBy told (λ lack. line_answer old.life old.rates s lack l) old o new
-
 -- the text is that of this answer, for some flag, and the link then holds what the script came to
-pub record SaidText {W : Type 0} (told : W → Option Told) (next : Bool → Progress × List ℕ)
+pub record Said {W : Type 0} (told : W → Option Told) (next : Bool → Progress × List ℕ)
     (old : Seen W) (text : List ℕ) (new : Seen W) : Type 0 where
   pub lack : Bool
   pub text_is : text ≡ (next lack).1
@@ -41,11 +26,18 @@ pub record SaidText {W : Type 0} (told : W → Option Told) (next : Bool → Pro
   pub life : new.life ≡ old.life
   pub rates : new.rates ≡ old.rates
 
--- whatever script was in progress on the link, these bytes were answered as that script says
-abbrev pub Says : {W : Type 0} → (W → Option Told) → Seen W → List ℕ → List ℕ → Seen W → Type 0
-Says told old bytes text new =
-    (p : Progress) → Holds told old p.state
-    → SaidText told (λ lack. answer old.life old.rates p lack bytes) old text new
+-- whatever script was in progress on the link, the line was answered as that script says: as its first line, or as a
+-- later one
+abbrev pub SaysLine : {W : Type 0} → (W → Option Told) → Seen W → Bool → Line → List ℕ → Seen W → Type 0
+SaysLine told old first l text new =
+    (p : Progress) → Holds told old p.state → is_first p ≡ first
+    → Said told (λ lack. line_answer old.life old.rates p lack l) old text new
+
+-- and these bytes
+abbrev pub Says : {W : Type 0} → (W → Option Told) → Seen W → Bool → List ℕ → List ℕ → Seen W → Type 0
+Says told old first bytes text new =
+    (p : Progress) → Holds told old p.state → is_first p ≡ first
+    → Said told (λ lack. answer old.life old.rates p lack bytes) old text new
 
 -- a writer over memory takes a whole piece, or fails
 abbrev pub IsAllOrFailed : List ℕ → Answer → Type 0

@@ -7,30 +7,48 @@ use Rattle.share_base.specs.declared.refusal.Refusal.{Refusal}
 use Rattle.share_base.specs.declared.refusal.Refusal.TheVariants.{NoMemory, Spent as SpentRefusal, Syntax}
 use Rattle.share_base.specs.declared.command.Command.{Command}
 use Rattle.share_base.specs.declared.command.Reply.TheVariants.{Refused}
+use Rattle.share_base.specs.declared.command.Turn.{Turn}
 use Rattle.share_base.specs.declared.command.Turn.TheVariants.{Idle, Broken, Spent}
 use Rattle.share_base.specs.declared.command.Event.{Event}
 use Rattle.share_base.specs.declared.command.Event.TheVariants.{Commanded, Arrived, Written, Faulted}
-use Rattle.share_base.specs.declared.command.Outcome.{Outcome}
 use Rattle.share_base.specs.declared.command.Outcome.TheVariants.{Replied, Turned}
 use Rattle.share_model.specs.declared.line.Line.{Line}
-use Rattle.share_model.specs.declared.line.Line.TheVariants.{Change, Send, Turn, Torn}
+use Rattle.share_model.specs.declared.line.Line.TheVariants.{Change, Send, Turn as TurnLine, Torn, Report, Audit}
 use Rattle.share_model.specs.declared.rates.Rate.{Rate}
 use Rattle.share_model.specs.link.Live.{life_is_spent, takes_memory, Sending, sending, rest_of, command_refusal}
 use Rattle.share_model.specs.run.Fold.{State, empty_state, step, outcome}
 use Rattle.share_model.specs.text.Lines.{reading}
+use Rattle.share_model.specs.text.Report.{report}
 use Rattle.share_model.specs.text.Texts.{line_text}
 
--- What a line makes: an event, or an outcome without one
+-- A script in progress: what its link came to, and how many of its lines were answered
 
-abbrev pub refused : Refusal → Result Event Outcome
-refused e = Err (Replied (Refused e))
+pub record Progress : Type 0 where
+  pub state : State
+  pub lines : ℕ
+
+abbrev pub start : Progress
+start = record { state = empty_state; lines = 0 }
+
+-- one more line was answered, and the link came to this state
+abbrev pub onward : Progress → State → Progress
+onward p s = record { state = s; lines = p.lines + 1 }
+
+-- What a line makes: an event, or a text without one
+
+abbrev pub refused : Refusal → Result Event (List ℕ)
+refused e = Err (line_text (Replied (Refused e)))
+
+-- a turn that was no event
+abbrev pub no_event : Turn → Result Event (List ℕ)
+no_event turn = Err (line_text (Turned turn))
 
 abbrev pub is_syntax : Refusal → Bool
 is_syntax Syntax = true
 is_syntax _ = false
 
 -- a fault of spelling stands before a spent life, and a number out of range after it
-abbrev pub unread_event : ℕ → State → Refusal → Result Event Outcome
+abbrev pub unread_event : ℕ → State → Refusal → Result Event (List ℕ)
 unread_event life s e =
     if is_syntax e then refused Syntax
     else if life_is_spent life s.live then refused SpentRefusal
@@ -40,74 +58,72 @@ unread_event life s e =
 abbrev pub finds_none : Bool → List Rate → State → Command → Bool
 finds_none lack rates s c = lack && takes_memory c && is_none (command_refusal rates s.live c)
 
-abbrev pub change_event : ℕ → List Rate → State → Bool → Command → Result Event Outcome
+abbrev pub change_event : ℕ → List Rate → State → Bool → Command → Result Event (List ℕ)
 change_event life rates s lack c =
     if life_is_spent life s.live then refused SpentRefusal
     else if finds_none lack rates s c then refused NoMemory
     else Ok (Commanded c)
 
-abbrev pub send_event : ℕ → State → Bool → List ℕ → List ℕ → Result Event Outcome
+abbrev pub send_event : ℕ → State → Bool → List ℕ → List ℕ → Result Event (List ℕ)
 send_event life s lack flow body =
     if life_is_spent life s.live then refused SpentRefusal
     else if lack then refused NoMemory
     else Ok (Arrived flow body)
 
 -- the writer accepts all that it is offered
-abbrev pub write_event : ℕ → Option Sending → Result Event Outcome
-write_event most None = Err (Turned Idle)
+abbrev pub write_event : ℕ → Option Sending → Result Event (List ℕ)
+write_event most None = no_event Idle
 write_event most (Some x) = Ok (Written (min most (length (rest_of x))))
 
-abbrev pub fault_event : Option Sending → Result Event Outcome
-fault_event None = Err (Turned Idle)
+abbrev pub fault_event : Option Sending → Result Event (List ℕ)
+fault_event None = no_event Idle
 fault_event (Some x) = Ok Faulted
 
 -- Spent, then Broken
-abbrev pub unless_over : ℕ → State → Result Event Outcome → Result Event Outcome
+abbrev pub unless_over : ℕ → State → Result Event (List ℕ) → Result Event (List ℕ)
 unless_over life s event =
-    if life_is_spent life s.live then Err (Turned Spent)
-    else if s.live.broken then Err (Turned Broken)
+    if life_is_spent life s.live then no_event Spent
+    else if s.live.broken then no_event Broken
     else event
 
-abbrev pub line_event : ℕ → List Rate → State → Bool → Line → Result Event Outcome
-line_event life rates s lack (Change c) = change_event life rates s lack c
-line_event life rates s lack (Send flow body) = send_event life s lack flow body
-line_event life rates s lack (Turn most) = unless_over life s (write_event most (sending s.live))
-line_event life rates s lack Torn = unless_over life s (fault_event (sending s.live))
+-- the report of the link as it is, in a spent life too
+abbrev pub report_event : State → Result Event (List ℕ)
+report_event s = Err (report s.live)
 
-abbrev pub read_event : ℕ → List Rate → State → Bool → Result Line Refusal → Result Event Outcome
-read_event life rates s lack (Ok l) = line_event life rates s lack l
-read_event life rates s lack (Err e) = unread_event life s e
+-- `audit 1` is answered by nothing at all as the first line, and is Syntax in any other place
+abbrev pub audit_event : Bool → Result Event (List ℕ)
+audit_event first = if first then Err [] else refused Syntax
+
+abbrev pub is_first : Progress → Bool
+is_first p = p.lines == 0
+
+abbrev pub line_event : ℕ → List Rate → Progress → Bool → Line → Result Event (List ℕ)
+line_event life rates p lack (Change c) = change_event life rates p.state lack c
+line_event life rates p lack (Send flow body) = send_event life p.state lack flow body
+line_event life rates p lack (TurnLine most) = unless_over life p.state (write_event most (sending p.state.live))
+line_event life rates p lack Torn = unless_over life p.state (fault_event (sending p.state.live))
+line_event life rates p lack Report = report_event p.state
+line_event life rates p lack Audit = audit_event (is_first p)
+
+abbrev pub read_event : ℕ → List Rate → Progress → Bool → Result Line Refusal → Result Event (List ℕ)
+read_event life rates p lack (Ok l) = line_event life rates p lack l
+read_event life rates p lack (Err e) = unread_event life p.state e
 
 -- What a line is answered
 
--- an event is one step, with its outcome; an outcome without an event leaves the state
-abbrev pub answered : List Rate → State → Result Event Outcome → State × Outcome
-answered rates s (Ok e) = (step rates s e, outcome rates s e)
-answered rates s (Err o) = (s, o)
+-- an event is one step, and is answered with its outcome; a text without an event leaves the state
+abbrev pub answered : List Rate → Progress → Result Event (List ℕ) → Progress × List ℕ
+answered rates p (Ok e) = (onward p (step rates p.state e), line_text (outcome rates p.state e))
+answered rates p (Err text) = (onward p p.state, text)
 
-abbrev pub line_answer : ℕ → List Rate → State → Bool → Line → State × Outcome
-line_answer life rates s lack l = answered rates s (line_event life rates s lack l)
-
-abbrev pub read_answer : ℕ → List Rate → State → Bool → Result Line Refusal → State × Outcome
-read_answer life rates s lack r = answered rates s (read_event life rates s lack r)
-
--- Whole scripts
-
--- a script in progress: what its link came to, and how many of its lines were answered
-pub record Progress : Type 0 where
-  pub state : State
-  pub lines : ℕ
-
-abbrev pub start : Progress
-start = record { state = empty_state; lines = 0 }
-
--- one more line was answered, by the text of this outcome
-abbrev pub line_said : Progress → State × Outcome → Progress × List ℕ
-line_said p d = (record { state = d.0; lines = p.lines + 1 }, line_text d.1)
+abbrev pub line_answer : ℕ → List Rate → Progress → Bool → Line → Progress × List ℕ
+line_answer life rates p lack l = answered rates p (line_event life rates p lack l)
 
 -- what these bytes are answered as the next line, where memory may be lacking
 unfoldable pub answer : ℕ → List Rate → Progress → Bool → List ℕ → Progress × List ℕ
-answer life rates p lack bytes = line_said p (read_answer life rates p.state lack (reading bytes))
+answer life rates p lack bytes = answered rates p (read_event life rates p lack (reading bytes))
+
+-- Whole scripts
 
 -- whether the first line finds no memory; a line beyond the flags finds it
 abbrev pub first_flag : List Bool → Bool

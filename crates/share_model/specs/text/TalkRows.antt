@@ -3,12 +3,15 @@
 -- scripts that send are run by tests.
 use Rattle.std.specs.Prelude.{◌≡◌, ℕ, true, Bool, List, [], ◌∷◌, ◌++◌, codes, refl}
 use Rattle.std.specs.Fmt.{digits}
-use Rattle.share_base.specs.declared.command.Command.TheVariants.{MakeTicket, FundFlow, OpenFlow, CloseFlow}
+use Rattle.std.proofs.Common.{ap}
+use Rattle.share_base.specs.declared.command.Command.TheVariants.{MakeCurrency, MakeTicket, FundFlow, OpenFlow}
+use Rattle.share_base.specs.declared.command.Command.TheVariants.{CloseFlow}
 use Rattle.share_base.specs.declared.command.Event.TheVariants.{Commanded, Arrived}
 use Rattle.share_model.specs.declared.rates.Rate.{Rate}
 use Rattle.share_model.specs.lists.Change.{change_first}
 use Rattle.share_model.specs.funding.Graph.{funding}
 use Rattle.share_model.specs.text.Lines.{number_of, line_by, reading}
+use Rattle.share_model.specs.text.ReportRows.{zero_report, new_link_shows}
 use Rattle.share_model.specs.text.Texts.{line_text}
 use Rattle.share_model.specs.text.Events.{made_of, events_of}
 use Rattle.share_model.specs.text.Talk.{start, answer, talk, lines_of}
@@ -74,3 +77,37 @@ fresh_link_prints : printed [] fresh_link
     ++ codes "no 3 Syntax\nno 3 Syntax\nno 4 Range\nno 3 Syntax\nno 7 NoFlow\n"
 unfolding printed fresh_link shelf talk answer line_text reading line_by number_of digits change_first funding
 fresh_link_prints = refl
+
+-- the report of a new link; and the line of an audit in another place than the first
+report_prints : printed [] (codes "report\naudit 1\n") ≡ zero_report ++ codes "no 3 Syntax\n"
+unfolding printed shelf talk answer line_text reading line_by digits
+report_prints = ap (λ text. text ++ codes "no 3 Syntax\n") new_link_shows
+
+report_is_no_event : events_of 65536 shelf start [] (lines_of (codes "report\nmkcur x\naudit 1\n"))
+    ≡ Commanded (MakeCurrency (codes "x")) ∷ []
+unfolding shelf made_of answer reading line_by change_first funding
+report_is_no_event = refl
+
+audit_prints : printed [] (codes "audit 1\nmkcur x") ≡ codes "ok\n"
+unfolding printed shelf talk answer line_text reading line_by change_first funding
+audit_prints = refl
+
+audit_alone_prints : printed [] (codes "audit 1") ≡ []
+unfolding printed shelf talk answer reading line_by
+audit_alone_prints = refl
+
+-- the line counts: after it another one is a later one; and another version is no line
+audits_print : printed [] (codes "audit 1\naudit 1\naudit 2\n") ≡ codes "no 3 Syntax\nno 3 Syntax\n"
+unfolding printed shelf talk answer line_text reading line_by digits
+audits_print = refl
+
+-- a fault of spelling counts as a line too
+late_audit_prints : printed [] (codes "audit 01\naudit 1\n") ≡ codes "no 3 Syntax\nno 3 Syntax\n"
+unfolding printed shelf talk answer line_text reading line_by digits
+late_audit_prints = refl
+
+-- in a spent life too a report is answered, and the line of an audit is a fault of spelling
+spent_report_prints : talk 1 shelf start [] (lines_of (codes "mkcur x\nreport\naudit 1\nmkcur y\n"))
+    ≡ codes "ok\n" ++ zero_report ++ codes "no 3 Syntax\nno 2 Spent\n"
+unfolding shelf talk answer line_text reading line_by digits change_first funding
+spent_report_prints = ap (λ text. codes "ok\n" ++ text ++ codes "no 3 Syntax\nno 2 Spent\n") new_link_shows

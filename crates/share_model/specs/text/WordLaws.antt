@@ -16,7 +16,7 @@ use Rattle.share_model.specs.text.Lines.{name_of, number_of, payload_of}
 
 -- Booleans
 
-both : (a b : Bool) → (a && b) ≡ true → (a ≡ true) × (b ≡ true)
+pub both : (a b : Bool) → (a && b) ≡ true → (a ≡ true) × (b ≡ true)
 both true b e = (refl, e)
 both false b e = cc
 
@@ -129,7 +129,7 @@ from_pairs-hex (b ∷ bs) e =
     let d = divided b (is_byte-small b p.0) in
     rw (hex_value-hex_digit _ d.0, hex_value-hex_digit _ d.1, d.2, from_pairs-hex bs p.1) refl
 
-length-hex : (bs : List ℕ) → length (hex bs) ≡ 2 * length bs
+pub length-hex : (bs : List ℕ) → length (hex bs) ≡ 2 * length bs
 length-hex [] = refl
 length-hex (b ∷ bs) = omega (arith, length-hex bs)
 

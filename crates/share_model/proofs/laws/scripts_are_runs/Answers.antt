@@ -1,5 +1,5 @@
 use Rattle.share_model.specs.run.FoldLaws.{state-empty}
-use Rattle.share_model.specs.text.EventsLaws.{after-state, events-may_follow, talk-texts}
+use Rattle.share_model.specs.text.EventsLaws.{after-state, events-may_follow, talk-texts, report-after}
 use Rattle.share_model.specs.text.Talk.{start}
 use Rattle.share_model.proofs.laws.scripts_are_runs.Goals as goal
 
@@ -12,3 +12,6 @@ returns-clause-state c = λ life rates. after-state life rates start
 
 pub returns-clause-texts : goal.returns-clause-texts
 returns-clause-texts c = λ life rates. talk-texts life rates start
+
+pub returns-clause-reports : goal.returns-clause-reports
+returns-clause-reports c = λ life rates. report-after life rates start

@@ -1,4 +1,5 @@
-use Rattle.std.proofs.Common.{rules, IfOk, IfErr}
+use Rattle.std.proofs.Common.{◌≡◌, ◌∙◌, ℕ, rules, IfOk, IfErr, get_or, refl, sym, ap}
+use Rattle.std.proofs.lemmas.List.{get_or_default}
 use Rattle.std.proofs.lemmas.List.Sorted.{answers_always}
 use Rattle.share_stride.specs.Index.{IsAt, IsGapFor}
 use Rattle.share_stride.proofs.IndexLaws.{searched}
@@ -18,3 +19,11 @@ returns-clause-found c = (place c).0
 
 pub returns-clause-absent : goal.returns-clause-absent
 returns-clause-absent c = (place c).1
+
+pub returns-then-is_of-clause-found : goal.returns-then-is_of-clause-found
+returns-then-is_of-clause-found c =
+    let place = c.past_first-place.result in
+    let inside = c.if-place-pairs.true in
+    let met : get_or c.args.pairs.now place (0, 0) ≡ c.index-pairs-place.result =
+    get_or_default c.args.pairs.now place (0, 0) c.index-pairs-place.result inside ∙ sym c.index-pairs-place.is in
+    record { in_range = inside; has_flow = ap (λ (pair : ℕ × ℕ). pair.0) met ∙ c.if-is_of.ensures.0 refl }

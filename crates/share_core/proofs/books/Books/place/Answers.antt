@@ -1,6 +1,6 @@
 use Rattle.std.proofs.Common.{◌∙◌, ap, sym, subst, IsSome, position}
 use Rattle.share_model.specs.link.Live.{is_book_of}
-use Rattle.share_core.proofs.Places.{some_place}
+use Rattle.share_flows.specs.PlaceLaws.{some_place}
 use Rattle.share_core.proofs.books.Books.place.Goals as goal
 
 pub unwrap-requires : goal.unwrap-requires

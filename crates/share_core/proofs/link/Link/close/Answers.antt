@@ -49,7 +49,7 @@ invariant_of-self g c =
         c.remove.ensures,
         c.level.ensures,
         c.remove_flow.ensures,
-        c.close.ensures,
+        c.close.ensures.after,
         c.close-2.ensures,
         c.without_torn-self-inside.ensures,
         c.from.ensures,

@@ -1,24 +1,26 @@
 use Rattle.std.proofs.Common.{◌≡◌, false, subst, sym}
 use Rattle.share_model.specs.link.Seen.{Seen}
 use Rattle.share_core.proofs.Living.{living}
-use Rattle.share_core.proofs.Writes.{sent, booked, known, posts, out_few, joined, clock, sound-fail}
+use Rattle.share_core.proofs.Standing.{booked_at, stands_in}
+use Rattle.share_core.proofs.Writes.{sent, known, posts, out_few, joined, clock, sound-fail}
 use Rattle.share_core.proofs.link.Link.fail.Goals as goal
 
-pub charge-units-requires-clause-there : goal.charge-units-requires-clause-there
-charge-units-requires-clause-there g c =
-    booked _ _ _ c.args.place c.self.invariant.1 (sent _ _ c.args.place c.self.view_is c.requires.place)
+pub charge_at-units-requires-clause-there : goal.charge_at-units-requires-clause-there
+charge_at-units-requires-clause-there g c =
+    booked_at c.self.invariant.1 c.args.place.buffer
+    (stands_in _ _ c.args.place.buffer c.self.view_is c.requires.stands)
 
-pub charge-units-requires-clause-known : goal.charge-units-requires-clause-known
-charge-units-requires-clause-known g c =
+pub charge_at-units-requires-clause-known : goal.charge_at-units-requires-clause-known
+charge_at-units-requires-clause-known g c =
     known _ _ _ c.args.place c.self.invariant.1 (sent _ _ c.args.place c.self.view_is c.requires.place)
 
-pub charge-units-requires-clause-account : goal.charge-units-requires-clause-account
-charge-units-requires-clause-account g c =
+pub charge_at-units-requires-clause-account : goal.charge_at-units-requires-clause-account
+charge_at-units-requires-clause-account g c =
     posts _ _ _ c.args.place c.self.invariant.1
     (sent _ _ c.args.place c.self.view_is c.requires.place) c.self.invariant.0.0
 
-pub charge-units-requires-clause-few : goal.charge-units-requires-clause-few
-charge-units-requires-clause-few g c =
+pub charge_at-units-requires-clause-few : goal.charge_at-units-requires-clause-few
+charge_at-units-requires-clause-few g c =
     out_few _ _ _ c.args.place c.self.invariant.1 (sent _ _ c.args.place c.self.view_is c.requires.place)
 
 pub charge-requires-clause-there : goal.charge-requires-clause-there
@@ -29,7 +31,7 @@ pub charge-requires-clause-clock : goal.charge-requires-clause-clock
 charge-requires-clause-clock g c =
     let sound = c.self.invariant.1 in
     let t = sent _ _ c.args.place c.self.view_is c.requires.place in
-    rw (c.charge-units.ensures.units)
+    rw (c.charge_at-units.ensures.units)
     (clock _ _ _ c.args.place sound t (g.met.S.Rates.in_range c.self.inside.shelf) c.self.invariant.0.0
     (living _ _ c.self.view_is c.requires.living sound) _ (out_few _ _ _ c.args.place sound t))
 
@@ -39,7 +41,7 @@ invariant_of-self g c =
     let t = sent _ _ c.args.place c.self.view_is c.requires.place in
     let unbroken = subst (λ (k : Seen (Unit {0})). k.live.broken ≡ false) (sym c.self.view_is) c.requires.unbroken in (
       c.self.invariant.0,
-      rw (c.charge.ensures, c.charge-units.ensures.posted, c.charge-units.ensures.units)
+      rw (c.charge.ensures, c.charge_at-units.ensures.posted, c.charge_at-units.ensures.units)
           (sound-fail _ _ _ c.args.place sound t (g.met.S.Rates.in_range c.self.inside.shelf)
           (living _ _ c.self.view_is c.requires.living sound) unbroken),
     )

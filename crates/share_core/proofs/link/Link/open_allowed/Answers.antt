@@ -1,21 +1,37 @@
-use Rattle.std.proofs.Common.{◌≡◌, None, sym, subst, arith}
+use Rattle.std.proofs.Common.{◌≡◌, ◌∙◌, None, ap, refl, sym, subst, arith}
 use Rattle.std.specs.FinMap.{get}
+use Rattle.share_model.specs.link.Buffers.{buffer_of}
 use Rattle.share_model.specs.run.SoundStepLaws.{sound-open_flow}
-use Rattle.share_core.proofs.Arrivals.{buffer_count, book_count}
+use Rattle.share_core.proofs.Arrivals.{book_count}
 use Rattle.share_core.proofs.Living.{living}
-use Rattle.share_core.proofs.Openings.{added, next-unjoined, can-open, allowed-room, queue-room, allowed_of}
+use Rattle.share_core.proofs.Openings.{added, next-unjoined, next-unbuffered, opened-found, closed-opened, found_none}
+use Rattle.share_core.proofs.Openings.{can-open, allowed-room, queue-room, allowed_of}
 use Rattle.share_core.proofs.link.Link.open_allowed.Goals as goal
+
+pub open-requires : goal.open-requires
+open-requires g c =
+    ap (buffer_of c.self.inside.buffers) c.next_flow.ensures ∙ next-unbuffered c.self.invariant.1
+
+pub close-requires : goal.close-requires
+close-requires g c =
+    let none = ap (buffer_of c.self.inside.buffers) c.next_flow.ensures ∙ next-unbuffered c.self.invariant.1 in
+    rw (c.in-Ok.ensures.ok.0) (opened-found c.self.inside.buffers c.next_flow.result c.args.limit none)
+
+pub invariant_of-self-in-Err : goal.invariant_of-self-in-Err
+invariant_of-self-in-Err g c =
+    let none = ap (buffer_of c.self.inside.buffers) c.next_flow.ensures ∙ next-unbuffered c.self.invariant.1 in
+    rw (
+      c.in-Err.ensures.refused.1,
+      c.close.ensures.after,
+      c.in-Ok.ensures.ok.0,
+      closed-opened c.self.inside.buffers c.next_flow.result c.args.limit none,
+    )
+    c.self.invariant
 
 pub add-requires : goal.add-requires
 add-requires g c =
     let flow = c.in-Ok-add_flow.ensures.done.1 in
     subst (λ n. get c.self.inside.queue.clients n ≡ None) (sym flow) (next-unjoined c.self.invariant.1)
-
-pub open-requires : goal.open-requires
-open-requires g c =
-    let allowed = allowed_of _ _ c.args.name c.args.limit c.args.tariff c.self.view_is c.requires.allowed in
-    let room = allowed-room c.self.invariant.1 c.args.name c.args.limit c.args.tariff allowed in
-    omega (arith, room, buffer_count c.self.invariant.1)
 
 pub open-requires-in-Ok-add_flow : goal.open-requires-in-Ok-add_flow
 open-requires-in-Ok-add_flow g c =
@@ -44,8 +60,7 @@ invariant_of-self-in-Ok-add_flow g c =
         c.level_anew.ensures.queue,
         joined,
         c.open-in-Ok-add_flow.ensures,
-        c.open.ensures,
-        c.in-Ok.ensures,
+        c.in-Ok.ensures.ok.0,
         c.next_flow.ensures,
         c.in-Ok-add_flow.ensures.done.1,
         c.in-Ok-add_flow.ensures.done.2,
@@ -53,3 +68,15 @@ invariant_of-self-in-Ok-add_flow g c =
           (sound-open_flow sound (living _ _ c.self.view_is c.requires.living sound) c.args.name c.args.limit
           c.args.tariff allowed),
     )
+
+pub returns-in-Err : goal.returns-in-Err
+returns-in-Err g c =
+    let none = ap (buffer_of c.self.inside.buffers) c.next_flow.ensures ∙ next-unbuffered c.self.invariant.1 in
+    found_none _ _ _ c.args.name c.args.limit c.args.tariff c.self.view_is
+    (rw (
+      c.in-Err.ensures.refused.1,
+      c.close.ensures.after,
+      c.in-Ok.ensures.ok.0,
+      closed-opened c.self.inside.buffers c.next_flow.result c.args.limit none,
+    ) refl)
+    c.requires.living c.requires.allowed

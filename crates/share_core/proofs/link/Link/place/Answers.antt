@@ -1,20 +1,25 @@
-use Rattle.std.proofs.Common.{◌∙◌, ◌+◌, ℕ, List, length, ap, sym, Option, Some, option_map}
+use Rattle.std.proofs.Common.{◌+◌, ◌∙◌, ap, sym, subst, length, option_map}
 use Rattle.share_model.specs.link.Buffers.{head_of}
 use Rattle.share_model.specs.link.Live.{sending_at}
-use Rattle.share_core.specs.declared.place.Place.{Place}
 use Rattle.share_model.specs.link.Seen.{Seen}
-use Rattle.share_core.specs.Place.{place_of}
-use Rattle.share_core.proofs.Sendings.{place_found}
+use Rattle.share_flows.specs.Places.{Stands}
+use Rattle.share_core.specs.declared.place.Place.{Place}
+use Rattle.share_core.specs.Place.{IsPlaceOf}
+use Rattle.share_core.proofs.Sendings.{head_placed}
 use Rattle.share_core.proofs.link.Link.place.Goals as goal
 
-with_length : ℕ → ℕ → ℕ → ℕ → Option Place
-with_length flow seq out n = Some record { flow = flow; seq = seq; out = out; length = 12 + n }
-
 pub returns : goal.returns
-unfolding with_length
 returns g c =
-    ap (λ (bytes : List ℕ). with_length c.args.flow c.in_ok-seq.seq c.args.out (length bytes)) c.as_slice.ensures.value
-    ∙ place_found c.self.inside.buffers c.args.flow c.args.out c.in_ok-ring.field-0.now _
-    (sym c.in_ok-ring.ensures) c.in_ok-seq.ensures
-    ∙ ap (λ (k : Seen (Unit {0})). option_map (λ h. place_of (sending_at c.args.out h))
-    (head_of k.live.buffers c.args.flow)) c.self.view_is
+    let buffers = c.args.self.now.live.buffers in
+    let buffer = c.in_ok-buffer.buffer in
+    let payload = c.as_slice.result.now in
+    let place : Place =
+    record { buffer = buffer; seq = c.in_ok-seq.seq; out = c.args.out; length = 12 + length payload }
+    in
+    let same = ap (λ (k : Seen (Unit {0})). k.live.buffers) c.self.view_is in
+    let head = ap (λ bs. head_of bs buffer.flow) (sym same) ∙ c.in_ok-seq.ensures in (
+      subst (λ f. IsPlaceOf (option_map (sending_at c.args.out) (head_of buffers f)) place) c.in_ok-buffer.ensures.0
+          (head_placed buffers place c.in_ok-seq.body.now head
+          (ap (λ bytes. 12 + length bytes) c.as_slice.ensures.value)),
+      subst (λ bs. Stands bs buffer) same c.in_ok-buffer.ensures.2,
+    )

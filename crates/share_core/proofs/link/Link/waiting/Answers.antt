@@ -1,4 +1,3 @@
-use Rattle.std.proofs.Common.{◌≤◌, ◌-◌, sym, subst}
 use Rattle.share_core.proofs.Tallies.{torn_within}
 use Rattle.share_core.proofs.link.Link.waiting.Goals as goal
 

@@ -2,6 +2,7 @@ use Rattle.std.proofs.Common.{◌∙◌, ap, sym, position}
 use Rattle.share_model.specs.link.Buffers.{is_buffer_of, count_by, closed}
 use Rattle.share_flows.specs.PlaceLaws.{taken}
 use Rattle.share_flows.proofs.Standing.{standing_of}
+use Rattle.share_flows.proofs.Apart.{apart-remove}
 use Rattle.share_flows.proofs.buffers.Buffers.close.Goals as goal
 
 pub returns-clause-held : goal.returns-clause-held
@@ -18,3 +19,8 @@ returns-clause-after c =
     c.remove-ring.ensures.items
     ∙ (taken (is_buffer_of c.args.flow) _ c.place-place.result.at place
     ∙ ap (λ bs. closed bs c.args.flow) c.self.view_is)
+
+pub invariant_of-self : goal.invariant_of-self
+invariant_of-self c =
+    rw (c.remove-ring.ensures.items)
+    (apart-remove c.self.inside.rings.items c.place-place.result.at c.self.invariant)

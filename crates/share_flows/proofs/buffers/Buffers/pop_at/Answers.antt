@@ -1,4 +1,7 @@
 use Rattle.share_flows.proofs.Standing.{some_packet, head_popped, after_pop}
+use Rattle.std.proofs.Common.{◌∙◌, ap}
+use Rattle.share_model.specs.link.Buffers.{Buffer}
+use Rattle.share_flows.proofs.Apart.{apart-set}
 use Rattle.share_flows.proofs.buffers.Buffers.pop_at.Goals as goal
 
 pub pop-requires : goal.pop-requires
@@ -15,3 +18,9 @@ pub returns-clause-after : goal.returns-clause-after
 returns-clause-after c =
     after_pop _ _ c.args.place.now c.index_mut-ring.result.now c.self.view_is c.requires.there
     c.index_mut-ring.ensures.value _ c.pop.ensures.after
+
+pub invariant_of-self : goal.invariant_of-self
+invariant_of-self c =
+    apart-set c.self.inside.rings.items c.args.place.now.at c.pop.new.self c.index_mut-ring.result.now
+    (ap (λ (b : Buffer). b.flow) c.pop.ensures.after ∙ ap (λ (b : Buffer). b.flow) c.index_mut-ring.ensures.value)
+    c.self.invariant

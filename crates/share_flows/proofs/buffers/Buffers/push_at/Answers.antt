@@ -1,4 +1,7 @@
 use Rattle.share_flows.proofs.Standing.{may_push, after_push, after_full}
+use Rattle.std.proofs.Common.{◌∙◌, ap}
+use Rattle.share_model.specs.link.Buffers.{Buffer}
+use Rattle.share_flows.proofs.Apart.{apart-set, flow-pushed}
 use Rattle.share_flows.proofs.buffers.Buffers.push_at.Goals as goal
 
 pub push-requires : goal.push-requires
@@ -15,3 +18,9 @@ pub returns-clause-full : goal.returns-clause-full
 returns-clause-full c =
     after_full _ _ c.args.place.now c.index_mut-ring.result.now c.self.view_is c.requires.there
     c.index_mut-ring.ensures.value c.push.result _ c.args.body c.push.ensures.full
+
+pub invariant_of-self : goal.invariant_of-self
+invariant_of-self c =
+    apart-set c.self.inside.rings.items c.args.place.now.at c.push.new.self c.index_mut-ring.result.now
+    (flow-pushed c.push.result c.index_mut-ring.result.now c.push.new.self c.args.body c.push.ensures.ok
+    c.push.ensures.full ∙ ap (λ (b : Buffer). b.flow) c.index_mut-ring.ensures.value) c.self.invariant

@@ -1,0 +1,5 @@
+mod Fields
+mod OneAnswer
+mod Payloads
+mod Steps
+mod Told

@@ -1,0 +1,12 @@
+//! What holds of every frame. The function here does nothing: its contract is a law, which is proved with it.
+ghost use Rattle.std.specs.Prelude.{◌≡◌, List, ℕ, ◌++◌};
+ghost use Rattle.share_model.specs.link.Frame.{Packet, FitsFrame, frame};
+ghost use Rattle.share_model.specs.run.History.{IsBeginning};
+
+/// No frame is a proper beginning of a frame; and bytes that begin with the frames of two packets begin with the frame
+/// of one packet, and the same bytes follow it.
+pub fn no_frame_begins_another()
+    ensures proper { (head : Packet) → FitsFrame head → ¬ IsBeginning (frame head) }
+    ensures same { (head other : Packet) (rest more : List ℕ) → FitsFrame head → FitsFrame other
+        → frame head ++ rest ≡ frame other ++ more → (head ≡ other) × (rest ≡ more) }
+{}

@@ -1,0 +1,117 @@
+//! Worked frames: their headers, and what bytes are read as.
+use crate::{FrameRead, HEADER, Place, header, no_frame_begins_another, read_frame};
+use share_base::FlowNo;
+
+/// The frame of the payload `hi`, the first packet of flow 1.
+const HI: [u8; 14] = *b"\x4c\x01\x00\x00\x00\x01\x00\x00\x00\x01\x00\x02hi";
+
+/// What this frame is read as.
+const READ: FrameRead = FrameRead::Frame {
+    flow: FlowNo(1),
+    seq: 1,
+    len: 2,
+};
+
+#[test]
+fn bytes_are_read(rt: HostRuntime) {
+    let rows = [
+        (b"".as_slice(), FrameRead::More),
+        (&HI, READ),
+        (&HI[..13], FrameRead::More),
+        (b"\x4d", FrameRead::Bad(Place::Magic)),
+        (b"\x4c\x02", FrameRead::Bad(Place::Version)),
+        (b"\x4c\x01\x00", FrameRead::More),
+        (b"\x4c\x01\x00\x00\x00\x00", FrameRead::Bad(Place::Flow)),
+        (
+            b"\x4c\x01\x00\x00\x00\x01\x00\x00\x00\x00",
+            FrameRead::Bad(Place::Seq),
+        ),
+        (
+            b"\x4c\x01\x00\x00\x00\x01\x00\x00\x00\x01\x05",
+            FrameRead::More,
+        ),
+        (
+            b"\x4c\x01\x00\x00\x00\x01\x00\x00\x00\x01\x05\xd3",
+            FrameRead::Bad(Place::Len),
+        ),
+        (
+            b"\x4c\x01\x00\x00\x00\x01\x00\x00\x00\x01\x06",
+            FrameRead::Bad(Place::Len),
+        ),
+        (
+            b"\x4c\x01\x00\x00\x00\x01\x00\x00\x00\x01\x00\x00",
+            FrameRead::Bad(Place::Len),
+        ),
+        // the first of several bad fields
+        (
+            b"\x4d\x02\x00\x00\x00\x00\x00\x00\x00\x00\x06\x00",
+            FrameRead::Bad(Place::Magic),
+        ),
+        (
+            b"\x4c\x01\x00\x00\x00\x00\x00\x00\x00\x00\x06\x00",
+            FrameRead::Bad(Place::Flow),
+        ),
+        // other bytes behind a frame
+        (
+            b"\x4c\x01\x00\x00\x00\x01\x00\x00\x00\x01\x00\x02hi\x4d",
+            READ,
+        ),
+    ];
+    for (bytes, answer) in rows {
+        assert_eq!(rt; read_frame(bytes), answer, "of {bytes:?}");
+    }
+}
+
+#[test]
+fn fields_have_places(rt: HostRuntime) {
+    for (place, start) in [
+        (Place::Magic, 0),
+        (Place::Version, 1),
+        (Place::Flow, 2),
+        (Place::Seq, 6),
+        (Place::Len, 10),
+    ] {
+        assert_eq!(rt; place.start(), start);
+    }
+}
+
+#[test]
+fn frames_are_cut_anywhere(rt: HostRuntime) {
+    for count in 0..HI.len() {
+        assert_eq!(rt;
+            read_frame(&HI[..count]),
+            FrameRead::More,
+            "of {count} bytes"
+        );
+    }
+}
+
+#[test]
+fn headers_are_read_again(rt: HostRuntime) {
+    no_frame_begins_another();
+    assert_eq!(rt; header(FlowNo(1), 1, 2).as_slice(), &HI[..HEADER]);
+    assert_eq!(rt;
+        header(FlowNo(0x01020304), 0x05060708, 0x090a),
+        *b"\x4c\x01\x01\x02\x03\x04\x05\x06\x07\x08\x09\x0a"
+    );
+    for (flow, seq, len) in [
+        (1, 1, 1),
+        (1, 1, 1490),
+        (256, 65536, 1281),
+        (0x80000000, 0x01000000, 256),
+        (4294967295, 4294967295, 1490),
+    ] {
+        let mut bytes = [0; 1502];
+        bytes[..HEADER].copy_from_slice(&header(FlowNo(flow), seq, len));
+        let whole = HEADER + usize::from(len);
+        assert!(rt; whole <= 1502);
+        let answer = FrameRead::Frame {
+            flow: FlowNo(flow),
+            seq,
+            len,
+        };
+        assert_eq!(rt; read_frame(&bytes[..whole]), answer);
+        assert_eq!(rt; read_frame(&bytes[..whole - 1]), FrameRead::More);
+        assert_eq!(rt; read_frame(&bytes[..HEADER]), FrameRead::More);
+    }
+}

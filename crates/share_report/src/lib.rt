@@ -1,0 +1,17 @@
+//! The report of a link: its totals and its open flows, in columns.
+#![tactic(auto)]
+
+mod engine;
+mod fault;
+mod laws;
+mod lines;
+#[cfg(test)]
+mod tests;
+mod text;
+
+pub use engine::report;
+pub use fault::Fault;
+pub use laws::{
+    flows_fit_their_columns, idle_flows_show_no_tickets, lines_fill_their_columns,
+    new_flows_show_no_place,
+};

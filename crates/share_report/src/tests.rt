@@ -1,0 +1,206 @@
+//! Reports of links, byte for byte, and what writers do with them.
+mod texts;
+
+use crate::{Fault, report};
+use share_base::{Body, Command, Name, Reply};
+use share_core::Engine;
+use share_model::{Answer, Rates, Scripted, Tape};
+use share_tariff::shelf;
+use std::alloc::Global;
+use std::process::Abort;
+use std::str::from_utf8;
+use std::test::Fail;
+
+/// A call of a link. A turn offers at least one byte.
+#[derive(Clone, Copy, Debug)]
+enum Call {
+    Open(&'static str, u64, u64),
+    MakeCurrency(&'static str),
+    MakeTicket(u64, &'static str),
+    Back(u64, &'static str),
+    Fund(u64, &'static str),
+    Unfund(u64),
+    Send(&'static str, &'static [u8]),
+    Turn(u32),
+    Tear,
+    Close(&'static str),
+}
+
+fn name(rt: &impl Abort, text: &str) -> Name {
+    Name::read(text.as_bytes()).expect(rt, "a name")
+}
+
+// The command of a call, if it is one.
+fn command_of(rt: &impl Abort, call: Call) -> Option<Command> {
+    match call {
+        Call::Open(flow, limit, tariff) => Some(Command::OpenFlow {
+            name: name(rt, flow),
+            limit,
+            tariff,
+        }),
+        Call::MakeCurrency(currency) => Some(Command::MakeCurrency(name(rt, currency))),
+        Call::MakeTicket(amount, currency) => Some(Command::MakeTicket {
+            amount,
+            currency: name(rt, currency),
+        }),
+        Call::Back(ticket, currency) => Some(Command::FundCurrency {
+            ticket,
+            currency: name(rt, currency),
+        }),
+        Call::Fund(ticket, flow) => Some(Command::FundFlow {
+            ticket,
+            flow: name(rt, flow),
+        }),
+        Call::Unfund(ticket) => Some(Command::Unfund(ticket)),
+        Call::Close(flow) => Some(Command::CloseFlow(name(rt, flow))),
+        Call::Send(_, _) => None,
+        Call::Turn(_) => None,
+        Call::Tear => None,
+    }
+}
+
+// Makes a call, which is not refused.
+fn make<S: Rates>(rt: &impl Abort, alloc: Global, engine: &mut Engine<Tape, S>, call: Call) {
+    if let Some(command) = command_of(rt, call) {
+        let reply = engine.command(command);
+        assert!(rt; !matches!(&reply, Reply::Refused(_)), "at {call:?}");
+    }
+    match call {
+        Call::Send(flow, payload) => {
+            let body = Body::new(alloc, payload).expect(rt, "a payload");
+            let reply = engine.arrive(name(rt, flow), body);
+            assert!(rt; !matches!(&reply, Reply::Refused(_)), "at {call:?}");
+        }
+        Call::Turn(most) => {
+            engine.turn(most.max(1));
+        }
+        Call::Tear => {
+            engine.tear();
+        }
+        _ => {}
+    }
+}
+
+// A link after these calls.
+fn link<S: Rates + Copy>(
+    rt: &impl Abort,
+    alloc: Global,
+    shelf: S,
+    life: u64,
+    calls: &[Call],
+) -> Engine<Tape, S> {
+    let mut engine = Engine::new(alloc, shelf, life, Tape::new(alloc)).expect(rt, "a link");
+    for call in calls {
+        make(rt, alloc, &mut engine, *call);
+    }
+    engine
+}
+
+// Compares the report of a link, which is written in one call.
+fn shows<S: Rates>(rt: &impl Abort, alloc: Global, engine: &Engine<Tape, S>, text: &str) {
+    let mut tape = Tape::new(alloc);
+    assert_eq!(rt; report(engine, &mut tape), Ok(()));
+    assert_eq!(rt; from_utf8(tape.bytes()).ok(), Some(text));
+    let counts = tape.counts(alloc).expect(rt, "memory");
+    assert_eq!(rt; counts.as_slice(), [text.len()].as_slice());
+}
+
+fn shows_what_a_link_holds<S: Rates + Copy>(rt: &impl Abort, alloc: Global, shelf: S) {
+    for (calls, text) in texts::links() {
+        let engine = link(rt, alloc, shelf, 65536, calls);
+        shows(rt, alloc, &engine, text);
+    }
+}
+
+// The life ends with the last of the seven events.
+fn shows_a_spent_life<S: Rates + Copy>(rt: &impl Abort, alloc: Global, shelf: S) {
+    let engine = link(rt, alloc, shelf, 7, texts::TORN);
+    assert!(rt; engine.spent());
+    shows(rt, alloc, &engine, texts::TORN_SHOWS);
+}
+
+// The longest report: that of 64 flows.
+fn shows_the_most_flows<S: Rates + Copy>(rt: &impl Abort, alloc: Global, shelf: S) {
+    let mut engine = link(rt, alloc, shelf, 65536, &[]);
+    for number in 0..64u8 {
+        let name = Name::read([b'f', b'0' + number / 10, b'0' + number % 10].as_slice());
+        let opened = engine.command(Command::OpenFlow {
+            name: name.expect(rt, "a name"),
+            limit: 1,
+            tariff: 1,
+        });
+        assert!(rt; !matches!(&opened, Reply::Refused(_)));
+    }
+    let mut tape = Tape::new(alloc);
+    assert_eq!(rt; report(&engine, &mut tape), Ok(()));
+    let bytes = tape.bytes();
+    assert_eq!(rt; bytes.len(), 11 * 35 + 64 * 93 + 4);
+    for number in 0..64 {
+        let line = &bytes[11 * 35 + number * 93..11 * 35 + number * 93 + 93];
+        let name = [b'f', b'0' + number as u8 / 10, b'0' + number as u8 % 10];
+        assert_eq!(rt; &line[14..17], name.as_slice());
+        assert_eq!(rt; line[92], b'\n');
+    }
+}
+
+// Compares what a writer with these answers holds after a report, which is the first so many bytes of the text, and the
+// counts that it accepted.
+fn writes<S: Rates>(
+    rt: &impl Abort,
+    alloc: Global,
+    engine: &Engine<Tape, S>,
+    answers: &[Answer],
+    wanted: (Result<(), Fault>, usize, &[usize]),
+) {
+    let (outcome, length, counts) = wanted;
+    let text = texts::TORN_SHOWS.as_bytes();
+    assert!(rt; length <= text.len());
+    let script = Vec::from_slice(alloc, answers).expect(rt, "memory");
+    let mut writer = Scripted::new(alloc, script);
+    assert_eq!(rt; report(engine, &mut writer), outcome, "after {answers:?}");
+    assert_eq!(rt; writer.bytes(), &text[..length], "after {answers:?}");
+    let accepted = writer.counts(alloc).expect(rt, "memory");
+    assert_eq!(rt; accepted.as_slice(), counts, "after {answers:?}");
+}
+
+fn ends_at_the_first_refused_offer<S: Rates + Copy>(rt: &impl Abort, alloc: Global, shelf: S) {
+    let engine = link(rt, alloc, shelf, 65536, texts::TORN);
+    let length = texts::TORN_SHOWS.len();
+    for (refusal, told) in [
+        (Answer::Failed, 0),
+        (Answer::Interrupted, 0),
+        (Answer::Accepted(0), 1),
+    ] {
+        assert!(rt; told <= 1);
+        let none = [0];
+        let wanted = (Err(Fault), 0, &none[..told]);
+        writes(rt, alloc, &engine, &[refusal], wanted);
+        for count in 1..length {
+            let answers = [Answer::Accepted(count), refusal];
+            let some = [count, 0];
+            let wanted = (Err(Fault), count, &some[..1 + told]);
+            writes(rt, alloc, &engine, &answers, wanted);
+        }
+    }
+    writes(rt, alloc, &engine, &[], (Ok(()), length, &[length]));
+    let pieces = [
+        Answer::Accepted(1),
+        Answer::Accepted(35),
+        Answer::Accepted(1000),
+    ];
+    let wanted = [1, 35, 446];
+    let wanted = (Ok(()), length, wanted.as_slice());
+    writes(rt, alloc, &engine, &pieces, wanted);
+}
+
+#[test]
+fn reports_show_links(rt: HostRuntime) -> Result<(), Fail> {
+    let alloc = rt.alloc();
+    // Four tariffs: by the byte; by cells of 48; by cells of 1024; by cells of 2048.
+    let shelf = shelf!(alloc, (1, 0, 1), (48, 16, 2), (1024, 0, 1), (2048, 1024, 3));
+    shows_what_a_link_holds(&rt, alloc, &shelf);
+    shows_a_spent_life(&rt, alloc, &shelf);
+    shows_the_most_flows(&rt, alloc, &shelf);
+    ends_at_the_first_refused_offer(&rt, alloc, &shelf);
+    Ok(())
+}

@@ -1,0 +1,17 @@
+mod AnswerLemmas
+mod CallLemmas
+mod ChunkLemmas
+mod DigitLemmas
+mod FeedLemmas
+mod HexLemmas
+mod LaneLemmas
+mod LineLemmas
+mod NumberLemmas
+mod ReadingLemmas
+mod RunLemmas
+mod SpellingLemmas
+mod SpoolLemmas
+mod StopLemmas
+mod TextLemmas
+mod WentLemmas
+mod WordLemmas

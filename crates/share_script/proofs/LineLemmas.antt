@@ -1,0 +1,176 @@
+-- The lines of a script, and that of a line that is too long only the beginning counts.
+use Rattle.std.proofs.Common.{◌≡◌, ◌<◌, ◌≤◌, ◌⊎◌, inl, inr, ℕ, Bool, true, false, List, [], ◌∷◌, ◌++◌, length, take}
+use Rattle.std.proofs.Common.{Result, Ok, Err, drop, arith, sym, ◌∙◌, ap, refl, length-append, length-take}
+use mathlib.Core.List.{append_assoc}
+use Rattle.std.specs.List.{slice_split}
+use Rattle.std.proofs.lemmas.List.{take_all, get_or-take}
+use Rattle.std.proofs.lemmas.List.Elements.{All-append, All-cons, All-from_get_or}
+use Rattle.std.proofs.lemmas.List.Splits.{slice_split_at, slice_split_none, length-slice_split}
+use Rattle.std.proofs.lemmas.Bool.Decides.{nat_tests, leb_tells}
+use Rattle.share_base.specs.declared.command.Event.{Event}
+use Rattle.share_model.specs.declared.rates.Rate.{Rate}
+use Rattle.share_model.specs.text.Lines.{reading}
+use Rattle.share_model.specs.text.Talk.{Progress, is_first, read_event, answered, answer, first_flag, talk, after}
+use Rattle.share_model.specs.text.Talk.{is_feed, last_line, kept, lines_of}
+use Rattle.share_script.specs.Script.{NoFeed}
+use Rattle.share_script.proofs.ReadingLemmas.{too_long}
+
+-- Lines
+
+pub kept-cons : (l : List ℕ) (ls : List (List ℕ)) → 0 < length ls → kept (l ∷ ls) ≡ l ∷ kept ls
+kept-cons l [] h = absurd (omega arith)
+kept-cons l (m ∷ ms) h = refl
+
+pub lines-feed : (bs rest : List ℕ) → NoFeed bs → lines_of (bs ++ 10 ∷ rest) ≡ bs ∷ lines_of rest
+lines-feed bs rest clean = ap kept (slice_split_at is_feed bs 10 rest clean refl)
+    ∙ kept-cons bs (slice_split is_feed rest) (omega (arith, length-slice_split is_feed rest))
+
+pub lines-end : (bs : List ℕ) → NoFeed bs → lines_of bs ≡ last_line bs
+lines-end bs clean = ap kept (slice_split_none is_feed bs clean)
+
+pub last-some : (bs : List ℕ) → 0 < length bs → last_line bs ≡ bs ∷ []
+last-some [] h = absurd (omega arith)
+last-some (b ∷ bs) h = refl
+
+-- Long lines are cut
+
+long_same : (xs ys : List ℕ) → 20480 < length xs → 20480 < length ys → reading xs ≡ reading ys
+long_same xs ys h k = sym (too_long xs h) ∙ too_long ys k
+
+pub answer_same : (life : ℕ) (rates : List Rate) (s : Progress) (lack : Bool) (xs ys : List ℕ) → reading xs
+    ≡ reading ys → answer life rates s lack xs ≡ answer life rates s lack ys
+unfolding answer
+answer_same life rates s lack xs ys e = ap (λ r. answered rates s (read_event life rates s lack r)) e
+
+later_by : (rates : List Rate) (p : Progress) (r : Result Event (List ℕ)) → is_first (answered rates p r).0 ≡ false
+later_by rates p (Ok e) = grind (arith, nat_tests)
+later_by rates p (Err text) = grind (arith, nat_tests)
+
+-- the line after a line is not the first
+pub later_place : (life : ℕ) (rates : List Rate) (p : Progress) (lack : Bool) (bs : List ℕ)
+    → is_first (answer life rates p lack bs).0 ≡ false
+unfolding answer
+later_place life rates p lack bs = later_by rates p (read_event life rates p lack (reading bs))
+
+pub talk_same : (life : ℕ) (rates : List Rate) (s : Progress) (lacks : List Bool) (xs ys : List ℕ)
+    (ls : List (List ℕ)) → reading xs ≡ reading ys → talk life rates s lacks (xs ∷ ls)
+    ≡ talk life rates s lacks (ys ∷ ls)
+unfolding talk
+talk_same life rates s lacks xs ys ls e =
+    ap (λ (a : Progress × List ℕ). a.1 ++ talk life rates a.0 (drop 1 lacks) ls)
+    (answer_same life rates s (first_flag lacks) xs ys e)
+
+pub after_same : (life : ℕ) (rates : List Rate) (s : Progress) (lacks : List Bool) (xs ys : List ℕ)
+    (ls : List (List ℕ)) → reading xs ≡ reading ys → after life rates s lacks (xs ∷ ls)
+    ≡ after life rates s lacks (ys ∷ ls)
+unfolding after
+after_same life rates s lacks xs ys ls e =
+    ap (λ (a : Progress × List ℕ). after life rates a.0 (drop 1 lacks) ls)
+    (answer_same life rates s (first_flag lacks) xs ys e)
+
+pub reading_cut : (bs : List ℕ) → reading (take 20481 bs) ≡ reading bs
+reading_cut bs = cut_by (short_or_long (length bs))
+  where
+    short_or_long : (n : ℕ) → (n ≤ 20481) ⊎ (20481 < n)
+    short_or_long n = elim (leb_tells n 20481) [ inl p ↦ inl p.1 | inr p ↦ inr p.1 ]
+
+    cut_by : (length bs ≤ 20481) ⊎ (20481 < length bs) → reading (take 20481 bs) ≡ reading bs
+    cut_by (inl h) = ap reading (take_all 20481 bs h)
+    cut_by (inr h) = long_same (take 20481 bs) bs (omega (arith, length-take 20481 bs)) (omega arith)
+
+pub clean_cut : (bs : List ℕ) → NoFeed bs → NoFeed (take 20481 bs)
+clean_cut bs clean = All-from_get_or (λ b. is_feed b ≡ false) (take 20481 bs) 0 (λ i h.
+    let below : i < 20481 = omega (arith, length-take 20481 bs) in
+    let inside : i < length bs = omega (arith, length-take 20481 bs) in
+    rw (get_or-take 20481 bs i 0 below) (clean i 0 inside))
+
+-- the first line feed of a list
+data Feed (bs : List ℕ) : Type 0 where
+  no_feed : NoFeed bs → Feed bs
+  at_feed : (front back : List ℕ) → NoFeed front → bs ≡ front ++ 10 ∷ back → Feed bs
+
+feed_step : (b : ℕ) (bs : List ℕ) (t : Bool) → is_feed b ≡ t → Feed bs → Feed (b ∷ bs)
+feed_step b bs true e f = at_feed [] bs (λ k d h. absurd (omega arith)) (ap (λ c. c ∷ bs) (feed_is b e))
+  where
+    feed_is : (c : ℕ) → is_feed c ≡ true → c ≡ 10
+    feed_is c h = grind (arith, nat_tests)
+feed_step b bs false e (no_feed clean) = no_feed (All-cons (λ c. is_feed c ≡ false) b bs e clean)
+feed_step b bs false e (at_feed front back clean is) =
+    at_feed (b ∷ front) back (All-cons (λ c. is_feed c ≡ false) b front e clean) (ap (λ r. b ∷ r) is)
+
+feed_of : (bs : List ℕ) → Feed bs
+feed_of [] = no_feed (λ k d h. absurd (omega arith))
+feed_of (b ∷ bs) = feed_step b bs _ refl (feed_of bs)
+
+-- lines with a first line that is read alike
+record SameLines (xs ys : List ℕ) : Type 0 where
+  first : List ℕ
+  other : List ℕ
+  rest : List (List ℕ)
+  xs_are : lines_of xs ≡ first ∷ rest
+  ys_are : lines_of ys ≡ other ∷ rest
+  same : reading first ≡ reading other
+
+longer : (bs rest : List ℕ) → 20480 < length bs → 20480 < length (bs ++ rest)
+longer bs rest h = omega (arith, length-append bs rest)
+
+long_lines : (bs rest : List ℕ) → NoFeed bs → 20481 < length bs → Feed rest
+    → SameLines (bs ++ rest) (take 20481 bs ++ rest)
+long_lines bs rest clean long (no_feed none) =
+    let n : 20480 < length (take 20481 bs) = omega (arith, length-take 20481 bs) in
+    let p = longer bs rest (omega arith) in
+    let q = longer (take 20481 bs) rest n in record {
+      first = bs ++ rest;
+      other = take 20481 bs ++ rest;
+      rest = [];
+      xs_are = lines-end (bs ++ rest) (All-append (λ b. is_feed b ≡ false) bs rest clean none)
+          ∙ last-some _ (omega arith);
+      ys_are = lines-end (take 20481 bs ++ rest)
+          (All-append (λ b. is_feed b ≡ false) (take 20481 bs) rest (clean_cut bs clean) none)
+          ∙ last-some _ (omega arith);
+      same = long_same _ _ p q;
+    }
+long_lines bs rest clean long (at_feed front back none is) =
+    let n : 20480 < length (take 20481 bs) = omega (arith, length-take 20481 bs) in
+    let p = longer bs front (omega arith) in
+    let q = longer (take 20481 bs) front n in record {
+      first = bs ++ front;
+      other = take 20481 bs ++ front;
+      rest = lines_of back;
+      xs_are = ap (λ r. lines_of (bs ++ r)) is ∙ ap lines_of (sym (append_assoc bs front (10 ∷ back)))
+          ∙ lines-feed (bs ++ front) back (All-append (λ b. is_feed b ≡ false) bs front clean none);
+      ys_are = ap (λ r. lines_of (take 20481 bs ++ r)) is
+          ∙ ap lines_of (sym (append_assoc (take 20481 bs) front (10 ∷ back)))
+          ∙ lines-feed (take 20481 bs ++ front) back
+          (All-append (λ b. is_feed b ≡ false) (take 20481 bs) front (clean_cut bs clean) none);
+      same = long_same _ _ p q;
+    }
+
+-- lines that are answered alike from every state
+pub record Alike (xs ys : List ℕ) : Type 0 where
+  pub texts : (life : ℕ) (rates : List Rate) (s : Progress) (lacks : List Bool)
+      → talk life rates s lacks (lines_of xs) ≡ talk life rates s lacks (lines_of ys)
+  pub states : (life : ℕ) (rates : List Rate) (s : Progress) (lacks : List Bool)
+      → after life rates s lacks (lines_of xs) ≡ after life rates s lacks (lines_of ys)
+
+alike_long : (xs ys : List ℕ) → SameLines xs ys → Alike xs ys
+alike_long xs ys e = record {
+  texts = λ life rates s lacks. ap (talk life rates s lacks) e.xs_are
+      ∙ talk_same life rates s lacks e.first e.other e.rest e.same ∙ ap (talk life rates s lacks) (sym e.ys_are);
+  states = λ life rates s lacks. ap (after life rates s lacks) e.xs_are
+      ∙ after_same life rates s lacks e.first e.other e.rest e.same ∙ ap (after life rates s lacks) (sym e.ys_are);
+}
+
+pub alike_cut : (bs rest : List ℕ) → NoFeed bs → Alike (bs ++ rest) (take 20481 bs ++ rest)
+alike_cut bs rest clean = cut_by (short_or_long (length bs))
+  where
+    short_or_long : (n : ℕ) → (n ≤ 20481) ⊎ (20481 < n)
+    short_or_long n = elim (leb_tells n 20481) [ inl p ↦ inl p.1 | inr p ↦ inr p.1 ]
+
+    cut_by : (length bs ≤ 20481) ⊎ (20481 < length bs) → Alike (bs ++ rest) (take 20481 bs ++ rest)
+    cut_by (inl h) = let e : bs ++ rest ≡ take 20481 bs ++ rest = ap (λ r. r ++ rest) (sym (take_all 20481 bs h)) in
+        record {
+          texts = λ life rates s lacks. ap (λ r. talk life rates s lacks (lines_of r)) e;
+          states = λ life rates s lacks. ap (λ r. after life rates s lacks (lines_of r)) e;
+        }
+    cut_by (inr h) = alike_long _ _ (long_lines bs rest clean h (feed_of rest))

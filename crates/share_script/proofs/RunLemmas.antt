@@ -1,0 +1,250 @@
+-- How a whole run is put together: its reads, its chunks and the last line.
+use Rattle.std.proofs.Common.{◌≡◌, ◌≢◌, ◌<◌, inl, inr, ℕ, Bool, true, List, [], ◌∷◌, ◌++◌, length, IfSome, Option}
+use Rattle.std.proofs.Common.{None, Some, arith, sym, ◌∙◌, ap, subst, refl}
+use mathlib.Core.List.{append_assoc}
+use Rattle.std.specs.Io.KnownBytes.{Appends, Consumes, Keeps}
+use Rattle.std.proofs.KnownBytes.{Consumes-trans}
+use Rattle.std.proofs.lemmas.List.{append-nil}
+use Rattle.share_model.specs.declared.rates.Rate.{Rate}
+use Rattle.share_model.specs.io.Told.{Told}
+use Rattle.share_model.specs.run.Fold.{out}
+use Rattle.share_model.specs.text.Talk.{Progress, start, answer, talk, after, lines_of}
+use Rattle.share_model.specs.text.Says.{Holds}
+use Rattle.share_script.specs.Printing.{SpooledPart}
+use Rattle.share_script.specs.Session.{AtLine, Stands}
+use Rattle.share_model.specs.link.Seen.{Seen}
+use Rattle.share_script.specs.Script.{Printed, PrintedPart, NoFeed, Went, Begins, Feeds, FeedsPart, Ends, EndsPart}
+use Rattle.share_script.specs.Script.{Running}
+use Rattle.share_script.proofs.FeedLemmas.{fed_none, fed_more, fed_then_part, part_longer, part_as, part_of}
+use Rattle.share_script.proofs.WentLemmas.{went_as, begins_as, went_more, begins_more, went_line}
+use Rattle.share_script.proofs.LineLemmas.{lines-end, last-some}
+use Rattle.std.proofs.KnownBytes.{Appends-nil}
+use Rattle.share_script.proofs.SpoolLemmas.{spooled_more, spooled_then_part, spooled_whole}
+
+-- Reads
+
+keeps_nothing : (a b : Option (List ℕ)) → Keeps a b → Consumes a b []
+keeps_nothing None b h = tt
+keeps_nothing (Some x) None h = absurd h
+keeps_nothing (Some x) (Some y) h = sym h
+
+consumes_none : (a : Option (List ℕ)) → Consumes a a []
+consumes_none None = tt
+consumes_none (Some x) = refl
+
+module _ {W : Type 0} (told : W → Option Told) where
+  pub running_none : (given a : Option (List ℕ)) (old : AtLine W) (line : List ℕ) → line ≡ []
+      → Running told given given a a old old line
+  running_none given a old line e = record {
+    done = [];
+    reads = consumes_none given;
+    fed = let P : List ℕ → Type 0 = λ r. Feeds told a [] a [] old [] [] old r in
+        subst P (sym e) (fed_none told a [] old []);
+  }
+
+  pub running_more : (given left next a b c : Option (List ℕ)) (old mid new : AtLine W) (line last chunk : List ℕ)
+      → Running told given left a b old mid line → Consumes left next chunk
+      → Feeds told b [] c [] mid line chunk new last
+      → Running told given next a c old new last
+  running_more given left next a b c old mid new line last chunk so read fed = record {
+    done = so.done ++ chunk;
+    reads = Consumes-trans given left next so.done chunk so.reads read;
+    fed = fed_more told a b c [] [] [] old mid new [] line last so.done chunk so.fed fed;
+  }
+
+  pub running_kept : (given left next a b : Option (List ℕ)) (old mid : AtLine W) (line : List ℕ)
+      → Running told given left a b old mid line → Keeps left next → Running told given next a b old mid line
+  running_kept given left next a b old mid line so kept = record {
+    done = so.done;
+    reads =
+        let P : List ℕ → Type 0 = λ r. Consumes given next r in
+        subst P (append-nil so.done)
+        (Consumes-trans given left next so.done [] so.reads (keeps_nothing left next kept));
+    fed = so.fed;
+  }
+
+  -- where the reader told its bytes, what was read is a beginning of them
+  pub running_part : (given left a b : Option (List ℕ)) (old mid : AtLine W) (line : List ℕ)
+      → Running told given left a b old mid line → IfSome given (λ script. FeedsPart told a [] b old [] script)
+  running_part None left a b old mid line so = tt
+  running_part (Some script) None a b old mid line so = absurd so.reads
+  running_part (Some script) (Some rest) a b old mid line so =
+      part_as told a b [] old [] (so.done ++ rest) script (sym so.reads)
+      (part_longer told a b [] old [] so.done rest (part_of told a b [] [] old mid [] line so.done so.fed))
+
+  pub running_broke : (given left next a b c : Option (List ℕ)) (old mid : AtLine W) (line chunk : List ℕ)
+      → Running told given left a b old mid line → Consumes left next chunk → FeedsPart told b [] c mid line chunk
+      → IfSome given (λ script. FeedsPart told a [] c old [] script)
+  running_broke None left next a b c old mid line chunk so read broke = tt
+  running_broke (Some script) None next a b c old mid line chunk so read broke = absurd so.reads
+  running_broke (Some script) (Some rest) None a b c old mid line chunk so read broke = absurd read
+  running_broke (Some script) (Some rest) (Some last) a b c old mid line chunk so read broke =
+      let e : (so.done ++ chunk) ++ last ≡ script = append_assoc so.done chunk last
+      ∙ ap (λ r. so.done ++ r) (sym read) ∙ sym so.reads in
+      part_as told a c [] old [] _ script e
+      (part_longer told a c [] old [] (so.done ++ chunk) last
+      (fed_then_part told a b c [] [] old mid [] line so.done chunk so.fed broke))
+
+-- The end of the script
+
+lines-last : (bs : List ℕ) → NoFeed bs → 0 < length bs → lines_of (bs ++ []) ≡ bs ∷ []
+lines-last bs clean some = ap lines_of (append-nil bs) ∙ lines-end bs clean ∙ last-some bs some
+
+some_length : (bs : List ℕ) → bs ≢ [] → 0 < length bs
+some_length [] h = absurd (h refl)
+some_length (b ∷ bs) h = omega arith
+
+talk-none : (life : ℕ) (rates : List Rate) (p : Progress) (lacks : List Bool) → talk life rates p lacks [] ≡ []
+unfolding talk
+talk-none life rates p lacks = refl
+
+after-none : (life : ℕ) (rates : List Rate) (p : Progress) (lacks : List Bool) → after life rates p lacks [] ≡ p
+unfolding after
+after-none life rates p lacks = refl
+
+went_none : (life : ℕ) (rates : List Rate) (p : Progress) (text : List ℕ) (q : Progress) (ls : List (List ℕ))
+    (w : Went life rates p ls text q [] []) → (talk life rates p w.more ls ≡ text) × (after life rates p w.more ls ≡ q)
+went_none life rates p text q ls w =
+    (w.texts ∙ ap (λ r. text ++ r) (talk-none life rates q []) ∙ append-nil text, w.states ∙ after-none life rates q [])
+
+-- of the engine with a tape, at the start of its script
+abbrev HoldsNone : AtLine Told → Type 0
+HoldsNone old = Stands Some old start
+
+no_lines : (script : List ℕ) → lines_of ([] ++ (script ++ [])) ≡ lines_of script
+no_lines script = ap lines_of (append-nil script)
+
+no_feed : NoFeed []
+no_feed k d z = absurd (omega arith)
+
+printed_by : (a c : Option (List ℕ)) (old new : AtLine Told) (script text : List ℕ) (q : Progress) → Appends a c text
+    → Holds Some new.link q.state → new.link.life ≡ old.link.life → new.link.rates ≡ old.link.rates
+    → Went old.link.life old.link.rates start (lines_of script) text q [] [] → Printed a c old.link script new.link
+printed_by a c old new script text q appends holds life rates w =
+    let e = went_none old.link.life old.link.rates start text q (lines_of script) w in
+    let P : List ℕ → Type 0 = λ r. Appends a c r in record {
+      lacks = w.more;
+      text = subst P (sym e.0) appends;
+      live = sym holds.ends.live ∙ ap (λ (x : Progress). x.state.live) (sym e.1);
+      bytes = holds.tells.bytes ∙ ap (λ (x : Progress). out x.state) (sym e.1);
+      life = life;
+      rates = rates;
+    }
+
+printed_all : (a b c : Option (List ℕ)) (old mid new : AtLine Told) (script left : List ℕ) → HoldsNone old
+    → Feeds Some a [] b [] old [] script mid left → Ends Some b c mid left new → Printed a c old.link script new.link
+printed_all a b c old mid new script left h f (inl e) =
+    let u = f.went start h no_feed in
+    let P : List (List ℕ) → Type 0 = λ ls. Went old.link.life old.link.rates start ls f.text u.progress [] [] in
+    let Q : List ℕ
+    → Type 0 =
+    λ r. Went old.link.life old.link.rates start (lines_of ([] ++ (script ++ []))) f.text u.progress
+    (lines_of (r ++ [])) [] in
+    let R : Option (List ℕ) → Type 0 = λ r. Appends a r f.text in
+    let N : AtLine Told → Type 0 = λ n. Holds Some n.link u.progress.state in
+    printed_by a c old new script f.text u.progress (subst R (sym e.1) (spooled_whole a b f.text f.spooled))
+    (subst N (sym e.2) u.stands.holds) (ap (λ (n : AtLine Told). n.link.life) e.2 ∙ u.life)
+    (ap (λ (n : AtLine Told). n.link.rates) e.2 ∙ u.rates)
+    (subst P (no_lines script) (subst Q e.0 (u.goes [] [])))
+printed_all a b c old mid new script left h f (inr e) =
+    let u = f.went start h no_feed in
+    let said = e.1.says u.progress u.stands.holds u.stands.place in
+    let q = (answer mid.link.life mid.link.rates u.progress said.lack left).0 in
+    let one = went_line mid.link.life mid.link.rates u.progress said.lack left e.1.text [] [] said.text_is in
+    let also =
+    went_as old.link.life mid.link.life old.link.rates mid.link.rates u.progress (left ∷ []) e.1.text q [] [] u.life
+    u.rates one in
+    let V : List (List ℕ) → Type 0 = λ ls. Went old.link.life old.link.rates u.progress ls e.1.text q [] [] in
+    let last = subst V (sym (lines-last left u.clean (some_length left e.0))) also in
+    let P : List (List ℕ) → Type 0 = λ ls. Went old.link.life old.link.rates start ls (f.text ++ e.1.text) q [] [] in
+    let spooled = spooled_more a b c [] [] [] f.text e.1.text f.spooled e.1.spooled in
+    printed_by a c old new script (f.text ++ e.1.text) q (spooled_whole a c (f.text ++ e.1.text) spooled) said.holds
+    (said.life ∙ u.life) (said.rates ∙ u.rates)
+    (subst P (no_lines script)
+    (went_more old.link.life old.link.rates start u.progress q _ _ _ f.text e.1.text [] last (u.goes [] last.more)))
+
+-- a beginning of a text that was printed is a beginning of the talk
+part_by : (a c : Option (List ℕ)) (old : AtLine Told) (script text : List ℕ) → SpooledPart a [] c text
+    → Begins old.link.life old.link.rates start (lines_of script) text → PrintedPart a c old.link script
+part_by a c old script text s w = record {
+  lacks = w.lacks;
+  text = s.out;
+  rest = s.rest ++ w.tail;
+  printed = s.appends;
+  begins = w.texts ∙ ap (λ r. r ++ w.tail) s.same ∙ append_assoc s.out s.rest w.tail;
+}
+
+printed_part : (a b : Option (List ℕ)) (old : AtLine Told) (script : List ℕ) → HoldsNone old
+    → FeedsPart Some a [] b old [] script → PrintedPart a b old.link script
+printed_part a b old script h f =
+    let P : List (List ℕ) → Type 0 = λ ls. Begins old.link.life old.link.rates start ls f.text in
+    part_by a b old script f.text f.spooled (subst P (no_lines script) (f.broke start h no_feed []))
+
+printed_but_last : (a b c : Option (List ℕ)) (old mid : AtLine Told) (script left : List ℕ) → HoldsNone old
+    → Feeds Some a [] b [] old [] script mid left → EndsPart Some b c mid left → PrintedPart a c old.link script
+printed_but_last a b c old mid script left h f e =
+    let u = f.went start h no_feed in
+    let w = begins_as old.link.life mid.link.life old.link.rates mid.link.rates u.progress (left ∷ []) e.1.text u.life
+    u.rates (e.1.begins u.progress u.stands []) in
+    let V : List (List ℕ) → Type 0 = λ ls. Begins old.link.life old.link.rates u.progress ls e.1.text in
+    let last = subst V (sym (lines-last left u.clean (some_length left e.0))) w in
+    let P : List (List ℕ) → Type 0 = λ ls. Begins old.link.life old.link.rates start ls (f.text ++ e.1.text) in
+    part_by a c old script (f.text ++ e.1.text) (spooled_then_part a b c [] [] f.text e.1.text f.spooled e.1.spooled)
+    (subst P (no_lines script)
+    (begins_more old.link.life old.link.rates start u.progress _ _ f.text e.1.text last (u.goes [] last.lacks)))
+
+-- What a run comes to, where the reader told its bytes
+
+-- nothing was read
+pub run_nothing : (given a : Option (List ℕ)) (engine : Seen Told)
+    → IfSome given (λ script. PrintedPart a a engine script)
+run_nothing None a engine = tt
+run_nothing (Some script) a engine = record {
+  lacks = [];
+  text = [];
+  rest = talk engine.life engine.rates start [] (lines_of script);
+  printed = Appends-nil a;
+  begins = refl;
+}
+
+pub run_whole : (given a b c : Option (List ℕ)) (old mid new : AtLine Told) (left : List ℕ) → HoldsNone old
+    → IfSome given (λ script. Feeds Some a [] b [] old [] script mid left) → Ends Some b c mid left new
+    → IfSome given (λ script. Printed a c old.link script new.link)
+run_whole None a b c old mid new left h f e = tt
+run_whole (Some script) a b c old mid new left h f e = printed_all a b c old mid new script left h f e
+
+pub run_part : (given a b : Option (List ℕ)) (old : AtLine Told) → HoldsNone old
+    → IfSome given (λ script. FeedsPart Some a [] b old [] script)
+    → IfSome given (λ script. PrintedPart a b old.link script)
+run_part None a b old h f = tt
+run_part (Some script) a b old h f = printed_part a b old script h f
+
+pub run_last : (given a b c : Option (List ℕ)) (old mid : AtLine Told) (left : List ℕ) → HoldsNone old
+    → IfSome given (λ script. Feeds Some a [] b [] old [] script mid left) → EndsPart Some b c mid left
+    → IfSome given (λ script. PrintedPart a c old.link script)
+run_last None a b c old mid left h f e = tt
+run_last (Some script) a b c old mid left h f e = printed_but_last a b c old mid script left h f e
+
+-- A link of which no line was answered yet
+
+abbrev pub fresh : Seen Told → AtLine Told
+fresh link = record { link = link; first = true }
+
+pub stands_first : (engine : Seen Told) (old : AtLine Told) → old ≡ fresh engine → Holds Some engine start.state
+    → Stands Some old start
+stands_first engine old is h =
+    let P : AtLine Told → Type 0 = λ x. Stands Some x start in subst P (sym is) (record { holds = h; place = refl })
+
+pub printed_first : (given a c : Option (List ℕ)) (engine last : Seen Told) (old new : AtLine Told)
+    → old ≡ fresh engine → last ≡ new.link → IfSome given (λ script. Printed a c old.link script new.link)
+    → IfSome given (λ script. Printed a c engine script last)
+printed_first given a c engine last old new is ends h =
+    let P : Seen Told → Seen Told → Type 0 = λ x y. IfSome given (λ script. Printed a c x script y) in
+    subst (λ x. P x last) (ap (λ (x : AtLine Told). x.link) is) (subst (λ y. P old.link y) (sym ends) h)
+
+pub part_first : (given a c : Option (List ℕ)) (engine : Seen Told) (old : AtLine Told)
+    → old ≡ fresh engine → IfSome given (λ script. PrintedPart a c old.link script)
+    → IfSome given (λ script. PrintedPart a c engine script)
+part_first given a c engine old is h =
+    let P : Seen Told → Type 0 = λ x. IfSome given (λ script. PrintedPart a c x script) in
+    subst P (ap (λ (x : AtLine Told). x.link) is) h

@@ -1,0 +1,18 @@
+use Rattle.share_model.specs.io.Calls.{no_call}
+use Rattle.share_script.proofs.AnswerLemmas.{read_ok, answered, unread_said}
+use Rattle.share_script.proofs.answers.answer_bytes.Goals as goal
+
+pub returns-in-Ok-clause-says : goal.returns-in-Ok-clause-says
+returns-in-Ok-clause-says g c =
+    answered _ c.args.engine.now c.answer_line.new.engine c.args.first c.args.bytes.now
+    c.in-Ok.line c.answer_line.result
+    (read_ok c.args.bytes.now c.in-Ok.line c.in-Ok.ensures.reads) c.answer_line.ensures.says
+
+pub returns-in-Err-clause-says : goal.returns-in-Err-clause-says
+returns-in-Err-clause-says g c =
+    rw c.refused.ensures
+    (unread_said _ c.args.engine.now c.args.first c.args.bytes.now c.in-Err.refusal c.unread.result
+    c.spent.result c.in-Err.ensures.reads c.spent.ensures c.unread.ensures)
+
+pub returns-in-Err-clause-called : goal.returns-in-Err-clause-called
+returns-in-Err-clause-called g c = no_call

@@ -1,0 +1,5 @@
+pub mod Digits
+pub mod Printing
+pub mod Script
+pub mod Session
+pub mod Words

@@ -1,0 +1,173 @@
+-- What a run of a script comes to.
+use Rattle.std.specs.Prelude.{◌≡◌, ◌≢◌, ◌⊎◌, ℕ, Bool, true, false, List, [], ◌∷◌, ◌++◌, Option}
+use Rattle.std.specs.List.{All}
+use Rattle.std.specs.Io.KnownBytes.{Appends, Consumes}
+use Rattle.share_base.specs.declared.command.Turn.{Turn}
+use Rattle.share_base.specs.declared.command.Turn.TheVariants.{Torn}
+use Rattle.share_model.specs.declared.rates.Rate.{Rate}
+use Rattle.share_model.specs.declared.reader.Got.{Got}
+use Rattle.share_model.specs.declared.writer.Answer.{Answer}
+use Rattle.share_model.specs.run.Fold.{out}
+use Rattle.share_model.specs.link.Seen.{Seen}
+use Rattle.share_model.specs.io.Told.{Told}
+use Rattle.share_model.specs.io.Calls.{ReadFails, HasRead, Offers, OfferRefused, Called, CallFailed}
+use Rattle.share_model.specs.text.Talk.{Progress, start, talk, after, is_feed, lines_of}
+use Rattle.share_model.specs.text.Says.{Says}
+use Rattle.share_script.specs.Printing.{Spooled, SpooledPart}
+use Rattle.share_script.specs.Session.{AtLine, Stands}
+use Rattle.share_script.specs.declared.script.ScriptFault.{ScriptFault}
+use Rattle.share_script.specs.declared.script.ScriptFault.TheVariants.{Input, Output, NoMemory}
+
+-- The whole run
+
+-- the whole text was printed; the link holds what it holds after the lines, and its tape the bytes of that state
+pub record Printed (before after_it : Option (List ℕ)) (old : Seen Told) (script : List ℕ) (new : Seen Told) : Type 0
+  where
+    -- which lines found no memory
+    pub lacks : List Bool
+    pub text : Appends before after_it (talk old.life old.rates start lacks (lines_of script))
+    pub live : new.live ≡ (after old.life old.rates start lacks (lines_of script)).state.live
+    pub bytes : new.writer.bytes ≡ out (after old.life old.rates start lacks (lines_of script)).state
+    pub life : new.life ≡ old.life
+    pub rates : new.rates ≡ old.rates
+
+-- a beginning of the text was printed
+pub record PrintedPart (before after_it : Option (List ℕ)) (old : Seen Told) (script : List ℕ) : Type 0 where
+  pub lacks : List Bool
+  pub text : List ℕ
+  pub rest : List ℕ
+  pub printed : Appends before after_it text
+  pub begins : talk old.life old.rates start lacks (lines_of script) ≡ text ++ rest
+
+-- Why a run ended before its time
+
+-- every call of the engine's writer was answered, and every offer of a text accepted
+pub record Wrote {W O : Type 0} (answers : W → List ℕ → Answer → W → Type 0)
+    (accepts : O → List ℕ → Answer → O → Type 0)
+    (writer now : W) (output last : O) : Type 0 where
+  pub called : Called answers writer now
+  pub offers : Offers accepts output last
+
+-- the output refused an offer; or the engine's writer failed one
+abbrev pub IsStop : {W O : Type 0} → (W → List ℕ → Answer → W → Type 0) → W → W
+    → (O → List ℕ → Answer → O → Type 0) → O → O → ScriptFault → Type 0
+IsStop answers writer now accepts output last Input = ⊥
+IsStop answers writer now accepts output last Output = OfferRefused accepts output last
+IsStop answers writer now accepts output last NoMemory = CallFailed answers writer now × Offers accepts output last
+
+-- a read failed, or as many were made as a run may make; or what else stops a run, at most as many reads later
+abbrev pub IsEnd : {R W O : Type 0} → (R → List ℕ → Got → R → Type 0) → ℕ → R → R
+    → (W → List ℕ → Answer → W → Type 0) → W → W → (O → List ℕ → Answer → O → Type 0) → O → O → ScriptFault → Type 0
+IsEnd gives most input rest answers writer now accepts output last Input =
+    ReadFails gives most input rest × Offers accepts output last
+IsEnd gives most input rest answers writer now accepts output last Output =
+    HasRead gives most input rest × OfferRefused accepts output last
+IsEnd gives most input rest answers writer now accepts output last NoMemory =
+    HasRead gives most input rest × CallFailed answers writer now × Offers accepts output last
+
+-- no memory was found before anything was read or printed; or the engine's writer failed an offer in the run
+pub data FoundNone {R W O : Type 0} (gives : R → List ℕ → Got → R → Type 0) (most : ℕ) (input rest : R)
+    (answers : W → List ℕ → Answer → W → Type 0) (writer : W) (accepts : O → List ℕ → Answer → O → Type 0)
+    (output last : O) : Type 0 where
+  at_first : rest ≡ input → last ≡ output → FoundNone gives most input rest answers writer accepts output last
+  by_writer : (now : W) → HasRead gives most input rest → CallFailed answers writer now → Offers accepts output last
+      → FoundNone gives most input rest answers writer accepts output last
+
+-- why a whole run ended with a fault
+abbrev pub IsFault : {R W O : Type 0} → (R → List ℕ → Got → R → Type 0) → ℕ → R → R
+    → (W → List ℕ → Answer → W → Type 0) → W → (O → List ℕ → Answer → O → Type 0) → O → O → ScriptFault → Type 0
+IsFault gives most input rest answers writer accepts output last Input =
+    ReadFails gives most input rest × Offers accepts output last
+IsFault gives most input rest answers writer accepts output last Output =
+    HasRead gives most input rest × OfferRefused accepts output last
+IsFault gives most input rest answers writer accepts output last NoMemory =
+    FoundNone gives most input rest answers writer accepts output last
+
+-- Parts of a run
+
+abbrev pub NoFeed : List ℕ → Type 0
+NoFeed bs = All (λ b. is_feed b ≡ false) bs
+
+-- for the flags of the lines after, there are flags of all lines, so that these print the text and lead on
+pub record Went (life : ℕ) (rates : List Rate) (p : Progress) (ls : List (List ℕ)) (text : List ℕ) (q : Progress)
+    (ms : List (List ℕ)) (lacks : List Bool) : Type 0 where
+  pub more : List Bool
+  pub texts : talk life rates p more ls ≡ text ++ talk life rates q lacks ms
+  pub states : after life rates p more ls ≡ after life rates q lacks ms
+
+-- after the unfinished line, the chunk prints the text and leads on to an unfinished line, whatever follows
+abbrev pub Goes : ℕ → List Rate → Progress → List ℕ → List ℕ → List ℕ → Progress → List ℕ → Type 0
+Goes life rates p line chunk text q left =
+    (rest : List ℕ) (lacks : List Bool)
+    → Went life rates p (lines_of (line ++ (chunk ++ rest))) text q (lines_of (left ++ rest)) lacks
+
+-- the text is a beginning of what the lines print
+pub record Begins (life : ℕ) (rates : List Rate) (p : Progress) (ls : List (List ℕ)) (text : List ℕ) : Type 0 where
+  pub lacks : List Bool
+  pub tail : List ℕ
+  pub texts : talk life rates p lacks ls ≡ text ++ tail
+
+-- the text is a beginning of what the chunk prints, whatever follows
+abbrev pub Broke : ℕ → List Rate → Progress → List ℕ → List ℕ → List ℕ → Type 0
+Broke life rates p line chunk text =
+    (rest : List ℕ) → Begins life rates p (lines_of (line ++ (chunk ++ rest))) text
+
+-- a script in progress went on by the chunk, and its link with it
+pub record WentOn {W : Type 0} (told : W → Option Told) (old : AtLine W) (p : Progress) (line chunk text : List ℕ)
+    (new : AtLine W) (left : List ℕ) : Type 0 where
+  pub progress : Progress
+  pub stands : Stands told new progress
+  pub goes : Goes old.link.life old.link.rates p line chunk text progress left
+  pub clean : NoFeed left
+  pub life : new.link.life ≡ old.link.life
+  pub rates : new.link.rates ≡ old.link.rates
+
+-- whatever script was in progress on the link, the chunk was read and its answers printed
+pub record Feeds {W : Type 0} (told : W → Option Told) (a : Option (List ℕ)) (waited : List ℕ) (b : Option (List ℕ))
+    (waits : List ℕ) (old : AtLine W) (line chunk : List ℕ) (new : AtLine W) (left : List ℕ) : Type 0 where
+  pub text : List ℕ
+  pub spooled : Spooled a waited b waits text
+  pub went : (p : Progress) → Stands told old p → NoFeed line → WentOn told old p line chunk text new left
+
+-- no more was printed than a beginning of the answers
+pub record FeedsPart {W : Type 0} (told : W → Option Told) (a : Option (List ℕ)) (waited : List ℕ)
+    (b : Option (List ℕ)) (old : AtLine W) (line chunk : List ℕ) : Type 0 where
+  pub text : List ℕ
+  pub spooled : SpooledPart a waited b text
+  pub broke : (p : Progress) → Stands told old p → NoFeed line → Broke old.link.life old.link.rates p line chunk text
+
+-- a line was answered and its answer printed
+pub record Spoke {W : Type 0} (told : W → Option Told) (a : Option (List ℕ)) (waited : List ℕ) (b : Option (List ℕ))
+    (waits : List ℕ) (old : AtLine W) (line : List ℕ) (new : AtLine W) : Type 0 where
+  pub text : List ℕ
+  pub spooled : Spooled a waited b waits text
+  pub says : Says told old.link old.first line text new.link
+  pub later : new.first ≡ false
+
+-- no more was printed than a beginning of the answer
+pub record SpokePart {W : Type 0} (told : W → Option Told) (a : Option (List ℕ)) (waited : List ℕ)
+    (b : Option (List ℕ)) (old : AtLine W) (line : List ℕ) : Type 0 where
+  pub text : List ℕ
+  pub spooled : SpooledPart a waited b text
+  pub begins : (p : Progress) → Stands told old p → (ls : List (List ℕ))
+      → Begins old.link.life old.link.rates p (line ∷ ls) text
+
+-- the bytes after the last line feed were answered as a line, where there were any
+abbrev pub Ends : {W : Type 0} → (W → Option Told) → Option (List ℕ) → Option (List ℕ) → AtLine W → List ℕ → AtLine W
+    → Type 0
+Ends told a b old left new =
+    ((left ≡ []) × (b ≡ a) × (new ≡ old)) ⊎ ((left ≢ []) × Spoke told a [] b [] old left new)
+
+abbrev pub EndsPart : {W : Type 0} → (W → Option Told) → Option (List ℕ) → Option (List ℕ) → AtLine W → List ℕ → Type 0
+EndsPart told a b old left = (left ≢ []) × SpokePart told a [] b old left
+
+-- what was read so far was fed, and left an unfinished line
+pub record Running {W : Type 0} (told : W → Option Told) (given left a b : Option (List ℕ)) (old new : AtLine W)
+    (line : List ℕ) : Type 0 where
+  pub done : List ℕ
+  pub reads : Consumes given left done
+  pub fed : Feeds told a [] b [] old [] done new line
+
+abbrev pub is_torn : Turn → Bool
+is_torn (Torn flow seq j) = true
+is_torn _ = false

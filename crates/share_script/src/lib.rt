@@ -1,0 +1,25 @@
+//! Scripts: their lines, read from bytes, and whole scripts, run on a link from a reader to a writer.
+#![tactic(auto)]
+
+mod answers;
+mod carry;
+mod hex;
+mod laws;
+mod payload;
+mod reading;
+mod replies;
+mod script;
+mod spelling;
+mod spool;
+#[cfg(test)]
+mod tests;
+mod text;
+mod words;
+mod writing;
+
+pub use hex::print_bytes;
+pub use laws::written_lines_are_read;
+pub use reading::read_line;
+pub use script::{MAX_READS, ScriptFault, run_script};
+pub use share_model::{NotWritten, Tape};
+pub use writing::{write_event, write_line, write_reply, write_turn};

@@ -1,0 +1,340 @@
+//! Lines of a script, read from their bytes.
+ghost use Rattle.std.specs.Prelude.{◌≡◌, ◌≤◌, ◌∷◌, ◌&&◌, ℕ, List, codes, length, nat_le, option_map, IfOk, IfErr};
+ghost use Rattle.std.specs.Prelude.{IfSome, if◌then◌else◌};
+ghost use Rattle.share_base.specs.declared.refusal.Refusal.TheVariants.{Syntax};
+ghost use Rattle.share_base.specs.declared.command.Command.{Command};
+ghost use Rattle.share_base.specs.declared.command.Command.TheVariants.{MakeCurrency, RemoveCurrency, RemoveTicket};
+ghost use Rattle.share_base.specs.declared.command.Command.TheVariants.{Unfund, CloseFlow};
+ghost use Rattle.share_model.specs.declared.line.Line.TheVariants.{Change};
+ghost use Rattle.share_model.specs.text.Lines.{Reads, IsReading, IsUnread, is_in_range, is_pairs, payload_of};
+ghost use Rattle.share_model.specs.text.Lines.{named_of, numbered_of, mktkt_of, fund_of, funding_of, open_of};
+ghost use Rattle.share_model.specs.text.Lines.{send_of, turn_of, torn_of, report_of, audit_of, ranged, line_by};
+ghost use Rattle.share_model.specs.text.Lines.{words_of};
+ghost use Rattle.share_script.specs.Words.{ReadsRanged, short_line_by, sent_by};
+
+use crate::payload::{decode, is_payload};
+use crate::words::Words;
+use share_base::{Body, Command, Name, Refusal};
+use share_model::{HolderKind, Line};
+use std::alloc::{AllocError, Global};
+
+/// The longest line, in bytes before its line feed.
+const MAX_LINE: usize = 20480;
+
+/// The longest payload, in bytes.
+const MAX_PAYLOAD: usize = 1490;
+
+/// The line that these bytes, without a line feed, spell. `Syntax` where they spell none, `Range` where the payload
+/// of a packet has more than 1490 bytes or the number of a turn is not 1 to 65535, `NoMemory` where the copy of a
+/// payload found none.
+pub fn read_line(alloc: Global, bytes: &[u8]) -> Result<Line, Refusal>
+    ensures reads { Reads bytes.now result }
+    ensures spelled { IfOk result (λ line. IsReading bytes.now line) }
+    ensures refused { IfErr result (λ refusal. IsUnread bytes.now refusal) }
+{
+    read_bytes(alloc, bytes)
+}
+
+fn read_bytes(alloc: Global, bytes: &[u8]) -> Result<Line, Refusal>
+    ensures { Reads bytes.now result }
+{
+    if bytes.len() > MAX_LINE {
+        return Err(Refusal::Syntax);
+    }
+    if let Some(rest) = after_send(bytes) {
+        return send(alloc, &mut Words::of(rest));
+    }
+    if let Some(rest) = after_turn(bytes) {
+        return ranged(turn(&mut Words::of(rest)));
+    }
+    read_any(alloc, bytes)
+}
+
+// Packets and turns come most, and are told soonest by the first bytes of their lines.
+fn after_send(line: &[u8]) -> Option<&[u8]>
+    ensures { IfSome result (λ rest. words_of line.now ≡ codes "send" ∷ words_of rest.now) }
+{
+    match line {
+        [b's', b'e', b'n', b'd', b' ', rest @ ..] => Some(rest),
+        _ => None,
+    }
+}
+
+fn after_turn(line: &[u8]) -> Option<&[u8]>
+    ensures { IfSome result (λ rest. words_of line.now ≡ codes "turn" ∷ words_of rest.now) }
+{
+    match line {
+        [b't', b'u', b'r', b'n', b' ', rest @ ..] => Some(rest),
+        _ => None,
+    }
+}
+
+// The line that these bytes spell, whichever it is.
+fn read_any(alloc: Global, bytes: &[u8]) -> Result<Line, Refusal>
+    requires { length bytes.now ≤ 20480 }
+    ensures { Reads bytes.now result }
+{
+    let mut words = Words::of(bytes);
+    match words.next() {
+        None => Err(Refusal::Syntax),
+        Some(keyword) => read_words(alloc, keyword, &mut words),
+    }
+}
+
+// The line of a keyword and the words after it.
+fn read_words(alloc: Global, keyword: &[u8], words: &mut Words<'_>) -> Result<Line, Refusal>
+    ensures { ReadsRanged (line_by keyword.now words.old) result }
+{
+    if keyword == b"send".as_slice() {
+        return send(alloc, words);
+    }
+    ranged(short_line(keyword, words))
+}
+
+fn short_line(keyword: &[u8], words: &mut Words<'_>) -> Option<Line>
+    ensures { result ≡ short_line_by keyword.now words.old }
+{
+    if keyword == b"turn".as_slice() {
+        turn(words)
+    } else if keyword == b"open".as_slice() {
+        open(words)
+    } else if keyword == b"close".as_slice() {
+        close(words)
+    } else if keyword == b"mktkt".as_slice() {
+        make_ticket(words)
+    } else if keyword == b"fund".as_slice() {
+        fund(words)
+    } else if keyword == b"unfund".as_slice() {
+        unfund(words)
+    } else if keyword == b"rmtkt".as_slice() {
+        remove_ticket(words)
+    } else if keyword == b"mkcur".as_slice() {
+        make_currency(words)
+    } else if keyword == b"rmcur".as_slice() {
+        remove_currency(words)
+    } else if keyword == b"torn".as_slice() {
+        torn(words)
+    } else if keyword == b"report".as_slice() {
+        report(words)
+    } else if keyword == b"audit".as_slice() {
+        audit(words)
+    } else {
+        None
+    }
+}
+
+fn ranged(line: Option<Line>) -> Result<Line, Refusal>
+    ensures { result ≡ ranged line }
+{
+    match line {
+        None => Err(Refusal::Syntax),
+        Some(line) => {
+            if is_in_range(&line) {
+                Ok(line)
+            } else {
+                Err(Refusal::Range)
+            }
+        }
+    }
+}
+
+fn is_in_range(line: &Line) -> bool
+    ensures { result ≡ is_in_range line.now }
+{
+    match line {
+        Line::Change(_) => true,
+        Line::Send { flow: _, body } => body.as_slice().len() <= MAX_PAYLOAD,
+        Line::Turn(most) => 1 <= *most && *most <= 65535,
+        Line::Torn => true,
+        Line::Report => true,
+        Line::Audit => true,
+    }
+}
+
+#[inline(always)]
+fn turn(words: &mut Words<'_>) -> Option<Line>
+    ensures { result ≡ turn_of words.old }
+{
+    let most = words.last_number()?;
+    Some(Line::Turn(most))
+}
+
+fn torn(words: &mut Words<'_>) -> Option<Line>
+    ensures { result ≡ torn_of words.old }
+{
+    if !words.is_end() {
+        return None;
+    }
+    Some(Line::Torn)
+}
+
+fn report(words: &mut Words<'_>) -> Option<Line>
+    ensures { result ≡ report_of words.old }
+{
+    if !words.is_end() {
+        return None;
+    }
+    Some(Line::Report)
+}
+
+// The version is 1, and no other.
+fn audit(words: &mut Words<'_>) -> Option<Line>
+    ensures { result ≡ audit_of words.old }
+{
+    let version = words.next()?;
+    if version != b"1".as_slice() || !words.is_end() {
+        return None;
+    }
+    Some(Line::Audit)
+}
+
+fn open(words: &mut Words<'_>) -> Option<Line>
+    ensures { result ≡ open_of words.old }
+{
+    let name = words.name()?;
+    let limit = words.number()?;
+    let tariff = words.number()?;
+    if !words.is_end() {
+        return None;
+    }
+    Some(Line::Change(Command::OpenFlow {
+        name,
+        limit,
+        tariff,
+    }))
+}
+
+fn make_ticket(words: &mut Words<'_>) -> Option<Line>
+    ensures { result ≡ mktkt_of words.old }
+{
+    let amount = words.number()?;
+    let currency = words.name()?;
+    if !words.is_end() {
+        return None;
+    }
+    Some(Line::Change(Command::MakeTicket { amount, currency }))
+}
+
+fn make_currency(words: &mut Words<'_>) -> Option<Line>
+    ensures { result ≡ named_of MakeCurrency words.old }
+{
+    Some(Line::Change(Command::MakeCurrency(last_name(words)?)))
+}
+
+fn remove_currency(words: &mut Words<'_>) -> Option<Line>
+    ensures { result ≡ named_of RemoveCurrency words.old }
+{
+    Some(Line::Change(Command::RemoveCurrency(last_name(words)?)))
+}
+
+fn close(words: &mut Words<'_>) -> Option<Line>
+    ensures { result ≡ named_of CloseFlow words.old }
+{
+    Some(Line::Change(Command::CloseFlow(last_name(words)?)))
+}
+
+fn remove_ticket(words: &mut Words<'_>) -> Option<Line>
+    ensures { result ≡ numbered_of RemoveTicket words.old }
+{
+    Some(Line::Change(Command::RemoveTicket(last_number(words)?)))
+}
+
+fn unfund(words: &mut Words<'_>) -> Option<Line>
+    ensures { result ≡ numbered_of Unfund words.old }
+{
+    Some(Line::Change(Command::Unfund(last_number(words)?)))
+}
+
+// The name that is the only word left.
+fn last_name(words: &mut Words<'_>) -> Option<Name>
+    ensures { (command : List ℕ → Command)
+        → option_map (λ name. Change (command name)) result ≡ named_of command words.old }
+{
+    let name = words.name()?;
+    if words.is_end() { Some(name) } else { None }
+}
+
+// The number that is the only word left.
+fn last_number(words: &mut Words<'_>) -> Option<u64>
+    ensures { (command : ℕ → Command)
+        → option_map (λ number. Change (command number)) result ≡ numbered_of command words.old }
+{
+    let number = words.number()?;
+    if words.is_end() { Some(number) } else { None }
+}
+
+fn fund(words: &mut Words<'_>) -> Option<Line>
+    ensures { result ≡ fund_of words.old }
+{
+    let ticket = words.number()?;
+    let kind = words.kind()?;
+    let name = words.name()?;
+    if !words.is_end() {
+        return None;
+    }
+    Some(Line::Change(funding(kind, ticket, name)))
+}
+
+fn funding(kind: HolderKind, ticket: u64, name: Name) -> Command
+    ensures { result ≡ funding_of kind ticket name }
+{
+    match kind {
+        HolderKind::Currency => Command::FundCurrency {
+            ticket,
+            currency: name,
+        },
+        HolderKind::Flow => Command::FundFlow { ticket, flow: name },
+    }
+}
+
+#[inline(always)]
+fn send(alloc: Global, words: &mut Words<'_>) -> Result<Line, Refusal>
+    ensures { ReadsRanged (send_of words.old) result }
+{
+    let flow = match words.name() {
+        None => return Err(Refusal::Syntax),
+        Some(flow) => flow,
+    };
+    let digits = match words.rest() {
+        None => return Err(Refusal::Syntax),
+        Some(digits) => digits,
+    };
+    sent(alloc, flow, digits)
+}
+
+// The packet whose payload these digits spell.
+#[inline(always)]
+fn sent(alloc: Global, flow: Name, digits: &[u8]) -> Result<Line, Refusal>
+    ensures { ReadsRanged (sent_by flow (payload_of digits.now)) result }
+{
+    if digits.len() > 2 * MAX_PAYLOAD {
+        return Err(unread(digits, Refusal::Range));
+    }
+    let Ok(mut bytes) = zeros(alloc, digits.len().div_ceil(2)) else {
+        return Err(unread(digits, Refusal::NoMemory));
+    };
+    match decode(digits, bytes.as_mut_slice()) {
+        None => Err(Refusal::Syntax),
+        Some(_) => Ok(Line::Send {
+            flow,
+            body: Body::from_vec(bytes),
+        }),
+    }
+}
+
+// Why digits are not read: `Syntax` where they spell no payload.
+fn unread(digits: &[u8], otherwise: Refusal) -> Refusal
+    ensures { result ≡ (if nat_le 2 (length digits.now) && is_pairs digits.now then otherwise else Syntax) }
+{
+    if is_payload(digits) {
+        otherwise
+    } else {
+        Refusal::Syntax
+    }
+}
+
+fn zeros(alloc: Global, count: usize) -> Result<Vec<u8>, AllocError>
+    ensures { IfOk result (λ bytes. length bytes.items ≡ count) }
+{
+    vec![in alloc; 0u8; count]
+}

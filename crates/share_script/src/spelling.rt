@@ -1,0 +1,163 @@
+//! Lines, as they are spelled.
+ghost use Rattle.std.specs.Prelude.{◌≡◌, ◌≤◌, ◌+◌, ◌*◌, ◌++◌, ◌∷◌, [], true, length, decimal, codes};
+ghost use Rattle.std.specs.List.{join_with_byte, list_all};
+ghost use Rattle.share_model.specs.text.Audit.{event_line};
+ghost use Rattle.share_model.specs.text.Lines.{IsName, IsNumber, IsPayload, HasCommandFields, IsLine};
+ghost use Rattle.share_model.specs.text.Lines.{hex, is_byte, command_words, spelled};
+
+use crate::hex::spell;
+use crate::text::{ShortText, Text};
+use share_base::{Body, Command, Event, Name};
+use share_model::Line;
+
+/// The longest payload, in bytes.
+const MAX_PAYLOAD: usize = 1490;
+
+/// Adds the spelling of a line to an empty text. What the types of its fields say is enough for it to be a line.
+pub fn push_spelled(text: &mut ShortText, line: &Line)
+    requires { text.old ≡ [] }
+    ensures bytes { text.new ≡ spelled line.now }
+    ensures few { length text.new ≤ 3002 }
+    ensures line { IsLine line.now }
+{
+    match line {
+        Line::Change(command) => push_command(text, command),
+        Line::Send { flow, body } => push_send(text, flow, body),
+        Line::Turn(most) => push_numbered(text, "turn", *most),
+        Line::Torn => text.push_str("torn"),
+        Line::Report => text.push_str("report"),
+        Line::Audit => text.push_str("audit 1"),
+    }
+}
+
+/// Adds the spelling of the line that makes an event to an empty text, as `push_spelled` does.
+pub fn push_event(text: &mut ShortText, event: &Event)
+    requires { text.old ≡ [] }
+    ensures bytes { text.new ≡ spelled (event_line event.now) }
+    ensures few { length text.new ≤ 3002 }
+    ensures line { IsLine (event_line event.now) }
+{
+    match event {
+        Event::Commanded(command) => push_command(text, command),
+        Event::Arrived { flow, body } => push_send(text, flow, body),
+        Event::Written(count) => push_numbered(text, "turn", u64::from(*count)),
+        Event::Faulted => text.push_str("torn"),
+    }
+}
+
+fn push_command(text: &mut ShortText, command: &Command)
+    requires { text.old ≡ [] }
+    ensures bytes { text.new ≡ join_with_byte 32 (command_words command.now) }
+    ensures few { length text.new ≤ 100 }
+    ensures fields { HasCommandFields command.now }
+{
+    match command {
+        Command::MakeCurrency(name) => push_named(text, "mkcur", name),
+        Command::RemoveCurrency(name) => push_named(text, "rmcur", name),
+        Command::MakeTicket { amount, currency } => {
+            push_numbered(text, "mktkt", *amount);
+            push_name(text, currency);
+        }
+        Command::RemoveTicket(ticket) => push_numbered(text, "rmtkt", *ticket),
+        Command::FundCurrency { ticket, currency } => push_fund(text, *ticket, "cur", currency),
+        Command::FundFlow { ticket, flow } => push_fund(text, *ticket, "flow", flow),
+        Command::Unfund(ticket) => push_numbered(text, "unfund", *ticket),
+        Command::OpenFlow {
+            name,
+            limit,
+            tariff,
+        } => {
+            push_named(text, "open", name);
+            push_number(text, *limit);
+            push_number(text, *tariff);
+        }
+        Command::CloseFlow(name) => push_named(text, "close", name),
+    }
+}
+
+fn push_fund(text: &mut ShortText, ticket: u64, kind: &str, name: &Name)
+    requires none { text.old ≡ [] }
+    requires short { length kind.now ≤ 4 }
+    ensures bytes { text.new
+        ≡ join_with_byte 32 (codes "fund" ∷ decimal ticket ∷ kind.now ∷ name.now ∷ []) }
+    ensures few { length text.new ≤ 100 }
+    ensures ticket { IsNumber ticket }
+    ensures name { IsName name.now }
+{
+    push_numbered(text, "fund", ticket);
+    text.push_str(" ");
+    text.push_str(kind);
+    push_name(text, name);
+}
+
+// The packet of a payload.
+fn push_send(text: &mut ShortText, flow: &Name, body: &Body)
+    requires { text.old ≡ [] }
+    ensures bytes { text.new ≡ join_with_byte 32 (codes "send" ∷ flow.now ∷ hex body.now ∷ []) }
+    ensures few { length text.new ≤ 3002 }
+    ensures flow { IsName flow.now }
+    ensures payload { IsPayload body.now }
+{
+    push_named(text, "send", flow);
+    text.push_str(" ");
+    push_hex(text, body.as_slice());
+}
+
+// A keyword and a name.
+fn push_named(text: &mut ShortText, keyword: &str, name: &Name)
+    requires none { text.old ≡ [] }
+    requires short { length keyword.now ≤ 6 }
+    ensures bytes { text.new ≡ keyword.now ++ 32 ∷ name.now }
+    ensures few { length text.new ≤ length keyword.now + 17 }
+    ensures name { IsName name.now }
+{
+    text.push_str(keyword);
+    push_name(text, name);
+}
+
+// A keyword and a number.
+fn push_numbered(text: &mut ShortText, keyword: &str, number: u64)
+    requires none { text.old ≡ [] }
+    requires short { length keyword.now ≤ 6 }
+    ensures bytes { text.new ≡ keyword.now ++ 32 ∷ decimal number }
+    ensures few { length text.new ≤ length keyword.now + 21 }
+    ensures number { IsNumber number }
+{
+    text.push_str(keyword);
+    push_number(text, number);
+}
+
+// A space and a name.
+fn push_name(text: &mut ShortText, name: &Name)
+    requires { length text.old + 17 ≤ 3072 }
+    ensures bytes { text.new ≡ text.old ++ 32 ∷ name.now }
+    ensures few { length text.new ≤ length text.old + 17 }
+    ensures name { IsName name.now }
+{
+    text.push_str(" ");
+    text.push(name.as_bytes());
+}
+
+// A space and a number.
+fn push_number(text: &mut ShortText, number: u64)
+    requires { length text.old + 21 ≤ 3072 }
+    ensures bytes { text.new ≡ text.old ++ 32 ∷ decimal number }
+    ensures few { length text.new ≤ length text.old + 21 }
+    ensures number { IsNumber number }
+{
+    text.push_str(" ");
+    text.push_number(number);
+}
+
+// Each byte as two lower-case digits.
+fn push_hex(text: &mut ShortText, bytes: &[u8])
+    requires few { length bytes.now ≤ 1490 }
+    requires room { length text.old + 2980 ≤ 3072 }
+    ensures bytes { text.new ≡ text.old ++ hex bytes.now }
+    ensures few { length text.new ≤ length text.old + 2980 }
+    ensures all { list_all is_byte bytes.now ≡ true }
+{
+    let mut digits = [0u8; 2 * MAX_PAYLOAD];
+    spell(bytes, &mut digits);
+    text.push(&digits[..2 * bytes.len()]);
+}

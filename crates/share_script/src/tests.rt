@@ -1,0 +1,352 @@
+//! Whole scripts, against the replies and the bytes that the rules give.
+
+// Four tariffs: by the byte; by cells of 48; by cells of 1024; by cells of 2048. A test makes them, with their boxes,
+// in its own body, and lends them to its rows.
+macro_rules! shelf {
+    ($alloc:expr) => {
+        share_tariff::shelf!($alloc, (1, 0, 1), (48, 16, 2), (1024, 0, 1), (2048, 1024, 3))
+    };
+}
+
+mod reports;
+mod standing;
+mod writing;
+
+use crate::{ScriptFault, print_bytes, run_script};
+use share_base::FlowNo;
+use share_core::Engine;
+use share_model::{Answer, Got, PlainReader, Rates, Scripted, Source, Tape, Telling};
+use std::alloc::Global;
+use std::process::Abort;
+use std::test::Fail;
+
+/// A life that no script here spends.
+const LIFE: u64 = 65536;
+
+/// One flow, funded.
+const FUNDED: &[u8] = b"open a 4 2\nmktkt 1 base\nfund 1 flow a\n";
+
+/// Gives a script one byte a call, and fails in place of the byte at a place. Where it interrupts, each byte comes
+/// only after an interrupted call.
+#[derive(Drop)]
+struct Trickle<'a> {
+    script: &'a [u8],
+    given: usize,
+    failing: usize,
+    interrupts: bool,
+    ready: bool,
+}
+
+impl<'a> Trickle<'a> {
+    fn new(script: &'a [u8], failing: usize, interrupts: bool) -> Trickle<'a> {
+        Trickle {
+            script,
+            given: 0,
+            failing,
+            interrupts,
+            ready: false,
+        }
+    }
+}
+
+impl<'a> Source for Trickle<'a> {
+    ghost use Rattle.std.specs.Prelude.{None};
+    ghost use Rattle.share_model.specs.io.Given.{Gives};
+
+    ghost left = { λ _. None };
+
+    ghost gives = { λ _ buffer got _. Gives None buffer got None };
+
+    ghost tells = { λ before buffer got after given. given };
+
+    fn take_bytes(&mut self, buffer: &mut [u8]) -> Got {
+        if self.given == self.failing {
+            return Got::Failed;
+        }
+        if self.interrupts && !self.ready {
+            self.ready = true;
+            return Got::Interrupted;
+        }
+        self.ready = false;
+        match self.script.get(self.given) {
+            None => Got::End,
+            Some(byte) => {
+                buffer[0] = *byte;
+                self.given += 1;
+                Got::Bytes(1)
+            }
+        }
+    }
+}
+
+// Runs a script on a new link, and prints the bytes that the link wrote.
+fn run<S: Rates + Copy, I: Source, O: Telling>(
+    alloc: Global,
+    shelf: S,
+    life: u64,
+    input: &mut I,
+    output: &mut O,
+) -> Result<(), ScriptFault> {
+    let Ok(engine) = Engine::new(alloc, shelf, life, Tape::new(alloc)) else {
+        return Err(ScriptFault::NoMemory);
+    };
+    let engine = run_script(alloc, engine, input, output)?;
+    print_bytes(output, engine.writer().bytes())?;
+    Ok(())
+}
+
+// What such a run prints.
+fn printed<S: Rates + Copy, I: Source>(
+    rt: &impl Abort,
+    alloc: Global,
+    shelf: S,
+    life: u64,
+    input: &mut I,
+) -> Result<Vec<u8>, Fail> {
+    let mut output = Tape::new(alloc);
+    let ran = run(alloc, shelf, life, input, &mut output);
+    assert_eq!(rt; ran, Ok(()));
+    Ok(output.bytes().to_vec(alloc)?)
+}
+
+/// Lives, scripts, and what they print.
+const SCRIPTS: [(u64, &[u8], &[u8]); 8] = [
+    (LIFE, b"", b"out -\n"),
+    // The last line has no line feed.
+    (
+        LIFE,
+        b"open a 4 1\nmktkt 10 base\nfund 1 flow a\nsend a 6869\nturn 65535",
+        b"flow 1\nticket 1\nok\npacket 1 1\nwrote 1 1 14 whole\n\
+        out 4c01000000010000000100026869\n",
+    ),
+    // The frame in fourteen turns of one byte.
+    (
+        LIFE,
+        b"open a 4 1\nmktkt 10 base\nfund 1 flow a\nsend a 6869\n\
+        turn 1\nturn 1\nturn 1\nturn 1\nturn 1\nturn 1\nturn 1\n\
+        turn 1\nturn 1\nturn 1\nturn 1\nturn 1\nturn 1\nturn 1\n",
+        b"flow 1\nticket 1\nok\npacket 1 1\n\
+        wrote 1 1 1 part\nwrote 1 1 1 part\nwrote 1 1 1 part\nwrote 1 1 1 part\n\
+        wrote 1 1 1 part\nwrote 1 1 1 part\nwrote 1 1 1 part\nwrote 1 1 1 part\n\
+        wrote 1 1 1 part\nwrote 1 1 1 part\nwrote 1 1 1 part\nwrote 1 1 1 part\n\
+        wrote 1 1 1 part\nwrote 1 1 1 whole\n\
+        out 4c01000000010000000100026869\n",
+    ),
+    // A flow of one packet at a time.
+    (
+        LIFE,
+        b"open a 1 1\nmktkt 1 base\nfund 1 flow a\n\
+        send a 61\nsend a 62\nturn 5\nsend a 62\nturn 65535\nsend a 62\n",
+        b"flow 1\nticket 1\nok\n\
+        packet 1 1\nno 19 BufferFull\nwrote 1 1 5 part\nno 19 BufferFull\nwrote 1 1 8 whole\npacket 1 2\n\
+        out 4c010000000100000001000161\n",
+    ),
+    // Commands that a new link refuses.
+    (
+        LIFE,
+        b"mktkt 0 nope\nmktkt 1048577 base\nfund 9 flow zz\nopen a 0 9\nopen a 1 9\n\
+        turn 0\nturn 65536\nturn 65535\ntorn\n",
+        b"no 4 Range\nno 4 Range\nno 6 NoTicket\nno 4 Range\nno 8 NoTariff\n\
+        no 4 Range\nno 4 Range\nidle\nidle\nout -\n",
+    ),
+    // Numbers that are spelled amiss, and payloads.
+    (
+        LIFE,
+        b"fund 01 flow a\nturn 00\nturn\nturn 18446744073709551616\nturn 18446744073709551615\n\
+        send a 6\nsend a 6A\nsend a\nsend a 6g\n",
+        b"no 3 Syntax\nno 3 Syntax\nno 3 Syntax\nno 3 Syntax\nno 4 Range\n\
+        no 3 Syntax\nno 3 Syntax\nno 3 Syntax\nno 3 Syntax\nout -\n",
+    ),
+    // Lines that are spelled amiss.
+    (
+        LIFE,
+        b"\n\0\n\xff\ntorn\r\nturn  1\n torn\ntorn \nTORN\ntorn\0\nturn 1\xff\ntorn",
+        b"no 3 Syntax\nno 3 Syntax\nno 3 Syntax\nno 3 Syntax\nno 3 Syntax\n\
+        no 3 Syntax\nno 3 Syntax\nno 3 Syntax\nno 3 Syntax\nno 3 Syntax\nidle\nout -\n",
+    ),
+    // A life of four events.
+    (
+        4,
+        b"open a 4 1\nmktkt 10 base\nfund 1 flow a\nsend a 6869\n\
+        send a 6869\nturn 0\nturn 65535\ntorn\nmktkt 0 base\nturn 01\nsend a 6\n",
+        b"flow 1\nticket 1\nok\npacket 1 1\n\
+        no 2 Spent\nno 2 Spent\nno 2 Spent\nno 2 Spent\nno 2 Spent\nno 3 Syntax\nno 3 Syntax\nout -\n",
+    ),
+];
+
+fn scripts_are_answered<S: Rates + Copy>(
+    rt: &impl Abort,
+    alloc: Global,
+    shelf: S,
+) -> Result<(), Fail> {
+    for (life, script, want) in SCRIPTS {
+        let mut whole = PlainReader(script);
+        let text = printed(rt, alloc, shelf, life, &mut whole)?;
+        assert_eq!(rt; text.as_slice(), want);
+        for interrupts in [false, true] {
+            let mut bytewise = Trickle::new(script, usize::MAX, interrupts);
+            let text = printed(rt, alloc, shelf, life, &mut bytewise)?;
+            assert_eq!(rt; text.as_slice(), want, "by the byte");
+        }
+    }
+    Ok(())
+}
+
+fn flows_are_charged<S: Rates + Copy>(
+    rt: &impl Abort,
+    alloc: Global,
+    shelf: S,
+) -> Result<(), Fail> {
+    // The second tariff charges 2 for each byte of cells of 48 and 16 bytes more, so 7 bytes cost 128; the first
+    // charges 1 for each byte that is sent.
+    let rows: [(&[u8], &[u8], u64); 2] = [
+        (
+            b"open a 4 2\nmktkt 1 base\nfund 1 flow a\nsend a 6869\nturn 7\ntorn\nturn 65535\n",
+            b"flow 1\nticket 1\nok\npacket 1 1\nwrote 1 1 7 part\ntorn 1 1 7\nno 20 Broken\n",
+            128,
+        ),
+        (
+            b"open a 4 1\nmktkt 10 base\nfund 1 flow a\nsend a 6869\nturn 65535\n",
+            b"flow 1\nticket 1\nok\npacket 1 1\nwrote 1 1 14 whole\n",
+            14,
+        ),
+    ];
+    for (script, want, account) in rows {
+        let engine = Engine::new(alloc, shelf, LIFE, Tape::new(alloc))?;
+        let mut input = PlainReader(script);
+        let mut output = Tape::new(alloc);
+        let engine = run_script(alloc, engine, &mut input, &mut output)?;
+        assert_eq!(rt; output.bytes(), want);
+        assert_eq!(rt; engine.account(FlowNo(1)), Some(account));
+    }
+    Ok(())
+}
+
+// Adds a line that sends so many zero bytes.
+fn push_send(script: &mut Vec<u8>, flow: &[u8], count: usize) -> Result<(), Fail> {
+    script.extend_from_slice(b"send ")?;
+    script.extend_from_slice(flow)?;
+    script.extend_from_slice(b" ")?;
+    push_zeros(script, count)?;
+    script.extend_from_slice(b"\n")?;
+    Ok(())
+}
+
+fn push_zeros(text: &mut Vec<u8>, count: usize) -> Result<(), Fail> {
+    for _ in 0..count {
+        text.extend_from_slice(b"00")?;
+    }
+    Ok(())
+}
+
+fn largest_payload<S: Rates + Copy>(rt: &impl Abort, alloc: Global, shelf: S) -> Result<(), Fail> {
+    let mut script = FUNDED.to_vec(alloc)?;
+    push_send(&mut script, b"a", 1490)?;
+    push_send(&mut script, b"a", 1490)?;
+    script.extend_from_slice(b"turn 65535\nturn 65535\n")?;
+    let mut want =
+        b"flow 1\nticket 1\nok\npacket 1 1\npacket 1 2\nwrote 1 1 1502 whole\nwrote 1 2 1502 whole\nout "
+            .as_slice()
+            .to_vec(alloc)?;
+    want.extend_from_slice(b"4c01000000010000000105d2")?;
+    push_zeros(&mut want, 1490)?;
+    want.extend_from_slice(b"4c01000000010000000205d2")?;
+    push_zeros(&mut want, 1490)?;
+    want.extend_from_slice(b"\n")?;
+    let mut input = PlainReader(script.as_slice());
+    let text = printed(rt, alloc, shelf, LIFE, &mut input)?;
+    assert_eq!(rt; text.as_slice(), want.as_slice());
+    Ok(())
+}
+
+fn long_lines<S: Rates + Copy>(rt: &impl Abort, alloc: Global, shelf: S) -> Result<(), Fail> {
+    // The third line has 20480 bytes, and the fourth 20481.
+    let rows: [(&[u8], usize, &[u8]); 4] = [
+        (b"a", 1491, b"no 4 Range\nidle\nout -\n"),
+        (b"a", 10000, b"no 4 Range\nidle\nout -\n"),
+        (b"ab", 10236, b"no 4 Range\nidle\nout -\n"),
+        (b"a", 10237, b"no 3 Syntax\nidle\nout -\n"),
+    ];
+    for (flow, count, want) in rows {
+        let mut script = Vec::new(alloc);
+        push_send(&mut script, flow, count)?;
+        script.extend_from_slice(b"torn\n")?;
+        for interrupts in [false, true] {
+            let mut input = Trickle::new(script.as_slice(), usize::MAX, interrupts);
+            let text = printed(rt, alloc, shelf, LIFE, &mut input)?;
+            assert_eq!(rt; text.as_slice(), want, "{count} bytes");
+        }
+    }
+    Ok(())
+}
+
+fn input_that_fails<S: Rates + Copy>(rt: &impl Abort, alloc: Global, shelf: S) -> Result<(), Fail> {
+    let rows: [(usize, &[u8]); 5] = [
+        (0, b""),
+        (10, b""),
+        (11, b"flow 1\n"),
+        (15, b"flow 1\n"),
+        (20, b"flow 1\nidle\n"),
+    ];
+    for (failing, want) in rows {
+        for interrupts in [false, true] {
+            let script = b"open a 4 1\ntorn\ntorn\n".as_slice();
+            let mut input = Trickle::new(script, failing, interrupts);
+            let mut output = Tape::new(alloc);
+            let ran = run(alloc, shelf, LIFE, &mut input, &mut output);
+            assert_eq!(rt; ran, Err(ScriptFault::Input));
+            assert_eq!(rt; output.bytes(), want, "{failing} bytes given");
+        }
+    }
+    Ok(())
+}
+
+// The answers to the lines of one read are offered together.
+fn output_that_fails<S: Rates + Copy>(
+    rt: &impl Abort,
+    alloc: Global,
+    shelf: S,
+) -> Result<(), Fail> {
+    let faults = [Answer::Failed, Answer::Interrupted, Answer::Accepted(0)];
+    let wants: [&[u8]; 5] = [
+        b"",
+        b"idl",
+        b"idle\nno 3 Syntax\n",
+        b"idle\nno 3 Syntax\nout ",
+        b"idle\nno 3 Syntax\nout -",
+    ];
+    for fault in faults {
+        for (accepted, want) in wants.into_iter().enumerate() {
+            let mut answers = Vec::new(alloc);
+            for place in 0..accepted {
+                let most = if place == 0 { 3 } else { usize::MAX };
+                answers.push(Answer::Accepted(most))?;
+            }
+            answers.push(fault)?;
+            let mut input = PlainReader(b"torn\nnone\n".as_slice());
+            let mut output = Scripted::new(alloc, answers);
+            let ran = run(alloc, shelf, LIFE, &mut input, &mut output);
+            assert_eq!(rt; ran, Err(ScriptFault::Output));
+            assert_eq!(rt; output.bytes(), want, "{accepted} offers accepted");
+        }
+    }
+    Ok(())
+}
+
+#[test]
+fn scripts_over_a_shelf_of_four_tariffs(rt: HostRuntime) -> Result<(), Fail> {
+    let alloc = rt.alloc();
+    let shelf = shelf!(alloc);
+    scripts_are_answered(&rt, alloc, &shelf)?;
+    flows_are_charged(&rt, alloc, &shelf)?;
+    largest_payload(&rt, alloc, &shelf)?;
+    long_lines(&rt, alloc, &shelf)
+}
+
+#[test]
+fn inputs_and_outputs_that_fail(rt: HostRuntime) -> Result<(), Fail> {
+    let alloc = rt.alloc();
+    let shelf = shelf!(alloc);
+    input_that_fails(&rt, alloc, &shelf)?;
+    output_that_fails(&rt, alloc, &shelf)
+}

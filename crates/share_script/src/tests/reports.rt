@@ -1,0 +1,119 @@
+//! Scripts that ask for reports, and scripts that are audits.
+
+use super::{LIFE, Trickle, printed, run};
+use crate::ScriptFault;
+use share_model::{Answer, PlainReader, Rates, Scripted};
+use std::alloc::Global;
+use std::process::Abort;
+use std::test::Fail;
+
+/// Lives, scripts, and what they print.
+const SCRIPTS: [(u64, &[u8], &[u8]); 5] = [
+    (
+        LIFE,
+        b"report\naudit 1\n",
+        b"clock                            0\n\
+        accepted                         0\n\
+        written                          0\n\
+        torn                             0\n\
+        waiting                          0\n\
+        dropped                          0\n\
+        bytes                            0\n\
+        past                             0\n\
+        tickets                          0\n\
+        pass                             0\n\
+        link                             0\n\
+        end\n\
+        no 3 Syntax\nout -\n",
+    ),
+    (LIFE, b"audit 1\nmkcur x", b"ok\nout -\n"),
+    (
+        LIFE,
+        b"audit 2\naudit 1\n",
+        b"no 3 Syntax\nno 3 Syntax\nout -\n",
+    ),
+    // The audit of a link whose only packet is torn.
+    (
+        LIFE,
+        b"audit 1\nopen a 4 2\nmktkt 1 base\nfund 1 flow a\nsend a 6869\nturn 7\ntorn\nmkcur x\n",
+        b"flow 1\nticket 1\nok\npacket 1 1\nwrote 1 1 7 part\ntorn 1 1 7\nok\nout 4c010000000100\n",
+    ),
+    // The same link, whose life is spent.
+    (
+        7,
+        b"open a 4 2\nmktkt 1 base\nfund 1 flow a\nsend a 6869\nturn 7\ntorn\nturn 65535\nmkcur x\n\
+        report\naudit 1\nclose a",
+        b"flow 1\nticket 1\nok\npacket 1 1\nwrote 1 1 7 part\ntorn 1 1 7\nno 20 Broken\nok\n\
+        clock                           64\n\
+        accepted                         1\n\
+        written                          0\n\
+        torn                             1\n\
+        waiting                          0\n\
+        dropped                          0\n\
+        bytes                            7\n\
+        past                             0\n\
+        tickets                          1\n\
+        pass                             0\n\
+        link                             2\n\
+        flow        1 a                      1    0               128 in               1168231104512\n\
+        end\n\
+        no 3 Syntax\nno 2 Spent\nout 4c010000000100\n",
+    ),
+];
+
+fn reports_and_audits<S: Rates + Copy>(
+    rt: &impl Abort,
+    alloc: Global,
+    shelf: S,
+) -> Result<(), Fail> {
+    for (life, script, want) in SCRIPTS {
+        let mut whole = PlainReader(script);
+        let text = printed(rt, alloc, shelf, life, &mut whole)?;
+        assert_eq!(rt; text.as_slice(), want);
+        let mut bytewise = Trickle::new(script, usize::MAX, true);
+        let text = printed(rt, alloc, shelf, life, &mut bytewise)?;
+        assert_eq!(rt; text.as_slice(), want, "by the byte");
+    }
+    Ok(())
+}
+
+// The answer that waits is offered before the report, and the report before the answer after it.
+fn output_that_fails_at_each_byte<S: Rates + Copy>(
+    rt: &impl Abort,
+    alloc: Global,
+    shelf: S,
+) -> Result<(), Fail> {
+    let script = b"torn\nreport\nnone\n".as_slice();
+    let offers = [5, 389, 12];
+    let mut whole = PlainReader(script);
+    let text = printed(rt, alloc, shelf, LIFE, &mut whole)?;
+    for length in 0..406 {
+        let mut answers = Vec::new(alloc);
+        let mut left = length;
+        for offer in offers {
+            if left > 0 {
+                answers.push(Answer::Accepted(left.min(offer)))?;
+                left -= left.min(offer);
+            }
+        }
+        answers.push(Answer::Failed)?;
+        let mut input = PlainReader(script);
+        let mut output = Scripted::new(alloc, answers);
+        let ran = run(alloc, shelf, LIFE, &mut input, &mut output);
+        assert_eq!(rt; ran, Err(ScriptFault::Output));
+        assert_eq!(rt;
+            Some(output.bytes()),
+            text.as_slice().get(..length),
+            "{length} bytes accepted"
+        );
+    }
+    Ok(())
+}
+
+#[test]
+fn reports_among_lines(rt: HostRuntime) -> Result<(), Fail> {
+    let alloc = rt.alloc();
+    let shelf = shelf!(alloc);
+    reports_and_audits(&rt, alloc, &shelf)?;
+    output_that_fails_at_each_byte(&rt, alloc, &shelf)
+}

@@ -1,0 +1,88 @@
+//! Text that is put together before it is written.
+ghost use Rattle.std.specs.Prelude.{◌≡◌, ◌≤◌, ◌+◌, ◌++◌, ℕ, List, [], length, decimal};
+
+use arrayvec::ArrayVec;
+use itoa::Buffer;
+use std::marker::Model;
+
+/// The room for one line or one answer. The longest is the line of a packet, with 3002 bytes and a line feed.
+const ROOM: usize = 3072;
+
+/// Text that is put together in a room of so many bytes.
+pub trait Text {
+    /// Its bytes.
+    ghost held: { Self → List ℕ };
+
+    /// How many bytes it has room for.
+    ghost room: { ℕ };
+
+    /// Adds a text at the end.
+    fn push_str(&mut self, text: &str)
+        requires { length (held self.old) + length text.now ≤ room }
+        ensures bytes { held self.new ≡ held self.old ++ text.now }
+        ensures long { length (held self.new) ≡ length (held self.old) + length text.now };
+
+    /// Adds the decimal of a number at the end: 20 bytes at most.
+    fn push_number(&mut self, number: u64)
+        requires { length (held self.old) + 20 ≤ room }
+        ensures bytes { held self.new ≡ held self.old ++ decimal number }
+        ensures few { length (held self.new) ≤ length (held self.old) + 20 };
+}
+
+/// A text of at most 3072 bytes, which takes no memory. A contract sees it as its bytes.
+#[derive(Drop)]
+pub struct ShortText {
+    bytes: ArrayVec<u8, ROOM>,
+}
+
+impl Model for ShortText {
+    ghost use Rattle.std.specs.Prelude.{ℕ, List};
+
+    ghost Value = { List ℕ };
+
+    ghost view = { λ text. text.bytes.items };
+}
+
+impl ShortText {
+    /// A text of no bytes.
+    pub fn new() -> ShortText
+        ensures { result ≡ [] }
+    {
+        ShortText {
+            bytes: ArrayVec::new(),
+        }
+    }
+
+    /// Its bytes.
+    pub fn as_bytes(&self) -> &[u8]
+        ensures { result.now ≡ self.now }
+    {
+        self.bytes.as_slice()
+    }
+
+    /// Adds bytes at the end.
+    pub fn push(&mut self, bytes: &[u8])
+        requires { length self.old + length bytes.now ≤ 3072 }
+        ensures bytes { self.new ≡ self.old ++ bytes.now }
+        ensures long { length self.new ≡ length self.old + length bytes.now }
+    {
+        if self.bytes.try_extend_from_slice(bytes).is_err() {
+            unreachable!();
+        }
+    }
+}
+
+impl Text for ShortText {
+    ghost held = { λ text. text };
+
+    ghost room = { 3072 };
+
+    fn push_str(&mut self, text: &str) {
+        self.push(text.as_bytes());
+    }
+
+    fn push_number(&mut self, number: u64) {
+        let mut digits = Buffer::new();
+        self.push(digits.format(number).as_bytes());
+    }
+}

@@ -1,8 +1,0 @@
-use Rattle.stridelink.proofs.ReadingLemmas.{reads-spelled, reads-refused}
-use Rattle.stridelink.proofs.reading.read_line.Goals as goal
-
-pub returns-clause-spelled : goal.returns-clause-spelled
-returns-clause-spelled c = reads-spelled c.args.bytes.now c.read_bytes.result c.read_bytes.ensures
-
-pub returns-clause-refused : goal.returns-clause-refused
-returns-clause-refused c = reads-refused c.args.bytes.now c.read_bytes.result c.read_bytes.ensures

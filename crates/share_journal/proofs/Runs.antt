@@ -1,0 +1,266 @@
+-- A recorder's journal is a run: it begins as one, and each call goes on with it.
+use Rattle.std.specs.Prelude.{◌≡◌, ◌<◌, ◌≤◌, ℕ, List, [], ◌∷◌, ◌++◌, length, Option, None, Some, IfSome, Bool, true}
+use Rattle.std.specs.Prelude.{false, nat_lt, suc}
+use Rattle.std.proofs.Common.{refl, ap, sym, ◌∙◌, subst, arith}
+use Rattle.std.proofs.lemmas.Bool.{ltb-true, ltb-false}
+use Rattle.std.proofs.lemmas.List.{map-append, length-map, length-append, append-nil}
+use Rattle.std.proofs.lemmas.List.Concat.{flat_map-append}
+use Rattle.share_base.specs.declared.command.Event.{Event}
+use Rattle.share_base.specs.declared.command.Outcome.{Outcome}
+use Rattle.share_base.specs.declared.command.Outcome.TheVariants.{Replied}
+use Rattle.share_base.specs.declared.command.Reply.{Reply}
+use Rattle.share_base.specs.declared.command.Turn.{Turn}
+use Rattle.share_base.specs.declared.command.Turn.TheVariants.{Wrote, Torn, Idle, Again, Broken, Spent}
+use Rattle.share_model.specs.declared.rates.Rate.{Rate}
+use Rattle.share_model.specs.io.Told.{Told}
+use Rattle.share_model.specs.link.Live.{Live, empty_link}
+use Rattle.share_model.specs.link.Seen.{Seen}
+use Rattle.share_model.specs.link.Tariff.{AreInRange}
+use Rattle.share_model.specs.run.Ends.{IsEndOf, TellsRun}
+use Rattle.share_model.specs.run.Events.{MayFollow}
+use Rattle.share_model.specs.run.Fold.{State, empty_state, run, state_after, outcomes, out}
+use Rattle.share_model.specs.run.FoldLaws.{state-empty, state_after-append, outcomes-append, may_follow-append}
+use Rattle.share_model.specs.run.FoldLaws.{events-after}
+use Rattle.share_model.specs.run.Laws.{Ran, turn_events, turn_outcomes, turn_writes}
+use Rattle.share_model.specs.run.Laws.{Asked, asked_spent, asked_no_memory, asked_made}
+use Rattle.share_model.specs.run.Sound.{Sound}
+use Rattle.share_journal.specs.declared.entry.Entry.{Entry}
+use Rattle.share_journal.specs.declared.entry.Source.{Source}
+use Rattle.share_journal.specs.Entries.{JournalSeen, noted, events_of, replies_of, write_of, writes_of, turn_entries}
+use Rattle.share_journal.specs.Records.{IsRun, IsRunNow, IsRunOf, AcceptedNothing, entry_if}
+
+-- The run of no event
+
+told_nothing : (o : Option Told) → IfSome o AcceptedNothing → IfSome o (TellsRun empty_state [])
+unfolding out
+told_nothing None was = tt
+told_nothing (Some t) was = record { bytes = was.bytes; counts = was.counts }
+
+empty_run : (told : Option Told) (life : ℕ) (rates : List Rate) → AreInRange rates → IfSome told AcceptedNothing
+    → IsRun told life rates empty_link []
+unfolding MayFollow state_after outcomes
+empty_run told life rates range nothing = record {
+  range = range;
+  may = tt;
+  replies_are = refl;
+  ends = record { live = refl; sound = state-empty life rates };
+  tells = told_nothing told nothing;
+}
+
+pub run-new : (told : Option Told) (life : ℕ) (rates : List Rate) (live : Live) (entries : List Entry)
+    → AreInRange rates → IfSome told AcceptedNothing → live ≡ empty_link → length entries ≡ 0
+    → IsRun told life rates live entries
+run-new told life rates live [] range nothing empty none =
+    subst (λ (l : Live). IsRun told life rates l []) (sym empty) (empty_run told life rates range nothing)
+run-new told life rates live (e ∷ es) range nothing empty none = absurd (omega (arith, none))
+
+-- What holds of every run
+
+module _ {told : Option Told} {life : ℕ} {rates : List Rate} {live : Live} {es : List Event} {os : List Outcome}
+    {ks : List ℕ} (was : IsRunOf told life rates live es os ks) where
+  pub run-sound : Sound life rates live
+  run-sound = subst (λ (l : Live). Sound life rates l) was.ends.live was.ends.sound.live
+
+  -- each event is counted
+  pub run-count : live.counts.events ≡ length es
+  run-count =
+      let last = ap (λ (l : Live). l.counts.events) was.ends.live in
+      let counted = events-after life rates empty_state es was.may in omega (arith, last, counted)
+
+  pub run-few : length es ≤ life
+  run-few = let sound = run-sound in let count = run-count in omega (arith, sound.counts.events, count)
+
+-- a link that made no event is empty
+pub run-empty : {told : Option Told} {life : ℕ} {rates : List Rate} {live : Live} {os : List Outcome} {ks : List ℕ}
+    → (es : List Event) → IsRunOf told life rates live es os ks → live.counts.events ≡ 0 → live ≡ empty_link
+unfolding state_after
+run-empty [] was none = sym was.ends.live
+run-empty {live = live} (e ∷ es) was none =
+    let count : live.counts.events ≡ suc (length es) = run-count was in absurd (omega (arith, count, none))
+
+-- A run goes on
+
+module _ {W : Type 0} (told : W → Option Told) (old new : Seen W) (es fs : List Event) (os ps : List Outcome)
+    (ks js : List ℕ) where
+  run_on : IsRunOf (told old.writer) old.life old.rates old.live es os ks → Ran told old fs ps js new
+      → IsRunOf (told new.writer) old.life old.rates new.live (es ++ fs) (os ++ ps) (ks ++ js)
+  run_on was ran = record {
+    range = was.range;
+    may
+        = may_follow-append old.life old.rates empty_state es fs was.may (ran.may (run old.rates es) was.ends);
+    replies_are
+        = outcomes-append old.rates empty_state es fs
+        ∙ (ap (λ made. made ++ outcomes old.rates (run old.rates es) fs) was.replies_are
+        ∙ ap (λ made. os ++ made) (ran.outcomes_are (run old.rates es) was.ends));
+    ends
+        = subst (λ (s : State). IsEndOf old.life old.rates s new.live)
+        (sym (state_after-append old.rates empty_state es fs)) (ran.ends (run old.rates es) was.ends);
+    tells
+        = subst (λ (s : State). IfSome (told new.writer) (TellsRun s (ks ++ js)))
+        (sym (state_after-append old.rates empty_state es fs)) (ran.tells (run old.rates es) ks was.ends was.tells);
+  }
+
+  run_more : IsRunOf (told old.writer) old.life old.rates old.live es os ks → Ran told old fs ps js new
+      → IsRunOf (told new.writer) new.life new.rates new.live (es ++ fs) (os ++ ps) (ks ++ js)
+  run_more was ran =
+      subst (λ n. IsRunOf (told new.writer) n new.rates new.live (es ++ fs) (os ++ ps) (ks ++ js)) (sym ran.life)
+      (subst (λ r. IsRunOf (told new.writer) old.life r new.live (es ++ fs) (os ++ ps) (ks ++ js)) (sym ran.rates)
+      (run_on was ran))
+
+run_as : (told : Option Told) (life : ℕ) (rates : List Rate) (live : Live) (es es' : List Event) (os os' : List Outcome)
+    (ks ks' : List ℕ) → es ≡ es' → os ≡ os' → ks ≡ ks' → IsRunOf told life rates live es' os' ks'
+    → IsRunOf told life rates live es os ks
+run_as told life rates live es es' os os' ks ks' e o k ran = rw (e, o, k) ran
+
+module _ {W : Type 0} (told : W → Option Told) (old new : Seen W) (entries : List Entry)
+    (was : IsRun (told old.writer) old.life old.rates old.live entries) where
+  -- by the entries of its events
+  pub run-more : (more : List Entry) → Ran told old (events_of more) (replies_of more) (writes_of more) new
+      → IsRun (told new.writer) new.life new.rates new.live (entries ++ more)
+  run-more more ran =
+      run_as (told new.writer) new.life new.rates new.live _ _ _ _ _ _
+      (map-append (λ (e : Entry). e.event) entries more) (map-append (λ (e : Entry). e.reply) entries more)
+      (flat_map-append _ entries more)
+      (run_more told old new (events_of entries) (events_of more) (replies_of entries) (replies_of more)
+      (writes_of entries) (writes_of more) was ran)
+
+  -- where there is room for the entries of what an engine's call made
+  pub run-room : (more : List Entry) → Ran told old (events_of more) (replies_of more) (writes_of more) new
+      → length (entries ++ more) ≤ old.life
+  run-room more ran =
+      let few : length (events_of entries ++ events_of more) ≤ old.life =
+      run-few (run_on told old new (events_of entries) (events_of more) (replies_of entries) (replies_of more)
+      (writes_of entries) (writes_of more) was ran) in
+      let one = length-append entries more in
+      let all = length-append (events_of entries) (events_of more) in
+      omega (
+        arith,
+        few,
+        one,
+        all,
+        length-map entries (λ (e : Entry). e.event),
+        length-map more (λ (e : Entry). e.event),
+      )
+
+-- The journal beside the link
+
+-- the journal is that of the link
+abbrev pub IsKept : {W : Type 0} → (W → Option Told) → Seen W → JournalSeen → Type 0
+IsKept told link journal = (journal.life ≡ link.life) × IsRunNow told link journal.entries
+
+kept_noted : {W : Type 0} (told : W → Option Told) (old new : Seen W) (journal after : JournalSeen) (more : List Entry)
+    → journal.life ≡ old.life → new.life ≡ old.life → after ≡ noted journal more
+    → IsRunNow told new (journal.entries ++ more) → IsKept told new after
+kept_noted told old new journal after more life same noted_is run =
+    subst (λ (j : JournalSeen). IsKept told new j) (sym noted_is) (life ∙ sym same, run)
+
+-- what follows from what the engine's call made
+module _ {W : Type 0} (told : W → Option Told) (old new : Seen W) (journal : JournalSeen)
+    (was : IsKept told old journal) where
+  ran_room : (more : List Entry) → Ran told old (events_of more) (replies_of more) (writes_of more) new
+      → length (journal.entries ++ more) ≤ journal.life
+  ran_room more ran =
+      let few = run-room told old new journal.entries was.1 more ran in omega (arith, few, was.0)
+
+  ran_kept : (after : JournalSeen) (more : List Entry)
+      → Ran told old (events_of more) (replies_of more) (writes_of more) new → after ≡ noted journal more
+      → IsKept told new after
+  ran_kept after more ran noted_is =
+      kept_noted told old new journal after more was.0 ran.life noted_is
+      (run-more told old new journal.entries was.1 more ran)
+
+-- Turns and faults
+
+turn_ran : {W : Type 0} (told : W → Option Told) (old new : Seen W) (turn : Turn)
+    → Ran told old (turn_events turn) (turn_outcomes turn) (turn_writes turn) new
+    → Ran told old (events_of (turn_entries turn)) (replies_of (turn_entries turn)) (writes_of (turn_entries turn)) new
+turn_ran told old new (Wrote flow seq k whole) ran = ran
+turn_ran told old new (Torn flow seq j) ran = ran
+turn_ran told old new Idle ran = ran
+turn_ran told old new Again ran = ran
+turn_ran told old new Broken ran = ran
+turn_ran told old new Spent ran = ran
+
+module _ {W : Type 0} (told : W → Option Told) (old new : Seen W) (journal : JournalSeen) (turn : Turn)
+    (was : IsKept told old journal)
+    (ran : Ran told old (turn_events turn) (turn_outcomes turn) (turn_writes turn) new) where
+  pub turn-room : length (journal.entries ++ turn_entries turn) ≤ journal.life
+  turn-room = ran_room told old new journal was (turn_entries turn) (turn_ran told old new turn ran)
+
+  pub turn-kept : (after : JournalSeen) → after ≡ noted journal (turn_entries turn) → IsKept told new after
+  turn-kept after noted_is =
+      ran_kept told old new journal was after (turn_entries turn) (turn_ran told old new turn ran) noted_is
+
+-- no event
+ran_nothing : {W : Type 0} (told : W → Option Told) (old : Seen W) → Ran told old [] [] [] old
+unfolding MayFollow state_after outcomes
+ran_nothing told old = record {
+  life = refl;
+  rates = refl;
+  may = λ s is. tt;
+  ends = λ s is. is;
+  outcomes_are = λ s is. refl;
+  tells =
+      λ s before is was. subst (λ writes. IfSome (told old.writer) (TellsRun s writes)) (sym (append-nil before)) was;
+}
+
+-- Commands and arrivals
+
+-- the entry of a command or an arrival
+abbrev pub replied_entry : Event → Reply → Source → Entry
+replied_entry e reply source = record { event = e; reply = Replied reply; source = source }
+
+pub same_test : {a b c d : ℕ} → a ≡ c → b ≡ d → nat_lt a b ≡ nat_lt c d
+same_test {b = b} {c = c} one other = ap (λ n. nat_lt n b) one ∙ ap (λ n. nat_lt c n) other
+
+count_of : {W : Type 0} (old new : Seen W) → new ≡ old → new.live.counts.events ≡ old.live.counts.events
+count_of old new same = ap (λ (s : Seen _). s.live.counts.events) same
+
+module _ {W : Type 0} (told : W → Option Told) (old new : Seen W) (journal : JournalSeen) (e : Event) (reply : Reply)
+    (source : Source) (silent : write_of e ≡ []) (was : IsKept told old journal) where
+  asked_ran : Asked told old e reply new → old.live.counts.events < new.live.counts.events
+      → Ran told old (e ∷ []) (Replied reply ∷ []) [] new
+  asked_ran (asked_spent spent is same) more = let count = count_of old new same in absurd (omega (arith, count, more))
+  asked_ran (asked_no_memory living is same) more =
+      let count = count_of old new same in absurd (omega (arith, count, more))
+  asked_ran (asked_made living ran) more = ran
+
+  made_more : Ran told old (e ∷ []) (Replied reply ∷ []) [] new
+      → old.live.counts.events < new.live.counts.events
+  made_more ran =
+      let es = events_of journal.entries in
+      let now = run-count (run_on told old new es (e ∷ []) (replies_of journal.entries) (Replied reply ∷ [])
+      (writes_of journal.entries) [] was.1 ran) in
+      let before = run-count was.1 in omega (arith, now, before, length-append es (e ∷ []))
+
+  none_ran : new ≡ old → Ran told old [] [] [] new
+  none_ran same = subst (λ (s : Seen W). Ran told old [] [] [] s) (sym same) (ran_nothing told old)
+
+  -- what the call made, by whether the count of events grew
+  asked_by : (made : Bool) → nat_lt old.live.counts.events new.live.counts.events ≡ made
+      → Asked told old e reply new
+      → Ran told old (events_of (entry_if made (replied_entry e reply source)))
+      (replies_of (entry_if made (replied_entry e reply source)))
+      (writes_of (entry_if made (replied_entry e reply source))) new
+  asked_by true test asked =
+      subst (λ ks. Ran told old (e ∷ []) (Replied reply ∷ []) ks new) (sym (ap (λ ks. ks ++ []) silent))
+      (asked_ran asked (ltb-true old.live.counts.events new.live.counts.events test))
+  asked_by false test (asked_spent spent is same) = none_ran same
+  asked_by false test (asked_no_memory living is same) = none_ran same
+  asked_by false test (asked_made living ran) =
+      let more = made_more ran in
+      let few = ltb-false old.live.counts.events new.live.counts.events test in absurd (omega (arith, more, few))
+
+  module _ (asked : Asked told old e reply new) (made : Bool) (entry : Entry)
+      (test : made ≡ nat_lt old.live.counts.events new.live.counts.events)
+      (is : entry ≡ replied_entry e reply source) where
+    pub asked-room : length (journal.entries ++ entry_if made entry) ≤ journal.life
+    asked-room =
+        let more = entry_if made (replied_entry e reply source) in
+        let few = ran_room told old new journal was more (asked_by made (sym test) asked) in
+        subst (λ (x : Entry). length (journal.entries ++ entry_if made x) ≤ journal.life) (sym is) few
+
+    pub asked-kept : (after : JournalSeen) → after ≡ noted journal (entry_if made entry) → IsKept told new after
+    asked-kept after noted_is =
+        ran_kept told old new journal was after (entry_if made (replied_entry e reply source))
+        (asked_by made (sym test) asked) (noted_is ∙ ap (λ (x : Entry). noted journal (entry_if made x)) is)

@@ -1,0 +1,32 @@
+use Rattle.std.proofs.Common.{◌∙◌, ap, refl}
+use Rattle.share_base.specs.declared.command.Event.{Event}
+use Rattle.share_base.specs.declared.command.Event.TheVariants.{Commanded}
+use Rattle.share_model.specs.run.Laws.{command-asked}
+use Rattle.share_journal.specs.declared.entry.Source.TheVariants.{Clerk}
+use Rattle.share_journal.proofs.Runs.{run-sound, replied_entry, same_test, asked-room, asked-kept}
+use Rattle.share_journal.proofs.recorder.Recorder.command.Goals as goal
+
+pub note_if-requires : goal.note_if-requires
+note_if-requires g c =
+    asked-room g.W.Telling.told c.self.inside.engine c.command-reply.new.self c.self.inside.journal
+    (Commanded c.args.command)
+    c.command-reply.result (Clerk c.args.clerk) refl c.self.invariant
+    (command-asked g.W.Telling.told c.self.inside.engine c.command-reply.result c.command-reply.new.self
+    c.self.invariant.1.range (run-sound c.self.invariant.1) c.args.command c.command-reply.ensures.fields
+    c.command-reply.ensures.did)
+    _ c.replied.result (same_test c.events-before.ensures.events c.events.ensures.events)
+    (c.replied.ensures ∙ ap (λ (e : Event). replied_entry e c.command-reply.result (Clerk c.args.clerk))
+    c.commanded-event.ensures)
+
+pub invariant_of-self : goal.invariant_of-self
+invariant_of-self g c =
+    asked-kept g.W.Telling.told c.self.inside.engine c.command-reply.new.self c.self.inside.journal
+    (Commanded c.args.command)
+    c.command-reply.result (Clerk c.args.clerk) refl c.self.invariant
+    (command-asked g.W.Telling.told c.self.inside.engine c.command-reply.result c.command-reply.new.self
+    c.self.invariant.1.range (run-sound c.self.invariant.1) c.args.command c.command-reply.ensures.fields
+    c.command-reply.ensures.did)
+    _ c.replied.result (same_test c.events-before.ensures.events c.events.ensures.events)
+    (c.replied.ensures ∙ ap (λ (e : Event). replied_entry e c.command-reply.result (Clerk c.args.clerk))
+    c.commanded-event.ensures) c.note_if.new.journal
+    c.note_if.ensures

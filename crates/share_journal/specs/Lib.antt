@@ -1,0 +1,4 @@
+pub mod Entries
+pub mod Records
+pub mod Replays
+pub mod Rows

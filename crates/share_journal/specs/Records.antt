@@ -1,0 +1,57 @@
+-- What a contract sees of a recorder, and what holds of it at every moment.
+use Rattle.std.specs.Prelude.{◌≡◌, ◌&&◌, ℕ, Bool, List, [], ◌∷◌, filter, nat_lt, nat_eq, length, Option}
+use Rattle.std.specs.Prelude.{IfSome, if◌then◌else◌}
+use Rattle.share_base.specs.declared.command.Event.{Event}
+use Rattle.share_base.specs.declared.command.Outcome.{Outcome}
+use Rattle.share_model.specs.declared.rates.Rate.{Rate}
+use Rattle.share_model.specs.io.Told.{Told}
+use Rattle.share_model.specs.link.Live.{Live}
+use Rattle.share_model.specs.link.Seen.{Seen}
+use Rattle.share_model.specs.link.Tariff.{AreInRange}
+use Rattle.share_model.specs.run.Ends.{IsEndOf, TellsRun}
+use Rattle.share_model.specs.run.Events.{MayFollow}
+use Rattle.share_model.specs.run.Fold.{empty_state, run, outcomes}
+use Rattle.share_journal.specs.declared.entry.Entry.{Entry}
+use Rattle.share_journal.specs.Entries.{JournalSeen, events_of, replies_of, writes_of}
+
+-- the link, and the entries of its journal
+pub record Recorded (W : Type 0) : Type 0 where
+  pub link : Seen W
+  pub entries : List Entry
+
+-- the events are a run of a link, with these replies, and the link holds what the run left; and where the writer tells,
+-- it holds the bytes of the run, and these are the counts that it accepted, but those of 0
+pub record IsRunOf (told : Option Told) (life : ℕ) (rates : List Rate) (live : Live) (events : List Event)
+    (replies : List Outcome) (writes : List ℕ) : Type 0 where
+  pub range : AreInRange rates
+  pub may : MayFollow life rates empty_state events
+  pub replies_are : outcomes rates empty_state events ≡ replies
+  pub ends : IsEndOf life rates (run rates events) live
+  pub tells : IfSome told (TellsRun (run rates events) writes)
+
+-- the same of the events, the replies and the writes of these entries
+abbrev pub IsRun : Option Told → ℕ → List Rate → Live → List Entry → Type 0
+IsRun told life rates live entries =
+    IsRunOf told life rates live (events_of entries) (replies_of entries) (writes_of entries)
+
+-- the same of a link and its journal as they are, where `told` says what a writer tells
+abbrev pub IsRunNow : {W : Type 0} → (W → Option Told) → Seen W → List Entry → Type 0
+IsRunNow told link entries = IsRun (told link.writer) link.life link.rates link.live entries
+
+-- no byte was accepted yet
+pub record AcceptedNothing (t : Told) : Type 0 where
+  pub bytes : t.bytes ≡ []
+  pub counts : filter (nat_lt 0) t.counts ≡ []
+
+-- the link made no event, the journal holds none, and both have the same life
+abbrev pub are_new : {W : Type 0} → Seen W → JournalSeen → Bool
+are_new link journal =
+    nat_eq link.live.counts.events 0 && nat_eq (length journal.entries) 0 && nat_eq link.life journal.life
+
+-- the call made an event, by the count of events
+abbrev pub made_event : {W : Type 0} → Seen W → Seen W → Bool
+made_event old new = nat_lt old.live.counts.events new.live.counts.events
+
+-- one entry where the call made an event, and else none
+abbrev pub entry_if : Bool → Entry → List Entry
+entry_if made e = if made then e ∷ [] else []

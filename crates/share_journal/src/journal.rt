@@ -1,0 +1,109 @@
+//! The list of the events of a link, in order.
+ghost use Rattle.std.specs.Prelude.{◌≡◌, ◌<◌, ◌≤◌, ◌^◌, [], ◌∷◌, ◌++◌, length, IfOk, IfErr, None, option_copied};
+ghost use Rattle.std.specs.Prelude.{MatchResult};
+ghost use Rattle.std.specs.Io.KnownBytes.{Appends};
+ghost use Rattle.share_base.specs.Refusal.{IsRefused};
+ghost use Rattle.share_model.specs.io.Calls.{Offers, OfferRefused};
+ghost use Rattle.share_model.specs.io.Printing.{bytes_told, AppendsPart};
+ghost use Rattle.share_model.specs.text.Audit.{audit};
+ghost use Rattle.share_core.specs.Life.{life_refusal};
+ghost use Rattle.share_journal.specs.Entries.{JournalSeen, entry_at, noted, events_of};
+
+use crate::audit::{Fault, write_audit};
+use crate::entry::Entry;
+use share_base::Refusal;
+use share_model::Telling;
+use std::alloc::Global;
+use std::marker::Model;
+
+/// The longest life, in events.
+const MAX_LIFE: u64 = 1 << 24;
+
+/// The events of a link, in order, each with its reply and its source. The room for a whole life is made once, so no
+/// other call takes memory. A contract sees the life and the list of the entries.
+#[derive(Drop)]
+pub struct Journal {
+    life: u64,
+    entries: Vec<Entry>,
+}
+
+impl Model for Journal {
+    ghost use Rattle.std.specs.Prelude.{◌≤◌, ◌^◌, length, vec_capacity};
+    ghost use Rattle.share_journal.specs.Entries.{JournalSeen};
+
+    ghost Value = { JournalSeen };
+
+    ghost view = { λ j. record { life = j.life; entries = j.entries.items } };
+
+    ghost invariant = { λ j.
+        (length j.entries.items ≤ j.life)
+        × (j.life ≤ vec_capacity j.entries)
+        × (j.life ≤ 2 ^ 24) };
+}
+
+impl Journal {
+    /// An empty journal for a life of 1 to 2^24 events, with room for all of them. Refusals, in order: `Range` where
+    /// the life is none of these, `NoMemory` where the room was refused.
+    pub fn new(alloc: Global, life: u64) -> Result<Journal, Refusal>
+        ensures ok { IfOk result (λ j.
+            (j ≡ record { life = life; entries = [] })
+            × (life_refusal life ≡ None)) }
+        ensures refused { IfErr result (IsRefused (life_refusal life)) }
+    {
+        if life < 1 || life > MAX_LIFE {
+            return Err(Refusal::Range);
+        }
+        let entries = Vec::with_capacity(alloc, life as usize)?;
+        Ok(Journal { life, entries })
+    }
+
+    /// How many entries it has room for.
+    pub fn life(&self) -> u64
+        ensures { result ≡ self.now.life }
+    {
+        self.life
+    }
+
+    /// How many entries it holds, at most its life.
+    pub fn len(&self) -> u64
+        ensures count { result ≡ length self.now.entries }
+        ensures most { result ≤ self.now.life }
+    {
+        self.entries.len() as u64
+    }
+
+    /// The entry of a number, from 1. `None` where none has it.
+    pub fn entry(&self, number: u64) -> Option<&Entry>
+        ensures { option_copied result ≡ entry_at self.now.entries number }
+    {
+        if number < 1 || number > self.entries.len() as u64 {
+            return None;
+        }
+        Some(&self.entries[(number - 1) as usize])
+    }
+
+    /// Puts an entry at the end. It takes no memory.
+    pub fn push(&mut self, entry: Entry)
+        requires { length self.old.entries < self.old.life }
+        ensures { self.new ≡ noted self.old (entry ∷ []) }
+    {
+        self.entries.push_reserved(entry);
+    }
+
+    /// Writes the audit: the line `audit 1`, and then for each entry, in order, the line that makes its event again. A
+    /// command is spelled as its line, a packet as `send` with the audit copy of its payload, a write of k bytes as
+    /// `turn k`, and a fault as `torn`. It takes no memory: each line is put together on the stack, and a writer that
+    /// accepts it whole is called once for it. On a fault a beginning of the audit is written.
+    pub fn audit<V: Telling>(&self, output: &mut V) -> Result<(), Fault>
+        ensures bytes { MatchResult result
+            (λ _. Appends (bytes_told (V.told output.old)) (bytes_told (V.told output.new))
+            (audit (events_of self.now.entries)))
+            (λ _. AppendsPart (bytes_told (V.told output.old)) (bytes_told (V.told output.new))
+            (audit (events_of self.now.entries))) }
+        ensures offers { MatchResult result (λ _. Offers V.answers output.old output.new)
+            (λ _. OfferRefused V.answers output.old output.new) }
+    {
+        write_audit(self.entries.as_slice(), output)?;
+        Ok(())
+    }
+}

@@ -1,0 +1,17 @@
+//! The journal of a link: each of its events with the reply and where it came from, and a recorder, which keeps a link
+//! and its journal together.
+#![tactic(auto)]
+
+mod audit;
+mod entry;
+mod journal;
+mod laws;
+mod recorder;
+#[cfg(test)]
+mod tests;
+
+pub use audit::Fault;
+pub use entry::{Entry, Source};
+pub use journal::Journal;
+pub use laws::audits_replay;
+pub use recorder::Recorder;

@@ -1,0 +1,189 @@
+//! A link with its journal.
+ghost use Rattle.std.specs.Prelude.{◌≡◌, ◌<◌, ◌≤◌, ◌++◌, [], length, IfOk, IfErr, IfSome, true, false};
+ghost use Rattle.share_model.specs.link.Did.{Steps, CommandDid, TurnDid, TearDid};
+ghost use Rattle.share_model.specs.link.Live.{empty_link, arrive_step};
+ghost use Rattle.share_journal.specs.Entries.{command_entry, arrival_entry, turn_entries, noted};
+ghost use Rattle.share_journal.specs.Records.{Recorded, IsRunNow, AcceptedNothing, are_new, made_event, entry_if};
+
+use crate::entry::{self, Entry, Source};
+use crate::journal::Journal;
+use share_base::{Command, Event, Name, Parcel, Reply, Turn};
+use share_core::Engine;
+use share_model::{Rates, Telling};
+use std::marker::Model;
+
+/// A link with its journal: each call makes the call of the link and its entry together. A contract sees the link and
+/// the entries. At every moment the events of the entries are the run of the link, as `journal` says.
+#[derive(Drop)]
+pub struct Recorder<W: Telling, S: Rates> {
+    engine: Engine<W, S>,
+    journal: Journal,
+}
+
+impl<W: Telling, S: Rates> Model for Recorder<W, S> {
+    ghost use Rattle.std.specs.Prelude.{◌≡◌};
+    ghost use Rattle.std.specs.Coded.{codes};
+    ghost use Rattle.share_model.specs.stride.Moves.{coded_stride};
+    ghost use Rattle.share_journal.specs.Records.{Recorded, IsRunNow};
+
+    ghost Value = { Recorded W };
+
+    ghost coded = { Prim.hlevel (codes, coded_stride) };
+
+    ghost view = { λ r. record { link = r.engine; entries = r.journal.entries } };
+
+    ghost invariant = { λ r.
+        (r.journal.life ≡ r.engine.life)
+        × IsRunNow W.told r.engine r.journal.entries };
+}
+
+impl<W: Telling, S: Rates> Recorder<W, S> {
+    /// A link and its journal, both new and of the same life; else both come back. The conditions: a writer that tells
+    /// has accepted nothing yet, and a link that made no event is empty, as each link from `Engine::new` is. It takes
+    /// no memory.
+    pub fn new(
+        engine: Engine<W, S>,
+        journal: Journal,
+    ) -> Result<Recorder<W, S>, (Engine<W, S>, Journal)>
+        requires nothing { IfSome (W.told engine.writer) AcceptedNothing }
+        requires empty { engine.live.counts.events ≡ 0 → engine.live ≡ empty_link }
+        ensures ok { IfOk result (λ r.
+            (r ≡ record { link = engine; entries = [] })
+            × (are_new engine journal ≡ true)) }
+        ensures back { IfErr result (λ both.
+            (both.0 ≡ engine)
+            × (both.1 ≡ journal)
+            × (are_new engine journal ≡ false)) }
+    {
+        if engine.events() != 0 || journal.len() != 0 || engine.life() != journal.life() {
+            return Err((engine, journal));
+        }
+        Ok(Recorder { engine, journal })
+    }
+
+    /// The link.
+    pub fn engine(&self) -> &Engine<W, S>
+        ensures link { result.now ≡ self.now.link }
+        ensures run { IsRunNow W.told self.now.link self.now.entries }
+    {
+        &self.engine
+    }
+
+    /// The journal. The events of its entries are the run of the link: its replies are those of that run, the link
+    /// holds what the run left, and where the writer tells, it holds the bytes of the run, and what it accepted are
+    /// the writes among the events, in order.
+    pub fn journal(&self) -> &Journal
+        ensures entries { result.now ≡ record { life = self.now.link.life; entries = self.now.entries } }
+        ensures run { IsRunNow W.told self.now.link self.now.entries }
+    {
+        &self.journal
+    }
+
+    /// How many events the link makes at most.
+    pub fn life(&self) -> u64
+        ensures { result ≡ self.now.link.life }
+    {
+        self.engine.life()
+    }
+
+    /// The link and the journal as they are.
+    pub fn into_parts(self) -> (Engine<W, S>, Journal)
+        ensures engine { result.0 ≡ self.link }
+        ensures journal { result.1 ≡ record { life = self.link.life; entries = self.entries } }
+        ensures run { IsRunNow W.told self.link self.entries }
+        ensures empty { self.link.live.counts.events ≡ 0 → self.link.live ≡ empty_link }
+    {
+        let Recorder { engine, journal } = self;
+        (engine, journal)
+    }
+
+    /// The command of a clerk, as `Engine::command` makes it, and its entry where it was an event.
+    pub fn command(&mut self, clerk: u64, command: Command) -> Reply
+        ensures did { CommandDid self.old.link command result self.new.link }
+        ensures entry { self.new.entries
+            ≡ self.old.entries
+            ++ entry_if (made_event self.old.link self.new.link)
+            (command_entry clerk command result) }
+    {
+        let event = entry::commanded(&command);
+        let before = self.engine.events();
+        let reply = self.engine.command(command);
+        let made = self.engine.events() > before;
+        note_if(
+            &mut self.journal,
+            made,
+            entry::replied(event, &reply, Source::Clerk(clerk)),
+        );
+        reply
+    }
+
+    /// The packet of a worker for the flow of a name, as `Engine::arrive` takes it, and its entry where it was an
+    /// event. One copy of the payload goes into the buffer of the flow, and the other into the entry. It takes no
+    /// memory.
+    pub fn arrive(&mut self, worker: u64, flow: Name, parcel: Parcel) -> Reply
+        ensures did { Steps (λ _ l. arrive_step l flow parcel) self.old.link result self.new.link }
+        ensures entry { self.new.entries
+            ≡ self.old.entries
+            ++ entry_if (made_event self.old.link self.new.link)
+            (arrival_entry worker flow parcel result) }
+    {
+        let (sending, body) = parcel.split();
+        let event = entry::arrived(flow, body);
+        let before = self.engine.events();
+        let reply = self.engine.arrive(flow, sending);
+        let made = self.engine.events() > before;
+        note_if(
+            &mut self.journal,
+            made,
+            entry::replied(event, &reply, Source::Worker(worker)),
+        );
+        reply
+    }
+
+    /// A turn of the link, as `Engine::turn` makes it, and its entry where the writer accepted bytes or the frame was
+    /// torn. It takes no memory.
+    pub fn turn(&mut self, most: u32) -> Turn
+        requires { 1 ≤ most }
+        ensures did { TurnDid W.answers self.old.link most result self.new.link }
+        ensures entry { self.new.entries ≡ self.old.entries ++ turn_entries result }
+    {
+        let turn = self.engine.turn(most);
+        note_turn(&mut self.journal, &turn);
+        turn
+    }
+
+    /// A declared fault, as `Engine::tear` makes it, and its entry where the frame was torn. It takes no memory.
+    pub fn tear(&mut self) -> Turn
+        ensures did { TearDid self.old.link result self.new.link }
+        ensures entry { self.new.entries ≡ self.old.entries ++ turn_entries result }
+    {
+        let turn = self.engine.tear();
+        note_turn(&mut self.journal, &turn);
+        turn
+    }
+}
+
+// Puts the entry of a call at the end of a journal, where the call made an event.
+fn note_if(journal: &mut Journal, made: bool, entry: Entry)
+    requires { length (journal.old.entries ++ entry_if made entry) ≤ journal.old.life }
+    ensures { journal.new ≡ noted journal.old (entry_if made entry) }
+{
+    if made {
+        journal.push(entry);
+    }
+}
+
+// Puts the entry of a turn at the end of a journal, where the turn was an event.
+fn note_turn(journal: &mut Journal, turn: &Turn)
+    requires { length (journal.old.entries ++ turn_entries turn.now) ≤ journal.old.life }
+    ensures { journal.new ≡ noted journal.old (turn_entries turn.now) }
+{
+    match turn {
+        Turn::Wrote { k, .. } => journal.push(entry::turned(Event::Written(*k), turn)),
+        Turn::Torn { .. } => journal.push(entry::turned(Event::Faulted, turn)),
+        Turn::Idle => {}
+        Turn::Again => {}
+        Turn::Broken => {}
+        Turn::Spent => {}
+    }
+}

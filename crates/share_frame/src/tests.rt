@@ -12,52 +12,57 @@ const READ: FrameRead = FrameRead::Frame {
     len: 2,
 };
 
+/// What bytes are read as.
+const ROWS: [(&[u8], FrameRead); 15] = [
+    (b"", FrameRead::More),
+    (&HI, READ),
+    (
+        b"\x4c\x01\x00\x00\x00\x01\x00\x00\x00\x01\x00\x02h",
+        FrameRead::More,
+    ),
+    (b"\x4d", FrameRead::Bad(Place::Magic)),
+    (b"\x4c\x02", FrameRead::Bad(Place::Version)),
+    (b"\x4c\x01\x00", FrameRead::More),
+    (b"\x4c\x01\x00\x00\x00\x00", FrameRead::Bad(Place::Flow)),
+    (
+        b"\x4c\x01\x00\x00\x00\x01\x00\x00\x00\x00",
+        FrameRead::Bad(Place::Seq),
+    ),
+    (
+        b"\x4c\x01\x00\x00\x00\x01\x00\x00\x00\x01\x05",
+        FrameRead::More,
+    ),
+    (
+        b"\x4c\x01\x00\x00\x00\x01\x00\x00\x00\x01\x05\xd3",
+        FrameRead::Bad(Place::Len),
+    ),
+    (
+        b"\x4c\x01\x00\x00\x00\x01\x00\x00\x00\x01\x06",
+        FrameRead::Bad(Place::Len),
+    ),
+    (
+        b"\x4c\x01\x00\x00\x00\x01\x00\x00\x00\x01\x00\x00",
+        FrameRead::Bad(Place::Len),
+    ),
+    // the first of several bad fields
+    (
+        b"\x4d\x02\x00\x00\x00\x00\x00\x00\x00\x00\x06\x00",
+        FrameRead::Bad(Place::Magic),
+    ),
+    (
+        b"\x4c\x01\x00\x00\x00\x00\x00\x00\x00\x00\x06\x00",
+        FrameRead::Bad(Place::Flow),
+    ),
+    // other bytes behind a frame
+    (
+        b"\x4c\x01\x00\x00\x00\x01\x00\x00\x00\x01\x00\x02hi\x4d",
+        READ,
+    ),
+];
+
 #[test]
 fn bytes_are_read(rt: HostRuntime) {
-    let rows = [
-        (b"".as_slice(), FrameRead::More),
-        (&HI, READ),
-        (&HI[..13], FrameRead::More),
-        (b"\x4d", FrameRead::Bad(Place::Magic)),
-        (b"\x4c\x02", FrameRead::Bad(Place::Version)),
-        (b"\x4c\x01\x00", FrameRead::More),
-        (b"\x4c\x01\x00\x00\x00\x00", FrameRead::Bad(Place::Flow)),
-        (
-            b"\x4c\x01\x00\x00\x00\x01\x00\x00\x00\x00",
-            FrameRead::Bad(Place::Seq),
-        ),
-        (
-            b"\x4c\x01\x00\x00\x00\x01\x00\x00\x00\x01\x05",
-            FrameRead::More,
-        ),
-        (
-            b"\x4c\x01\x00\x00\x00\x01\x00\x00\x00\x01\x05\xd3",
-            FrameRead::Bad(Place::Len),
-        ),
-        (
-            b"\x4c\x01\x00\x00\x00\x01\x00\x00\x00\x01\x06",
-            FrameRead::Bad(Place::Len),
-        ),
-        (
-            b"\x4c\x01\x00\x00\x00\x01\x00\x00\x00\x01\x00\x00",
-            FrameRead::Bad(Place::Len),
-        ),
-        // the first of several bad fields
-        (
-            b"\x4d\x02\x00\x00\x00\x00\x00\x00\x00\x00\x06\x00",
-            FrameRead::Bad(Place::Magic),
-        ),
-        (
-            b"\x4c\x01\x00\x00\x00\x00\x00\x00\x00\x00\x06\x00",
-            FrameRead::Bad(Place::Flow),
-        ),
-        // other bytes behind a frame
-        (
-            b"\x4c\x01\x00\x00\x00\x01\x00\x00\x00\x01\x00\x02hi\x4d",
-            READ,
-        ),
-    ];
-    for (bytes, answer) in rows {
+    for (bytes, answer) in ROWS {
         assert_eq!(rt; read_frame(bytes), answer, "of {bytes:?}");
     }
 }

@@ -111,9 +111,11 @@ module _ (g : Graph) (level : ℕ → ℕ) where
       by true e = let here = ap (rank g level) (same_name a b e) in absurd (omega arith)
       by false e = e
   chain-none ts each (suc n) a b less =
-      any-filter (λ (t : Ticket). bytes_eq a t.denomination) (λ (t : Ticket). leads_on (λ c. chain ts n c b) t.holder) ts
+      any-filter (λ (t : Ticket). bytes_eq a t.denomination)
+      (λ (t : Ticket). leads_on (λ c. chain ts n c b) t.holder) ts
       ∙ none_any (λ (t : Ticket). bytes_eq a t.denomination && leads_on (λ c. chain ts n c b) t.holder) ts
-      (each_map (RisesBy g level) _ (λ t up. by (λ c. chain-none ts each n c b) (bytes_eq a t.denomination) t refl up) ts each)
+      (each_map (RisesBy g level) _
+      (λ t up. by (λ c. chain-none ts each n c b) (bytes_eq a t.denomination) t refl up) ts each)
     where
       on : ((c : NameBytes) → rank g level b < rank g level c + n → chain ts n c b ≡ false) → (h : Holder)
           → Rises g level (rank g level a) h → leads_on (λ c. chain ts n c b) h ≡ false
@@ -135,7 +137,8 @@ module _ (g : Graph) (level : ℕ → ℕ) where
   unfolding chain_within
   within-none ts each zero a b less = chain-none ts each 0 a b (omega arith)
   within-none ts each (suc n) a b less =
-      ap (λ x. x || chain ts (suc n) a b) (within-none ts each n a b less) ∙ chain-none ts each (suc n) a b (omega arith)
+      ap (λ x. x || chain ts (suc n) a b) (within-none ts each n a b less)
+      ∙ chain-none ts each (suc n) a b (omega arith)
 
   -- and levels are at most eight
   runs-none : (ts : List Ticket) → Each (RisesBy g level) ts → ((p : ℕ) → level p ≤ 8) → (n : ℕ) (a : NameBytes)
@@ -145,7 +148,8 @@ module _ (g : Graph) (level : ℕ → ℕ) where
   runs-none ts each low (suc n) a far =
       any-filter (λ (t : Ticket). bytes_eq a t.denomination) (λ (t : Ticket). leads_on (runs ts n) t.holder) ts
       ∙ none_any (λ (t : Ticket). bytes_eq a t.denomination && leads_on (runs ts n) t.holder) ts
-      (each_map (RisesBy g level) _ (λ t up. by (λ c. runs-none ts each low n c) (bytes_eq a t.denomination) t refl up) ts each)
+      (each_map (RisesBy g level) _
+      (λ t up. by (λ c. runs-none ts each low n c) (bytes_eq a t.denomination) t refl up) ts each)
     where
       on : ((c : NameBytes) → 8 < rank g level c + n → runs ts n c ≡ false) → (h : Holder)
           → Rises g level (rank g level a) h → leads_on (runs ts n) h ≡ false
@@ -297,7 +301,7 @@ module _ (g : Graph) (ok : IsKept g) (ss : List (List Seat)) (seated : AreSeated
       (λ t known apart. levels.high (place (names_of g) t.denomination) (past-base t.denomination apart)
       (below g ok t.denomination known.denomination_known)) g.tickets (placed g ok) in (
         within-none g level g.tickets rises 8 c t.denomination less,
-        deep-none g level (with_holder n (Currency c) g.tickets) (rises-written g level n c g.tickets t found less rises)
-            levels.low
+        deep-none g level (with_holder n (Currency c) g.tickets)
+            (rises-written g level n c g.tickets t found less rises) levels.low
             (high-written g level n c (λ d. bytes_eq d base ≡ false → 1 ≤ rank g level d) g.tickets high),
       )

@@ -65,7 +65,8 @@ pub quiet-ready : (old new : Net) (shares : List ℕ) (backs funds : List Route)
     → n ≡ min (weighed new.funding.items (flags_of new.active.value) (numbers_of new.values.value)
     (numbers_of new.weights.value) place) (2 ^ 20)
     → IsReady new (set shares place n) backs funds lit
-quiet-ready old new shares backs funds lit place n b ready begun backing funding awake values seen still turned lt long own =
+quiet-ready old new shares backs funds lit place n b ready begun backing funding awake values seen still turned lt long
+    own =
     record {
       begun = begun;
       awake_is = λ p above below. ap (λ a. flags_of a.value p) awake ∙ ready.awake_is p above below

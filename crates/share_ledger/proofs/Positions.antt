@@ -1,6 +1,7 @@
 -- The first element that passes a test, and lists that are changed there.
 use Rattle.std.proofs.Common.{◌≡◌, ℕ, ◌+◌, ◌≤◌, ◌<◌, zero, suc, Bool, true, false, not, cond, List, [], ◌∷◌, ◌++◌, map}
-use Rattle.std.proofs.Common.{length, get_or, set, find, position, nat_lt, nat_eq, Option, None, Some, Result, Ok, Err, IfOk}
+use Rattle.std.proofs.Common.{length, get_or, set, find, position, nat_lt, nat_eq}
+use Rattle.std.proofs.Common.{Option, None, Some, Result, Ok, Err, IfOk}
 use Rattle.std.proofs.Common.{refl, sym, ap, subst, ◌∙◌, arith, bytes_eq, if◌then◌else◌, remove}
 use Rattle.std.specs.List.{list_any}
 use Rattle.std.specs.List.{position_or_len}

@@ -1,5 +1,6 @@
 -- What is left where no weight and no value that seats rest on has changed.
-use Rattle.std.proofs.Common.{◌≡◌, ◌<◌, ◌≤◌, ◌+◌, ◌*◌, ◌/◌, ◌^◌, ℕ, Bool, true, false, cond, not, ◌&&◌, ◌||◌, min, List, [], ◌∷◌}
+use Rattle.std.proofs.Common.{◌≡◌, ◌<◌, ◌≤◌, ◌+◌, ◌*◌, ◌/◌, ◌^◌, ℕ, min, List, [], ◌∷◌}
+use Rattle.std.proofs.Common.{Bool, true, false, cond, not, ◌&&◌, ◌||◌}
 use Rattle.std.proofs.Common.{sum_by, nat_eq, nat_lt, length, set, refl, sym, ap, ◌∙◌, arith}
 use Rattle.std.specs.List.{list_any}
 use Rattle.std.proofs.lemmas.Bool.Decides.{nat_tests}
@@ -62,7 +63,8 @@ module _ (moved : ℕ → Bool) (v w s u : ℕ → ℕ) where
     all : (nat_eq changed p ≡ false) × ((not (nat_eq (u p) (s p)) ≡ false)
         × (list_any (λ (x : Seat). moved x.from) (seats_at ss p) ≡ false))
     all =
-        parts (nat_eq changed p) (not (nat_eq (u p) (s p))) (list_any (λ (x : Seat). moved x.from) (seats_at ss p)) fresh
+        parts (nat_eq changed p) (not (nat_eq (u p) (s p)))
+        (list_any (λ (x : Seat). moved x.from) (seats_at ss p)) fresh
 
     weight : u p ≡ s p
     weight = by (u p) (s p) all.1.0
@@ -216,7 +218,8 @@ module _ (old new : Net) (shares : List ℕ) (c f : ℕ) (values : new.values �
       ∙ ap (λ s. cond (lit p) (sum_by (seat_worth (numbers_of new.values.value) (numbers_of s.value))
       (seats_at other p)) 0) (sym seen)
 
-  pub left-was : new.awake ≡ old.awake → ((k : ℕ) → nat_eq c k ≡ false → seats_at new.backing.items k ≡ seats_at old.backing.items k)
+  pub left-was : new.awake ≡ old.awake
+      → ((k : ℕ) → nat_eq c k ≡ false → seats_at new.backing.items k ≡ seats_at old.backing.items k)
       → ((k : ℕ) → nat_eq f k ≡ false → seats_at new.funding.items k ≡ seats_at old.funding.items k)
       → ((k : ℕ) → nat_eq f k ≡ false → flags_of new.active.value k ≡ flags_of old.active.value k)
       → WasSettled new shares c f

@@ -6,7 +6,8 @@ use Rattle.share_ledger.specs.declared.seats.Seat.{Seat}
 use Rattle.share_ledger.specs.Rounds.{flags_of, numbers_of}
 use Rattle.share_ledger.specs.Seats.{seats_at, weighed}
 
--- the value of a currency may be another one: it is the one that changed, its weight is another, or a seat's place moved
+-- the value of a currency may be another one: it is the one that changed, its weight is another, or the place of a
+-- seat moved
 abbrev pub is_stale : List (List Seat) → (ℕ → Bool) → (ℕ → ℕ) → (ℕ → ℕ) → ℕ → ℕ → Bool
 is_stale ss moved whole seen changed p =
     nat_eq changed p || not (nat_eq (whole p) (seen p)) || list_any (λ (s : Seat). moved s.from) (seats_at ss p)

@@ -1,5 +1,6 @@
 //! Where a ticket stands among the tickets, by its number.
-ghost use Rattle.std.specs.Prelude.{◌≡◌, ◌-◌, MatchOption, IsTrue, None, Some, IfOk, IfErr, position, length, slice_get};
+ghost use Rattle.std.specs.Prelude.{◌≡◌, ◌-◌, MatchOption, IsTrue, None, Some, IfOk, IfErr};
+ghost use Rattle.std.specs.Prelude.{position, length, slice_get};
 ghost use Rattle.share_model.specs.funding.Changes.{is_numbered};
 ghost use Rattle.share_ledger.specs.Numbers.{AreRising};
 

@@ -292,7 +292,8 @@ IsFirst-some count entries seats heap some =
     }
 
 -- nothing stands in an empty heap
-pub standings_of-none : (entries : List Entry) (seats : List ℕ) → standings_of 0 entries seats ≡ replicate (length seats) None
+pub standings_of-none : (entries : List Entry) (seats : List ℕ)
+    → standings_of 0 entries seats ≡ replicate (length seats) None
 standings_of-none entries seats =
     let long = length-map seats (standing_at 0 entries) in
     let all_long = length-replicate {A = Option Entry} (length seats) None in

@@ -83,7 +83,8 @@ IsNext-first slots standings (Some entry) distinct ranked is =
           (subst (λ (c : Client). Precedes entry.pass entry.flow c.pass s.slot.flow) s.client_is precedes));
     }
 
-pub IsNext-view : (slots : Slots) (standings : Standings) (now : Clients) (first : Option Entry) {keys : FinMap nat_cmp ℕ}
+pub IsNext-view : (slots : Slots) (standings : Standings) (now : Clients) (first : Option Entry)
+    {keys : FinMap nat_cmp ℕ}
     → AreDistinct slots → IsRanked slots standings → clients_of slots keys ≡ now → IsFirst standings first
     → IsNext now.by_flow (option_map (λ entry. entry.flow) first)
 IsNext-view slots standings now first distinct ranked view is =

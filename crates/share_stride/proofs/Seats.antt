@@ -43,8 +43,8 @@ set_same xs i x d fits is =
       | inr apart ↦ get_or-set_other xs i k x e apart
     ])
 
-module _ (entries : List Entry) (seats : List ℕ) (a b : ℕ) (seated : IsSeated entries seats) (a_fits : a < length entries)
-    (b_fits : b < length entries) where
+module _ (entries : List Entry) (seats : List ℕ) (a b : ℕ) (seated : IsSeated entries seats)
+    (a_fits : a < length entries) (b_fits : b < length entries) where
   abbrev own : Entry
   own = entry_at entries a
 
@@ -100,7 +100,8 @@ module _ (entries : List Entry) (seats : List ℕ) (a b : ℕ) (seated : IsSeate
 module _ (count : ℕ) (entries : List Entry) (seats : List ℕ) (key : ℕ) (seated : IsSeated entries seats)
     (has : (entry_at entries count).key ≡ key) where
   -- a key but the one at the end of the heap
-  counted : (k : ℕ) → k < length entries → k ≢ key → standing (count + 1) entries seats k ≡ standing count entries seats k
+  counted : (k : ℕ) → k < length entries → k ≢ key
+      → standing (count + 1) entries seats k ≡ standing count entries seats k
   counted k fits apart =
       let elsewhere : seat_of seats k ≢ count =
       λ same. apart (sym (seated.key_is k fits) ∙ ap (λ i. (entry_at entries i).key) same ∙ has) in

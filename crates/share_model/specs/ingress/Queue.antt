@@ -85,7 +85,8 @@ spent = record {
 -- The rule
 
 -- an end is that of its worker, which is one of those made and not closed; what it pushed was popped or is held
-pub record IsEnd (seat : ℕ → ℕ) (got items : List Offer) (made : ℕ) (shut : ℕ → Bool) (pass : ℕ) (v : QueueView) : Type 0
+pub record IsEnd (seat : ℕ → ℕ) (got items : List Offer) (made : ℕ) (shut : ℕ → Bool) (pass : ℕ) (v : QueueView)
+    : Type 0
   where
     pub alone : pass ≡ seat v.worker
     pub known : v.worker < made

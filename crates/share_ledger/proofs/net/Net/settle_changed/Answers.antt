@@ -32,7 +32,8 @@ returns-then-are_same-clause-ready c = λ _. quiet c
 
 pub returns-then-are_same-clause-shares : goal.returns-then-are_same-clause-shares
 returns-then-are_same-clause-shares c = λ _.
-    shares-settled c.args.tables.now c.args.self.now c.share.new.shares c.is_kept.ensures c.share.ensures.long.1 (quiet c)
+    shares-settled c.args.tables.now c.args.self.now c.share.new.shares c.is_kept.ensures c.share.ensures.long.1
+    (quiet c)
 
 pub returns-clause-shares : goal.returns-clause-shares
 returns-clause-shares c = λ e.

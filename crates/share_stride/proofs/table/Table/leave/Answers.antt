@@ -25,7 +25,8 @@ invariant_of-self-in-Some c =
     (sym (entry_of-idle c.args.place.key slot (ap (λ (k : Client). k.competes) c.left-slot.ensures))))
 
 pub returns-in-None-clause-tickets : goal.returns-in-None-clause-tickets
-returns-in-None-clause-tickets c = absurd (place_filled _ _ _ c.self.invariant.indexed c.self.view_is c.args.place c.requires.place
+returns-in-None-clause-tickets c =
+    absurd (place_filled _ _ _ c.self.invariant.indexed c.self.view_is c.args.place c.requires.place
     c.in-None.ensures.value)
 
 pub returns-in-Some-clause-tickets : goal.returns-in-Some-clause-tickets
@@ -35,7 +36,8 @@ returns-in-Some-clause-tickets c =
     ap (λ (k : Client). k.tickets) c.left-slot.ensures ∙ ap (λ (k : Client). k.tickets) is
 
 pub returns-in-None-clause-left : goal.returns-in-None-clause-left
-returns-in-None-clause-left c = absurd (place_filled _ _ _ c.self.invariant.indexed c.self.view_is c.args.place c.requires.place
+returns-in-None-clause-left c =
+    absurd (place_filled _ _ _ c.self.invariant.indexed c.self.view_is c.args.place c.requires.place
     c.in-None.ensures.value)
 
 pub returns-in-Some-clause-left : goal.returns-in-Some-clause-left

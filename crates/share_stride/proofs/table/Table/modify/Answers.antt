@@ -39,7 +39,8 @@ invariant_of-self-in-Some c =
     (c.shift.ensures))
 
 pub returns-in-None-clause-tickets : goal.returns-in-None-clause-tickets
-returns-in-None-clause-tickets c = absurd (place_filled _ _ _ c.self.invariant.indexed c.self.view_is c.args.place c.requires.place
+returns-in-None-clause-tickets c =
+    absurd (place_filled _ _ _ c.self.invariant.indexed c.self.view_is c.args.place c.requires.place
     c.in-None.ensures.value)
 
 pub returns-in-Some-clause-tickets : goal.returns-in-Some-clause-tickets
@@ -49,7 +50,8 @@ returns-in-Some-clause-tickets c =
     ap (λ (k : Client). k.tickets) is
 
 pub returns-in-None-clause-modified : goal.returns-in-None-clause-modified
-returns-in-None-clause-modified c = absurd (place_filled _ _ _ c.self.invariant.indexed c.self.view_is c.args.place c.requires.place
+returns-in-None-clause-modified c =
+    absurd (place_filled _ _ _ c.self.invariant.indexed c.self.view_is c.args.place c.requires.place
     c.in-None.ensures.value)
 
 pub returns-in-Some-clause-modified : goal.returns-in-Some-clause-modified

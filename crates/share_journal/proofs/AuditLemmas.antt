@@ -85,7 +85,7 @@ written_all a now entries so =
 
 -- What the audit comes to
 
-told_bytes : (o : Option Told) (ks : List ℕ) (s t : State) → s ≡ t → IfSome o (TellsRun t ks)
+pub told_bytes : (o : Option Told) (ks : List ℕ) (s t : State) → s ≡ t → IfSome o (TellsRun t ks)
     → IfSome o (λ r. r.bytes ≡ out s)
 told_bytes None ks s t same tells = tt
 told_bytes (Some r) ks s t same tells = tells.bytes ∙ ap out (sym same)

@@ -1,3 +1,4 @@
+pub mod Headline
 pub mod funding
 pub mod ingress
 pub mod io

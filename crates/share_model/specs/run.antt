@@ -10,6 +10,7 @@ pub mod Ends
 pub mod Events
 pub mod Fold
 pub mod FoldLaws
+pub mod HeadlineLaws
 pub mod HeldLaws
 pub mod History
 pub mod HistoryLaws

@@ -29,6 +29,8 @@ ghost use Rattle.share_model.specs.lists.Laws.{has_number};
 ghost use Rattle.share_model.specs.text.Events.{made_of, events_of, texts_of};
 ghost use Rattle.share_model.specs.text.Report.{report};
 ghost use Rattle.share_model.specs.text.Talk.{start, talk, after};
+ghost use Rattle.share_model.specs.io.Told.{Told};
+ghost use Rattle.share_model.specs.Headline.{Headline};
 
 /// Events that a link may make one after another leave it sound.
 pub fn events_keep_sound()
@@ -171,6 +173,15 @@ pub fn shares_of_runs()
         → IsWithinShare (client (run rates before).live.queue one).pass
         (client (run rates before).live.queue other).pass
         (stretch_charges one other rates (run rates before) stretch) }
+{}
+
+/// The sentence that this project stands for, of every run: whoever answers as the fold does, holds what it comes to and
+/// tells its bytes keeps the whole of it. Links do, as the laws of recorders and of scripts say.
+pub fn runs_are_one_fold()
+    ensures { (life : ℕ) (rates : List Rate) (events : List Event) (told : Told)
+        → life ≤ max_life → AreInRange rates → MayFollow life rates empty_state events
+        → told.bytes ≡ out (run rates events)
+        → Headline life rates events (outcomes rates empty_state events) (run rates events).live (Some told) }
 {}
 
 /// A script is a run of its events, of which a line makes one or none. They may follow one another;

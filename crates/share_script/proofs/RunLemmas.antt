@@ -1,5 +1,5 @@
 -- How a whole run is put together: its reads, its chunks and the last line.
-use Rattle.std.proofs.Common.{◌≡◌, ◌≢◌, ◌<◌, inl, inr, ℕ, Bool, true, List, [], ◌∷◌, ◌++◌, length, IfSome, Option}
+use Rattle.std.proofs.Common.{◌≡◌, ◌≢◌, ◌<◌, ◌≤◌, inl, inr, ℕ, Bool, true, List, [], ◌∷◌, ◌++◌, length, IfSome, Option}
 use Rattle.std.proofs.Common.{None, Some, arith, sym, ◌∙◌, ap, subst, refl}
 use mathlib.Core.List.{append_assoc}
 use Rattle.std.specs.Io.KnownBytes.{Appends, Consumes, Keeps}
@@ -7,13 +7,19 @@ use Rattle.std.proofs.KnownBytes.{Consumes-trans}
 use Rattle.std.proofs.lemmas.List.{append-nil}
 use Rattle.share_model.specs.declared.rates.Rate.{Rate}
 use Rattle.share_model.specs.io.Told.{Told}
-use Rattle.share_model.specs.run.Fold.{out}
+use Rattle.share_model.specs.link.Tariff.{AreInRange}
+use Rattle.share_model.specs.run.Fold.{State, out}
+use Rattle.share_model.specs.run.FoldLaws.{state-empty}
+use Rattle.share_model.specs.run.HeadlineLaws.{headline}
+use Rattle.share_model.specs.run.Sound.{max_life}
+use Rattle.share_model.specs.text.Events.{events_of}
+use Rattle.share_model.specs.text.EventsLaws.{after-state, events-may_follow, talk-texts}
 use Rattle.share_model.specs.text.Talk.{Progress, start, answer, talk, after, lines_of}
 use Rattle.share_model.specs.text.Says.{Holds}
 use Rattle.share_script.specs.Printing.{SpooledPart}
 use Rattle.share_script.specs.Session.{AtLine, Stands}
 use Rattle.share_model.specs.link.Seen.{Seen}
-use Rattle.share_script.specs.Script.{Printed, PrintedPart, NoFeed, Went, Begins, Feeds, FeedsPart, Ends, EndsPart}
+use Rattle.share_script.specs.Script.{Printed, PrintedPart, IsOneFold, NoFeed, Went, Begins, Feeds, FeedsPart, Ends, EndsPart}
 use Rattle.share_script.specs.Script.{Running}
 use Rattle.share_script.proofs.FeedLemmas.{fed_none, fed_more, fed_then_part, part_longer, part_as, part_of}
 use Rattle.share_script.proofs.WentLemmas.{went_as, begins_as, went_more, begins_more, went_line}
@@ -248,3 +254,27 @@ pub part_first : (given a c : Option (List ℕ)) (engine : Seen Told) (old : AtL
 part_first given a c engine old is h =
     let P : Seen Told → Type 0 = λ x. IfSome given (λ script. PrintedPart a c x script) in
     subst P (ap (λ (x : AtLine Told). x.link) is) h
+
+-- What was printed and what the link came to are one fold
+
+fold_of : (a c : Option (List ℕ)) (engine last : Seen Told) (script : List ℕ) → engine.life ≤ max_life
+    → AreInRange engine.rates → Printed a c engine script last → IsOneFold a c engine script last
+fold_of a c engine last script few range p =
+    let lines = lines_of script in
+    let state = after-state engine.life engine.rates start p.lacks lines in record {
+      lacks = p.lacks;
+      text = subst (Appends a c) (talk-texts engine.life engine.rates start p.lacks lines) p.text;
+      keeps =
+          headline engine.life engine.rates (events_of engine.life engine.rates start p.lacks lines) _ last.live
+          (Some last.writer) few range
+          (events-may_follow engine.life engine.rates start p.lacks lines range
+          (state-empty engine.life engine.rates)) refl
+          (p.live ∙ ap (λ (s : State). s.live) state)
+          (p.bytes ∙ ap out state);
+    }
+
+pub fold_first : (given a c : Option (List ℕ)) (engine last : Seen Told) → engine.life ≤ max_life
+    → AreInRange engine.rates → IfSome given (λ script. Printed a c engine script last)
+    → IfSome given (λ script. IsOneFold a c engine script last)
+fold_first None a c engine last few range h = tt
+fold_first (Some script) a c engine last few range h = fold_of a c engine last script few range h

@@ -1,5 +1,5 @@
 -- What a run of a script comes to.
-use Rattle.std.specs.Prelude.{◌≡◌, ◌≢◌, ◌⊎◌, ℕ, Bool, true, false, List, [], ◌∷◌, ◌++◌, Option}
+use Rattle.std.specs.Prelude.{◌≡◌, ◌≢◌, ◌⊎◌, ℕ, Bool, true, false, List, [], ◌∷◌, ◌++◌, Option, Some}
 use Rattle.std.specs.List.{All}
 use Rattle.std.specs.Io.KnownBytes.{Appends, Consumes}
 use Rattle.share_base.specs.declared.command.Turn.{Turn}
@@ -7,10 +7,12 @@ use Rattle.share_base.specs.declared.command.Turn.TheVariants.{Torn}
 use Rattle.share_model.specs.declared.rates.Rate.{Rate}
 use Rattle.share_model.specs.declared.reader.Got.{Got}
 use Rattle.share_model.specs.declared.writer.Answer.{Answer}
-use Rattle.share_model.specs.run.Fold.{out}
+use Rattle.share_model.specs.run.Fold.{empty_state, outcomes, out}
 use Rattle.share_model.specs.link.Seen.{Seen}
 use Rattle.share_model.specs.io.Told.{Told}
 use Rattle.share_model.specs.io.Calls.{ReadFails, HasRead, Offers, OfferRefused, Called, CallFailed}
+use Rattle.share_model.specs.Headline.{Headline}
+use Rattle.share_model.specs.text.Events.{made_of, events_of, texts_of}
 use Rattle.share_model.specs.text.Talk.{Progress, start, talk, after, is_feed, lines_of}
 use Rattle.share_model.specs.text.Says.{Says}
 use Rattle.share_script.specs.Printing.{Spooled, SpooledPart}
@@ -30,6 +32,18 @@ pub record Printed (before after_it : Option (List ℕ)) (old : Seen Told) (scri
     pub bytes : new.writer.bytes ≡ out (after old.life old.rates start lacks (lines_of script)).state
     pub life : new.life ≡ old.life
     pub rates : new.rates ≡ old.rates
+
+-- what was printed are the texts of the outcomes of the events that the lines make, and each text without an event in its
+-- place; and of these events the link and its tape keep the sentence of this project
+pub record IsOneFold (before after_it : Option (List ℕ)) (old : Seen Told) (script : List ℕ) (new : Seen Told) : Type 0
+  where
+    -- which lines found no memory
+    pub lacks : List Bool
+    pub text : Appends before after_it (texts_of (made_of old.life old.rates start lacks (lines_of script))
+        (outcomes old.rates empty_state (events_of old.life old.rates start lacks (lines_of script))))
+    pub keeps : Headline old.life old.rates (events_of old.life old.rates start lacks (lines_of script))
+        (outcomes old.rates empty_state (events_of old.life old.rates start lacks (lines_of script))) new.live
+        (Some new.writer)
 
 -- a beginning of the text was printed
 pub record PrintedPart (before after_it : Option (List ℕ)) (old : Seen Told) (script : List ℕ) : Type 0 where

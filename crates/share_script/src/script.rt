@@ -7,6 +7,7 @@ ghost use Rattle.share_model.specs.link.Live.{empty_link};
 ghost use Rattle.share_model.specs.io.Printing.{bytes_told};
 ghost use Rattle.share_model.specs.text.Says.{TakesAll};
 ghost use Rattle.share_model.specs.text.Talk.{start};
+ghost use Rattle.share_script.specs.Script.{IsOneFold};
 ghost use Rattle.share_script.specs.Script.{Printed, PrintedPart, Feeds, FeedsPart, Spoke, SpokePart, Ends, EndsPart};
 ghost use Rattle.share_script.specs.Script.{Wrote, IsStop, IsEnd, IsFault};
 ghost use Rattle.share_script.specs.Session.{Stands};
@@ -104,6 +105,8 @@ pub fn run_script<S: Rates + Drop, I: Source, O: Telling>(
         engine script done)
         (λ _. PrintedPart (bytes_told (O.told output.old)) (bytes_told (O.told output.new))
         engine script)) }
+    ensures fold { IfSome (I.left input.old) (λ script. IfOk result (λ done.
+        IsOneFold (bytes_told (O.told output.old)) (bytes_told (O.told output.new)) engine script done)) }
     ensures ended { OnOk result (IsAtEnd (I.left input.new)) }
     ensures read { OnOk result (ReadsToEnd I.gives MAX_READS input.old input.new) }
     ensures offers { OnOk result (Offers O.answers output.old output.new) }

@@ -1,6 +1,6 @@
 use Rattle.std.proofs.lemmas.Result.{err_from_is_err_and}
 use Rattle.share_model.specs.text.TalkLaws.{holds-empty}
-use Rattle.share_script.proofs.RunLemmas.{stands_first, printed_first, part_first}
+use Rattle.share_script.proofs.RunLemmas.{stands_first, printed_first, part_first, fold_first}
 use Rattle.share_script.proofs.StopLemmas.{fault_first}
 use Rattle.share_script.proofs.script.run_script.Goals as goal
 
@@ -21,6 +21,12 @@ pub returns-clause-printed : goal.returns-clause-printed
 returns-clause-printed g c =
     printed_first _ _ _ c.args.engine c.into_engine.result c.new-session.result c.run_lines.new.session
     c.new-session.ensures c.into_engine.ensures c.in_ok-run_lines.ensures.printed
+
+pub returns-clause-fold : goal.returns-clause-fold
+returns-clause-fold g c =
+    fold_first _ _ _ c.args.engine c.into_engine.result c.events-events.ensures.life c.events-events.ensures.range
+    (printed_first _ _ _ c.args.engine c.into_engine.result c.new-session.result c.run_lines.new.session
+    c.new-session.ensures c.into_engine.ensures c.in_ok-run_lines.ensures.printed)
 
 pub returns-clause-ended : goal.returns-clause-ended
 returns-clause-ended g c = (g.met.I.Source.tells _ _ _ _ c.in_ok-run_lines.ensures.read.ended).1

@@ -1,0 +1,81 @@
+-- The sentence that this project stands for, said of a list of events: for every list of commands, arrivals and link
+-- turns, whatever each write accepts and up to the writer's first fault, the replies, accounts and bytes written are
+-- those of one plain fold, in which each next frame carries the head packet of the flow with the least pass, on tickets
+-- computed from scratch.
+use Rattle.std.specs.Prelude.{◌≡◌, ◌<◌, ◌≤◌, ℕ, List, [], ◌∷◌, ◌++◌, length, take, find, Option, None, Some, IfSome}
+use Rattle.share_base.specs.declared.command.Event.{Event}
+use Rattle.share_base.specs.declared.command.Event.TheVariants.{Written, Faulted}
+use Rattle.share_base.specs.declared.command.Outcome.{Outcome}
+use Rattle.share_model.specs.declared.link.Book.{Book}
+use Rattle.share_model.specs.declared.link.Part.{Part}
+use Rattle.share_model.specs.declared.rates.Rate.{Rate}
+use Rattle.share_model.specs.io.Told.{Told}
+use Rattle.share_model.specs.link.Buffers.{head_of}
+use Rattle.share_model.specs.link.Live.{Live, Sending, wants, rest_of, is_book_of}
+use Rattle.share_model.specs.run.Events.{MayFollow}
+use Rattle.share_model.specs.run.Fold.{State, empty_state, outcomes, run, out}
+use Rattle.share_model.specs.run.History.{AreFramesOf, sent_packets, bill, past_bill}
+use Rattle.share_model.specs.stride.Level.{IsLevel}
+use Rattle.share_model.specs.stride.Moves.{IsNextFlow}
+
+-- The next frame
+
+-- a frame is begun with its first byte: that of the head packet of the flow with the least pass, and of several such
+-- flows that of the least number, among those that compete
+pub record IsBegun (l : Live) (s : Sending) : Type 0 where
+  pub least : IsNextFlow l.queue.clients s.head.flow
+  pub head : head_of l.buffers s.head.flow ≡ Some s.head
+  pub first : s.out ≡ 0
+
+-- the frame in part is gone on with, after its bytes that are out: that of the head packet of the same flow
+pub record IsGoneOnWith (l : Live) (p : Part) (s : Sending) : Type 0 where
+  pub flow : s.head.flow ≡ p.flow
+  pub head : head_of l.buffers s.head.flow ≡ Some s.head
+  pub after : s.out ≡ p.out
+
+-- a frame is begun only where none is in part
+abbrev pub IsNextFrame : Live → Option Part → Sending → Type 0
+IsNextFrame l None s = IsBegun l s
+IsNextFrame l (Some p) s = IsGoneOnWith l p s
+
+-- the writer took k bytes, at least one: the next ones of the next frame
+pub record Writes (before after : State) (k : ℕ) : Type 0 where
+  pub frame : Sending
+  pub next : IsNextFrame before.live before.live.part frame
+  pub some : 0 < k
+  pub fits : k ≤ length (rest_of frame)
+  pub bytes : out after ≡ out before ++ take k (rest_of frame)
+
+-- the writer failed on the next frame, and no byte was written then or after it
+pub record Fails (before last : State) : Type 0 where
+  pub frame : Sending
+  pub next : IsNextFrame before.live before.live.part frame
+  pub bytes : out last ≡ out before
+
+-- The sentence
+
+-- the events that a link made, in their order; the replies to them; what the link holds after them; and what its writer
+-- tells, if it tells anything
+pub record Headline (life : ℕ) (rates : List Rate) (events : List Event) (replies : List Outcome) (l : Live)
+    (told : Option Told) : Type 0 where
+  -- commands and arrivals came in any order; a write took what it took, and none came after a fault
+  pub follow : MayFollow life rates empty_state events
+  -- the replies are those of the fold, and the link holds what the fold comes to
+  pub replies_are : replies ≡ outcomes rates empty_state events
+  pub holds : l ≡ (run rates events).live
+  -- an account is the price of what was written of its flow; and so are those of closed flows together
+  pub accounts : (flow : ℕ) (book : Book) → find (is_book_of flow) l.books ≡ Some book
+      → book.account ≡ bill rates (run rates events) flow
+  pub past : l.counts.past ≡ past_bill rates (run rates events)
+  -- the bytes written are those of the fold: the frames of the packets written whole, and the beginning of one more
+  pub bytes : IfSome told (λ t. t.bytes ≡ out (run rates events))
+  pub frames : AreFramesOf (sent_packets (run rates events).done) (out (run rates events))
+  -- each write takes the next bytes of the next frame
+  pub writes : (before after : List Event) (k : ℕ) → events ≡ before ++ Written k ∷ after
+      → Writes (run rates before) (run rates (before ++ Written k ∷ [])) k
+  -- up to the first fault
+  pub fault : (before after : List Event) → events ≡ before ++ Faulted ∷ after
+      → Fails (run rates before) (run rates events)
+  -- at every moment each open flow competes with as many tickets as the definitions give it there, from scratch
+  pub tickets : (before after : List Event) → events ≡ before ++ after
+      → IsLevel (run rates before).live.queue (wants (run rates before).live.graph)

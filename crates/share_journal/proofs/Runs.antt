@@ -70,14 +70,6 @@ module _ {told : Option Told} {life : ℕ} {rates : List Rate} {live : Live} {es
   pub run-few : length es ≤ life
   run-few = let sound = run-sound in let count = run-count in omega (arith, sound.counts.events, count)
 
--- a link that made no event is empty
-pub run-empty : {told : Option Told} {life : ℕ} {rates : List Rate} {live : Live} {os : List Outcome} {ks : List ℕ}
-    → (es : List Event) → IsRunOf told life rates live es os ks → live.counts.events ≡ 0 → live ≡ empty_link
-unfolding state_after
-run-empty [] was none = sym was.ends.live
-run-empty {live = live} (e ∷ es) was none =
-    let count : live.counts.events ≡ suc (length es) = run-count was in absurd (omega (arith, count, none))
-
 -- A run goes on
 
 module _ {W : Type 0} (told : W → Option Told) (old new : Seen W) (es fs : List Event) (os ps : List Outcome)

@@ -1,7 +1,7 @@
 //! A link with its journal.
 ghost use Rattle.std.specs.Prelude.{◌≡◌, ◌<◌, ◌≤◌, ◌++◌, [], length, IfOk, IfErr, IfSome, true, false};
 ghost use Rattle.share_model.specs.link.Did.{Steps, CommandDid, TurnDid, TearDid};
-ghost use Rattle.share_model.specs.link.Live.{empty_link, arrive_step};
+ghost use Rattle.share_model.specs.link.Live.{arrive_step};
 ghost use Rattle.share_journal.specs.Entries.{command_entry, arrival_entry, turn_entries, noted};
 ghost use Rattle.share_journal.specs.Records.{Recorded, IsRunNow, AcceptedNothing, are_new, made_event, entry_if};
 
@@ -38,15 +38,13 @@ impl<W: Telling, S: Rates> Model for Recorder<W, S> {
 }
 
 impl<W: Telling, S: Rates> Recorder<W, S> {
-    /// A link and its journal, both new and of the same life; else both come back. The conditions: a writer that tells
-    /// has accepted nothing yet, and a link that made no event is empty, as each link from `Engine::new` is. It takes
-    /// no memory.
+    /// A link and its journal, both new and of the same life; else both come back. The condition: a writer that tells
+    /// has accepted nothing yet. It takes no memory.
     pub fn new(
         engine: Engine<W, S>,
         journal: Journal,
     ) -> Result<Recorder<W, S>, (Engine<W, S>, Journal)>
         requires nothing { IfSome (W.told engine.writer) AcceptedNothing }
-        requires empty { engine.live.counts.events ≡ 0 → engine.live ≡ empty_link }
         ensures ok { IfOk result (λ r.
             (r ≡ record { link = engine; entries = [] })
             × (are_new engine journal ≡ true)) }
@@ -91,7 +89,6 @@ impl<W: Telling, S: Rates> Recorder<W, S> {
         ensures engine { result.0 ≡ self.link }
         ensures journal { result.1 ≡ record { life = self.link.life; entries = self.entries } }
         ensures run { IsRunNow W.told self.link self.entries }
-        ensures empty { self.link.live.counts.events ≡ 0 → self.link.live ≡ empty_link }
     {
         let Recorder { engine, journal } = self;
         (engine, journal)

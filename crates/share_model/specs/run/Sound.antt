@@ -19,7 +19,7 @@ use Rattle.share_model.specs.link.Buffers.{Buffer, buffer_of, head_of, is_some_p
 use Rattle.share_model.specs.link.Totals.{packets_in}
 use Rattle.share_model.specs.funding.Graph.{NameBytes, Graph, flow_numbers}
 use Rattle.share_model.specs.funding.Kept.{IsKept}
-use Rattle.share_model.specs.link.Live.{Live, wants}
+use Rattle.share_model.specs.link.Live.{Live, empty_link, wants}
 use Rattle.share_model.specs.run.Fold.{TornFrame, State, out}
 use Rattle.share_model.specs.stride.Moves.{Stride}
 use Rattle.share_model.specs.stride.Level.{IsLevel}
@@ -120,6 +120,8 @@ pub record TornIsSound (buffers : List Buffer) (broken : Bool) (torn : Option �
 -- ---- The link
 
 pub record Sound (life : ℕ) (rates : List Rate) (l : Live) : Type 0 where
+  -- a link that made no event holds nothing
+  pub fresh : l.counts.events ≡ 0 → l ≡ empty_link
   pub counts : CountsAreSound life l.counts (packets_in l.buffers) (torn_gone l.broken l.torn)
   pub funding : FundingIsSound l.counts.events l.graph
   pub flows : FlowsAreTied l.graph.flows l.buffers l.books

@@ -76,6 +76,7 @@ torn_closed bs broken f (Some g) was = torn_named bs broken f g (nat_eq f g) ref
 pub sound-close_flow : {life : ℕ} {rates : List Rate} {l : Live} → Sound life rates l → l.counts.events < life
     → (f : ℕ) → IsClosable l f → Sound life rates (close_flow l f)
 sound-close_flow {life = life} {rates = rates} {l = l} was few f may = sound-levelled (record {
+  some = omega arith;
   counts = record {
     events = omega (arith, few);
     accepted = omega (arith, was.counts.accepted);

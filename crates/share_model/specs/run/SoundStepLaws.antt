@@ -44,8 +44,9 @@ use Rattle.share_model.specs.run.SoundLaws.{sound-numbered, sound-some_flow}
 
 -- Levelling
 
--- what holds of a link whose flows may compete with other tickets than they have
+-- what holds of a link after an event, whose flows may compete with other tickets than they have
 pub record Unlevelled (life : ℕ) (rates : List Rate) (l : Live) : Type 0 where
+  pub some : 0 < l.counts.events
   pub counts : CountsAreSound life l.counts (packets_in l.buffers) (torn_gone l.broken l.torn)
   pub funding : FundingIsSound l.counts.events l.graph
   pub flows : FlowsAreTied l.graph.flows l.buffers l.books
@@ -62,6 +63,7 @@ kept_numbered funding = funding.kept.numbered.flows.2
 pub sound-levelled : {life : ℕ} {rates : List Rate} {l : Live} → Unlevelled life rates l
     → Sound life rates (levelled l)
 sound-levelled {l = l} was = record {
+  fresh = λ none. absurd (omega (arith, none, was.some));
   counts = was.counts;
   funding = was.funding;
   flows = was.flows;
@@ -104,6 +106,7 @@ books-later was = record { known = was.known; accounts = omega (arith, was.accou
 pub sound-counted : {life : ℕ} {rates : List Rate} {l : Live} → Sound life rates l → l.counts.events < life
     → Sound life rates (counted l)
 sound-counted {l = l} was few = record {
+  fresh = λ none. absurd (omega (arith, none));
   counts = counts-later was.counts few;
   funding = funding-later was.funding;
   flows = was.flows;
@@ -119,6 +122,7 @@ sound-counted {l = l} was few = record {
 pub sound-with_graph : {life : ℕ} {rates : List Rate} {l : Live} → Sound life rates l → l.counts.events < life
     → (g : Graph) → IsFunded l.graph g → Sound life rates (with_graph l g)
 sound-with_graph {life = life} {l = l} was few g funded = sound-levelled (record {
+  some = omega arith;
   counts = counts-later was.counts few;
   funding = record {
     kept = funded.kept was.funding.kept;
@@ -225,6 +229,7 @@ sound-open_flow {life = life} {rates = rates} {l = l} was few name limit tariff 
     let space : length (flow_numbers l.graph.flows) < 64 =
     omega (arith, may.space, length-map l.graph.flows (λ (e : NameBytes × FlowEntry). e.1.number)) in
     sound-levelled (record {
+      some = omega arith;
       counts =
           subst (λ n. CountsAreSound life (counted l).counts n (torn_gone l.broken l.torn))
           (sym (packets_in-opened l.buffers next limit)) (counts-later was.counts few);
@@ -300,6 +305,7 @@ pub sound-accept : {life : ℕ} {rates : List Rate} {l : Live} → Sound life ra
     → (f : ℕ) (body : List ℕ) → IsBody body → (b : Buffer) → buffer_of l.buffers f ≡ Some b
     → Sound life rates (accept l f body)
 sound-accept {life = life} {l = l} was few f body short b found = sound-levelled (record {
+  some = omega arith;
   counts = record {
     events = omega (arith, few);
     accepted = omega (arith, was.counts.accepted);
@@ -350,6 +356,7 @@ sound-arrived {life = life} {rates = rates} {l = l} was few name body short =
 
 pub sound-empty : (life : ℕ) (rates : List Rate) → Sound life rates empty_link
 sound-empty life rates = record {
+  fresh = λ _. refl;
   counts = record { events = omega arith; accepted = omega arith; sent = omega arith; balance = refl };
   funding = record { kept = kept-empty; next_ticket = omega arith; next_flow = omega arith };
   flows = record { buffered = refl; booked = refl; active = refl };

@@ -79,6 +79,7 @@ sound-whole {life = life} {rates = rates} {l = l} {s = s} range was few unbroken
     flows-changed f (is_busy (popped l.buffers f) f) without_head was.flows (flows-popped l.buffers f)
     (popped_busy l.buffers f) in
     sound-levelled (record {
+      some = omega arith;
       counts = record {
         events = omega (arith, few);
         accepted = omega (arith, was.counts.accepted);
@@ -113,6 +114,7 @@ pub sound-in_part : {life : ℕ} {rates : List Rate} {l : Live} {s : Sending} �
     → l.counts.events < life → l.broken ≡ false → sending l ≡ Some s → (k : ℕ) → 0 < k
     → s.out + k < length (frame s.head) → Sound life rates (in_part l s k)
 sound-in_part {l = l} {s = s} was few unbroken is k some fits = record {
+  fresh = λ none. absurd (omega (arith, none));
   counts = record {
     events = omega (arith, few);
     accepted = omega (arith, was.counts.accepted);
@@ -160,6 +162,7 @@ sound-failed {rates = rates} {l = l} {s = s} range was few unbroken is =
     let cheap : units ≤ 4026 =
     units_due-few rates l.books f s.out range (omega (arith, sending-few was is, sending-short was is)) in
     record {
+      fresh = λ none. absurd (omega (arith, none));
       counts = record {
         events = omega (arith, few);
         accepted = omega (arith, was.counts.accepted);

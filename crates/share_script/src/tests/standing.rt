@@ -53,7 +53,7 @@ type Row = (
     Option<GlobalPart>,
 );
 
-const ROWS: [Row; 14] = [
+const ROWS: [Row; 15] = [
     // Three flows with 3, 2 and 1 tickets, before the fourth turn: two of them have the same pass.
     (
         "three flows before the fourth turn",
@@ -74,6 +74,25 @@ const ROWS: [Row; 14] = [
         fund 1 flow a\nfund 2 flow b\nfund 3 flow c\nsend a 61\nsend a 61\nsend a 61\nsend b 62\n\
         send b 62\nsend c 63\nturn 65535\nturn 65535\nturn 65535\nturn 65535\nturn 65535\n\
         turn 65535\n",
+        &[
+            (1, resting!(3, 366_503_875_925, 733_007_751_852)),
+            (2, resting!(2, 549_755_813_888, 549_755_813_891)),
+            (3, resting!(1, 1_099_511_627_776, 3)),
+        ],
+        Some(shared!(0, 2_199_023_255_549, 6144, 6144)),
+    ),
+    // The same where each turn is of one byte.
+    (
+        "three flows at rest, byte by byte",
+        b"mktkt 3 base\nmktkt 2 base\nmktkt 1 base\nopen a 4 3\nopen b 4 3\nopen c 4 3\n\
+        fund 1 flow a\nfund 2 flow b\nfund 3 flow c\nsend a 61\nsend a 61\nsend a 61\nsend b 62\n\
+        send b 62\nsend c 63\n\
+        turn 1\nturn 1\nturn 1\nturn 1\nturn 1\nturn 1\nturn 1\nturn 1\nturn 1\nturn 1\nturn 1\nturn 1\nturn 1\n\
+        turn 1\nturn 1\nturn 1\nturn 1\nturn 1\nturn 1\nturn 1\nturn 1\nturn 1\nturn 1\nturn 1\nturn 1\nturn 1\n\
+        turn 1\nturn 1\nturn 1\nturn 1\nturn 1\nturn 1\nturn 1\nturn 1\nturn 1\nturn 1\nturn 1\nturn 1\nturn 1\n\
+        turn 1\nturn 1\nturn 1\nturn 1\nturn 1\nturn 1\nturn 1\nturn 1\nturn 1\nturn 1\nturn 1\nturn 1\nturn 1\n\
+        turn 1\nturn 1\nturn 1\nturn 1\nturn 1\nturn 1\nturn 1\nturn 1\nturn 1\nturn 1\nturn 1\nturn 1\nturn 1\n\
+        turn 1\nturn 1\nturn 1\nturn 1\nturn 1\nturn 1\nturn 1\nturn 1\nturn 1\nturn 1\nturn 1\nturn 1\nturn 1\n",
         &[
             (1, resting!(3, 366_503_875_925, 733_007_751_852)),
             (2, resting!(2, 549_755_813_888, 549_755_813_891)),

@@ -6,6 +6,6 @@ pub invariant_of-result : goal.invariant_of-result
 invariant_of-result g c = (
   sym c.life-else-len-ne0.ensures ∙ (sym c.if-life.false ∙ c.life.ensures),
   run-new _ _ _ _ _ c.events.ensures.range c.requires.nothing
-      (c.requires.empty (sym c.events.ensures.events ∙ c.if-events-ne0.false))
+      (c.events.ensures.sound.fresh (sym c.events.ensures.events ∙ c.if-events-ne0.false))
       (sym c.len.ensures.count ∙ c.if-len-ne0.false),
 )

@@ -282,5 +282,5 @@ fn links_answer_as_worked_and_as_a_plain_link(rt: HostRuntime) -> Result<(), Fai
     refusals::all(&rt, alloc, &shelf);
     cuts::all(&rt, alloc, &shelf);
     currencies::all(&rt, alloc, &shelf);
-    random::all(&rt, alloc, &shelf)
+    random::worlds::all(&rt, alloc, &shelf)
 }

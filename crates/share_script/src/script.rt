@@ -105,7 +105,7 @@ pub fn run_script<S: Rates + Drop, I: Source, O: Telling>(
         engine script done)
         (λ _. PrintedPart (bytes_told (O.told output.old)) (bytes_told (O.told output.new))
         engine script)) }
-    ensures fold { IfSome (I.left input.old) (λ script. IfOk result (λ done.
+    ensures fold { IfOk result (λ done. IfSome (I.left input.old) (λ script.
         IsOneFold (bytes_told (O.told output.old)) (bytes_told (O.told output.new)) engine script done)) }
     ensures ended { OnOk result (IsAtEnd (I.left input.new)) }
     ensures read { OnOk result (ReadsToEnd I.gives MAX_READS input.old input.new) }

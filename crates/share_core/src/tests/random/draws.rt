@@ -19,8 +19,12 @@ pub(super) struct World {
     pub(super) currencies: u64,
     /// How many steps do nothing but issue tickets and make currencies, before anything else.
     pub(super) making: u32,
+    /// How many steps there are to a ticket, at least, after these.
+    pub(super) spacing: u32,
     /// Of a hundred events, how many close a flow.
     pub(super) closing: u64,
+    /// How many write calls have an answer of their own. Those after them accept all.
+    pub(super) writes: usize,
     /// The write call that fails.
     pub(super) fault: usize,
     /// The step from which on faults are declared.
@@ -56,7 +60,7 @@ pub(super) fn answers(
     world: &World,
 ) -> Result<Vec<Answer>, AllocError> {
     let mut answers = Vec::new(alloc);
-    for place in 0..3000 {
+    for place in 0..world.writes {
         let k = next(state);
         answers.push(match k % 8 {
             _ if place == world.fault && k % 2 == 0 => Answer::Failed,
@@ -233,7 +237,9 @@ pub(super) fn drawn(
         0..8 => Asked::Command(opened(rt, state, world)),
         8..36 => Asked::Arrive(flow(rt, world, k), size(state)),
         36..64 => Asked::Turn(most(state)),
-        64..72 => Asked::Command(issued(rt, state, world, next_ticket)),
+        64..72 if next_ticket.saturating_mul(world.spacing) <= step => {
+            Asked::Command(issued(rt, state, world, next_ticket))
+        }
         _ => Asked::Command(funding(rt, state, world, next_ticket)),
     }
 }

@@ -22,6 +22,7 @@ bin/stridelink: $(SOURCES)
 
 test:
 	@echo 'the gate: every proof from nothing, the edits that must fail, the tests and the program; most of an hour' >&2
+	.ci/layers
 	rt ci
 	mkdir -p bin
 	cp crates/stridelink/out/stridelink bin/stridelink

@@ -244,6 +244,8 @@ pub fn say<W, S: Rates, O: Telling>(
     }
 }
 
+// A report needs some pages of the stack, which no other answer does.
+#[inline(never)]
 fn say_report<W, S: Rates, O: Telling>(
     engine: &Engine<W, S>,
     spool: &mut Spool,

@@ -1,0 +1,121 @@
+//! Audits: written, refused at each byte, and run again.
+
+use super::runs::Run;
+use crate::{Fault, Journal, Recorder};
+use share_base::Outcome;
+use share_core::Engine;
+use share_model::{Answer, PlainReader, Rates, Scripted, Tape, Telling};
+use share_script::{run_script, write_reply, write_turn};
+use std::alloc::Global;
+use std::process::Abort;
+
+/// What a writer answers that refuses an offer.
+const REFUSALS: [Answer; 3] = [Answer::Failed, Answer::Interrupted, Answer::Accepted(0)];
+
+// The audit of a journal.
+pub(super) fn audit_of(rt: &impl Abort, alloc: Global, journal: &Journal) -> Tape {
+    let mut text = Tape::new(alloc);
+    assert_eq!(rt; journal.audit(&mut text), Ok(()));
+    text
+}
+
+// The replies of a journal, each as a line.
+fn replies_of(rt: &impl Abort, alloc: Global, journal: &Journal) -> Tape {
+    let mut text = Tape::new(alloc);
+    for place in 0..journal.len() {
+        let entry = journal.entry(place + 1).expect(rt, "an entry");
+        let written = match &entry.reply {
+            Outcome::Replied(reply) => write_reply(reply, &mut text),
+            Outcome::Turned(turn) => write_turn(turn, &mut text),
+        };
+        assert_eq!(rt; written, Ok(()));
+    }
+    text
+}
+
+// A writer that accepts so many bytes, one a call, and then answers this.
+fn bytewise(rt: &impl Abort, alloc: Global, accepted: usize, last: Answer) -> Scripted {
+    let mut answers = vec![in alloc; Answer::Accepted(1); accepted].expect(rt, "memory");
+    answers.push(last).expect(rt, "memory");
+    Scripted::new(alloc, answers)
+}
+
+// The audit is this text; and where a writer refuses any byte of it, what comes before that is written, and the journal
+// is as it was.
+fn is_audit(rt: &impl Abort, alloc: Global, journal: &Journal, want: &[u8]) {
+    assert_eq!(rt; audit_of(rt, alloc, journal).bytes(), want);
+    let mut output = bytewise(rt, alloc, want.len(), Answer::Failed);
+    assert_eq!(rt; journal.audit(&mut output), Ok(()));
+    assert_eq!(rt; output.bytes(), want);
+    for last in REFUSALS {
+        for accepted in 0..want.len() {
+            let mut output = bytewise(rt, alloc, accepted, last);
+            assert_eq!(rt; journal.audit(&mut output), Err(Fault));
+            assert_eq!(rt; Some(output.bytes()), want.get(..accepted));
+            assert_eq!(rt; audit_of(rt, alloc, journal).bytes(), want);
+        }
+    }
+}
+
+// Both links show the same of the n-th open flow, if there is one.
+fn show_the_same_flow<V, W, S: Rates>(
+    rt: &impl Abort,
+    one: &Engine<V, S>,
+    other: &Engine<W, S>,
+    n: u32,
+) {
+    let Some(row) = one.row(n) else {
+        assert!(rt; other.row(n).is_none(), "the flow {n}");
+        return;
+    };
+    let same = other.row(n).expect(rt, "a flow");
+    assert_eq!(rt;
+        (row.flow, row.name, row.waiting),
+        (same.flow, same.name, same.waiting)
+    );
+    assert_eq!(rt; one.account(row.flow), other.account(row.flow));
+    assert_eq!(rt; one.tickets(row.flow), other.tickets(row.flow));
+    assert_eq!(rt; one.position(row.flow), other.position(row.flow));
+}
+
+// Both links show the same.
+fn show_the_same<V, W, S: Rates>(rt: &impl Abort, one: &Engine<V, S>, other: &Engine<W, S>) {
+    assert_eq!(rt; one.events(), other.events());
+    assert_eq!(rt; one.totals(), other.totals());
+    assert_eq!(rt; one.global(), other.global());
+    for n in 0..65 {
+        show_the_same_flow(rt, one, other, n);
+    }
+}
+
+// The audit, run as a script in a life that is not shorter, is answered by the journal's replies and comes to the link
+// as it is and to its bytes.
+pub(super) fn replays<S: Rates + Copy>(
+    rt: &impl Abort,
+    alloc: Global,
+    shelf: S,
+    recorder: &Recorder<Scripted, S>,
+    life: u64,
+) {
+    let audit = audit_of(rt, alloc, recorder.journal());
+    let mut input = PlainReader(audit.bytes());
+    let mut output = Tape::new(alloc);
+    let engine = Engine::new(alloc, shelf, life, Tape::new(alloc)).expect(rt, "a link");
+    let engine = run_script(alloc, engine, &mut input, &mut output).expect(rt, "a script");
+    let replies = replies_of(rt, alloc, recorder.journal());
+    assert_eq!(rt; output.bytes(), replies.bytes());
+    show_the_same(rt, recorder.engine(), &engine);
+    assert_eq!(rt; recorder.engine().writer().bytes(), engine.writer().bytes());
+}
+
+pub(super) fn all<S: Rates + Copy>(
+    rt: &impl Abort,
+    alloc: Global,
+    shelf: S,
+    recorder: &Recorder<Scripted, S>,
+    run: &Run,
+) {
+    is_audit(rt, alloc, recorder.journal(), run.audit);
+    replays(rt, alloc, shelf, recorder, run.life);
+    replays(rt, alloc, shelf, recorder, run.life.saturating_add(1));
+}

@@ -4,6 +4,7 @@ ghost use Rattle.share_journal.specs.Records.{AcceptedNothing};
 
 mod audits;
 mod pairing;
+mod random;
 mod runs;
 
 use crate::{Entry, Journal, Recorder, Source};
@@ -205,6 +206,7 @@ fn recorders_play_as_worked_and_their_audits_again(rt: HostRuntime) -> Result<()
         plays(&rt, alloc, &shelf, run);
     }
     pairing::all(&rt, alloc, &shelf);
+    random::all(&rt, alloc, &shelf);
     Ok(())
 }
 

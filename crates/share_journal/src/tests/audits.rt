@@ -52,8 +52,8 @@ fn is_audit(rt: &impl Abort, alloc: Global, journal: &Journal, want: &[u8]) {
             let mut output = bytewise(rt, alloc, accepted, last);
             assert_eq!(rt; journal.audit(&mut output), Err(Fault));
             assert_eq!(rt; Some(output.bytes()), want.get(..accepted));
-            assert_eq!(rt; audit_of(rt, alloc, journal).bytes(), want);
         }
+        assert_eq!(rt; audit_of(rt, alloc, journal).bytes(), want);
     }
 }
 
@@ -88,8 +88,26 @@ fn show_the_same<V, W, S: Rates>(rt: &impl Abort, one: &Engine<V, S>, other: &En
     }
 }
 
-// The audit, run as a script in a life that is not shorter, is answered by the journal's replies and comes to the link
-// as it is and to its bytes.
+// The script, run on a new link, prints this text, and comes to the link as it is and to its bytes.
+fn comes_to<S: Rates + Copy>(
+    rt: &impl Abort,
+    alloc: Global,
+    shelf: S,
+    life: u64,
+    script: &[u8],
+    printed: &[u8],
+    link: &Engine<Scripted, S>,
+) {
+    let mut input = PlainReader(script);
+    let mut output = Tape::new(alloc);
+    let engine = Engine::new(alloc, shelf, life, Tape::new(alloc)).expect(rt, "a link");
+    let engine = run_script(alloc, engine, &mut input, &mut output).expect(rt, "a script");
+    assert_eq!(rt; output.bytes(), printed);
+    show_the_same(rt, link, &engine);
+    assert_eq!(rt; engine.writer().bytes(), link.writer().bytes());
+}
+
+// The audit, run as a script in a life that is not shorter, is answered by the journal's replies.
 pub(super) fn replays<S: Rates + Copy>(
     rt: &impl Abort,
     alloc: Global,
@@ -98,14 +116,43 @@ pub(super) fn replays<S: Rates + Copy>(
     life: u64,
 ) {
     let audit = audit_of(rt, alloc, recorder.journal());
-    let mut input = PlainReader(audit.bytes());
-    let mut output = Tape::new(alloc);
-    let engine = Engine::new(alloc, shelf, life, Tape::new(alloc)).expect(rt, "a link");
-    let engine = run_script(alloc, engine, &mut input, &mut output).expect(rt, "a script");
     let replies = replies_of(rt, alloc, recorder.journal());
-    assert_eq!(rt; output.bytes(), replies.bytes());
-    show_the_same(rt, recorder.engine(), &engine);
-    assert_eq!(rt; recorder.engine().writer().bytes(), engine.writer().bytes());
+    comes_to(
+        rt,
+        alloc,
+        shelf,
+        life,
+        audit.bytes(),
+        replies.bytes(),
+        recorder.engine(),
+    );
+}
+
+// An edited audit is a script like any other: its first line is no line at its end, and the others are answered alike.
+fn replays_edited<S: Rates + Copy>(
+    rt: &impl Abort,
+    alloc: Global,
+    shelf: S,
+    recorder: &Recorder<Scripted, S>,
+) {
+    let audit = audit_of(rt, alloc, recorder.journal());
+    let events = audit.bytes().get(8..).expect(rt, "a first line");
+    let mut script = events.to_vec(alloc).expect(rt, "memory");
+    script.extend_from_slice(b"audit 1\n").expect(rt, "memory");
+    let replies = replies_of(rt, alloc, recorder.journal());
+    let mut printed = replies.bytes().to_vec(alloc).expect(rt, "memory");
+    printed
+        .extend_from_slice(b"no 3 Syntax\n")
+        .expect(rt, "memory");
+    comes_to(
+        rt,
+        alloc,
+        shelf,
+        recorder.life(),
+        script.as_slice(),
+        printed.as_slice(),
+        recorder.engine(),
+    );
 }
 
 pub(super) fn all<S: Rates + Copy>(
@@ -118,4 +165,5 @@ pub(super) fn all<S: Rates + Copy>(
     is_audit(rt, alloc, recorder.journal(), run.audit);
     replays(rt, alloc, shelf, recorder, run.life);
     replays(rt, alloc, shelf, recorder, run.life.saturating_add(1));
+    replays_edited(rt, alloc, shelf, recorder);
 }

@@ -1,5 +1,6 @@
 //! Worked runs of a recorder: calls and what comes of them as rows of a table, and what the other tests share.
 ghost use Rattle.std.specs.Prelude.{◌≡◌, ◌<◌, ◌≤◌, IfSome};
+ghost use Rattle.share_model.specs.link.Live.{empty_link};
 ghost use Rattle.share_journal.specs.Records.{AcceptedNothing};
 
 mod audits;
@@ -155,6 +156,19 @@ fn play<W: Telling, S: Rates>(
     }
 }
 
+fn linked<W: Telling + Drop, S: Rates + Copy>(
+    rt: &impl Abort,
+    alloc: Global,
+    shelf: S,
+    life: u64,
+    writer: W,
+) -> Engine<W, S>
+    ensures empty { result.live ≡ empty_link }
+    ensures writer { result.writer ≡ writer }
+{
+    Engine::new(alloc, shelf, life, writer).expect(rt, "a link")
+}
+
 fn recording<W: Telling + Drop, S: Rates + Copy>(
     rt: &impl Abort,
     alloc: Global,
@@ -164,9 +178,8 @@ fn recording<W: Telling + Drop, S: Rates + Copy>(
 ) -> Recorder<W, S>
     requires { IfSome (W.told writer) AcceptedNothing }
 {
-    let engine = Engine::new(alloc, shelf, life, writer).expect(rt, "a link");
     let journal = Journal::new(alloc, life).expect(rt, "a journal");
-    Recorder::new(engine, journal)
+    Recorder::new(linked(rt, alloc, shelf, life, writer), journal)
         .ok()
         .expect(rt, "a new link and a new journal of the same life")
 }
@@ -184,6 +197,18 @@ fn compare_bytes(rt: &impl Abort, alloc: Global, writer: &Scripted, run: &Run) {
     assert_eq!(rt; counts.as_slice(), run.counts);
 }
 
+// The lives of a link and a journal, and how many events each holds.
+fn compare_parts<W, S: Rates>(
+    rt: &impl Abort,
+    engine: &Engine<W, S>,
+    journal: &Journal,
+    lives: (u64, u64),
+    events: u64,
+) {
+    assert_eq!(rt; (engine.life(), journal.life()), lives);
+    assert_eq!(rt; (engine.events(), journal.len()), (events, events));
+}
+
 // Plays a run on a new recorder.
 fn plays<S: Rates + Copy>(rt: &impl Abort, alloc: Global, shelf: S, run: &Run) {
     let mut recorder = recording(rt, alloc, shelf, run.life, scripted(rt, alloc, run.answers));
@@ -192,9 +217,7 @@ fn plays<S: Rates + Copy>(rt: &impl Abort, alloc: Global, shelf: S, run: &Run) {
     compare_bytes(rt, alloc, recorder.engine().writer(), run);
     audits::all(rt, alloc, shelf, &recorder, run);
     let (engine, journal) = recorder.into_parts();
-    assert_eq!(rt; engine.events(), run.entries);
-    assert_eq!(rt; journal.len(), run.entries);
-    assert_eq!(rt; journal.life(), run.life);
+    compare_parts(rt, &engine, &journal, (run.life, run.life), run.entries);
 }
 
 // The shelf has two tariffs: by the byte, and by cells of 48. Its boxes are made in this body, and it is lent.

@@ -1,41 +1,46 @@
 //! Which links and journals make a recorder.
 
+ghost use Rattle.std.specs.Prelude.{◌≡◌, IfSome};
+ghost use Rattle.share_model.specs.link.Live.{empty_link};
+ghost use Rattle.share_journal.specs.Records.{AcceptedNothing};
+
 use super::runs::{Call, Row, Wanted};
-use super::{play, recording, scripted};
+use super::{compare_parts, linked, play, recording, scripted};
 use crate::{Journal, Recorder};
 use share_core::Engine;
-use share_model::{PlainWriter, Rates};
+use share_model::{PlainWriter, Rates, Telling};
 use std::alloc::Global;
 use std::process::Abort;
 
 const MAKES_A_CURRENCY: [Row; 1] = [(1, Call::MakeCurrency("x"), Wanted::Done, true)];
 
+// Both parts, which make no recorder.
+fn parts_back<W: Telling + Drop, S: Rates + Drop>(
+    rt: &impl Abort,
+    engine: Engine<W, S>,
+    journal: Journal,
+) -> (Engine<W, S>, Journal)
+    requires nothing { IfSome (W.told engine.writer) AcceptedNothing }
+    requires empty { engine.live.counts.events ≡ 0 → engine.live ≡ empty_link }
+{
+    Recorder::new(engine, journal)
+        .err()
+        .expect(rt, "both come back")
+}
+
 fn lives_that_differ<S: Rates + Copy>(rt: &impl Abort, alloc: Global, shelf: S) {
-    let writer = scripted(rt, alloc, &[]);
-    let engine = Engine::new(alloc, shelf, 4, writer).expect(rt, "a link");
+    let engine = linked(rt, alloc, shelf, 4, scripted(rt, alloc, &[]));
     let journal = Journal::new(alloc, 5).expect(rt, "a journal");
-    match Recorder::new(engine, journal) {
-        Ok(_) => assert!(rt; false, "the lives differ"),
-        Err((engine, journal)) => {
-            assert_eq!(rt; engine.life(), 4);
-            assert_eq!(rt; engine.events(), 0);
-            assert_eq!(rt; journal.life(), 5);
-            assert_eq!(rt; journal.len(), 0);
-        }
-    }
+    let (engine, journal) = parts_back(rt, engine, journal);
+    compare_parts(rt, &engine, &journal, (4, 5), 0);
 }
 
 fn used_parts<S: Rates + Copy>(rt: &impl Abort, alloc: Global, shelf: S) {
     let mut recorder = recording(rt, alloc, shelf, 4, PlainWriter(Vec::new(alloc)));
     play(rt, alloc, &mut recorder, &MAKES_A_CURRENCY);
     let (engine, journal) = recorder.into_parts();
-    match Recorder::new(engine, journal) {
-        Ok(_) => assert!(rt; false, "both were used"),
-        Err((engine, journal)) => {
-            assert_eq!(rt; engine.events(), 1);
-            assert_eq!(rt; journal.len(), 1);
-        }
-    }
+    let (engine, journal) = parts_back(rt, engine, journal);
+    compare_parts(rt, &engine, &journal, (4, 4), 1);
 }
 
 pub(super) fn all<S: Rates + Copy>(rt: &impl Abort, alloc: Global, shelf: S) {

@@ -151,10 +151,10 @@ fn drive<S: Rates>(
 ) -> u32 {
     let mut interrupted: u32 = 0;
     for step in 0..world.steps {
-        match ask(rt, alloc, recorder, draws, step >= world.tear) {
-            Outcome::Replied(Reply::Ticket(ticket)) => draws.issued(ticket),
-            Outcome::Turned(Turn::Again) => interrupted = interrupted.saturating_add(1),
-            _ => {}
+        let outcome = ask(rt, alloc, recorder, draws, step >= world.tear);
+        draws.note(&outcome);
+        if outcome == Outcome::Turned(Turn::Again) {
+            interrupted = interrupted.saturating_add(1);
         }
     }
     interrupted

@@ -1,6 +1,6 @@
 //! What is drawn: the answers of the writer, commands, packets and turns.
 
-use share_base::{Command, Name, TicketNo};
+use share_base::{Command, Name, Outcome, Reply};
 use share_model::Answer;
 use std::alloc::Global;
 use std::process::Abort;
@@ -25,9 +25,11 @@ impl Draws {
         }
     }
 
-    /// A ticket was issued.
-    pub(super) fn issued(&mut self, ticket: TicketNo) {
-        self.ticket = u64::from(ticket.number());
+    /// The ticket that was issued, if one was, is drawn from now on.
+    pub(super) fn note(&mut self, outcome: &Outcome) {
+        if let Outcome::Replied(Reply::Ticket(ticket)) = outcome {
+            self.ticket = u64::from(ticket.number());
+        }
     }
 
     /// The next number.

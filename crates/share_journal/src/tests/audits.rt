@@ -1,5 +1,6 @@
 //! Audits: written, refused at each byte, and run again.
 
+use super::linked;
 use super::runs::Run;
 use crate::{Fault, Journal, Recorder};
 use share_base::Outcome;
@@ -12,8 +13,12 @@ use std::process::Abort;
 /// What a writer answers that refuses an offer.
 const REFUSALS: [Answer; 3] = [Answer::Failed, Answer::Interrupted, Answer::Accepted(0)];
 
+fn is_text(rt: &impl Abort, bytes: &[u8], want: &[u8]) {
+    assert_eq!(rt; bytes, want);
+}
+
 // The audit of a journal.
-pub(super) fn audit_of(rt: &impl Abort, alloc: Global, journal: &Journal) -> Tape {
+fn audit_of(rt: &impl Abort, alloc: Global, journal: &Journal) -> Tape {
     let mut text = Tape::new(alloc);
     assert_eq!(rt; journal.audit(&mut text), Ok(()));
     text
@@ -40,21 +45,34 @@ fn bytewise(rt: &impl Abort, alloc: Global, accepted: usize, last: Answer) -> Sc
     Scripted::new(alloc, answers)
 }
 
-// The audit is this text; and where a writer refuses any byte of it, what comes before that is written, and the journal
-// is as it was.
-fn is_audit(rt: &impl Abort, alloc: Global, journal: &Journal, want: &[u8]) {
-    assert_eq!(rt; audit_of(rt, alloc, journal).bytes(), want);
+// Where a writer refuses a byte of the audit, what comes before it is written.
+fn is_cut(
+    rt: &impl Abort,
+    alloc: Global,
+    journal: &Journal,
+    want: &[u8],
+    accepted: usize,
+    last: Answer,
+) {
+    let mut output = bytewise(rt, alloc, accepted, last);
+    assert_eq!(rt; journal.audit(&mut output), Err(Fault));
+    assert_eq!(rt; Some(output.bytes()), want.get(..accepted));
+}
+
+// The audit is this text, in one piece and byte by byte.
+fn is_written(rt: &impl Abort, alloc: Global, journal: &Journal, want: &[u8]) {
+    is_text(rt, audit_of(rt, alloc, journal).bytes(), want);
     let mut output = bytewise(rt, alloc, want.len(), Answer::Failed);
     assert_eq!(rt; journal.audit(&mut output), Ok(()));
-    assert_eq!(rt; output.bytes(), want);
-    for last in REFUSALS {
-        for accepted in 0..want.len() {
-            let mut output = bytewise(rt, alloc, accepted, last);
-            assert_eq!(rt; journal.audit(&mut output), Err(Fault));
-            assert_eq!(rt; Some(output.bytes()), want.get(..accepted));
-        }
-        assert_eq!(rt; audit_of(rt, alloc, journal).bytes(), want);
+    is_text(rt, output.bytes(), want);
+}
+
+// Whatever byte of the audit a writer refuses, the journal is as it was.
+fn is_cut_at_each(rt: &impl Abort, alloc: Global, journal: &Journal, want: &[u8], last: Answer) {
+    for accepted in 0..want.len() {
+        is_cut(rt, alloc, journal, want, accepted, last);
     }
+    is_written(rt, alloc, journal, want);
 }
 
 // Both links show the same of the n-th open flow, if there is one.
@@ -78,14 +96,29 @@ fn show_the_same_flow<V, W, S: Rates>(
     assert_eq!(rt; one.position(row.flow), other.position(row.flow));
 }
 
-// Both links show the same.
-fn show_the_same<V, W, S: Rates>(rt: &impl Abort, one: &Engine<V, S>, other: &Engine<W, S>) {
+// Both links show the same, and wrote the same bytes.
+fn show_the_same<S: Rates>(rt: &impl Abort, one: &Engine<Scripted, S>, other: &Engine<Tape, S>) {
+    is_text(rt, other.writer().bytes(), one.writer().bytes());
     assert_eq!(rt; one.events(), other.events());
     assert_eq!(rt; one.totals(), other.totals());
     assert_eq!(rt; one.global(), other.global());
     for n in 0..65 {
         show_the_same_flow(rt, one, other, n);
     }
+}
+
+// The link after a script.
+fn after<S: Rates + Copy>(
+    rt: &impl Abort,
+    alloc: Global,
+    shelf: S,
+    life: u64,
+    script: &[u8],
+    output: &mut Tape,
+) -> Engine<Tape, S> {
+    let mut input = PlainReader(script);
+    let engine = linked(rt, alloc, shelf, life, Tape::new(alloc));
+    run_script(alloc, engine, &mut input, output).expect(rt, "a script")
 }
 
 // The script, run on a new link, prints this text, and comes to the link as it is and to its bytes.
@@ -98,13 +131,10 @@ fn comes_to<S: Rates + Copy>(
     printed: &[u8],
     link: &Engine<Scripted, S>,
 ) {
-    let mut input = PlainReader(script);
     let mut output = Tape::new(alloc);
-    let engine = Engine::new(alloc, shelf, life, Tape::new(alloc)).expect(rt, "a link");
-    let engine = run_script(alloc, engine, &mut input, &mut output).expect(rt, "a script");
-    assert_eq!(rt; output.bytes(), printed);
+    let engine = after(rt, alloc, shelf, life, script, &mut output);
+    is_text(rt, output.bytes(), printed);
     show_the_same(rt, link, &engine);
-    assert_eq!(rt; engine.writer().bytes(), link.writer().bytes());
 }
 
 // The audit, run as a script in a life that is not shorter, is answered by the journal's replies.
@@ -162,7 +192,9 @@ pub(super) fn all<S: Rates + Copy>(
     recorder: &Recorder<Scripted, S>,
     run: &Run,
 ) {
-    is_audit(rt, alloc, recorder.journal(), run.audit);
+    for last in REFUSALS {
+        is_cut_at_each(rt, alloc, recorder.journal(), run.audit, last);
+    }
     replays(rt, alloc, shelf, recorder, run.life);
     replays(rt, alloc, shelf, recorder, run.life.saturating_add(1));
     replays_edited(rt, alloc, shelf, recorder);

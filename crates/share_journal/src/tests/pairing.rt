@@ -1,7 +1,6 @@
 //! Which links and journals make a recorder.
 
-ghost use Rattle.std.specs.Prelude.{◌≡◌, IfSome};
-ghost use Rattle.share_model.specs.link.Live.{empty_link};
+ghost use Rattle.std.specs.Prelude.{IfSome};
 ghost use Rattle.share_journal.specs.Records.{AcceptedNothing};
 
 use super::runs::{Call, Row, Wanted};
@@ -20,8 +19,7 @@ fn parts_back<W: Telling + Drop, S: Rates + Drop>(
     engine: Engine<W, S>,
     journal: Journal,
 ) -> (Engine<W, S>, Journal)
-    requires nothing { IfSome (W.told engine.writer) AcceptedNothing }
-    requires empty { engine.live.counts.events ≡ 0 → engine.live ≡ empty_link }
+    requires { IfSome (W.told engine.writer) AcceptedNothing }
 {
     Recorder::new(engine, journal)
         .err()

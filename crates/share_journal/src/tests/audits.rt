@@ -13,8 +13,23 @@ use std::process::Abort;
 /// What a writer answers that refuses an offer.
 const REFUSALS: [Answer; 3] = [Answer::Failed, Answer::Interrupted, Answer::Accepted(0)];
 
+// How many bytes are the same from the front on.
+fn agreeing(bytes: &[u8], want: &[u8]) -> usize {
+    for (place, (byte, wanted)) in bytes.iter().zip(want).enumerate() {
+        if byte != wanted {
+            return place;
+        }
+    }
+    bytes.len().min(want.len())
+}
+
+// A long text that is another one is not printed.
 fn is_text(rt: &impl Abort, bytes: &[u8], want: &[u8]) {
-    assert_eq!(rt; bytes, want);
+    assert!(rt;
+        bytes == want,
+        "the first {} bytes agree",
+        agreeing(bytes, want)
+    );
 }
 
 // The audit of a journal.

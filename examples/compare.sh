@@ -23,4 +23,10 @@ for script in *.script; do
     diff "$folder/output" "$name.output" >&2 || wrong "$name" "prints something else"
     [[ $status -ne 0 || ! -s $folder/said ]] || wrong "$name" "says '$(< "$folder/said")'"
 done
+# A script and the audit of its link print the same report and the same bytes.
+for audit in *-audit.output; do
+    name=${audit%-audit.output}
+    diff <(sed -n '/^clock/,$p' "$name.output") <(sed -n '/^clock/,$p' "$audit") >&2 ||
+        wrong "$name" "differs from its audit"
+done
 exit "$failed"

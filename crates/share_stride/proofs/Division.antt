@@ -1,7 +1,8 @@
 -- The product and the quotient of a rescaled remain fit their types.
-use Rattle.std.proofs.Common.{◌≡◌, ℕ, zero, suc, ◌*◌, ◌<◌, ◌≤◌, ◌^◌, refl, ap, ◌∙◌, arith}
-use Rattle.std.specs.Prelude.{ℤ, pos, ◌*ℤ◌, FitsSigned}
-use Rattle.std.proofs.lemmas.Nat.{mul-le}
+use Rattle.std.proofs.Common.{◌≡◌, ℕ, zero, suc, ◌+◌, ◌*◌, ◌/◌, ◌<◌, ◌≤◌, ◌^◌, refl, ap, ◌∙◌, arith}
+use Rattle.std.specs.Prelude.{ℤ, pos, negsuc, ◌*ℤ◌, FitsSigned}
+use Rattle.std.proofs.Math.Nat.{mul-div_cancel, le-mul_of_pos_right, suc-mul}
+use Rattle.std.proofs.lemmas.Nat.{mul-le, div-mul-add}
 use Rattle.std.proofs.lemmas.Int.{to_z-of_z}
 use Rattle.std.specs.Int.{int_div_euclid}
 use mir.Syntax.{w128}
@@ -51,3 +52,21 @@ quotient_is new old remain a b q small_new small_old within fits_remain fits_a f
     by_old : (n : ℕ) → (n ≡ 0 → ⊥) → floor_div (remain *ℤ pos new) n ≡ rescaled new n remain
     by_old zero positive = absurd (positive refl)
     by_old (suc n) positive = refl
+
+-- a remain on the stride that it was on
+same_quotient : (z remain : ℤ) (n : ℕ) → up z ≡ up remain * suc n → down z ≡ down remain * suc n
+    → int_div_euclid z (pos (suc n)) ≡ remain
+same_quotient (pos a) (pos m) n above below =
+    ap (λ x. pos (x / suc n)) above ∙ ap pos (mul-div_cancel m (omega arith))
+same_quotient (pos a) (negsuc m) n above below =
+    absurd (omega (arith, below, le-mul_of_pos_right {m = suc n} (suc m) (omega arith)))
+same_quotient (negsuc a) (pos m) n above below = absurd (omega (arith, below))
+same_quotient (negsuc a) (negsuc m) n above below =
+    let is : a ≡ m * suc n + n = omega (arith, below, suc-mul m (suc n)) in
+    ap (λ x. negsuc (x / suc n)) is ∙ ap negsuc (div-mul-add m (suc n) n (omega arith))
+
+pub rescaled-same : (stride : ℕ) (remain : ℤ) → (stride ≡ 0 → ⊥) → rescaled stride stride remain ≡ remain
+rescaled-same zero remain some = absurd (some refl)
+rescaled-same (suc n) remain some =
+    same_quotient (remain *ℤ pos (suc n)) remain n (omega (arith, product_is remain (pos (suc n))))
+    (omega (arith, product_is remain (pos (suc n))))

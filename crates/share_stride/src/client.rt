@@ -54,6 +54,8 @@ fn rescaled(new_stride: u64, old_stride: u64, remain: i128) -> i128
 {
     if old_stride == 0 {
         i128::from(new_stride)
+    } else if old_stride == new_stride {
+        remain
     } else {
         (remain * i128::from(new_stride)).div_euclid(i128::from(old_stride))
     }

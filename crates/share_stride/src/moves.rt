@@ -10,12 +10,16 @@ use crate::client;
 use crate::table::{Place, Table};
 use share_model::GlobalPart;
 
-// Moves the global pass on by what was charged since the last update.
+// Moves the global pass on by what was charged since the last update. Mostly that is nothing, where many clients are
+// levelled at once.
 fn update(global: &mut GlobalPart)
     requires time { global.old.last ≤ global.old.clock }
     requires pass { global.old.pass ≤ 2 ^ 80 }
     ensures { global.new ≡ updated global.old }
 {
+    if global.last == global.clock {
+        return;
+    }
     let share = client::share(
         client::stride_of(global.tickets),
         global.clock - global.last,

@@ -1,8 +1,8 @@
 -- Levelling one flow after the other: what is left to do, and that it can be done.
-use Rattle.std.proofs.Common.{◌≡◌, ◌≢◌, ◌<◌, ◌≤◌, ◌+◌, ◌^◌, ◌∙◌, ℕ, zero, suc, Bool, List, [], ◌∷◌, ◌++◌, length}
+use Rattle.std.proofs.Common.{◌≡◌, ◌≢◌, ◌<◌, ◌≤◌, ◌+◌, ◌-◌, ◌^◌, ◌∙◌, ℕ, zero, suc, Bool, List, [], ◌∷◌, ◌++◌, length}
 use Rattle.std.proofs.Common.{map, set, get_or, slice_get, Option, None, Some, IsSome, refl, sym, ap, subst, add-one}
 use Rattle.std.proofs.Common.{take, drop, arith}
-use Rattle.std.proofs.lemmas.List.{length-map, drop_all, take_all, take_more_set, get_or-set_other}
+use Rattle.std.proofs.lemmas.List.{length-map, drop_all, take_all, take_more_set, get_or-set_other, set-get_or}
 use Rattle.std.proofs.lemmas.Option.{same_Some}
 use Rattle.std.specs.FinMap.{get}
 use Rattle.share_model.specs.declared.funding.OpenFlow.{OpenFlow}
@@ -19,7 +19,7 @@ use Rattle.share_model.specs.stride.Level.{moved_if, level_one, level_all, CanLe
 use Rattle.share_model.specs.stride.Level.{AreDistinctFlows}
 use Rattle.share_model.specs.stride.LevelLaws.{can_level-level_one, client-level_one_other, level_move-none}
 use Rattle.share_core.specs.Held.{IfFound}
-use Rattle.share_core.specs.Levels.{AreTicketsOf, IsLevelAt, AreLevelAt}
+use Rattle.share_core.specs.Levels.{AreTicketsOf, IsLevelAt, AreLevelAt, AreSameFrom}
 
 -- the flows from a place on are still to be levelled, and then all are
 pub record AreLeft (start now : Stride) (wants : List (ℕ × ℕ)) (place : ℕ) : Type 0 where
@@ -180,7 +180,44 @@ one-stays now wants levels place share is same share_is = by_flow (slice_get wan
         let holds = subst (HasTickets (client now want.0)) (same ∙ sym is) has in
         sym (ap (moved_if now want.0) (level_move-none (client now want.0) want.1 holds))
 
+-- flows whose tickets are as they were take no move
+changed_same : (start now : Stride) (wants : List (ℕ × ℕ)) (levels : List ℕ) (place n : ℕ)
+    → AreDistinctFlows wants → place + n ≤ length wants
+    → AreSameFrom levels (map (λ (want : ℕ × ℕ). want.1) wants) place (place + n)
+    → AreDoneChanged start now wants levels place → AreDoneChanged start now wants levels (place + n)
+changed_same start now wants levels place zero distinct few same done =
+    subst (AreDoneChanged start now wants levels) (omega arith) done
+changed_same start now wants levels place (suc n) distinct few same done =
+    let inside : place < length wants = omega (arith, few) in
+    let at = drop-get wants place inside in
+    let own : get_or levels place 0 ≡ at.0.1 = same place (omega arith) (omega arith) ∙ mapped wants place at.0 at.1 in
+    let holds = subst (λ o. IfFound o (λ (want : ℕ × ℕ). want.1 ≡ at.0.1)) (sym at.1) refl in
+    let stays = one-stays now wants levels place at.0.1 (done.after place (omega arith)) own holds in
+    let kept = subst (λ o. IfFound o (λ (want : ℕ × ℕ). levels ≡ set levels place want.1)) (sym at.1)
+    (sym (set-get_or levels place 0) ∙ ap (set levels place) own) in
+    let one = changed-next start now now wants levels levels place distinct inside done stays kept done.before.long in
+    let further = changed_same start now wants levels (place + 1) n distinct (omega (arith, few))
+    (λ k after before. same k (omega (arith, after)) (omega (arith, before))) one in
+    subst (AreDoneChanged start now wants levels) (omega arith) further
+  where
+    mapped : (wants : List (ℕ × ℕ)) (k : ℕ) (want : ℕ × ℕ) → slice_get wants k ≡ Some want
+        → get_or (map (λ (want : ℕ × ℕ). want.1) wants) k 0 ≡ want.1
+    mapped [] k want is = absurd cc
+    mapped (w ∷ ws) zero want is = ap (λ (want : ℕ × ℕ). want.1) (same_Some w want is)
+    mapped (w ∷ ws) (suc k) want is = mapped ws k want is
+
 -- ---- Before a levelling
+
+tickets_by : (value : ℕ → ℕ) (es : List (NameBytes × OpenFlow))
+    → map (λ (e : NameBytes × OpenFlow). value e.1.number) es
+    ≡ map (λ (want : ℕ × ℕ). want.1) (map (λ (e : NameBytes × OpenFlow). (e.1.number, value e.1.number)) es)
+tickets_by value [] = refl
+tickets_by value (e ∷ es) = ap (λ ns. value e.1.number ∷ ns) (tickets_by value es)
+
+-- what is wanted of the flows is their tickets
+pub wants-tickets : (g : Graph)
+    → map (λ (e : NameBytes × OpenFlow). tickets g e.1.number) g.flows ≡ map (λ (want : ℕ × ℕ). want.1) (wants g)
+wants-tickets g = tickets_by (tickets g) g.flows
 
 numbers_by : (value : ℕ → ℕ) (es : List (NameBytes × OpenFlow))
     → map (λ (want : ℕ × ℕ). want.0) (map (λ (e : NameBytes × OpenFlow). (e.1.number, value e.1.number)) es)
@@ -224,3 +261,23 @@ pub kept-all : (start now : Stride) (g : Graph) (levels : List ℕ) (place : ℕ
 kept-all start now g levels place all done =
     ap (λ k. take k levels) (sym all) ∙ done.kept
     ∙ ap (map (λ (want : ℕ × ℕ). want.1)) (take_all place (wants g) (omega (arith, all, wants-count g)))
+
+pub tickets-count : (g : Graph) (ts : List ℕ) → ts ≡ map (λ (e : NameBytes × OpenFlow). tickets g e.1.number) g.flows
+    → length ts ≡ length g.flows
+tickets-count g ts is = ap length is ∙ length-map g.flows (λ (e : NameBytes × OpenFlow). tickets g e.1.number)
+
+-- the flows up to a place whose tickets are as they were need no look
+pub changed-to : (start now : Stride) (g : Graph) (levels ts : List ℕ) (place to : ℕ) → IsKept g
+    → ts ≡ map (λ (e : NameBytes × OpenFlow). tickets g e.1.number) g.flows → place ≤ to → to ≤ length ts
+    → AreSameFrom levels ts place to → AreDoneChanged start now (wants g) levels place
+    → AreDoneChanged start now (wants g) levels to
+changed-to start now g levels ts place to kept is before inside same done =
+    let count = tickets-count g ts is in
+    let n = to - place in
+    let there : place + n ≡ to = omega (arith, before) in
+    let wanted = is ∙ wants-tickets g in
+    let within : place + n ≤ length (wants g) = omega (arith, there, inside, count, wants-count g) in
+    let same_there : AreSameFrom levels (map (λ (want : ℕ × ℕ). want.1) (wants g)) place (place + n) =
+    λ k after before. same k after (omega (arith, before, there)) ∙ ap (λ ns. get_or ns k 0) wanted in
+    subst (AreDoneChanged start now (wants g) levels) there
+    (changed_same start now (wants g) levels place n (kept-distinct g kept) within same_there done)

@@ -1,5 +1,5 @@
 -- The tickets with which the queue was levelled last, kept by the places of the flows.
-use Rattle.std.specs.Prelude.{◌≡◌, ℕ, List, length, map, take, get_or, slice_get}
+use Rattle.std.specs.Prelude.{◌≡◌, ◌≤◌, ◌<◌, ℕ, List, length, map, take, get_or, slice_get}
 use Rattle.share_model.specs.funding.Graph.{Graph}
 use Rattle.share_model.specs.link.Live.{wants}
 use Rattle.share_model.specs.stride.Moves.{Stride, client}
@@ -17,3 +17,7 @@ IsLevelAt q flows levels k =
 
 abbrev pub AreLevelAt : Stride → List (ℕ × ℕ) → List ℕ → Type 0
 AreLevelAt q flows levels = (k : ℕ) → IsLevelAt q flows levels k
+
+-- the tickets that are kept for the places from one to another are these
+abbrev pub AreSameFrom : List ℕ → List ℕ → ℕ → ℕ → Type 0
+AreSameFrom levels tickets from to = (k : ℕ) → from ≤ k → k < to → get_or levels k 0 ≡ get_or tickets k 0

@@ -18,6 +18,7 @@ pub mod RoutesBefore
 pub mod RoutesDone
 pub mod RoutesLeft
 pub mod SeatCounts
+pub mod SeatSources
 pub mod SeatSums
 pub mod Settled
 pub mod StaleSteps

@@ -1,6 +1,7 @@
 -- Seats: what the tickets that fund one holder do between places.
-use Rattle.std.specs.Prelude.{◌≡◌, ◌≤◌, ◌<◌, ℕ, ◌+◌, ◌*◌, ◌/◌, ◌^◌, Bool, true, false, ◌&&◌, min, List, [], length}
+use Rattle.std.specs.Prelude.{◌≡◌, ◌≤◌, ◌<◌, ℕ, ◌+◌, ◌*◌, ◌/◌, ◌^◌, ◌%◌, Bool, true, false, ◌&&◌, min, List, [], length}
 use Rattle.std.specs.Prelude.{sum_by, nat_eq, nat_lt, slice_index_or, if◌then◌else◌}
+use Rattle.std.specs.Int.{bit_at}
 use Rattle.share_model.specs.funding.Graph.{Graph}
 use Rattle.share_model.specs.lists.Each.{Each}
 use Rattle.share_ledger.specs.declared.routes.Route.{Route}
@@ -10,6 +11,10 @@ use Rattle.share_ledger.specs.Routes.{gathered, routes_of}
 -- a seat of the same denomination and amount
 abbrev pub is_like : Seat → Seat → Bool
 is_like s o = nat_eq s.from o.from && nat_eq s.amount o.amount
+
+-- the bit of the place that a seat comes from is one of these
+abbrev pub ComesFrom : ℕ → Seat → Type 0
+ComesFrom bits s = bit_at bits (s.from % 64) ≡ 1
 
 pub record IsSeatWithin (s : Seat) : Type 0 where
   pub from_place : s.from < 65

@@ -1,8 +1,10 @@
 -- What is kept where a few weights, the seats of one holder or the activity of one flow have changed.
-use Rattle.std.specs.Prelude.{◌≡◌, ◌<◌, ◌^◌, ℕ, Bool, false, not, ◌||◌, List, min, nat_eq, nat_lt}
+use Rattle.std.specs.Prelude.{◌≡◌, ◌<◌, ◌^◌, ◌%◌, ℕ, Bool, true, false, not, ◌||◌, List, min, nat_eq, nat_lt}
+use Rattle.std.specs.Int.{bit_at}
 use Rattle.std.specs.List.{list_any}
 use Rattle.share_ledger.specs.declared.net.Net.{Net}
 use Rattle.share_ledger.specs.declared.seats.Seat.{Seat}
+use Rattle.share_ledger.specs.declared.stale.Moved.{Moved}
 use Rattle.share_ledger.specs.Rounds.{flags_of, numbers_of}
 use Rattle.share_ledger.specs.Seats.{seats_at, weighed}
 
@@ -16,6 +18,10 @@ is_stale ss moved whole seen changed p =
 abbrev pub WereValued : List (List Seat) → (ℕ → ℕ) → (ℕ → ℕ) → ℕ → Type 0
 WereValued ss value seen changed = (p : ℕ) → 0 < p → p < 65 → nat_eq changed p ≡ false
     → value p ≡ weighed ss (λ k. nat_lt 0 (seen k)) value seen p
+
+-- the bits of the places that are flagged are there
+abbrev pub HaveBits : Moved → Type 0
+HaveBits m = (p : ℕ) → p < 65 → flags_of m.flags p ≡ true → bit_at m.bits (p % 64) ≡ 1
 
 -- where a place is not flagged, its value and its weight are as they were
 abbrev pub AreMoved : (ℕ → Bool) → (ℕ → ℕ) → (ℕ → ℕ) → (ℕ → ℕ) → (ℕ → ℕ) → Type 0

@@ -1,5 +1,5 @@
 //! The ledger: the tables, and what is kept beside them.
-ghost use Rattle.std.specs.Prelude.{◌≡◌, ◌<◌, ◌-◌, ◌^◌, length, slice_get, option_map, Some, None, IfOk, IfErr};
+ghost use Rattle.std.specs.Prelude.{◌≡◌, ◌<◌, ◌-◌, ◌^◌, length, map, slice_get, option_map, Some, None, IfOk, IfErr};
 ghost use Rattle.share_base.specs.declared.refusal.Refusal as Refusal;
 ghost use Rattle.share_base.specs.Refusal.{IsRefused};
 ghost use Rattle.share_model.specs.funding.Graph.{empty_graph, tickets};
@@ -267,6 +267,14 @@ impl Ledger {
     {
         self.tables.is_kept();
         self.kept.shares[place]
+    }
+
+    /// The tickets of all open flows, as `tickets` gives them by their numbers, in the order of opening.
+    pub fn all_tickets(&self) -> &[u32]
+        ensures { result.now ≡ map (λ e. tickets self.now e.1.number) self.now.flows }
+    {
+        self.tables.is_kept();
+        &self.kept.shares[..self.tables.flow_count()]
     }
 
     pub(crate) fn tables(&self) -> &Tables

@@ -1,8 +1,9 @@
 //! The tickets that fund one holder, each as a seat, in a room for sixteen.
 ghost use Rattle.std.specs.Prelude.{◌≡◌, ◌+◌, ◌<◌, ◌≤◌, ◌++◌, ◌∷◌, [], ℕ, length, sum_by, position, true};
-ghost use Rattle.std.specs.List.{list_any};
+ghost use Rattle.std.specs.Prelude.{◌^◌, ◌%◌};
+ghost use Rattle.share_model.specs.lists.Each.{Each};
 ghost use Rattle.share_ledger.specs.declared.seats.Seat.{Seat};
-ghost use Rattle.share_ledger.specs.Seats.{is_like};
+ghost use Rattle.share_ledger.specs.Seats.{is_like, ComesFrom};
 
 use crate::tables::MAX_FUNDING;
 use std::marker::Model;
@@ -17,22 +18,32 @@ pub(crate) struct Seat {
 /// What stands in a place without a seat.
 const NO_SEAT: Seat = Seat { from: 0, amount: 0 };
 
-/// The seats of one holder, in no order.
+/// The bit of a place: places are counted modulo 64, so two of them may share one.
+pub(crate) fn bit_of(place: usize) -> u64
+    ensures { result ≡ 2 ^ (place % 64) }
+{
+    1 << (place % 64)
+}
+
+/// The seats of one holder, in no order, and the bits of the places that they come from.
 #[derive(Drop)]
 pub(crate) struct Seats {
     room: [Seat; MAX_FUNDING],
     count: usize,
+    sources: u64,
 }
 
 impl Model for Seats {
     ghost use Rattle.std.specs.Prelude.{◌≤◌, List, take};
+    ghost use Rattle.share_model.specs.lists.Each.{Each};
     ghost use Rattle.share_ledger.specs.declared.seats.Seat.{Seat};
+    ghost use Rattle.share_ledger.specs.Seats.{ComesFrom};
 
     ghost Value = { List Seat };
 
     ghost view = { λ s. take s.count s.room };
 
-    ghost invariant = { λ s. s.count ≤ 16 };
+    ghost invariant = { λ s. (s.count ≤ 16) × Each (ComesFrom s.sources) (take s.count s.room) };
 }
 
 impl Seats {
@@ -42,6 +53,7 @@ impl Seats {
         Seats {
             room: [NO_SEAT; MAX_FUNDING],
             count: 0,
+            sources: 0,
         }
     }
 
@@ -62,6 +74,7 @@ impl Seats {
         ensures { self.new ≡ [] }
     {
         self.count = 0;
+        self.sources = 0;
     }
 
     pub(crate) fn add(&mut self, seat: Seat)
@@ -70,6 +83,7 @@ impl Seats {
     {
         self.room[self.count] = seat;
         self.count += 1;
+        self.sources |= bit_of(seat.from as usize);
     }
 
     fn place_of(&self, seat: Seat) -> Option<usize>
@@ -87,6 +101,25 @@ impl Seats {
         };
         self.count -= 1;
         self.room[place] = self.room[self.count];
+        self.sources = sources_of(&self.room[..self.count]);
         true
     }
+
+    /// The bits of the places that the seats come from.
+    pub(crate) fn sources(&self) -> u64
+        ensures { Each (ComesFrom result) self.now }
+    {
+        self.sources
+    }
+}
+
+// The bits of the places that some seats come from.
+fn sources_of(seats: &[Seat]) -> u64
+    ensures { Each (ComesFrom result) seats.now }
+{
+    let mut sources = 0;
+    for seat in seats {
+        sources |= bit_of(seat.from as usize);
+    }
+    sources
 }

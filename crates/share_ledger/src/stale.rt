@@ -5,24 +5,64 @@ ghost use Rattle.std.specs.List.{list_any};
 ghost use Rattle.share_model.specs.lists.Each.{Each};
 ghost use Rattle.share_ledger.specs.Rounds.{flags_of, numbers_of};
 ghost use Rattle.share_ledger.specs.Seats.{IsSeatWithin, seats_at, weighed, AreOrdered, AreSmall, AreAwake, AreValued};
-ghost use Rattle.share_ledger.specs.Stale.{is_stale, WereValued, AreMoved};
+ghost use Rattle.share_ledger.specs.Stale.{is_stale, WereValued, HaveBits, AreMoved};
 
 use crate::net::{self, MAX_VALUE};
 use crate::rounds::PLACES;
-use crate::seats::{Seat, Seats};
+use crate::seats::{Seat, Seats, bit_of};
 use crate::tables::MAX_FLOWS;
 
+/// The places whose value or weight is another one: a flag of each, and the bits of those that are flagged.
+#[derive(Clone, Copy, Debug)]
+pub(crate) struct Moved {
+    flags: [bool; PLACES],
+    bits: u64,
+}
+
+// No place.
+fn none_moved() -> Moved
+    ensures { HaveBits result }
+{
+    Moved {
+        flags: [false; PLACES],
+        bits: 0,
+    }
+}
+
+// Flags a place, or not.
+fn flag(moved: &mut Moved, place: usize, flagged: bool)
+    requires place { place < 65 }
+    requires bits { HaveBits moved.old }
+    ensures bits { HaveBits moved.new }
+    ensures flags { (k : ℕ) → flags_of moved.new.flags k
+        ≡ (if nat_eq place k then flagged else flags_of moved.old.flags k) }
+{
+    moved.flags[place] = flagged;
+    if flagged {
+        moved.bits |= bit_of(place);
+    }
+}
+
 // Whether one of some seats comes from a flagged place.
-fn touches(seats: &[Seat], moved: &[bool; PLACES]) -> bool
+fn come_from(seats: &[Seat], flags: &[bool; PLACES]) -> bool
     requires { Each IsSeatWithin seats.now }
-    ensures { result ≡ list_any (λ s. flags_of moved.now s.from) seats.now }
+    ensures { result ≡ list_any (λ s. flags_of flags.now s.from) seats.now }
 {
     for seat in seats {
-        if moved[seat.from as usize] {
+        if flags[seat.from as usize] {
             return true;
         }
     }
     false
+}
+
+// Whether a seat of a holder comes from a flagged place. Mostly none does, and then mostly no bit is the same.
+fn touches(holder: &Seats, moved: &Moved) -> bool
+    requires within { Each IsSeatWithin holder.now }
+    requires bits { HaveBits moved.now }
+    ensures { result ≡ list_any (λ s. flags_of moved.now.flags s.from) holder.now }
+{
+    holder.sources() & moved.bits != 0 && come_from(holder.seats(), &moved.flags)
 }
 
 // Whether the value of a currency may be another one: its seats or its weight are others, or what a seat is worth.
@@ -30,18 +70,19 @@ fn is_stale(
     backing: &[Seats],
     weights: &[u64; PLACES],
     seen: &[u64; PLACES],
-    moved: &[bool; PLACES],
+    moved: &Moved,
     changed: usize,
     place: usize,
 ) -> bool
     requires within { (p : ℕ) → p < 65 → Each IsSeatWithin (seats_at backing.now p) }
+    requires bits { HaveBits moved.now }
     requires places { length backing.now ≡ 65 }
     requires place { place < 65 }
-    ensures { result ≡ is_stale backing.now (flags_of moved.now) (numbers_of weights.now)
+    ensures { result ≡ is_stale backing.now (flags_of moved.now.flags) (numbers_of weights.now)
         (numbers_of seen.now) changed place }
 {
     let holder = &backing[place];
-    changed == place || weights[place] != seen[place] || touches(holder.seats(), moved)
+    changed == place || weights[place] != seen[place] || touches(holder, moved)
 }
 
 // Computes the value of a currency, and flags its place where the value is another one or the weight is.
@@ -51,26 +92,32 @@ fn revalue_at(
     weights: &[u64; PLACES],
     seen: &[u64; PLACES],
     place: usize,
-    moved: &mut [bool; PLACES],
+    moved: &mut Moved,
     values: &mut [u64; PLACES],
 ) -> bool
     requires within { (p : ℕ) → p < 65 → Each IsSeatWithin (seats_at backing.now p) }
     requires places { length backing.now ≡ 65 }
     requires place { place < 65 }
     requires small { AreSmall (numbers_of values.old) }
+    requires bits { HaveBits moved.old }
     ensures small { AreSmall (numbers_of values.new) }
+    ensures bits { HaveBits moved.new }
     ensures values { result ≡ true → (k : ℕ) → numbers_of values.new k
         ≡ (if nat_eq place k then weighed backing.now (flags_of awake.now) (numbers_of values.old)
         (numbers_of weights.now) place else numbers_of values.old k) }
-    ensures moved { result ≡ true → (k : ℕ) → flags_of moved.new k
+    ensures moved { result ≡ true → (k : ℕ) → flags_of moved.new.flags k
         ≡ (if nat_eq place k then not (nat_eq (numbers_of weights.now place) (numbers_of seen.now place))
-        || not (nat_eq (numbers_of values.new place) (numbers_of values.old place)) else flags_of moved.old k) }
+        || not (nat_eq (numbers_of values.new place) (numbers_of values.old place)) else flags_of moved.old.flags k) }
 {
     let value = net::value_at(backing, awake, weights, values, place);
     if value > MAX_VALUE {
         return false;
     }
-    moved[place] = weights[place] != seen[place] || value != values[place];
+    flag(
+        moved,
+        place,
+        weights[place] != seen[place] || value != values[place],
+    );
     values[place] = value;
     true
 }
@@ -84,7 +131,7 @@ pub(crate) fn revalue(
     seen: &[u64; PLACES],
     changed: usize,
     values: &mut [u64; PLACES],
-) -> Option<[bool; PLACES]>
+) -> Option<Moved>
     requires within { (p : ℕ) → p < 65 → Each IsSeatWithin (seats_at backing.now p) }
     requires places { length backing.now ≡ 65 }
     requires ordered { AreOrdered backing.now }
@@ -94,10 +141,10 @@ pub(crate) fn revalue(
     ensures small { AreSmall (numbers_of values.new) }
     ensures valued { IfSome result (λ _. AreValued backing.now (flags_of awake.now)
         (numbers_of values.new) (numbers_of weights.now)) }
-    ensures moved { IfSome result (λ moved. AreMoved (flags_of moved) (numbers_of values.old) (numbers_of values.new)
-        (numbers_of seen.now) (numbers_of weights.now)) }
+    ensures moved { IfSome result (λ moved. HaveBits moved × AreMoved (flags_of moved.flags) (numbers_of values.old)
+        (numbers_of values.new) (numbers_of seen.now) (numbers_of weights.now)) }
 {
-    let mut moved = [false; PLACES];
+    let mut moved = none_moved();
     for place in 1..PLACES {
         if is_stale(backing, weights, seen, &moved, changed, place)
             && !revalue_at(backing, awake, weights, seen, place, &mut moved, values)
@@ -114,22 +161,23 @@ pub(crate) fn reshare(
     active: &[bool; PLACES],
     weights: &[u64; PLACES],
     values: &[u64; PLACES],
-    moved: &[bool; PLACES],
+    moved: &Moved,
     changed: usize,
     shares: &mut [u32; MAX_FLOWS],
 )
     requires within { (p : ℕ) → p < 65 → Each IsSeatWithin (seats_at funding.now p) }
     requires places { length funding.now ≡ 65 }
     requires small { AreSmall (numbers_of values.now) }
+    requires bits { HaveBits moved.now }
     ensures { (p : ℕ) → p < 64 → numbers_of shares.new p
         ≡ (if nat_eq changed p || (flags_of active.now p
-        && list_any (λ s. flags_of moved.now s.from) (seats_at funding.now p))
+        && list_any (λ s. flags_of moved.now.flags s.from) (seats_at funding.now p))
         then min (weighed funding.now (flags_of active.now) (numbers_of values.now) (numbers_of weights.now) p) (2 ^ 20)
         else numbers_of shares.old p) }
 {
     for place in 0..MAX_FLOWS {
         let holder = &funding[place];
-        if changed == place || active[place] && touches(holder.seats(), moved) {
+        if changed == place || active[place] && touches(holder, moved) {
             shares[place] = net::share_at(funding, active, weights, values, place);
         }
     }

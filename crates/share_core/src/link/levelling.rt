@@ -1,11 +1,11 @@
 //! Levelling: each open flow competes with as many tickets as it has.
-ghost use Rattle.std.specs.Prelude.{◌≡◌, ◌<◌, ◌≤◌, ◌^◌, true, length, set, slice_get, IsSome};
+ghost use Rattle.std.specs.Prelude.{◌≡◌, ◌<◌, ◌≤◌, ◌+◌, ◌^◌, true, length, set, slice_get, None, IsSome, IfSome};
 ghost use Rattle.share_model.specs.funding.Changes.{set_active};
 ghost use Rattle.std.specs.FinMap.{get};
 ghost use Rattle.share_model.specs.link.Live.{wants};
 ghost use Rattle.share_model.specs.stride.Level.{level_one, level_all, CanLevel, IsLevel};
 ghost use Rattle.share_core.specs.Held.{IfFound};
-ghost use Rattle.share_core.specs.Levels.{AreTicketsOf, IsLevelAt, AreLevelAt};
+ghost use Rattle.share_core.specs.Levels.{AreTicketsOf, AreLevelAt, AreSameFrom};
 
 use crate::MAX_FLOWS;
 use share_base::FlowNo;
@@ -22,8 +22,10 @@ pub fn level(queue: &mut Queue, ledger: &Ledger, levels: &mut [u32; MAX_FLOWS])
     ensures levels { AreTicketsOf levels.new ledger.now }
 {
     ledger.is_kept();
-    for place in 0..ledger.flow_count() {
-        level_changed(queue, ledger, levels, place);
+    let mut place = 0;
+    while let Some(other) = next_other(levels, ledger.all_tickets(), place) {
+        level_at(queue, ledger, levels, other);
+        place = other + 1;
     }
 }
 
@@ -63,21 +65,41 @@ pub fn settle(
     }
 }
 
-// Levels the client of the open flow at a place, where its tickets are others than they were.
-fn level_changed(queue: &mut Queue, ledger: &Ledger, levels: &mut [u32; MAX_FLOWS], place: usize)
-    requires place { place < length ledger.now.flows }
-    requires few { length ledger.now.flows ≤ 64 }
-    requires can { IfFound (slice_get (wants ledger.now) place)
-        (λ want. IsSome (get queue.old.clients want.0) × (want.1 ≤ 2 ^ 20)) }
-    requires level { IsLevelAt queue.old (wants ledger.now) levels.old place }
-    ensures queue { IfFound (slice_get (wants ledger.now) place)
-        (λ want. queue.new ≡ level_one queue.old want.0 want.1) }
-    ensures levels { IfFound (slice_get (wants ledger.now) place)
-        (λ want. levels.new ≡ set levels.old place want.1) }
+/// How many places are compared at once.
+const STEP: usize = 16;
+
+// Whether all tickets of a stretch are as they were. All of them are compared, without a branch for each.
+fn are_same(levels: &[u32; MAX_FLOWS], tickets: &[u32], place: usize) -> bool
+    requires inside { place + 16 ≤ length tickets.now }
+    requires few { length tickets.now ≤ 64 }
+    ensures { result ≡ true → AreSameFrom levels.now tickets.now place (place + 16) }
 {
-    if levels[place] != ledger.tickets_at(place) {
-        level_at(queue, ledger, levels, place);
+    let mut same = true;
+    for i in 0..STEP {
+        same &= levels[place + i] == tickets[place + i];
     }
+    same
+}
+
+// The first place from one on whose tickets are others than they were. Whole stretches are passed where none is.
+fn next_other(levels: &[u32; MAX_FLOWS], tickets: &[u32], from: usize) -> Option<usize>
+    requires { length tickets.now ≤ 64 }
+    ensures some { IfSome result (λ other. (from ≤ other) × (other < length tickets.now)
+        × AreSameFrom levels.now tickets.now from other) }
+    ensures none { result ≡ None → AreSameFrom levels.now tickets.now from (length tickets.now) }
+{
+    let mut place = from;
+    while place < tickets.len() {
+        let whole = place % STEP == 0 && tickets.len() - place >= STEP;
+        if whole && are_same(levels, tickets, place) {
+            place += STEP;
+        } else if levels[place] == tickets[place] {
+            place += 1;
+        } else {
+            return Some(place);
+        }
+    }
+    None
 }
 
 // Levels the client of the open flow at a place.

@@ -12,7 +12,7 @@ invariant-loop-place l = record {
   shared : (k : ℕ) → k < l.place
       → numbers_of l.shares k
       ≡ (if nat_eq l.changed k
-      || (flags_of l.active k && list_any (λ (s : Seat). flags_of l.moved s.from) (seats_at l.funding k))
+      || (flags_of l.active k && list_any (λ (s : Seat). flags_of l.moved.flags s.from) (seats_at l.funding k))
       then min (weighed l.funding (flags_of l.active) (numbers_of l.values) (numbers_of l.weights) k) (2 ^ 20)
       else numbers_of l.fn.shares k);
 }

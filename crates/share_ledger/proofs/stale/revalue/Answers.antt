@@ -16,7 +16,7 @@ loop-place-preserved c =
     let s = numbers_of c.args.seen.now in
     let u = numbers_of c.args.weights.now in
     let on = flags_of c.args.awake.now in
-    let moved = flags_of c.loop-place.moved in
+    let moved = flags_of c.loop-place.moved.flags in
     let ss = c.args.backing.now in
     let lt = c.loop-place-test.true in
     elim c.else-is_stale.branch [
@@ -25,9 +25,10 @@ loop-place-preserved c =
           let wrote = b.revalue_at.ensures.values b.if-not-revalue_at.false in
           let flagged = b.revalue_at.ensures.moved b.if-not-revalue_at.false in
           let n = weighed ss on w u p in
-          let next = flags_of b.revalue_at.new.moved in
+          let next = flags_of b.revalue_at.new.moved.flags in
           rw (b.values-is, b.moved-is)
           (record {
+            bits = b.revalue_at.ensures.bits;
             small = b.revalue_at.ensures.small;
             left = stale-left moved next v w x s u p n wrote flagged inv.left inv.same;
             same = stale-same moved next v w x s u p n wrote flagged inv.left inv.same;
@@ -37,6 +38,7 @@ loop-place-preserved c =
           let fresh = sym c.is_stale.ensures ∙ b.if-is_stale.false in
           rw (b.values-is, b.moved-is)
           (record {
+            bits = inv.bits;
             small = inv.small;
             left = λ k past. inv.left k (omega arith);
             same = fresh-same moved v w s u ss on c.args.changed p c.requires.ordered c.requires.awake c.requires.were

@@ -1,13 +1,15 @@
 use Rattle.std.proofs.Common.{◌≡◌, ◌<◌, ◌≤◌, ℕ, false}
 use Rattle.share_ledger.specs.Rounds.{flags_of, numbers_of}
 use Rattle.share_ledger.specs.Seats.{AreSmall, weighed}
+use Rattle.share_ledger.specs.Stale.{HaveBits}
 use Rattle.share_ledger.proofs.stale.revalue.Given as goal
 
 abbrev pub invariant-loop-place : goal.invariant-loop-place
 invariant-loop-place l = record {
+  bits : HaveBits l.moved;
   small : AreSmall (numbers_of l.values);
   left : (k : ℕ) → l.place ≤ k → numbers_of l.values k ≡ numbers_of l.fn.values k;
-  same : (k : ℕ) → 0 < k → k < l.place → flags_of l.moved k ≡ false
+  same : (k : ℕ) → 0 < k → k < l.place → flags_of l.moved.flags k ≡ false
       → (numbers_of l.values k ≡ numbers_of l.fn.values k) × (numbers_of l.weights k ≡ numbers_of l.seen k);
   valued : (k : ℕ) → 0 < k → k < l.place
       → numbers_of l.values k

@@ -18,7 +18,7 @@ returns-clause-ready c = λ _.
       };
       awake_is = search rules;
       valued = search rules;
-      shared = shared-still (flags_of c.in-Some.moved) (numbers_of old.values.value)
+      shared = shared-still (flags_of c.in-Some.moved.flags) (numbers_of old.values.value)
           (numbers_of c.revalue-moved.new.values) (numbers_of old.seen.value) (numbers_of c.spread.new.weights)
           old.funding.items (flags_of old.active.value) (numbers_of c.args.shares.now) (numbers_of c.reshare.new.shares)
           c.args.flow begun.funding.within (search rules) (λ p lt. let own = c.reshare.ensures p lt in cc)

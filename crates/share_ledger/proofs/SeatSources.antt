@@ -1,0 +1,73 @@
+-- The bits of the places that seats come from.
+use Rattle.std.proofs.Common.{◌≡◌, ◌<◌, ◌^◌, ◌%◌, ◌∙◌, ◌||◌, ℕ, Bool, true, false, List, [], ◌∷◌, ◌++◌, bit_and, bit_or}
+use Rattle.std.proofs.Common.{refl, sym, ap, set, replicate, inl, inr, arith}
+use Rattle.std.specs.Int.{bit_at}
+use Rattle.std.specs.List.{list_any}
+use Rattle.std.proofs.lemmas.Bool.Decides.{eqb_tells}
+use Rattle.std.proofs.lemmas.List.{get_or-replicate, get_or-set_other}
+use Rattle.std.proofs.lemmas.Nat.Bits.{bit_at_and, bit_at_or, bit_at-lt, bit_at-zero, bit_at-pow_same}
+use Rattle.share_model.specs.lists.Each.{Each}
+use Rattle.share_ledger.specs.declared.seats.Seat.{Seat}
+use Rattle.share_ledger.specs.Rounds.{flags_of}
+use Rattle.share_ledger.specs.Seats.{ComesFrom, IsSeatWithin}
+
+left_bit : (a b i : ℕ) → bit_at a i ≡ 1 → bit_at (bit_or a b) i ≡ 1
+left_bit a b i is = omega (arith, bit_at_or a b i, bit_at-lt b i, is)
+
+right_bit : (a b i : ℕ) → bit_at b i ≡ 1 → bit_at (bit_or a b) i ≡ 1
+right_bit a b i is = omega (arith, bit_at_or a b i, bit_at-lt a i, is)
+
+more_bits : (a b : ℕ) (ss : List Seat) → Each (ComesFrom a) ss → Each (ComesFrom (bit_or a b)) ss
+more_bits a b [] all = tt
+more_bits a b (s ∷ ss) all = (left_bit a b (s.from % 64) all.0, more_bits a b ss all.1)
+
+one_more : (a : ℕ) (ss : List Seat) (s : Seat) → Each (ComesFrom a) ss → ComesFrom a s
+    → Each (ComesFrom a) (ss ++ s ∷ [])
+one_more a [] s all one = (one, tt)
+one_more a (t ∷ ts) s all one = (all.0, one_more a ts s all.1 one)
+
+-- one seat more, and its bit
+pub bits-more : (a b : ℕ) (ss : List Seat) (s : Seat) → b ≡ 2 ^ (s.from % 64) → Each (ComesFrom a) ss
+    → Each (ComesFrom (bit_or a b)) (ss ++ s ∷ [])
+bits-more a b ss s is all =
+    let own = ap (λ n. bit_at n (s.from % 64)) is ∙ bit_at-pow_same (s.from % 64) in
+    one_more (bit_or a b) ss s (more_bits a b ss all) (right_bit a b (s.from % 64) own)
+
+false_unless : (b : Bool) → (b ≡ true → b ≡ false) → b ≡ false
+false_unless true not = not refl
+false_unless false not = refl
+
+-- where no bit is the same, no seat comes from a flagged place
+pub none-touched : (bits moved : ℕ) (flag : ℕ → Bool) (ss : List Seat) → bit_and bits moved ≡ 0
+    → ((p : ℕ) → p < 65 → flag p ≡ true → bit_at moved (p % 64) ≡ 1)
+    → Each IsSeatWithin ss → Each (ComesFrom bits) ss → list_any (λ (s : Seat). flag s.from) ss ≡ false
+none-touched bits moved flag [] apart is within all = refl
+none-touched bits moved flag (s ∷ ss) apart is within all =
+    let i = s.from % 64 in
+    let other = false_unless (flag s.from) (λ on. absurd (omega (
+      arith,
+      bit_at_and bits moved i,
+      bit_at-zero i,
+      ap (λ n. bit_at n i) apart,
+      all.0,
+      is s.from within.0.from_place on,
+    ))) in
+    ap (λ b. b || list_any (λ (s : Seat). flag s.from) ss) other
+    ∙ none-touched bits moved flag ss apart is within.1 all.1
+
+-- a place is flagged, and so its bit is there
+pub bits-flagged : (flags : List Bool) (place bits b : ℕ) → b ≡ 2 ^ (place % 64)
+    → ((p : ℕ) → p < 65 → flags_of flags p ≡ true → bit_at bits (p % 64) ≡ 1)
+    → (p : ℕ) → p < 65 → flags_of (set flags place true) p ≡ true → bit_at (bit_or bits b) (p % 64) ≡ 1
+bits-flagged flags place bits b is were p few on = elim (eqb_tells p place) [
+  | inl same ↦ right_bit bits b (p % 64)
+      (ap (λ n. bit_at n (p % 64)) (is ∙ ap (λ q. 2 ^ (q % 64)) (sym same.1)) ∙ bit_at-pow_same (p % 64))
+  | inr other ↦ left_bit bits b (p % 64)
+      (were p few (sym (get_or-set_other flags place p true false other.1) ∙ on))
+]
+
+-- where no place is flagged, no bit has to be there
+pub none-flagged : (p : ℕ) → p < 65 → flags_of (replicate 65 false) p ≡ true → bit_at 0 (p % 64) ≡ 1
+none-flagged p few on =
+    let off = get_or-replicate 65 p false false few in
+    absurd (cc)

@@ -1,5 +1,5 @@
 //! The buffers of the open flows, found by the numbers of the flows.
-ghost use Rattle.std.specs.Prelude.{◌≡◌, ◌<◌, ◌≤◌, ◌^◌, ◌∷◌, [], true, false, position, IfOk, IfErr, OnOk, ◌-◌};
+ghost use Rattle.std.specs.Prelude.{◌≡◌, ◌<◌, ◌≤◌, ◌^◌, [], true, false, position, IfOk, IfErr, OnOk, ◌-◌};
 ghost use Rattle.std.specs.Prelude.{length, slice_get, MatchOption, None, Some, IsSome, IfSome, IsTrue, option_map};
 ghost use Rattle.share_base.specs.Refusal.{IsRefused};
 ghost use Rattle.share_base.specs.declared.refusal.Refusal.TheVariants.{NoMemory};

@@ -1,5 +1,5 @@
 //! The rule of the queue, and the steps on it.
-ghost use Rattle.std.specs.Prelude.{suc, [], ◌∷◌};
+ghost use Rattle.std.specs.Prelude.{suc, []};
 ghost use Rattle.share_model.specs.ingress.Queue.{Put, OwnLast, Taken, Seen, Behind, an_end, an_intake, a_host, spent};
 
 use crossbeam_queue::protocol::{Join, Lesson, Outcome, Protocol, Split};

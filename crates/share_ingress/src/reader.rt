@@ -41,7 +41,7 @@ pub struct IngressReader<R: Source> {
 }
 
 impl<R: Source> Model for IngressReader<R> {
-    ghost use Rattle.std.specs.Prelude.{◌≡◌, ◌<◌, ℕ, length, Option, None, IfSome};
+    ghost use Rattle.std.specs.Prelude.{◌≡◌, ◌<◌, length, Option, None, IfSome};
     ghost use Rattle.share_ingress.specs.Reader.{Reading, Stands};
 
     ghost Value = { Reading R };

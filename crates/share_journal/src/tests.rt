@@ -1,5 +1,5 @@
 //! Worked runs of a recorder: calls and what comes of them as rows of a table, and what the other tests share.
-ghost use Rattle.std.specs.Prelude.{◌≡◌, ◌<◌, ◌≤◌, IfSome};
+ghost use Rattle.std.specs.Prelude.{◌≡◌, ◌<◌, IfSome};
 ghost use Rattle.share_model.specs.link.Live.{empty_link};
 ghost use Rattle.share_journal.specs.Records.{AcceptedNothing};
 

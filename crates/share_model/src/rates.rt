@@ -1,5 +1,5 @@
 //! Tariffs as the link sees them: what a frame costs, and how an account is posted.
-ghost use Rattle.std.specs.Prelude.{◌≡◌, ◌<◌, ◌≤◌, ◌^◌, ℕ, List, IsTrue, is_some};
+ghost use Rattle.std.specs.Prelude.{◌≡◌, ◌<◌, ◌≤◌, ◌^◌, List, IsTrue, is_some};
 ghost use Rattle.share_model.specs.link.Tariff.{rate_at, rate_of, units_of, post_of, AreInRange};
 
 /// A tariff: a frame is charged in whole cells of `cell` units and an overhead, and an account grows by `price`

@@ -1,5 +1,5 @@
 //! Readers that tell which bytes they gave.
-ghost use Rattle.std.specs.Prelude.{◌≡◌, ◌≢◌, ◌<◌, ◌≤◌, ℕ, List, Option, length};
+ghost use Rattle.std.specs.Prelude.{◌≡◌, ◌≢◌, ◌<◌, ℕ, List, Option, length};
 ghost use Rattle.std.specs.IoError.{error_kind};
 ghost use Rattle.share_model.specs.io.Given.{Gives};
 

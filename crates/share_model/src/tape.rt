@@ -52,7 +52,7 @@ impl Tape {
 }
 
 impl Telling for Tape {
-    ghost use Rattle.std.specs.Prelude.{Some, refl, ◌∷◌};
+    ghost use Rattle.std.specs.Prelude.{Some};
     ghost use Rattle.share_model.specs.io.Told.{TapeAnswers};
     ghost use Rattle.share_model.specs.io.ToldLaws.{tape_tells};
 

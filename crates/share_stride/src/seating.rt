@@ -1,6 +1,6 @@
 //! The seats of a heap.
-ghost use Rattle.std.specs.Prelude.{◌≡◌, ℕ, ◌+◌, ◌*◌, ◌<◌, ◌≤◌, ◌↔◌, IsTrue, IfSome, IfNone, IfOk, length, slice_set};
-ghost use Rattle.share_stride.specs.Seating.{IsBefore, entry_at, seat_of, IsLifted, RisesPast, SinksPast, IsFirstBelow};
+ghost use Rattle.std.specs.Prelude.{◌≡◌, ◌+◌, ◌*◌, ◌<◌, ◌≤◌, ◌↔◌, IsTrue, IfSome, IfNone, IfOk, length, slice_set};
+ghost use Rattle.share_stride.specs.Seating.{IsBefore, entry_at, IsLifted, RisesPast, SinksPast, IsFirstBelow};
 ghost use Rattle.share_stride.specs.Seating.{FitsAbove, FitsBelow, IsOpen, IsOrdered, IsSeated};
 ghost use Rattle.share_stride.specs.Seating.{Rises, Sinks, Settles, Swaps, Resettles};
 

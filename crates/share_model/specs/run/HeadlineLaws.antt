@@ -1,7 +1,8 @@
 -- The sentence holds of every run of a link.
-use Rattle.std.specs.Prelude.{◌≡◌, ◌<◌, ◌≤◌, ◌^◌, ℕ, true, false, List, [], ◌∷◌, ◌++◌, Option, None, Some, IfSome}
+use Rattle.std.specs.Prelude.{◌≡◌, ◌≤◌, ℕ, true, false, List, [], ◌∷◌, ◌++◌, Option, None, Some, IfSome}
 use Rattle.std.specs.Prelude.{find, option_map, option_and_then}
 use Rattle.std.proofs.Common.{refl, ap, sym, ◌∙◌, subst, arith}
+use Rattle.std.proofs.lemmas.Option.{same_Some}
 use Rattle.share_base.specs.declared.command.Event.{Event}
 use Rattle.share_base.specs.declared.command.Event.TheVariants.{Commanded, Arrived, Written, Faulted}
 use Rattle.share_base.specs.declared.command.Outcome.{Outcome}
@@ -27,12 +28,9 @@ use Rattle.share_model.specs.run.SoundLaws.{sending-head}
 use Rattle.share_model.specs.stride.Level.{IsLevel}
 use Rattle.share_model.specs.stride.Moves.{IsNext, next}
 use Rattle.share_model.specs.stride.NextLaws.{IsNext-next}
-use Rattle.share_model.specs.Headline.{IsBegun, IsGoneOnWith, IsNextFrame, Writes, Fails, Headline}
+use Rattle.share_model.specs.Headline.{IsBegun, IsNextFrame, Writes, Fails, Headline}
 
 -- What is sent is the next frame
-
-same_Some : {A : Type 0} (a b : A) → Some a ≡ Some b → a ≡ b
-same_Some a b e = cc
 
 -- where a frame is made of a flow's head packet, it is of this flow, after so many bytes
 record IsMade (f at : ℕ) (s : Sending) : Type 0 where

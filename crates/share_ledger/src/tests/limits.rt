@@ -2,7 +2,7 @@
 
 use super::{Change, apply, empty, made, name, numbered, refused};
 use crate::Ledger;
-use share_base::{FlowNo, Refusal, Reply};
+use share_base::{FlowNo, Name, Refusal, Reply};
 use std::alloc::Global;
 use std::process::Abort;
 
@@ -89,12 +89,18 @@ fn tables_are_full(rt: HostRuntime) {
     );
 }
 
+// An active flow of this name and number stands at a place.
+fn stands(rt: &impl Abort, ledger: &Ledger, place: usize, name: Name, flow: FlowNo) {
+    let (found, open) = ledger.flow_at(place).expect(rt, "a flow");
+    assert_eq!(rt; found, name);
+    assert_eq!(rt; open.number, flow);
+    assert!(rt; open.active);
+}
+
 #[test]
 fn flows_by_place(rt: HostRuntime) {
     let (base, a, b) = (name(&rt, "base"), name(&rt, "a"), name(&rt, "b"));
     let mut ledger = empty(&rt, rt.alloc());
-    assert_eq!(rt; ledger.flow_count(), 0);
-    assert_eq!(rt; ledger.add_flow_refusal(a), None);
     made(
         &rt,
         &mut ledger,
@@ -106,19 +112,26 @@ fn flows_by_place(rt: HostRuntime) {
         ],
     );
     ledger.set_active(FlowNo(2), true);
-    assert_eq!(rt; ledger.add_flow_refusal(a), Some(Refusal::Taken));
     assert_eq!(rt; ledger.flow_count(), 2);
     assert!(rt; ledger.flow_at(2).is_none());
-    let (second, open) = ledger.flow_at(1).expect(&rt, "a second flow");
-    assert_eq!(rt; (second, open.number, open.active), (b, FlowNo(2), true));
+    stands(&rt, &ledger, 1, b, FlowNo(2));
     ledger.remove_flow(FlowNo(1));
-    let (first, open) = ledger.flow_at(0).expect(&rt, "a flow");
-    assert_eq!(rt; (first, open.number, open.active), (b, FlowNo(2), true));
+    stands(&rt, &ledger, 0, b, FlowNo(2));
     assert!(rt; ledger.flow_count() == 1);
     if 0 < ledger.flow_count() {
         assert_eq!(rt; ledger.tickets_at(0), 5);
     }
     assert_eq!(rt; ledger.tickets(FlowNo(1)), 0);
+}
+
+#[test]
+fn open_names_are_taken(rt: HostRuntime) {
+    let a = name(&rt, "a");
+    let mut ledger = empty(&rt, rt.alloc());
+    assert_eq!(rt; ledger.flow_count(), 0);
+    assert_eq!(rt; ledger.add_flow_refusal(a), None);
+    made(&rt, &mut ledger, &[Change::Open(a)]);
+    assert_eq!(rt; ledger.add_flow_refusal(a), Some(Refusal::Taken));
 }
 
 #[test]

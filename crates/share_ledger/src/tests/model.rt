@@ -118,8 +118,10 @@ impl Model {
 
     /// The name, the number and the activity of the flow at a place in the order of opening.
     pub(crate) fn flow_at(&self, place: usize) -> Option<(Name, u32, bool)> {
-        let open = self.opened.get(place)?;
-        Some((open.name, open.number, open.active))
+        match self.opened.get(place) {
+            None => None,
+            Some(open) => Some((open.name, open.number, open.active)),
+        }
     }
 
     fn ticket(&self, number: u64) -> Option<Issued> {

@@ -3,7 +3,7 @@
 use super::chains::chain_of_eight;
 use super::{Change, empty, made, name, numbered, refused};
 use crate::Ledger;
-use share_base::{FlowNo, Refusal};
+use share_base::{FlowNo, Name, Refusal};
 use std::alloc::Global;
 use std::process::Abort;
 
@@ -119,6 +119,23 @@ fn refusals_of_a_flow_stand_in_order(rt: HostRuntime) {
     );
 }
 
+// A number that no ticket has is refused by each command that takes one.
+fn refuses_number(rt: &impl Abort, ledger: &mut Ledger, number: u64, flow: Name, currency: Name) {
+    refused(
+        rt,
+        ledger,
+        &[
+            (Change::FundFlow(number, flow), Refusal::NoTicket),
+            (Change::FundCurrency(number, currency), Refusal::NoTicket),
+            (Change::RemoveTicket(number), Refusal::NoTicket),
+            (Change::Unfund(number), Refusal::NoTicket),
+        ],
+    );
+}
+
+// 2^32 + 1, which would be 1 in 32 bits.
+const CUT: u64 = 4_294_967_297;
+
 #[test]
 fn numbers_are_not_cut_to_32_bits(rt: HostRuntime) {
     let (base, a) = (name(&rt, "base"), name(&rt, "a"));
@@ -128,21 +145,22 @@ fn numbers_are_not_cut_to_32_bits(rt: HostRuntime) {
         &mut ledger,
         &[Change::MakeTicket(1, base), Change::Open(a)],
     );
-    let cut = (1 << 32) + 1;
-    refused(
-        &rt,
-        &mut ledger,
-        &[
-            (Change::MakeTicket(cut, base), Refusal::Range),
-            (Change::MakeTicket(u64::MAX, base), Refusal::Range),
-            (Change::FundFlow(cut, a), Refusal::NoTicket),
-            (Change::FundCurrency(cut, base), Refusal::NoTicket),
-            (Change::RemoveTicket(cut), Refusal::NoTicket),
-            (Change::Unfund(cut), Refusal::NoTicket),
-            (Change::FundFlow(0, a), Refusal::NoTicket),
-        ],
-    );
+    refuses_number(&rt, &mut ledger, CUT, a, base);
+    refuses_number(&rt, &mut ledger, 0, a, base);
     made(&rt, &mut ledger, &[Change::FundFlow(1, a)]);
+}
+
+#[test]
+fn amounts_are_not_cut_to_32_bits(rt: HostRuntime) {
+    let base = name(&rt, "base");
+    let mut ledger = empty(&rt, rt.alloc());
+    for amount in [CUT, u64::MAX] {
+        refused(
+            &rt,
+            &mut ledger,
+            &[(Change::MakeTicket(amount, base), Refusal::Range)],
+        );
+    }
 }
 
 #[test]

@@ -29,7 +29,7 @@ expect() {
 # Wants a text on standard output that begins with this line, and status 0.
 shows() {
     local text=$1 command=$2
-    expect 0 '' "[[ \$($command | head -n 1) == '$text' ]]"
+    expect 0 '' "shown=\$($command) && [[ \${shown%%\$'\\n'*} == '$text' ]]"
     expect 0 '' "$command > /dev/null"
     expect 1 'stridelink: cannot write the output' "$command > /dev/full"
     expect 1 'stridelink: cannot write the output' "$command >&-"

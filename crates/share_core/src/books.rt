@@ -1,5 +1,5 @@
 //! The books of the open flows: their tariffs and accounts.
-ghost use Rattle.std.specs.Prelude.{◌≡◌, ◌<◌, ◌≤◌, ◌^◌, ◌+◌, ℕ, [], ◌∷◌, ◌++◌, length, position, find, IfOk, None};
+ghost use Rattle.std.specs.Prelude.{◌≡◌, ◌<◌, ◌≤◌, ◌^◌, ◌+◌, [], ◌∷◌, ◌++◌, length, position, find, IfOk, None};
 ghost use Rattle.std.specs.Prelude.{Some, IsSome, IsTrue, is_some, option_copied};
 ghost use Rattle.std.specs.Set.{remove_key};
 ghost use Rattle.share_model.specs.link.Tariff.{rate_at, rate_of, units_of};

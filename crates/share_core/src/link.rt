@@ -1,10 +1,9 @@
 //! What a link holds besides its writer: the ledger, the queue, the buffers, the books and the counts.
-ghost use Rattle.std.specs.Prelude.{◌≡◌, ◌<◌, ◌≤◌, ◌^◌, false, find, IfOk, IfErr, None, option_map, IfSome};
+ghost use Rattle.std.specs.Prelude.{◌≡◌, ◌<◌, ◌≤◌, ◌^◌, false, IfOk, IfErr, None};
 ghost use Rattle.share_base.specs.Refusal.{IsRefused};
 ghost use Rattle.share_base.specs.declared.command.Reply.TheVariants.{Refused};
 ghost use Rattle.share_model.specs.link.Did.{is_spent, Stepped};
 ghost use Rattle.share_model.specs.link.Live.{empty_link, counted};
-ghost use Rattle.share_model.specs.link.Tariff.{AreInRange};
 ghost use Rattle.share_model.specs.run.Sound.{Sound};
 ghost use Rattle.share_core.specs.Life.{life_refusal};
 

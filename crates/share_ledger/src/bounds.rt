@@ -1,5 +1,5 @@
 //! Whether all seats stand before a place.
-ghost use Rattle.std.specs.Prelude.{◌≡◌, ◌<◌, ℕ, length, true, nat_lt};
+ghost use Rattle.std.specs.Prelude.{◌≡◌, ◌<◌, length, true, nat_lt};
 ghost use Rattle.std.specs.List.{list_all};
 ghost use Rattle.share_ledger.specs.Bounds.{AreBefore};
 

@@ -1,13 +1,8 @@
 //! What commands do to the net: a ticket that comes to fund or ceases to.
-ghost use Rattle.share_ledger.specs.declared.seats.Seat.{Seat};
-ghost use Rattle.std.specs.Prelude.{◌≡◌, ℕ, sum_by, ◌+◌, ◌<◌, ◌++◌, ◌∷◌, [], length, true, false, not, nat_eq, IfOk};
-ghost use Rattle.std.specs.Prelude.{◌^◌, min, take, slice_set, if◌then◌else◌};
-ghost use Rattle.std.specs.List.{list_all};
-ghost use Rattle.share_model.specs.lists.Each.{Each};
-ghost use Rattle.share_ledger.specs.Rounds.{flags_of, numbers_of};
+ghost use Rattle.std.specs.Prelude.{◌≡◌, length, true, false, not};
+ghost use Rattle.std.specs.Prelude.{take, if◌then◌else◌};
 ghost use Rattle.share_ledger.specs.Routes.{IsRouteWithin};
-ghost use Rattle.share_ledger.specs.Seats.{seats_at, seat_of, AreSeated, AreOrdered, AreCounted, backs_of, funds_of};
-ghost use Rattle.share_ledger.specs.Seats.{IsSeatWithin, AreSmall, weighed};
+ghost use Rattle.share_ledger.specs.Seats.{backs_of, funds_of};
 ghost use Rattle.share_ledger.specs.Nets.{activity_of, ComesToFund, CeasesToFund, IsBegun};
 ghost use Rattle.share_ledger.specs.Stale.{IsLeft};
 

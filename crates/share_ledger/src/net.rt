@@ -2,7 +2,7 @@
 //! denominated in, and values downwards. Each seat of a currency comes from a place before that of the currency, so one
 //! pass over the places settles either.
 ghost use Rattle.std.specs.Prelude.{◌≡◌, ℕ, ◌+◌, ◌-◌, ◌*◌, ◌^◌, ◌<◌, ◌≤◌, min, length, sum_by, true, false, not};
-ghost use Rattle.std.specs.Prelude.{nat_eq, nat_lt, IfOk, slice_index_or, replicate, if◌then◌else◌};
+ghost use Rattle.std.specs.Prelude.{nat_eq, nat_lt, if◌then◌else◌};
 ghost use Rattle.std.specs.List.{list_all};
 ghost use Rattle.share_model.specs.lists.Each.{Each};
 ghost use Rattle.share_ledger.specs.Rounds.{flags_of, numbers_of};

@@ -1,7 +1,7 @@
 //! The tables of the ledger, and what is looked up in them.
-ghost use Rattle.std.specs.Prelude.{◌≡◌, ℕ, ◌+◌, ◌≤◌, length, bytes_eq, nat_eq, map, position, option_map};
+ghost use Rattle.std.specs.Prelude.{◌≡◌, length, bytes_eq, nat_eq, map, position, option_map};
 ghost use Rattle.std.specs.Prelude.{option_copied, slice_get, Some, MatchOption, IsTrue, ◌-◌};
-ghost use Rattle.share_model.specs.funding.Graph.{base, backing, funding, empty_graph};
+ghost use Rattle.share_model.specs.funding.Graph.{base, empty_graph};
 ghost use Rattle.share_model.specs.funding.Changes.{ticket_of, is_currency, flow_named, is_numbered};
 ghost use Rattle.share_model.specs.funding.Kept.{IsKept};
 ghost use Rattle.share_model.specs.declared.funding.OpenFlow.{OpenFlow};

@@ -1,7 +1,7 @@
 //! What changes the net: a flow that wakes or rests, one seat more or fewer, and all seats anew.
 ghost use Rattle.share_ledger.specs.declared.seats.Seat.{Seat};
 ghost use Rattle.std.specs.Prelude.{◌≡◌, ℕ, sum_by, ◌+◌, ◌<◌, ◌++◌, ◌∷◌, [], length, true, false, not, nat_eq, IfOk};
-ghost use Rattle.std.specs.Prelude.{◌^◌, min, take, slice_set, if◌then◌else◌};
+ghost use Rattle.std.specs.Prelude.{◌^◌, min, slice_set, if◌then◌else◌};
 ghost use Rattle.std.specs.List.{list_all};
 ghost use Rattle.share_model.specs.lists.Each.{Each};
 ghost use Rattle.share_ledger.specs.Rounds.{flags_of, numbers_of};

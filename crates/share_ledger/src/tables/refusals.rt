@@ -1,6 +1,6 @@
 //! When each command is refused, want of memory aside.
 ghost use Rattle.std.specs.Prelude.{◌≡◌, Some, IfSome};
-ghost use Rattle.share_model.specs.funding.Changes.{ticket_of, found_denomination, uses, make_currency_refusal};
+ghost use Rattle.share_model.specs.funding.Changes.{uses, make_currency_refusal};
 ghost use Rattle.share_model.specs.funding.Changes.{remove_currency_refusal, make_ticket_refusal};
 ghost use Rattle.share_model.specs.funding.Changes.{remove_ticket_refusal, fund_currency_refusal, fund_flow_refusal};
 ghost use Rattle.share_model.specs.funding.Changes.{unfund_refusal, add_flow_refusal};

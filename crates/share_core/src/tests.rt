@@ -270,17 +270,25 @@ const UP_TO_THE_CAP: [Row; 8] = [
     (Call::Tickets(1), Wanted::Number(1048576)),
 ];
 
+fn answer_as_worked_and_as_a_plain_link<S: Rates + Copy>(
+    rt: &impl Abort,
+    alloc: Global,
+    shelf: S,
+) -> Result<(), Fail> {
+    sends_one_packet(rt, alloc, shelf);
+    sends_the_largest_payload(rt, alloc, shelf);
+    plays_on_a_new_link(rt, alloc, shelf, &UP_TO_THE_CAP);
+    refusals::all(rt, alloc, shelf);
+    cuts::all(rt, alloc, shelf);
+    currencies::all(rt, alloc, shelf);
+    random::worlds::all(rt, alloc, shelf)
+}
+
 // The shelf has four tariffs: by the byte; by cells of 48; by cells of 1024; by cells of 2048. Its boxes are made in
-// this body, and it is lent to the rows.
+// this body, which is dear to prove, and it is lent to the rows.
 #[test]
 fn links_answer_as_worked_and_as_a_plain_link(rt: HostRuntime) -> Result<(), Fail> {
     let alloc = rt.alloc();
     let shelf = share_tariff::shelf!(alloc, (1, 0, 1), (48, 16, 2), (1024, 0, 1), (2048, 1024, 3));
-    sends_one_packet(&rt, alloc, &shelf);
-    sends_the_largest_payload(&rt, alloc, &shelf);
-    plays_on_a_new_link(&rt, alloc, &shelf, &UP_TO_THE_CAP);
-    refusals::all(&rt, alloc, &shelf);
-    cuts::all(&rt, alloc, &shelf);
-    currencies::all(&rt, alloc, &shelf);
-    random::worlds::all(&rt, alloc, &shelf)
+    answer_as_worked_and_as_a_plain_link(&rt, alloc, &shelf)
 }

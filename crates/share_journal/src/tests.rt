@@ -220,16 +220,25 @@ fn plays<S: Rates + Copy>(rt: &impl Abort, alloc: Global, shelf: S, run: &Run) {
     compare_parts(rt, &engine, &journal, (run.life, run.life), run.entries);
 }
 
-// The shelf has two tariffs: by the byte, and by cells of 48. Its boxes are made in this body, and it is lent.
+fn play_as_worked_and_their_audits_again<S: Rates + Copy>(
+    rt: &impl Abort,
+    alloc: Global,
+    shelf: S,
+) {
+    for run in &RUNS {
+        plays(rt, alloc, shelf, run);
+    }
+    pairing::all(rt, alloc, shelf);
+    random::all(rt, alloc, shelf);
+}
+
+// The shelf has two tariffs: by the byte, and by cells of 48. Its boxes are made in this body, which is dear to prove,
+// and it is lent.
 #[test]
 fn recorders_play_as_worked_and_their_audits_again(rt: HostRuntime) -> Result<(), Fail> {
     let alloc = rt.alloc();
     let shelf = share_tariff::shelf!(alloc, (1, 0, 1), (48, 16, 2));
-    for run in &RUNS {
-        plays(&rt, alloc, &shelf, run);
-    }
-    pairing::all(&rt, alloc, &shelf);
-    random::all(&rt, alloc, &shelf);
+    play_as_worked_and_their_audits_again(&rt, alloc, &shelf);
     Ok(())
 }
 

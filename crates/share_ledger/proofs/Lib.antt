@@ -22,4 +22,5 @@ pub mod SeatSources
 pub mod SeatSums
 pub mod Settled
 pub mod StaleSteps
+pub mod StaleStretches
 pub mod Walks

@@ -17,9 +17,14 @@ left_bit a b i is = omega (arith, bit_at_or a b i, bit_at-lt b i, is)
 right_bit : (a b i : ℕ) → bit_at b i ≡ 1 → bit_at (bit_or a b) i ≡ 1
 right_bit a b i is = omega (arith, bit_at_or a b i, bit_at-lt a i, is)
 
-more_bits : (a b : ℕ) (ss : List Seat) → Each (ComesFrom a) ss → Each (ComesFrom (bit_or a b)) ss
-more_bits a b [] all = tt
-more_bits a b (s ∷ ss) all = (left_bit a b (s.from % 64) all.0, more_bits a b ss all.1)
+-- the bits of the seats of one holder and of another
+pub bits-left : (a b : ℕ) (ss : List Seat) → Each (ComesFrom a) ss → Each (ComesFrom (bit_or a b)) ss
+bits-left a b [] all = tt
+bits-left a b (s ∷ ss) all = (left_bit a b (s.from % 64) all.0, bits-left a b ss all.1)
+
+pub bits-right : (a b : ℕ) (ss : List Seat) → Each (ComesFrom b) ss → Each (ComesFrom (bit_or a b)) ss
+bits-right a b [] all = tt
+bits-right a b (s ∷ ss) all = (right_bit a b (s.from % 64) all.0, bits-right a b ss all.1)
 
 one_more : (a : ℕ) (ss : List Seat) (s : Seat) → Each (ComesFrom a) ss → ComesFrom a s
     → Each (ComesFrom a) (ss ++ s ∷ [])
@@ -31,7 +36,7 @@ pub bits-more : (a b : ℕ) (ss : List Seat) (s : Seat) → b ≡ 2 ^ (s.from % 
     → Each (ComesFrom (bit_or a b)) (ss ++ s ∷ [])
 bits-more a b ss s is all =
     let own = ap (λ n. bit_at n (s.from % 64)) is ∙ bit_at-pow_same (s.from % 64) in
-    one_more (bit_or a b) ss s (more_bits a b ss all) (right_bit a b (s.from % 64) own)
+    one_more (bit_or a b) ss s (bits-left a b ss all) (right_bit a b (s.from % 64) own)
 
 false_unless : (b : Bool) → (b ≡ true → b ≡ false) → b ≡ false
 false_unless true not = not refl

@@ -1,5 +1,5 @@
 -- What is left where no weight and no value that seats rest on has changed.
-use Rattle.std.proofs.Common.{◌≡◌, ◌<◌, ◌≤◌, ◌+◌, ◌*◌, ◌/◌, ◌^◌, ℕ, min, List, [], ◌∷◌}
+use Rattle.std.proofs.Common.{zero, suc, ◌≡◌, ◌<◌, ◌≤◌, ◌+◌, ◌-◌, ◌*◌, ◌/◌, ◌^◌, ℕ, min, List, [], ◌∷◌}
 use Rattle.std.proofs.Common.{Bool, true, false, cond, not, ◌&&◌, ◌||◌}
 use Rattle.std.proofs.Common.{sum_by, nat_eq, nat_lt, length, set, refl, sym, ap, ◌∙◌, arith}
 use Rattle.std.specs.List.{list_any}
@@ -14,7 +14,7 @@ use Rattle.share_ledger.specs.declared.seats.Seat.{Seat}
 use Rattle.share_ledger.specs.Nets.{IsBegun, IsReady}
 use Rattle.share_ledger.specs.Rounds.{flags_of, numbers_of}
 use Rattle.share_ledger.specs.Seats.{IsSeatWithin, seat_worth, seats_at, weighed, AreOrdered, AreAwake, AreShared}
-use Rattle.share_ledger.specs.Stale.{is_stale, WereValued, AreMoved, WasSettled, IsLeft}
+use Rattle.share_ledger.specs.Stale.{is_stale, WereValued, AreFresh, AreMoved, WasSettled, IsLeft}
 use Rattle.share_ledger.proofs.NetQuiet.{weighed-quiet}
 use Rattle.share_ledger.proofs.NetSteps.{array-set}
 
@@ -104,6 +104,52 @@ module _ (moved : ℕ → Bool) (v w s u : ℕ → ℕ) where
         by : (b : Bool) → nat_eq k p ≡ b → w k ≡ weighed ss awake w u k
         by true e = let at = is k p e refl in ap w at ∙ here ∙ ap (weighed ss awake w u) (sym at)
         by false e = before k above (less k p e under)
+
+  -- a stretch of places that are not
+  module _ (ss : List (List Seat)) (awake : ℕ → Bool) (changed : ℕ) (ordered : AreOrdered ss) (lit : AreAwake awake u)
+      (were : WereValued ss v s changed) where
+    same-after : (n p : ℕ) → 0 < p → p + n ≤ 65 → AreFresh ss moved u s changed p (p + n)
+        → ((k : ℕ) → p ≤ k → w k ≡ v k)
+        → ((k : ℕ) → 0 < k → k < p → moved k ≡ false → (w k ≡ v k) × (u k ≡ s k))
+        → (k : ℕ) → 0 < k → k < p + n → moved k ≡ false → (w k ≡ v k) × (u k ≡ s k)
+    same-after zero p up end fresh left same k above under = same k above (omega (arith, under))
+    same-after (suc n) p up end fresh left same k above under =
+        same-after n (p + 1) (omega arith) (omega (arith, end))
+        (λ q past before. fresh q (omega (arith, past)) (omega (arith, before)))
+        (λ q past. left q (omega (arith, past)))
+        (fresh-same ss awake changed p ordered lit were up (omega (arith, end))
+        (fresh p (omega arith) (omega arith)) left same)
+        k above (omega (arith, under))
+
+    valued-after : (n p : ℕ) → 0 < p → p + n ≤ 65 → AreFresh ss moved u s changed p (p + n)
+        → ((k : ℕ) → p ≤ k → w k ≡ v k)
+        → ((k : ℕ) → 0 < k → k < p → moved k ≡ false → (w k ≡ v k) × (u k ≡ s k))
+        → ((k : ℕ) → 0 < k → k < p → w k ≡ weighed ss awake w u k)
+        → (k : ℕ) → 0 < k → k < p + n → w k ≡ weighed ss awake w u k
+    valued-after zero p up end fresh left same valued k above under = valued k above (omega (arith, under))
+    valued-after (suc n) p up end fresh left same valued k above under =
+        let first = fresh p (omega arith) (omega arith) in
+        valued-after n (p + 1) (omega arith) (omega (arith, end))
+        (λ q past before. fresh q (omega (arith, past)) (omega (arith, before)))
+        (λ q past. left q (omega (arith, past)))
+        (fresh-same ss awake changed p ordered lit were up (omega (arith, end)) first left same)
+        (fresh-valued ss awake changed p ordered lit were up (omega (arith, end)) first left same valued)
+        k above (omega (arith, under))
+
+    module _ (p to : ℕ) (up : 0 < p) (past : p ≤ to) (end : to ≤ 65) (fresh : AreFresh ss moved u s changed p to)
+        (left : (k : ℕ) → p ≤ k → w k ≡ v k)
+        (same : (k : ℕ) → 0 < k → k < p → moved k ≡ false → (w k ≡ v k) × (u k ≡ s k)) where
+      pub stretch-same : (k : ℕ) → 0 < k → k < to → moved k ≡ false → (w k ≡ v k) × (u k ≡ s k)
+      stretch-same k above under =
+          same-after (to - p) p up (omega (arith, past, end))
+          (λ q from before. fresh q from (omega (arith, past, before))) left same k above (omega (arith, past, under))
+
+      pub stretch-valued : ((k : ℕ) → 0 < k → k < p → w k ≡ weighed ss awake w u k)
+          → (k : ℕ) → 0 < k → k < to → w k ≡ weighed ss awake w u k
+      stretch-valued valued k above under =
+          valued-after (to - p) p up (omega (arith, past, end))
+          (λ q from before. fresh q from (omega (arith, past, before))) left same valued k above
+          (omega (arith, past, under))
 
 -- one place more that is computed anew
 module _ (moved next : ℕ → Bool) (v w x s u : ℕ → ℕ) (p n : ℕ)

@@ -1,5 +1,5 @@
 -- What is kept where a few weights, the seats of one holder or the activity of one flow have changed.
-use Rattle.std.specs.Prelude.{◌≡◌, ◌<◌, ◌^◌, ◌%◌, ℕ, Bool, true, false, not, ◌||◌, List, min, nat_eq, nat_lt}
+use Rattle.std.specs.Prelude.{◌≡◌, ◌<◌, ◌≤◌, ◌^◌, ◌%◌, ℕ, Bool, true, false, not, ◌&&◌, ◌||◌, List, min, nat_eq, nat_lt}
 use Rattle.std.specs.Int.{bit_at}
 use Rattle.std.specs.List.{list_any}
 use Rattle.share_ledger.specs.declared.net.Net.{Net}
@@ -13,6 +13,21 @@ use Rattle.share_ledger.specs.Seats.{seats_at, weighed}
 abbrev pub is_stale : List (List Seat) → (ℕ → Bool) → (ℕ → ℕ) → (ℕ → ℕ) → ℕ → ℕ → Bool
 is_stale ss moved whole seen changed p =
     nat_eq changed p || not (nat_eq (whole p) (seen p)) || list_any (λ (s : Seat). moved s.from) (seats_at ss p)
+
+-- no currency of a stretch of places is
+abbrev pub AreFresh : List (List Seat) → (ℕ → Bool) → (ℕ → ℕ) → (ℕ → ℕ) → ℕ → ℕ → ℕ → Type 0
+AreFresh ss moved whole seen changed from to =
+    (p : ℕ) → from ≤ p → p < to → is_stale ss moved whole seen changed p ≡ false
+
+-- the tickets of a flow may be others: it is the one that changed, or it is active and the place of a seat moved
+abbrev pub is_touched : List (List Seat) → (ℕ → Bool) → (ℕ → Bool) → ℕ → ℕ → Bool
+is_touched ss active moved changed p =
+    nat_eq changed p || (active p && list_any (λ (s : Seat). moved s.from) (seats_at ss p))
+
+-- those of no flow of a stretch of places may be
+abbrev pub AreUntouched : List (List Seat) → (ℕ → Bool) → (ℕ → Bool) → ℕ → ℕ → ℕ → Type 0
+AreUntouched ss active moved changed from to =
+    (p : ℕ) → from ≤ p → p < to → is_touched ss active moved changed p ≡ false
 
 -- the values are those that followed from other weights, but where the seats changed
 abbrev pub WereValued : List (List Seat) → (ℕ → ℕ) → (ℕ → ℕ) → ℕ → Type 0

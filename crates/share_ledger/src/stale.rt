@@ -1,11 +1,12 @@
 //! What follows where a few weights have changed: only the values and the tickets that rest on them are computed anew.
-ghost use Rattle.std.specs.Prelude.{◌≡◌, ◌<◌, ◌^◌, ◌&&◌, ◌||◌, ℕ, length, min, nat_eq, not, true};
+ghost use Rattle.std.specs.Prelude.{◌≡◌, ◌<◌, ◌≤◌, ◌+◌, ◌^◌, ◌&&◌, ◌||◌, ℕ, Bool, None, length, min, nat_eq, not, true};
 ghost use Rattle.std.specs.Prelude.{IfSome, if◌then◌else◌};
 ghost use Rattle.std.specs.List.{list_any};
 ghost use Rattle.share_model.specs.lists.Each.{Each};
 ghost use Rattle.share_ledger.specs.Rounds.{flags_of, numbers_of};
 ghost use Rattle.share_ledger.specs.Seats.{IsSeatWithin, seats_at, weighed, AreOrdered, AreSmall, AreAwake, AreValued};
-ghost use Rattle.share_ledger.specs.Stale.{is_stale, WereValued, HaveBits, AreMoved};
+ghost use Rattle.share_ledger.specs.Stale.{is_stale, is_touched, WereValued, HaveBits, AreMoved, AreFresh};
+ghost use Rattle.share_ledger.specs.Stale.{AreUntouched};
 
 use crate::net::{self, MAX_VALUE};
 use crate::rounds::PLACES;
@@ -85,6 +86,69 @@ fn is_stale(
     changed == place || weights[place] != seen[place] || touches(holder, moved)
 }
 
+/// How many places are looked at together.
+const STEP: usize = 8;
+
+// Whether no currency of a stretch of places is stale. All of them are looked at, without a branch for each.
+fn are_fresh(
+    backing: &[Seats],
+    weights: &[u64; PLACES],
+    seen: &[u64; PLACES],
+    moved: &Moved,
+    changed: usize,
+    from: usize,
+) -> bool
+    requires within { (p : ℕ) → p < 65 → Each IsSeatWithin (seats_at backing.now p) }
+    requires bits { HaveBits moved.now }
+    requires places { length backing.now ≡ 65 }
+    requires stretch { from + 8 ≤ 65 }
+    ensures { result ≡ true → AreFresh backing.now (flags_of moved.now.flags) (numbers_of weights.now)
+        (numbers_of seen.now) changed from (from + 8) }
+{
+    let mut same = changed < from || from + STEP <= changed;
+    let mut sources = 0;
+    for i in 0..STEP {
+        let holder = &backing[from + i];
+        same &= weights[from + i] == seen[from + i];
+        sources |= holder.sources();
+    }
+    same && sources & moved.bits == 0
+}
+
+// The first stale currency from a place on. Whole stretches are passed where none is.
+fn next_stale(
+    backing: &[Seats],
+    weights: &[u64; PLACES],
+    seen: &[u64; PLACES],
+    moved: &Moved,
+    changed: usize,
+    from: usize,
+) -> Option<usize>
+    requires within { (p : ℕ) → p < 65 → Each IsSeatWithin (seats_at backing.now p) }
+    requires bits { HaveBits moved.now }
+    requires places { length backing.now ≡ 65 }
+    ensures some { IfSome result (λ stale. (from ≤ stale) × (stale < 65)
+        × AreFresh backing.now (flags_of moved.now.flags) (numbers_of weights.now) (numbers_of seen.now) changed
+        from stale
+        × (is_stale backing.now (flags_of moved.now.flags) (numbers_of weights.now) (numbers_of seen.now) changed
+        stale ≡ true)) }
+    ensures none { result ≡ None → AreFresh backing.now (flags_of moved.now.flags) (numbers_of weights.now)
+        (numbers_of seen.now) changed from 65 }
+{
+    let mut place = from;
+    while place < PLACES {
+        let whole = place % STEP == 1 && PLACES - place >= STEP;
+        if whole && are_fresh(backing, weights, seen, moved, changed, place) {
+            place += STEP;
+        } else if !is_stale(backing, weights, seen, moved, changed, place) {
+            place += 1;
+        } else {
+            return Some(place);
+        }
+    }
+    None
+}
+
 // Computes the value of a currency, and flags its place where the value is another one or the weight is.
 fn revalue_at(
     backing: &[Seats],
@@ -145,14 +209,62 @@ pub(crate) fn revalue(
         (numbers_of values.new) (numbers_of seen.now) (numbers_of weights.now)) }
 {
     let mut moved = none_moved();
-    for place in 1..PLACES {
-        if is_stale(backing, weights, seen, &moved, changed, place)
-            && !revalue_at(backing, awake, weights, seen, place, &mut moved, values)
-        {
+    let mut place = 1;
+    while let Some(stale) = next_stale(backing, weights, seen, &moved, changed, place) {
+        if !revalue_at(backing, awake, weights, seen, stale, &mut moved, values) {
             return None;
         }
+        place = stale + 1;
     }
     Some(moved)
+}
+
+// Whether none of the flows of a stretch of places has a seat from a flagged place, nor is the one that changed.
+fn are_untouched(funding: &[Seats], moved: &Moved, changed: usize, from: usize) -> bool
+    requires within { (p : ℕ) → p < 65 → Each IsSeatWithin (seats_at funding.now p) }
+    requires bits { HaveBits moved.now }
+    requires places { length funding.now ≡ 65 }
+    requires stretch { from + 8 ≤ 64 }
+    ensures { (active : ℕ → Bool) → result ≡ true
+        → AreUntouched funding.now active (flags_of moved.now.flags) changed from (from + 8) }
+{
+    let mut sources = 0;
+    for i in 0..STEP {
+        let holder = &funding[from + i];
+        sources |= holder.sources();
+    }
+    sources & moved.bits == 0 && (changed < from || from + STEP <= changed)
+}
+
+// The first flow from a place on whose tickets may be others. Whole stretches are passed where there is none.
+fn next_touched(
+    funding: &[Seats],
+    active: &[bool; PLACES],
+    moved: &Moved,
+    changed: usize,
+    from: usize,
+) -> Option<usize>
+    requires within { (p : ℕ) → p < 65 → Each IsSeatWithin (seats_at funding.now p) }
+    requires bits { HaveBits moved.now }
+    requires places { length funding.now ≡ 65 }
+    ensures some { IfSome result (λ touched. (from ≤ touched) × (touched < 64)
+        × AreUntouched funding.now (flags_of active.now) (flags_of moved.now.flags) changed from touched
+        × (is_touched funding.now (flags_of active.now) (flags_of moved.now.flags) changed touched ≡ true)) }
+    ensures none { result ≡ None
+        → AreUntouched funding.now (flags_of active.now) (flags_of moved.now.flags) changed from 64 }
+{
+    let mut place = from;
+    while place < MAX_FLOWS {
+        let holder = &funding[place];
+        if place % STEP == 0 && are_untouched(funding, moved, changed, place) {
+            place += STEP;
+        } else if changed == place || active[place] && touches(holder, moved) {
+            return Some(place);
+        } else {
+            place += 1;
+        }
+    }
+    None
 }
 
 /// Computes the tickets of the flow at a place, and of the active ones that have a seat from a flagged place.
@@ -175,10 +287,9 @@ pub(crate) fn reshare(
         then min (weighed funding.now (flags_of active.now) (numbers_of values.now) (numbers_of weights.now) p) (2 ^ 20)
         else numbers_of shares.old p) }
 {
-    for place in 0..MAX_FLOWS {
-        let holder = &funding[place];
-        if changed == place || active[place] && touches(holder, moved) {
-            shares[place] = net::share_at(funding, active, weights, values, place);
-        }
+    let mut place = 0;
+    while let Some(stale) = next_touched(funding, active, moved, changed, place) {
+        shares[stale] = net::share_at(funding, active, weights, values, stale);
+        place = stale + 1;
     }
 }

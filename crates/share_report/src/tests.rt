@@ -193,14 +193,19 @@ fn ends_at_the_first_refused_offer<S: Rates + Copy>(rt: &impl Abort, alloc: Glob
     writes(rt, alloc, &engine, &pieces, wanted);
 }
 
+fn shows_links<S: Rates + Copy>(rt: &impl Abort, alloc: Global, shelf: S) {
+    shows_what_a_link_holds(rt, alloc, shelf);
+    shows_a_spent_life(rt, alloc, shelf);
+    shows_the_most_flows(rt, alloc, shelf);
+    ends_at_the_first_refused_offer(rt, alloc, shelf);
+}
+
+// A body that makes a shelf is dear to prove, so it makes one call.
 #[test]
 fn reports_show_links(rt: HostRuntime) -> Result<(), Fail> {
     let alloc = rt.alloc();
     // Four tariffs: by the byte; by cells of 48; by cells of 1024; by cells of 2048.
     let shelf = shelf!(alloc, (1, 0, 1), (48, 16, 2), (1024, 0, 1), (2048, 1024, 3));
-    shows_what_a_link_holds(&rt, alloc, &shelf);
-    shows_a_spent_life(&rt, alloc, &shelf);
-    shows_the_most_flows(&rt, alloc, &shelf);
-    ends_at_the_first_refused_offer(&rt, alloc, &shelf);
+    shows_links(&rt, alloc, &shelf);
     Ok(())
 }

@@ -79,6 +79,28 @@ impl<'a> Source for Trickle<'a> {
     }
 }
 
+// Runs a script on a new link.
+fn answered<S: Rates + Copy, I: Source, O: Telling>(
+    alloc: Global,
+    shelf: S,
+    life: u64,
+    input: &mut I,
+    output: &mut O,
+) -> Result<Engine<Tape, S>, ScriptFault> {
+    match Engine::new(alloc, shelf, life, Tape::new(alloc)) {
+        Ok(engine) => run_script(alloc, engine, input, output),
+        Err(_) => Err(ScriptFault::NoMemory),
+    }
+}
+
+fn print_written<S: Rates, O: Telling>(
+    engine: &Engine<Tape, S>,
+    output: &mut O,
+) -> Result<(), ScriptFault> {
+    print_bytes(output, engine.writer().bytes())?;
+    Ok(())
+}
+
 // Runs a script on a new link, and prints the bytes that the link wrote.
 fn run<S: Rates + Copy, I: Source, O: Telling>(
     alloc: Global,
@@ -87,12 +109,8 @@ fn run<S: Rates + Copy, I: Source, O: Telling>(
     input: &mut I,
     output: &mut O,
 ) -> Result<(), ScriptFault> {
-    let Ok(engine) = Engine::new(alloc, shelf, life, Tape::new(alloc)) else {
-        return Err(ScriptFault::NoMemory);
-    };
-    let engine = run_script(alloc, engine, input, output)?;
-    print_bytes(output, engine.writer().bytes())?;
-    Ok(())
+    let engine = answered(alloc, shelf, life, input, output)?;
+    print_written(&engine, output)
 }
 
 // What such a run prints.
@@ -192,32 +210,44 @@ fn scripts_are_answered<S: Rates + Copy>(
     Ok(())
 }
 
+// What the first flow is charged for a script on a new link.
+fn account_after<S: Rates + Copy, O: Telling>(
+    alloc: Global,
+    shelf: S,
+    script: &[u8],
+    output: &mut O,
+) -> Result<Option<u64>, ScriptFault> {
+    let mut input = PlainReader(script);
+    let engine = answered(alloc, shelf, LIFE, &mut input, output)?;
+    Ok(engine.account(FlowNo(1)))
+}
+
+/// Scripts, what they are answered, and what the first flow is charged.
+const CHARGED: [(&[u8], &[u8], u64); 2] = [
+    // The second tariff charges 2 for each byte of cells of 48 and 16 bytes more, so 7 bytes cost 128.
+    (
+        b"open a 4 2\nmktkt 1 base\nfund 1 flow a\nsend a 6869\nturn 7\ntorn\nturn 65535\n",
+        b"flow 1\nticket 1\nok\npacket 1 1\nwrote 1 1 7 part\ntorn 1 1 7\nno 20 Broken\n",
+        128,
+    ),
+    // The first charges 1 for each byte that is sent.
+    (
+        b"open a 4 1\nmktkt 10 base\nfund 1 flow a\nsend a 6869\nturn 65535\n",
+        b"flow 1\nticket 1\nok\npacket 1 1\nwrote 1 1 14 whole\n",
+        14,
+    ),
+];
+
 fn flows_are_charged<S: Rates + Copy>(
     rt: &impl Abort,
     alloc: Global,
     shelf: S,
 ) -> Result<(), Fail> {
-    // The second tariff charges 2 for each byte of cells of 48 and 16 bytes more, so 7 bytes cost 128; the first
-    // charges 1 for each byte that is sent.
-    let rows: [(&[u8], &[u8], u64); 2] = [
-        (
-            b"open a 4 2\nmktkt 1 base\nfund 1 flow a\nsend a 6869\nturn 7\ntorn\nturn 65535\n",
-            b"flow 1\nticket 1\nok\npacket 1 1\nwrote 1 1 7 part\ntorn 1 1 7\nno 20 Broken\n",
-            128,
-        ),
-        (
-            b"open a 4 1\nmktkt 10 base\nfund 1 flow a\nsend a 6869\nturn 65535\n",
-            b"flow 1\nticket 1\nok\npacket 1 1\nwrote 1 1 14 whole\n",
-            14,
-        ),
-    ];
-    for (script, want, account) in rows {
-        let engine = Engine::new(alloc, shelf, LIFE, Tape::new(alloc))?;
-        let mut input = PlainReader(script);
+    for (script, want, account) in CHARGED {
         let mut output = Tape::new(alloc);
-        let engine = run_script(alloc, engine, &mut input, &mut output)?;
+        let charged = account_after(alloc, shelf, script, &mut output);
+        assert_eq!(rt; charged, Ok(Some(account)));
         assert_eq!(rt; output.bytes(), want);
-        assert_eq!(rt; engine.account(FlowNo(1)), Some(account));
     }
     Ok(())
 }
@@ -333,20 +363,23 @@ fn output_that_fails<S: Rates + Copy>(
     Ok(())
 }
 
+fn scripts_are_as_worked<S: Rates + Copy>(
+    rt: &impl Abort,
+    alloc: Global,
+    shelf: S,
+) -> Result<(), Fail> {
+    scripts_are_answered(rt, alloc, shelf)?;
+    flows_are_charged(rt, alloc, shelf)?;
+    largest_payload(rt, alloc, shelf)?;
+    long_lines(rt, alloc, shelf)?;
+    input_that_fails(rt, alloc, shelf)?;
+    output_that_fails(rt, alloc, shelf)
+}
+
+// A body that makes a shelf is dear to prove, so it makes one call.
 #[test]
 fn scripts_over_a_shelf_of_four_tariffs(rt: HostRuntime) -> Result<(), Fail> {
     let alloc = rt.alloc();
     let shelf = shelf!(alloc);
-    scripts_are_answered(&rt, alloc, &shelf)?;
-    flows_are_charged(&rt, alloc, &shelf)?;
-    largest_payload(&rt, alloc, &shelf)?;
-    long_lines(&rt, alloc, &shelf)
-}
-
-#[test]
-fn inputs_and_outputs_that_fail(rt: HostRuntime) -> Result<(), Fail> {
-    let alloc = rt.alloc();
-    let shelf = shelf!(alloc);
-    input_that_fails(&rt, alloc, &shelf)?;
-    output_that_fails(&rt, alloc, &shelf)
+    scripts_are_as_worked(&rt, alloc, &shelf)
 }

@@ -32,21 +32,17 @@ product_fits new old remain small_new small_old within =
     (omega (arith, product_is remain (pos new), below)) (omega arith)
 
 -- what the code's product and quotient give
-pub quotient_is : (new old : ℕ) (remain a b q : ℤ) → new ≤ 2 ^ 40 → old ≤ 2 ^ 40 → IsWithin remain (old * 2 ^ 41)
-    → FitsSigned w128 remain → FitsSigned w128 a → FitsSigned w128 b → FitsSigned w128 q → a ≡ pos new → b ≡ pos old
-    → q ≡ int_div_euclid (to_z w128 (of_z w128 (to_z w128 (of_z w128 remain) *ℤ to_z w128 (of_z w128 a))))
-    (to_z w128 (of_z w128 b))
+pub quotient_is : (new old : ℕ) (remain a q : ℤ) → new ≤ 2 ^ 40 → old ≤ 2 ^ 40 → IsWithin remain (old * 2 ^ 41)
+    → FitsSigned w128 remain → FitsSigned w128 a → FitsSigned w128 q → a ≡ pos new
+    → q ≡ floor_div (to_z w128 (of_z w128 (to_z w128 (of_z w128 remain) *ℤ to_z w128 (of_z w128 a)))) old
     → (old ≡ 0 → ⊥) → to_z w128 (of_z w128 q) ≡ rescaled new old remain
-quotient_is new old remain a b q small_new small_old within fits_remain fits_a fits_b fits_q a_is b_is q_is positive =
+quotient_is new old remain a q small_new small_old within fits_remain fits_a fits_q a_is q_is positive =
     to_z-of_z w128 q fits_q
     ∙ q_is
-    ∙ ap (λ x. int_div_euclid (to_z w128 (of_z w128 (x *ℤ to_z w128 (of_z w128 a)))) (to_z w128 (of_z w128 b)))
-    (to_z-of_z w128 remain fits_remain)
-    ∙ ap (λ x. int_div_euclid (to_z w128 (of_z w128 (remain *ℤ x))) (to_z w128 (of_z w128 b)))
-    (to_z-of_z w128 a fits_a ∙ a_is)
-    ∙ ap (λ x. int_div_euclid x (to_z w128 (of_z w128 b)))
+    ∙ ap (λ x. floor_div (to_z w128 (of_z w128 (x *ℤ to_z w128 (of_z w128 a)))) old) (to_z-of_z w128 remain fits_remain)
+    ∙ ap (λ x. floor_div (to_z w128 (of_z w128 (remain *ℤ x))) old) (to_z-of_z w128 a fits_a ∙ a_is)
+    ∙ ap (λ x. floor_div x old)
     (to_z-of_z w128 (remain *ℤ pos new) (product_fits new old remain small_new small_old within))
-    ∙ ap (λ x. int_div_euclid (remain *ℤ pos new) x) (to_z-of_z w128 b fits_b ∙ b_is)
     ∙ by_old old positive
   where
     by_old : (n : ℕ) → (n ≡ 0 → ⊥) → floor_div (remain *ℤ pos new) n ≡ rescaled new n remain

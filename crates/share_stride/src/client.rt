@@ -1,6 +1,7 @@
 //! How a move changes one client.
 ghost use Rattle.std.specs.Prelude.{◌≡◌, ◌*◌, ◌/◌, ◌^◌, ◌<◌, ◌≤◌, pos, ◌-ℤ◌};
 ghost use Rattle.share_model.specs.stride.Moves.{stride_of, new_client as model_new_client, rescaled as model_rescaled};
+ghost use Rattle.share_model.specs.stride.Moves.{floor_div};
 ghost use Rattle.share_model.specs.stride.Moves.{joined as model_joined, left as model_left, charged as model_charged};
 ghost use Rattle.share_model.specs.stride.Moves.{position as model_position};
 ghost use Rattle.share_stride.specs.Fits.{IsWithin};
@@ -44,6 +45,29 @@ pub(crate) fn share(stride: u64, units: u64) -> u128
     u128::from(stride) * u128::from(units) / QUANTUM
 }
 
+// The quotient. Mostly the number has no more than 64 bits, and two of these are divided sooner than two of 128.
+fn quotient(number: u128, by: u64) -> u128
+    requires { 0 < by }
+    ensures { result ≡ number / by }
+{
+    match u64::try_from(number) {
+        Ok(small) => u128::from(small / by),
+        Err(_) => number / u128::from(by),
+    }
+}
+
+// The quotient, rounded down.
+fn divided(number: i128, by: u64) -> i128
+    requires { 0 < by }
+    ensures { result ≡ floor_div number by }
+{
+    if number >= 0 {
+        quotient(number as u128, by) as i128
+    } else {
+        -1 - quotient((-1 - number) as u128, by) as i128
+    }
+}
+
 // The remain on a new stride, rounded down; the stride itself where there was none before.
 fn rescaled(new_stride: u64, old_stride: u64, remain: i128) -> i128
     requires new { new_stride ≤ 2 ^ 40 }
@@ -57,7 +81,7 @@ fn rescaled(new_stride: u64, old_stride: u64, remain: i128) -> i128
     } else if old_stride == new_stride {
         remain
     } else {
-        (remain * i128::from(new_stride)).div_euclid(i128::from(old_stride))
+        divided(remain * i128::from(new_stride), old_stride)
     }
 }
 

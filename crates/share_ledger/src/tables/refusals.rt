@@ -12,6 +12,7 @@ use super::{MAX_AMOUNT, MAX_CURRENCIES, MAX_FLOWS, MAX_FUNDING, MAX_TICKETS, Tab
 use crate::holders;
 use crate::seats::Seats;
 use share_base::{Name, Refusal};
+use share_model::Ticket;
 
 impl Tables {
     pub(crate) fn make_currency_refusal(&self, name: Name) -> Option<Refusal>
@@ -30,9 +31,7 @@ impl Tables {
     fn is_used(&self, name: Name) -> bool
         ensures { result ≡ list_any (uses name) self.now.tickets }
     {
-        self.tickets.iter().any(|ticket| {
-            name == ticket.denomination || holders::is_currency(&ticket.holder, name)
-        })
+        self.tickets.iter().any(|ticket| uses(ticket, name))
     }
 
     pub(crate) fn remove_currency_refusal(&self, name: Name) -> Option<Refusal>
@@ -160,4 +159,14 @@ impl Tables {
         }
         None
     }
+}
+
+// Whether a ticket is denominated in the currency, or funds it.
+fn uses(ticket: &Ticket, name: Name) -> bool
+    ensures { result ≡ uses name ticket.now }
+{
+    if name == ticket.denomination {
+        return true;
+    }
+    holders::is_currency(&ticket.holder, name)
 }

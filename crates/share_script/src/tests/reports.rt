@@ -110,10 +110,18 @@ fn output_that_fails_at_each_byte<S: Rates + Copy>(
     Ok(())
 }
 
+fn reports_are_among_lines<S: Rates + Copy>(
+    rt: &impl Abort,
+    alloc: Global,
+    shelf: S,
+) -> Result<(), Fail> {
+    reports_and_audits(rt, alloc, shelf)?;
+    output_that_fails_at_each_byte(rt, alloc, shelf)
+}
+
 #[test]
 fn reports_among_lines(rt: HostRuntime) -> Result<(), Fail> {
     let alloc = rt.alloc();
     let shelf = shelf!(alloc);
-    reports_and_audits(&rt, alloc, &shelf)?;
-    output_that_fails_at_each_byte(&rt, alloc, &shelf)
+    reports_are_among_lines(&rt, alloc, &shelf)
 }

@@ -1,10 +1,10 @@
 //! Where flows stand in the queue after scripts: tickets, strides, passes and remains by the rules.
 
-use super::LIFE;
-use crate::run_script;
+use super::{LIFE, answered};
+use crate::ScriptFault;
 use share_base::FlowNo;
 use share_core::Engine;
-use share_model::{GlobalPart, LinkState, PlainReader, Position, Rates, Tape};
+use share_model::{GlobalPart, LinkState, PlainReader, Position, Rates, Tape, Totals};
 use std::alloc::Global;
 use std::process::Abort;
 use std::test::Fail;
@@ -205,22 +205,19 @@ const ROWS: [Row; 15] = [
 ];
 
 // The link after a script.
-fn after<S: Rates + Copy>(alloc: Global, shelf: S, script: &[u8]) -> Result<Engine<Tape, S>, Fail> {
-    let engine = Engine::new(alloc, shelf, LIFE, Tape::new(alloc))?;
-    let mut input = PlainReader(script);
-    let mut output = Tape::new(alloc);
-    Ok(run_script(alloc, engine, &mut input, &mut output)?)
-}
-
-// Runs the script of a row, and compares.
-fn stands<S: Rates + Copy>(
-    rt: &impl Abort,
+fn after<S: Rates + Copy>(
     alloc: Global,
     shelf: S,
-    row: &Row,
-) -> Result<(), Fail> {
-    let (tells, script, flows, shared) = *row;
-    let engine = after(alloc, shelf, script)?;
+    script: &[u8],
+) -> Result<Engine<Tape, S>, ScriptFault> {
+    let mut input = PlainReader(script);
+    let mut output = Tape::new(alloc);
+    answered(alloc, shelf, LIFE, &mut input, &mut output)
+}
+
+// The flows of a link stand as a row says.
+fn stand_so<S: Rates>(rt: &impl Abort, engine: &Engine<Tape, S>, row: &Row) {
+    let (tells, _, flows, shared) = *row;
     for (flow, position) in flows {
         assert_eq!(rt;
             engine.position(FlowNo(*flow)),
@@ -231,7 +228,28 @@ fn stands<S: Rates + Copy>(
     if let Some(shared) = shared {
         assert_eq!(rt; engine.global(), shared, "{tells}");
     }
+}
+
+// Runs the script of a row, and compares.
+fn stands<S: Rates + Copy>(
+    rt: &impl Abort,
+    alloc: Global,
+    shelf: S,
+    row: &Row,
+) -> Result<(), Fail> {
+    let engine = after(alloc, shelf, row.1)?;
+    stand_so(rt, &engine, row);
     Ok(())
+}
+
+// What a link counted after a script.
+fn totals_after<S: Rates + Copy>(
+    alloc: Global,
+    shelf: S,
+    script: &[u8],
+) -> Result<Totals, ScriptFault> {
+    let engine = after(alloc, shelf, script)?;
+    Ok(engine.totals())
 }
 
 // Three packets are dropped with a flow of which one was written, and its account is past.
@@ -240,13 +258,12 @@ fn a_closed_flow_is_counted<S: Rates + Copy>(
     alloc: Global,
     shelf: S,
 ) -> Result<(), Fail> {
-    let engine = after(
+    let totals = totals_after(
         alloc,
         shelf,
         b"open a 4 1\nmktkt 1 base\nfund 1 flow a\nsend a 61\nsend a 61\nsend a 61\nsend a 61\n\
         turn 5\nclose a\nturn 65535\nclose a\nopen a 4 1\nfund 1 flow a\n",
     )?;
-    let totals = engine.totals();
     assert_eq!(rt; totals.accepted, 4);
     assert_eq!(rt; totals.written, 1);
     assert_eq!(rt; totals.waiting, 0);
@@ -262,13 +279,12 @@ fn a_torn_flow_is_closed<S: Rates + Copy>(
     alloc: Global,
     shelf: S,
 ) -> Result<(), Fail> {
-    let engine = after(
+    let totals = totals_after(
         alloc,
         shelf,
         b"open a 4 2\nmktkt 1 base\nfund 1 flow a\nsend a 6869\nturn 7\ntorn\nturn 65535\nmkcur x\n\
         close a\n",
     )?;
-    let totals = engine.totals();
     assert_eq!(rt; totals.accepted, 1);
     assert_eq!(rt; totals.torn, 1);
     assert_eq!(rt; totals.dropped, 0);
@@ -278,13 +294,21 @@ fn a_torn_flow_is_closed<S: Rates + Copy>(
     Ok(())
 }
 
+fn flows_stand_as_worked<S: Rates + Copy>(
+    rt: &impl Abort,
+    alloc: Global,
+    shelf: S,
+) -> Result<(), Fail> {
+    for row in &ROWS {
+        stands(rt, alloc, shelf, row)?;
+    }
+    a_closed_flow_is_counted(rt, alloc, shelf)?;
+    a_torn_flow_is_closed(rt, alloc, shelf)
+}
+
 #[test]
 fn flows_stand_in_the_queue_after_scripts(rt: HostRuntime) -> Result<(), Fail> {
     let alloc = rt.alloc();
     let shelf = shelf!(alloc);
-    for row in &ROWS {
-        stands(&rt, alloc, &shelf, row)?;
-    }
-    a_closed_flow_is_counted(&rt, alloc, &shelf)?;
-    a_torn_flow_is_closed(&rt, alloc, &shelf)
+    flows_stand_as_worked(&rt, alloc, &shelf)
 }

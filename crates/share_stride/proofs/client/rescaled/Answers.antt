@@ -5,14 +5,14 @@ use Rattle.share_model.specs.stride.Moves.{rescaled}
 use Rattle.share_stride.specs.Fits.{IsWithin}
 use Rattle.share_stride.proofs.Division.{quotient_is, rescaled-same, rescaled-within}
 use Rattle.share_stride.proofs.client.rescaled.Goals as goal
-use Rattle.share_stride.proofs.client.rescaled.Goals.{After-div_euclid}
+use Rattle.share_stride.proofs.client.rescaled.Goals.{After-divided}
 
-value : (c : After-div_euclid)
-    → to_z w128 (of_z w128 c.div_euclid.result) ≡ rescaled c.args.new_stride c.args.old_stride c.args.remain
+value : (c : After-divided)
+    → to_z w128 (of_z w128 c.divided.result) ≡ rescaled c.args.new_stride c.args.old_stride c.args.remain
 value c =
-    quotient_is c.args.new_stride c.args.old_stride c.args.remain _ _ _ c.requires.new c.requires.old c.requires.remain
-    c.ranges.remain (search rules) (search rules) (search rules) c.from-else-old_stride-new_stride.ensures
-    c.from-else-old_stride-new_stride-2.ensures c.div_euclid.ensures c.if-old_stride-eq0.false
+    quotient_is c.args.new_stride c.args.old_stride c.args.remain _ _ c.requires.new c.requires.old c.requires.remain
+    c.ranges.remain (search rules) (search rules) c.from-else-old_stride-new_stride.ensures c.divided.ensures
+    c.if-old_stride-eq0.false
 
 pub returns-then-old_stride-new_stride-clause-value : goal.returns-then-old_stride-new_stride-clause-value
 returns-then-old_stride-new_stride-clause-value c =

@@ -1,6 +1,7 @@
 -- Whole cells over some bytes.
 use Rattle.std.proofs.Common.{◌≡◌, ◌+◌, ◌*◌, ◌/◌, ◌<◌, ◌≤◌, ℕ, zero, suc, refl, arith, add-one}
-use Rattle.std.proofs.Math.Nat.{le-div_iff_mul-le, div-lt_iff_lt-mul, mul-suc, mul_comm}
+use Rattle.std.proofs.Math.Nat.{le-div_iff_mul-le, div-lt_iff_lt-mul, lt-mul-div-succ, mul-div-le, mul-suc, mul_comm}
+use Rattle.share_model.specs.declared.rates.Rate.{Rate}
 use Rattle.share_model.specs.link.Tariff.{units_of}
 
 pub one_more : (cell k : ℕ) → cell * (k + 1) ≡ cell * k + cell
@@ -17,3 +18,13 @@ covered-units cell overhead price (suc n) k some begun over =
     let high : n / cell < k + 1 = (div-lt_iff_lt-mul some).1 most in
     let cells : n / cell ≡ k = omega (arith, low, high) in
     rw (cells, one_more) refl
+
+-- some bytes are charged the overhead and whole cells: no fewer units than bytes, and no whole cell more
+pub whole-cells : (rate : Rate) (count : ℕ) → 1 ≤ rate.cell → 1 ≤ count
+    → (cells : ℕ) × (units_of rate count ≡ rate.overhead + rate.cell * cells)
+    × (count ≤ rate.cell * cells) × (rate.cell * cells < count + rate.cell)
+whole-cells rate zero cell some = absurd (omega (arith, some))
+whole-cells rate (suc n) cell some =
+    let over : n < rate.cell * (n / rate.cell + 1) = lt-mul-div-succ n cell in
+    let last = one_more rate.cell (n / rate.cell) in
+    (n / rate.cell + 1, refl, omega (arith, over), omega (arith, last, mul-div-le n rate.cell))

@@ -1,12 +1,14 @@
 //! Tariffs that store the closures by which a link charges and posts, and the shelf on which they stand.
 #![tactic(auto)]
 
+mod laws;
 mod plain;
 mod shelf;
 mod tariff;
 #[cfg(test)]
 mod tests;
 
+pub use laws::bytes_fill_whole_cells;
 pub use plain::{posted, units_by_division};
 pub use shelf::{MAX_TARIFFS, Shelf};
 pub use tariff::{Book, Charge, Tariff};

@@ -7,6 +7,7 @@ use share_base::Refusal;
 use share_model::Rates;
 use std::process::Abort;
 use std::sync::Arc;
+use std::sync::atomic::{AtomicU64, Ordering};
 use std::test::Fail;
 
 /// Counts of bytes whose units are compared.
@@ -111,6 +112,7 @@ fn tariffs_have_ranges(rt: HostRuntime) -> Result<(), Fail> {
 #[test]
 fn shelves_hold_one_to_eight(rt: HostRuntime) -> Result<(), Fail> {
     let alloc = rt.alloc();
+    let token = Arc::new(alloc, 0u8)?;
     for (count, refusal) in [
         (0, Some(Refusal::Range)),
         (1, None),
@@ -119,7 +121,9 @@ fn shelves_hold_one_to_eight(rt: HostRuntime) -> Result<(), Fail> {
     ] {
         let mut tariffs = Vec::new(alloc);
         for _ in 0..count {
-            let charge: Charge = Box::new(alloc, |count: u32| -> u64 {
+            let held = Arc::try_clone(&token)?;
+            let charge: Charge = Box::new(alloc, move |count: u32| -> u64 {
+                let _ = &held;
                 units_by_division(1, 0, count)
             })?;
             let book: Book = Box::new(alloc, |account: u64, units: u64| -> u64 {
@@ -127,7 +131,45 @@ fn shelves_hold_one_to_eight(rt: HostRuntime) -> Result<(), Fail> {
             })?;
             tariffs.push(Tariff::new(1, 0, 1, charge, book)?)?;
         }
+        assert_eq!(rt;
+            Arc::strong_count(&token),
+            1 + count,
+            "the tariffs hold their closures"
+        );
         assert_eq!(rt; Shelf::new(tariffs).err(), refusal, "of {count}");
+        assert_eq!(rt; Arc::strong_count(&token), 1, "the tariffs are dropped");
     }
+    Ok(())
+}
+
+// A rate asks its closures as often as it is asked itself: each of the two words counts the calls of one of them.
+fn asks_once(rt: &impl Abort, tariff: &Tariff, charged: &AtomicU64, booked: &AtomicU64) {
+    for asked in 1..=3 {
+        assert_eq!(rt; tariff.units(49), 112);
+        assert_eq!(rt; charged.load(Ordering::SeqCst), asked);
+        assert_eq!(rt; booked.load(Ordering::SeqCst), asked - 1);
+        assert_eq!(rt; tariff.post(7, 100), 207);
+        assert_eq!(rt; charged.load(Ordering::SeqCst), asked);
+        assert_eq!(rt; booked.load(Ordering::SeqCst), asked);
+    }
+}
+
+#[test]
+fn a_stored_closure_is_called_once_for_each_answer(rt: HostRuntime) -> Result<(), Fail> {
+    let alloc = rt.alloc();
+    let charged = Arc::new(alloc, AtomicU64::new(0))?;
+    let booked = Arc::new(alloc, AtomicU64::new(0))?;
+    let word = Arc::try_clone(&charged)?;
+    let charge: Charge = Box::new(alloc, move |count: u32| -> u64 {
+        word.fetch_add(1, Ordering::SeqCst);
+        units_by_division(48, 16, count)
+    })?;
+    let word = Arc::try_clone(&booked)?;
+    let book: Book = Box::new(alloc, move |account: u64, units: u64| -> u64 {
+        word.fetch_add(1, Ordering::SeqCst);
+        posted(2, account, units)
+    })?;
+    let tariff = Tariff::new(48, 16, 2, charge, book)?;
+    asks_once(&rt, &tariff, &charged, &booked);
     Ok(())
 }

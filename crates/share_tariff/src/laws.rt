@@ -1,0 +1,13 @@
+//! What holds of every tariff. A function here does nothing: its contract is a law, which is proved with it.
+ghost use Rattle.std.specs.Prelude.{◌≡◌, ◌<◌, ◌≤◌, ◌+◌, ◌*◌, ℕ};
+ghost use Rattle.share_model.specs.declared.rates.Rate.{Rate};
+ghost use Rattle.share_model.specs.link.Tariff.{units_of};
+
+/// Bytes fill whole cells: no byte is charged no unit; otherwise the units are the overhead and whole cells, as many
+/// units of cells as there are bytes, or up to one cell more, but not a whole one.
+pub fn bytes_fill_whole_cells()
+    ensures none { (rate : Rate) → units_of rate 0 ≡ 0 }
+    ensures some { (rate : Rate) (count : ℕ) → 1 ≤ rate.cell → 1 ≤ count
+        → (cells : ℕ) × (units_of rate count ≡ rate.overhead + rate.cell * cells)
+        × (count ≤ rate.cell * cells) × (rate.cell * cells < count + rate.cell) }
+{}

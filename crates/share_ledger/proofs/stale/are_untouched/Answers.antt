@@ -1,6 +1,7 @@
 use Rattle.std.proofs.Common.{inl, inr, arith}
+use Rattle.std.proofs.lemmas.Bool.{leb-true, ltb-true}
 use Rattle.share_ledger.specs.Rounds.{flags_of}
-use Rattle.share_ledger.proofs.StaleStretches.{sources-more, untouched-stretch, is_less, is_at_most}
+use Rattle.share_ledger.proofs.StaleStretches.{sources-more, untouched-stretch}
 use Rattle.share_ledger.proofs.stale.are_untouched.Goals as goal
 
 pub loop-i-preserved : goal.loop-i-preserved
@@ -13,12 +14,12 @@ pub returns-then-changed-from : goal.returns-then-changed-from
 returns-then-changed-from c = λ active before.
     untouched-stretch c.args.funding.now (flags_of c.args.moved.now.flags) c.loop-i.sources c.args.moved.now.bits
     c.args.changed c.args.from c.requires.within c.requires.bits c.if-sources-moved-eq0.true
-    (omega (arith, c.requires.stretch)) (inl (is_less _ _ before))
+    (omega (arith, c.requires.stretch)) (inl (ltb-true _ _ before))
     (λ k lt. c.loop-i.invariant k (omega (arith, lt, c.loop-i-test.false))) active
 
 pub returns-else-changed-from : goal.returns-else-changed-from
 returns-else-changed-from c = λ active after.
     untouched-stretch c.args.funding.now (flags_of c.args.moved.now.flags) c.loop-i.sources c.args.moved.now.bits
     c.args.changed c.args.from c.requires.within c.requires.bits c.if-sources-moved-eq0.true
-    (omega (arith, c.requires.stretch)) (inr (is_at_most _ _ after))
+    (omega (arith, c.requires.stretch)) (inr (leb-true _ _ after))
     (λ k lt. c.loop-i.invariant k (omega (arith, lt, c.loop-i-test.false))) active

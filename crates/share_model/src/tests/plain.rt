@@ -8,11 +8,13 @@ use std::io::{ErrorKind, Read, Write};
 /// The longest frame, in bytes.
 const LONGEST: usize = 1502;
 
-/// Accepts the first half of a piece, or fails as it is told to. It keeps the piece of its last call.
+/// Accepts the first half of a piece, or fails as it is told to. It keeps the piece of its last call, and counts the
+/// flushes.
 #[derive(Drop)]
 struct CountingWriter {
     fault: Option<ErrorKind>,
     calls: usize,
+    flushes: usize,
     piece: Vec<u8>,
 }
 
@@ -28,6 +30,7 @@ impl Write for CountingWriter {
     }
 
     fn flush(&mut self) -> io::Result<()> {
+        self.flushes = self.flushes.saturating_add(1);
         Ok(())
     }
 }
@@ -36,6 +39,7 @@ fn counting_writer(alloc: Global, fault: Option<ErrorKind>) -> PlainWriter<Count
     PlainWriter(CountingWriter {
         fault,
         calls: 0,
+        flushes: 0,
         piece: Vec::new(alloc),
     })
 }
@@ -52,6 +56,7 @@ fn a_writer_is_called_once_with_the_whole_piece(rt: HostRuntime) {
         assert_eq!(rt; writer.0.calls, length + 1);
         assert_eq!(rt; writer.0.piece.as_slice(), &bytes[..length]);
     }
+    assert_eq!(rt; writer.0.flushes, 0);
 }
 
 #[test]
@@ -69,6 +74,7 @@ fn a_writer_that_answers_an_error_is_called_once(rt: HostRuntime) {
             assert_eq!(rt; writer.0.calls, length + 1);
             assert_eq!(rt; writer.0.piece.as_slice(), &bytes[..length]);
         }
+        assert_eq!(rt; writer.0.flushes, 0);
     }
 }
 

@@ -1,6 +1,7 @@
 #!/usr/bin/env bash
-# Runs each script of this folder through the built program. What it prints has to be the file NAME.output, its status
-# that of the file NAME.status (0 where there is none), and a run with status 0 prints nothing on standard error.
+# Runs each script of this folder through the built program, in the life of the file NAME.life where there is one. What
+# it prints has to be the file NAME.output, its status that of the file NAME.status (0 where there is none), and a run
+# with status 0 prints nothing on standard error.
 set -u
 cd "$(dirname "$0")" || exit 1
 folder=$(mktemp -d) || exit 1
@@ -17,7 +18,9 @@ for script in *.script; do
     name=${script%.script}
     wanted=0
     [[ -f $name.status ]] && wanted=$(< "$name.status")
-    ../bin/stridelink run < "$script" > "$folder/output" 2> "$folder/said"
+    words=(run)
+    [[ -f $name.life ]] && words+=(--life "$(< "$name.life")")
+    ../bin/stridelink "${words[@]}" < "$script" > "$folder/output" 2> "$folder/said"
     status=$?
     [[ $status -eq $wanted ]] || wrong "$name" "the status is $status, not $wanted"
     diff "$folder/output" "$name.output" >&2 || wrong "$name" "prints something else"

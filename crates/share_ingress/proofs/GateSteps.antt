@@ -1,5 +1,5 @@
 -- What the calls of a worker come to, call after call: those of its gate, and the turns of its reader.
-use Rattle.std.proofs.Common.{◌≡◌, inl, inr, ℕ, ◌+◌, ◌-◌, true, length, Option, None, Some, IfSome}
+use Rattle.std.proofs.Common.{◌≡◌, ◌≢◌, inl, inr, ℕ, ◌+◌, ◌-◌, true, length, Option, None, Some, IfSome}
 use Rattle.std.proofs.Common.{List, arith, refl, sym, ap, ◌∙◌, subst}
 use Rattle.std.proofs.lemmas.List.{length-append}
 use Rattle.share_model.specs.declared.ingress.Ended.{Ended}
@@ -101,48 +101,48 @@ module _ {R G : Type 0} (gives : R → List ℕ → Got → R → Type 0) (told 
             long = ap (λ (d : EndView). length d.pushed) put ∙ length-append e.pushed _ ∙ omega (arith, f.long);
           }
 
-      drops_next : (left : ℕ) (why : Why) (last : G) → Drops told e new.turns asked left why last
-          → DropsNext gives told (f.items + 1) e new why g last
-      drops_next left why last dropped =
-          record { asked = asked; left = left; next = told_next; dropped = dropped }
+      module _ (left : Reading R) (unread : left ≡ record new { turns = left.turns }) where
+        drops_next : (why : Why) (last : G) → Drops told e new.turns asked left.turns why last
+            → DropsNext gives told (f.items + 1) e new why g last left
+        drops_next why last dropped =
+            record { asked = asked; next = told_next; dropped = dropped; unread = unread }
 
-      finishes : (left : ℕ) (why : Why) (last : G) → Drops told e new.turns asked left why last
-          → Finishes gives told (f.items + 1) e new g why last
-      finishes left (Over over) last dropped = inr (drops_next left (Over over) last dropped)
-      finishes left Stopped last dropped = drops_next left Stopped last dropped
-      finishes left NotStarted last dropped = absurd dropped.reason
+        finishes : (why : Why) (last : G) → Drops told e new.turns asked left.turns why last
+            → Finishes gives told (f.items + 1) e new g why last left
+        finishes (Over over) last dropped = inr (drops_next (Over over) last dropped)
+        finishes Stopped last dropped = drops_next Stopped last dropped
+        finishes NotStarted last dropped = absurd dropped.reason
 
-      -- and dropped
-      pub ran_dropped : (left : ℕ) (why : Why) (last : G) (done : EndView)
-          → Drops told e new.turns asked left why last → done ≡ e
-          → Ran gives told reader start gate (n - 1) why done last
-      ran_dropped left why last done dropped same =
-          let one_less : n - 1 ≡ f.items = omega (arith, n_items) in
-          rw (same, one_less)
-          (record {
-            rounds = f.rounds;
-            now = new;
-            asked = g;
-            queued = f.queued;
-            spent = read_more new calls;
-            finished = finishes left why last dropped;
-          })
+        -- and dropped
+        pub ran_dropped : (why : Why) (last : G) (done : EndView)
+            → Drops told e new.turns asked left.turns why last → done ≡ e
+            → Ran gives told reader start gate (n - 1) why done last left
+        ran_dropped why last done dropped same =
+            let one_less : n - 1 ≡ f.items = omega (arith, n_items) in
+            rw (same, one_less)
+            (record {
+              rounds = f.rounds;
+              now = new;
+              asked = g;
+              queued = f.queued;
+              spent = read_more new calls;
+              finished = finishes why last dropped;
+            })
 
     ends_by : (o : Option Ended) (new : Reading R) (over : Ended) (left : R → Option (List ℕ)) → now.ended ≡ o
         → IfSome o (λ ended. (Answered over ≡ Answered ended) × (new ≡ now))
         → (now.ended ≡ None → Answers gives left now (Answered over) new) → Stands gives new over
-        → EndsNow gives now over
-    ends_by None new over left e again once stands = let stops = (once e).0 in
-        inl (e, (new, stops.calls, stops.stands))
+        → EndsNow gives now over new
+    ends_by None new over left e again once stands = let stops = once e in (stops.1, stands, inl (e, stops.0.calls))
     ends_by (Some ended) new over left e again once stands =
         let same : over ≡ ended = cc in
-        inr (e ∙ ap Some (sym same), subst (λ (r : Reading R). Stands gives r over) again.1 stands)
+        (ap (λ (r : Reading R). r.ended) again.1 ∙ e ∙ ap Some (sym same), stands, inr again.1)
 
     -- the reader ended
     pub ran_over : (new : Reading R) (over : Ended) (left : R → Option (List ℕ)) (tally : ℕ)
         → IfSome now.ended (λ ended. (Answered over ≡ Answered ended) × (new ≡ now))
         → (now.ended ≡ None → Answers gives left now (Answered over) new) → Stands gives new over
-        → tally ≡ length e.pushed - length start.pushed → Ran gives told reader start gate tally (Over over) e g
+        → tally ≡ length e.pushed - length start.pushed → Ran gives told reader start gate tally (Over over) e g new
     ran_over new over left tally again once stands counted =
         let items : tally ≡ f.items = omega (arith, f.long, counted) in
         rw items
@@ -154,3 +154,10 @@ module _ {R G : Type 0} (gives : R → List ℕ → Got → R → Type 0) (told 
           spent = f.spent;
           finished = inl (ends_by now.ended new over left refl again once stands, refl);
         })
+
+  -- and no worker that ran is one that was not started
+  pub ran_started : (reader left : Reading R) (start end : EndView) (gate last : G) (tally : ℕ) (why : Why)
+      → Ran gives told reader start gate tally why end last left → why ≢ NotStarted
+  ran_started reader left start end gate last tally (Over over) f = λ e. cc
+  ran_started reader left start end gate last tally Stopped f = λ e. cc
+  ran_started reader left start end gate last tally NotStarted f = absurd f.finished

@@ -8,7 +8,7 @@ use Rattle.crossbeam_queue.specs.Fifo.{Forks, Merges, Learns}
 use Rattle.share_model.specs.declared.ingress.Offer.{Offer}
 use Rattle.share_model.specs.declared.ingress.QueueView.{QueueView}
 use Rattle.share_model.specs.ingress.Queue.{of_worker, Begins, an_end, an_intake, a_host, spent, IsEnd}
-use Rattle.share_model.specs.ingress.Queue.{IsIntake, KeepsOrder, Behind}
+use Rattle.share_model.specs.ingress.Queue.{IsIntake, IsWorker, KeepsOrder, Behind}
 use Rattle.share_ingress.proofs.Offers.{same_or_not, other_test}
 use Rattle.share_ingress.proofs.Offers.{views_set}
 use Rattle.share_ingress.proofs.Offers.{views_snoc, length_set, none_long}
@@ -41,10 +41,10 @@ module _ (pass made : ℕ) (popped ahead : List Offer) (closed : List ℕ) (othe
         got = h.got;
         made = h.made;
         shut = λ u. nat_eq w u || h.shut u;
-        below = h.below;
+        known = h.known;
         numbered = h.numbered;
         emptied = λ u s. ⊎_elim
-            (λ (e : w ≡ u). let P : ℕ → Type 0 = λ n. (n < h.made) × (of_worker n items ≡ []) in
+            (λ (e : w ≡ u). let P : ℕ → Type 0 = λ n. IsWorker h.made n × (of_worker n items ≡ []) in
             subst P e (theirs.known, none))
             (λ (e : w ≢ u). h.emptied u (rw (other_test w u e) at s)) (same_or_not w u);
         ends = views_set (λ j v. v.sends ≡ true → IsEnd h.seat h.got items h.made (λ u. nat_eq w u || h.shut u) j v)
@@ -88,7 +88,7 @@ module _ (pass made : ℕ) (popped ahead : List Offer) (closed : List ℕ) (othe
         got = h.got;
         made = h.made;
         shut = h.shut;
-        below = h.below;
+        known = h.known;
         numbered = h.numbered;
         emptied = h.emptied;
         ends = views_set (λ j v. v.sends ≡ true → IsEnd (moved h.seat w pass) h.got items h.made h.shut j v)
@@ -140,7 +140,7 @@ module _ (pass made : ℕ) (popped ahead : List Offer) (closed : List ℕ) (w : 
         got = h.got;
         made = h.made;
         shut = h.shut;
-        below = h.below;
+        known = h.known;
         numbered = h.numbered;
         emptied = h.emptied;
         ends = views_snoc

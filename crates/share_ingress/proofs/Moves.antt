@@ -9,7 +9,9 @@ use Rattle.share_model.specs.lists.Each.{Each}
 use Rattle.share_model.specs.declared.ingress.Offer.{Offer}
 use Rattle.share_model.specs.declared.ingress.QueueView.{QueueView}
 use Rattle.share_model.specs.ingress.Queue.{of_worker, Numbered, an_end, an_intake, IsEnd}
-use Rattle.share_model.specs.ingress.Queue.{IsIntake, KeepsOrder, Put, OwnLast, Taken, Seen}
+use Rattle.share_model.specs.ingress.Queue.{IsIntake, IsWorker, KeepsOrder, Put, OwnLast, Taken, Seen}
+use Rattle.atomic_table.specs.Seated.{TableId}
+use Rattle.share_ingress.specs.Ends.{new_end, new_ends}
 use Rattle.share_ingress.proofs.Offers.{same_or_not, same_test, other_test, of_append, of_snoc_same, of_snoc_other}
 use Rattle.share_ingress.proofs.Offers.{of_same, of_moved, of_rest_none, of_first_some, of_above, numbered_snoc}
 use Rattle.share_ingress.proofs.Offers.{numbered_at}
@@ -29,7 +31,7 @@ begins_empty =
       got = [];
       made = 0;
       shut = λ w. false;
-      below = tt;
+      known = tt;
       numbered = λ w. tt;
       emptied = λ w e. absurd (not_true e);
       ends = only _ (λ e. absurd (not_true e));
@@ -44,6 +46,14 @@ begins_empty =
     only : (F : ℕ → QueueView → Type 0) → F 0 (an_intake 0 [] [] []) → Views F (an_intake 0 [] [] [] ∷ [])
     only F mine = views_set F (an_intake 0 [] [] [] ∷ []) 0 (an_intake 0 [] [] []) mine
         (λ j u apart e. absurd (apart (at_first j u e)))
+
+pub ends_known : (link : TableId) (capacity workers : ℕ)
+    → Each (λ e. IsWorker workers e.worker) (new_ends link capacity workers)
+ends_known link capacity zero = tt
+ends_known link capacity (suc n) =
+    each_snoc _ (new_ends link capacity n) (new_end link capacity (suc n))
+    (each_more _ _ (new_ends link capacity n) (λ e p. (p.0, omega (arith, p.1))) (ends_known link capacity n))
+    (omega arith, omega arith)
 
 -- A push
 
@@ -62,8 +72,8 @@ module _ (pass w : ℕ) (pushed : List Offer) (x : Offer) (mine : x.worker ≡ w
           got = h.got;
           made = h.made;
           shut = h.shut;
-          below = subst (λ os. Each (λ o. o.worker < h.made) os) (append_assoc h.got items (x ∷ []))
-              (each_snoc _ (h.got ++ items) x h.below (rw mine was.known));
+          known = subst (λ os. Each (λ o. IsWorker h.made o.worker) os) (append_assoc h.got items (x ∷ []))
+              (each_snoc _ (h.got ++ items) x h.known (rw mine was.known));
           numbered = λ u. ⊎_elim
               (λ (e : u ≡ w). let known : Numbered 0 (pushed ++ x ∷ []) =
               numbered_snoc 0 pushed x (rw was.pushed (h.numbered w)) (omega (arith, number)) in
@@ -121,7 +131,7 @@ module _ (pass made : ℕ) (popped ahead : List Offer) (closed : List ℕ) where
           got = h.got ++ x ∷ [];
           made = h.made;
           shut = h.shut;
-          below = rw (append_assoc h.got (x ∷ []) items) h.below;
+          known = rw (append_assoc h.got (x ∷ []) items) h.known;
           numbered = λ u. rw (of_moved u h.got items x) (h.numbered u);
           emptied = λ u s. ((h.emptied u s).0, of_rest_none u x items (h.emptied u s).1);
           ends = views_set (λ j v. v.sends ≡ true → IsEnd h.seat (h.got ++ x ∷ []) items h.made h.shut j v) views pass _
@@ -145,7 +155,7 @@ module _ (pass made : ℕ) (popped ahead : List Offer) (closed : List ℕ) where
         record {
           view_is = refl;
           front = was.ahead;
-          known = rw was.made_is (each_at _ h.got items x h.below);
+          known = rw was.made_is (each_at _ h.got items x h.known);
           number = let all : Numbered 0 (of_worker x.worker h.got ++ x ∷ of_worker x.worker items) =
               rw (of_same x.worker x items refl) at (h.numbered x.worker) in
               let n = numbered_at 0 (of_worker x.worker h.got) (of_worker x.worker items) x all in
@@ -187,40 +197,41 @@ moved_else seat w pass u h = rw (other_test u w h) refl
 
 module _ (pass made : ℕ) (popped ahead : List Offer) (closed : List ℕ) where
   forks_intake : Forks KeepsOrder pass (an_intake made popped ahead closed) (an_intake (suc made) popped ahead closed)
-      (an_end made [])
+      (an_end (suc made) [])
   forks_intake items views h at =
       let was = h.intake pass (an_intake made popped ahead closed) at refl in
       let now = an_intake (suc made) popped ahead closed in
-      let none : [] ≡ of_worker made h.got ++ of_worker made items =
-      rw was.made_is (sym (sym (of_append h.made h.got items) ∙ of_above h.made (h.got ++ items) h.below)) in
+      let none : [] ≡ of_worker (suc made) h.got ++ of_worker (suc made) items =
+      rw was.made_is (sym (sym (of_append (suc h.made) h.got items) ∙ of_above h.made (h.got ++ items) h.known)) in
       record {
         reader = h.reader;
-        seat = moved h.seat h.made (length views);
+        seat = moved h.seat (suc h.made) (length views);
         got = h.got;
         made = suc h.made;
         shut = h.shut;
-        below = each_more _ _ (h.got ++ items) (λ o p. omega (arith, p)) h.below;
+        known = each_more _ _ (h.got ++ items) (λ o p. (p.0, omega (arith, p.1))) h.known;
         numbered = h.numbered;
-        emptied = λ u s. let old = h.emptied u s in (omega (arith, old.0), old.1);
+        emptied = λ u s. let old = h.emptied u s in ((old.0.0, omega (arith, old.0.1)), old.1);
         ends = views_snoc
-            (λ j v. v.sends ≡ true → IsEnd (moved h.seat h.made (length views)) h.got items (suc h.made) h.shut j v)
-            (set views pass now) (an_end made [])
+            (λ j v. v.sends ≡ true → IsEnd (moved h.seat (suc h.made) (length views)) h.got items (suc h.made) h.shut j v)
+            (set views pass now) (an_end (suc made) [])
             (views_set _ views pass now (λ s. absurd (not_true s)) (λ j v apart e s. let old = h.ends j v e s in
             record {
-              alone = old.alone ∙ moved_else h.seat h.made (length views) v.worker (λ f. omega (arith, f, old.known));
-              known = omega (arith, old.known);
+              alone = old.alone ∙ moved_else h.seat (suc h.made) (length views) v.worker (λ f. omega (arith, f, old.known.1));
+              known = (old.known.0, omega (arith, old.known.1));
               still = old.still;
               pushed = old.pushed;
             }))
             (λ s. record {
-              alone = length_set views pass now ∙ moved_here h.seat h.made (length views) made was.made_is;
-              known = omega (arith, was.made_is);
-              still = rw was.made_is (by_shut (h.shut h.made) refl);
+              alone = length_set views pass now ∙ moved_here h.seat (suc h.made) (length views) (suc made) (ap (λ n. suc n)
+                  was.made_is);
+              known = (omega arith, omega (arith, was.made_is));
+              still = rw was.made_is (by_shut (h.shut (suc h.made)) refl);
               pushed = none;
             });
         intake = views_snoc
             (λ j v. v.gets ≡ true → IsIntake h.reader h.got items (suc h.made) h.shut j v)
-            (set views pass now) (an_end made [])
+            (set views pass now) (an_end (suc made) [])
             (views_set _ views pass now
             (λ s. record {
               alone = was.alone;
@@ -232,13 +243,14 @@ module _ (pass made : ℕ) (popped ahead : List Offer) (closed : List ℕ) where
             (λ j v apart e s. absurd (apart ((h.intake j v e s).alone ∙ sym was.alone)))) (λ s. absurd (not_true s));
       }
     where
-      by_shut : (b : Bool) → h.shut h.made ≡ b → b ≡ false
-      by_shut true e = let below = (h.emptied h.made e).0 in absurd (omega (arith, below))
+      by_shut : (b : Bool) → h.shut (suc h.made) ≡ b → b ≡ false
+      by_shut true e = let known = (h.emptied (suc h.made) e).0 in absurd (omega (arith, known.1))
       by_shut false e = refl
 
 pub forks : (pass : ℕ) (v : QueueView) (made : ℕ) (popped ahead : List Offer) (closed : List ℕ)
     → v ≡ an_intake made popped ahead closed
-    → Forks KeepsOrder pass v (an_intake (suc v.made) v.popped v.ahead v.closed) (an_end v.made [])
+    → Forks KeepsOrder pass v (an_intake (suc v.made) v.popped v.ahead v.closed) (an_end (suc v.made) [])
 forks pass v made popped ahead closed is =
-    subst (λ u. Forks KeepsOrder pass u (an_intake (suc u.made) u.popped u.ahead u.closed) (an_end u.made [])) (sym is)
+    subst (λ u. Forks KeepsOrder pass u (an_intake (suc u.made) u.popped u.ahead u.closed) (an_end (suc u.made) []))
+    (sym is)
     (forks_intake pass made popped ahead closed)

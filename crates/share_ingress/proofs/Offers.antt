@@ -10,7 +10,7 @@ use Rattle.crossbeam_queue.proofs.Lists.{at_set}
 use Rattle.share_model.specs.lists.Each.{Each}
 use Rattle.share_model.specs.declared.ingress.Offer.{Offer}
 use Rattle.share_model.specs.declared.ingress.QueueView.{QueueView}
-use Rattle.share_model.specs.ingress.Queue.{keep, of_worker, Numbered, Begins}
+use Rattle.share_model.specs.ingress.Queue.{keep, of_worker, Numbered, Begins, IsWorker}
 
 -- Numbers that are the same or not
 
@@ -71,9 +71,9 @@ of_rest_none w o os e = keep_none (nat_eq o.worker w) o (of_worker w os) e
 pub of_first_some : (o : Offer) (os : List Offer) → of_worker o.worker (o ∷ os) ≢ []
 of_first_some o os e = let p : o ∷ of_worker o.worker os ≡ [] = sym (of_same o.worker o os refl) ∙ e in cc
 
-pub of_above : (m : ℕ) (os : List Offer) → Each (λ o. o.worker < m) os → of_worker m os ≡ []
+pub of_above : (m : ℕ) (os : List Offer) → Each (λ o. IsWorker m o.worker) os → of_worker (suc m) os ≡ []
 of_above m [] h = refl
-of_above m (o ∷ os) h = of_other m o os (λ e. omega (arith, e, h.0)) ∙ of_above m os h.1
+of_above m (o ∷ os) h = of_other (suc m) o os (λ e. omega (arith, e, h.0.1)) ∙ of_above m os h.1
 
 -- Numbers of offers
 
@@ -88,7 +88,7 @@ numbered_at k (p ∷ os) rest o h = let e = numbered_at (suc k) os rest o h.1 in
 
 -- Each offer
 
-pub each_snoc : (P : Offer → Type 0) (os : List Offer) (o : Offer) → Each P os → P o → Each P (os ++ o ∷ [])
+pub each_snoc : {A : Type 0} (P : A → Type 0) (os : List A) (o : A) → Each P os → P o → Each P (os ++ o ∷ [])
 each_snoc P [] o h p = (p, tt)
 each_snoc P (q ∷ os) o h p = (h.0, each_snoc P os o h.1 p)
 
@@ -96,7 +96,7 @@ pub each_at : (P : Offer → Type 0) (os rest : List Offer) (o : Offer) → Each
 each_at P [] rest o h = h.0
 each_at P (q ∷ os) rest o h = each_at P os rest o h.1
 
-pub each_more : (P Q : Offer → Type 0) (os : List Offer) → ((o : Offer) → P o → Q o) → Each P os → Each Q os
+pub each_more : {A : Type 0} (P Q : A → Type 0) (os : List A) → ((o : A) → P o → Q o) → Each P os → Each Q os
 each_more P Q [] f h = tt
 each_more P Q (o ∷ os) f h = (f o h.0, each_more P Q os f h.1)
 

@@ -7,7 +7,7 @@ use Rattle.share_base.specs.declared.refusal.Refusal.{Refusal}
 use Rattle.share_base.specs.declared.refusal.Refusal.TheVariants.{Range}
 use Rattle.share_base.specs.Refusal.{first_refusal}
 use Rattle.share_model.specs.declared.ingress.Offer.{Offer}
-use Rattle.share_model.specs.ingress.Queue.{offer, of_worker, has, Begins}
+use Rattle.share_model.specs.ingress.Queue.{offer, of_worker, has, Begins, IsWorker}
 use Rattle.share_ingress.specs.declared.ends.Offered.{Offered}
 use Rattle.share_ingress.specs.declared.ends.Offered.TheVariants.{Queued, Full}
 
@@ -40,10 +40,10 @@ queue_refusal capacity workers =
 abbrev pub new_end : TableId → ℕ → ℕ → EndView
 new_end link capacity worker = record { link = link; capacity = capacity; worker = worker; pushed = [] }
 
--- the ends of the workers from 0 on
+-- the ends of the workers, numbered from 1
 abbrev pub new_ends : TableId → ℕ → ℕ → List EndView
 new_ends link capacity zero = []
-new_ends link capacity (suc n) = new_ends link capacity n ++ new_end link capacity n ∷ []
+new_ends link capacity (suc n) = new_ends link capacity n ++ new_end link capacity (suc n) ∷ []
 
 abbrev pub new_intake : TableId → ℕ → IntakeView
 new_intake link workers = record { link = link; workers = workers; popped = []; ahead = []; closed = [] }
@@ -66,6 +66,6 @@ Offers old name parcel (Full back) new =
 pub record IsTake (old : IntakeView) (o : Offer) (new : IntakeView) : Type 0 where
   pub popped : new ≡ record old { popped = old.popped ++ o ∷ []; ahead = new.ahead }
   pub front : Begins (o ∷ new.ahead) old.ahead
-  pub known : o.worker < old.workers
+  pub known : IsWorker old.workers o.worker
   pub number : o.n ≡ suc (length (of_worker o.worker old.popped))
   pub still : has o.worker old.closed ≡ false

@@ -75,34 +75,39 @@ pub record Spends {R : Type 0} (gives : R → List ℕ → Got → R → Type 0)
   pub reads : Reads gives old.reader count new.reader
   pub turns : count + rounds + new.turns ≡ old.turns
 
--- the reader ended so by its next reads, or had ended so before
-abbrev pub EndsNow : {R : Type 0} → (R → List ℕ → Got → R → Type 0) → Reading R → Ended → Type 0
-EndsNow {R = R} gives now over =
-    ((now.ended ≡ None) × ((new : Reading R) × EndsBy gives over now new × Stands gives new over))
-    ⊎ ((now.ended ≡ Some over) × Stands gives now over)
+-- the reader ended so by its next reads, or had ended so before, and then read no more
+abbrev pub EndsNow : {R : Type 0} → (R → List ℕ → Got → R → Type 0) → Reading R → Ended → Reading R → Type 0
+EndsNow gives now over left =
+    (left.ended ≡ Some over) × Stands gives left over
+    × (((now.ended ≡ None) × EndsBy gives over now left) ⊎ (left ≡ now))
 
 module _ {R G : Type 0} (gives : R → List ℕ → Got → R → Type 0) (told : G → GateCall → G → Type 0) where
-  -- the item with this number was the next one, and was dropped
-  pub record DropsNext (n : ℕ) (e : EndView) (now : Reading R) (why : Why) (first last : G) : Type 0 where
+  -- the item with this number was the next one, and was dropped; nothing was read after it
+  pub record DropsNext (n : ℕ) (e : EndView) (now : Reading R) (why : Why) (first last : G) (left : Reading R)
+      : Type 0 where
     pub asked : G
-    pub left : ℕ
     pub next : told first (item_next n) asked
-    pub dropped : Drops told e now.turns asked left why last
+    pub dropped : Drops told e now.turns asked left.turns why last
+    pub unread : left ≡ record now { turns = left.turns }
 
   -- after the items that were queued the reader ended, and the gate got no more calls; or one more item was dropped
-  abbrev pub Finishes : ℕ → EndView → Reading R → G → Why → G → Type 0
-  Finishes n e now first (Over over) last =
-      (EndsNow gives now over × (last ≡ first)) ⊎ DropsNext n e now (Over over) first last
-  Finishes n e now first Stopped last = DropsNext n e now Stopped first last
-  Finishes n e now first NotStarted last = ⊥
+  abbrev pub Finishes : ℕ → EndView → Reading R → G → Why → G → Reading R → Type 0
+  Finishes n e now first (Over over) last left =
+      (EndsNow gives now over left × (last ≡ first)) ⊎ DropsNext n e now (Over over) first last left
+  Finishes n e now first Stopped last left = DropsNext n e now Stopped first last left
+  Finishes n e now first NotStarted last left = ⊥
 
-  -- a worker queued so many items and stopped for this reason: the calls of its reader and of its gate, and the turns
-  -- that were spent
+  -- a worker queued so many items, stopped for this reason and left its reader so: the calls of its reader and of its
+  -- gate, and the turns that were spent
   pub record Ran (reader : Reading R) (start : EndView) (gate : G) (tally : ℕ) (why : Why) (end : EndView) (last : G)
-      : Type 0 where
+      (left : Reading R) : Type 0 where
     pub rounds : ℕ
     pub now : Reading R
     pub asked : G
     pub queued : Queueing told start gate tally rounds end asked
     pub spent : Spends gives reader rounds now
-    pub finished : Finishes (tally + 1) end now asked why last
+    pub finished : Finishes (tally + 1) end now asked why last left
+
+  -- the same of a worker whose reader was dropped then
+  abbrev pub RanOut : Reading R → EndView → G → ℕ → Why → EndView → G → Type 0
+  RanOut reader start gate tally why end last = (left : Reading R) × Ran reader start gate tally why end last left

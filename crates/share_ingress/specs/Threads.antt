@@ -1,20 +1,28 @@
 -- What jobs come to that are run in threads of their own.
-use Rattle.std.specs.Prelude.{◌≡◌, ◌⊎◌, ⊤, ℕ, List, [], ◌∷◌, Option}
+use Rattle.std.specs.Prelude.{◌≡◌, ◌≢◌, ◌⊎◌, ⊤, ℕ, List, [], ◌∷◌, Option}
 use Rattle.share_model.specs.declared.reader.Got.{Got}
 use Rattle.share_ingress.specs.GateCalls.{GateCall}
-use Rattle.share_ingress.specs.Gates.{Ran}
+use Rattle.share_ingress.specs.Gates.{RanOut}
 use Rattle.share_ingress.specs.Reader.{left_of}
 use Rattle.share_ingress.specs.Workers.{Worked}
 use Rattle.share_ingress.specs.declared.threads.Job.{Job}
 use Rattle.share_ingress.specs.declared.workers.Done.{Done}
 use Rattle.share_ingress.specs.declared.workers.Why.TheVariants.{NotStarted}
 
--- the job was done by a worker; or it was not started, and its gate is as it was
-pub record IsJobDone {R G : Type 0} (gives : R → List ℕ → Got → R → Type 0) (left : R → Option (List ℕ))
+-- the job was not started: its end and its gate come back as they were, and nothing was queued
+abbrev pub IsNotStarted : {R G : Type 0} → Job R G → Done G → Type 0
+IsNotStarted job done = done ≡ record { end = job.end; gate = job.gate; why = NotStarted; tally = 0 }
+
+-- the job was done by a worker, which is never told as not started
+pub record IsWorkDone {R G : Type 0} (gives : R → List ℕ → Got → R → Type 0) (left : R → Option (List ℕ))
     (told : G → GateCall → G → Type 0) (job : Job R G) (done : Done G) : Type 0 where
+  pub started : done.why ≢ NotStarted
   pub worked : Worked (left_of left job.reader) job.end done.end done.tally done.why
-  pub ran : Ran gives told job.reader job.end job.gate done.tally done.why done.end done.gate
-      ⊎ ((done.why ≡ NotStarted) × (done.gate ≡ job.gate))
+  pub ran : RanOut gives told job.reader job.end job.gate done.tally done.why done.end done.gate
+
+abbrev pub IsJobDone : {R G : Type 0} → (R → List ℕ → Got → R → Type 0) → (R → Option (List ℕ))
+    → (G → GateCall → G → Type 0) → Job R G → Done G → Type 0
+IsJobDone gives left told job done = IsWorkDone gives left told job done ⊎ IsNotStarted job done
 
 -- each item of the one list matches the item at its place in the other, and there are as many
 abbrev pub Matches : {A B : Type 0} → (A → B → Type 0) → List A → List B → Type 0

@@ -1,9 +1,10 @@
 //! The queue from the workers to the link.
-ghost use Rattle.std.specs.Prelude.{◌≡◌, ◌≤◌, ◌^◌, suc, [], length, None, IfOk, IfErr, IfSome, IfNone};
+ghost use Rattle.std.specs.Prelude.{◌≡◌, ◌≤◌, ◌^◌, ℕ, suc, [], length, None, IfOk, IfErr, IfSome, IfNone};
 ghost use Rattle.std.specs.Arc.{arc_value};
 ghost use Rattle.crossbeam_queue.specs.Passes.{view, IsPassOf, ruled_capacity};
 ghost use Rattle.share_base.specs.Refusal.{IsRefused};
-ghost use Rattle.share_model.specs.ingress.Queue.{an_intake, of_worker, Begins};
+ghost use Rattle.share_model.specs.ingress.Queue.{an_intake, of_worker, Begins, IsWorker};
+ghost use Rattle.share_model.specs.lists.Each.{Each};
 ghost use Rattle.share_ingress.specs.Ends.{queue_refusal, new_end, new_ends, new_intake, Offers, IsTake};
 ghost use Rattle.share_ingress.specs.Ends.{is_out_of_range};
 
@@ -33,7 +34,7 @@ pub enum Offered {
 }
 
 /// A worker's end of the queue, which alone queues this worker's offers. A contract sees the queue by its name, how
-/// many offers it holds at most, the worker, counted from 0, and what the end pushed.
+/// many offers it holds at most, the worker, counted from 1, and what the end pushed.
 #[derive(Drop)]
 pub struct IngressEnd {
     queue: Arc<Line, Global>,
@@ -107,6 +108,7 @@ pub fn queue(
     ensures ok { IfOk result (λ made. (made.0 ≡ new_intake made.0.link workers)
         × (made.1.items ≡ new_ends made.0.link capacity workers)
         × (queue_refusal capacity workers ≡ None)) }
+    ensures workers { IfOk result (λ made. Each (λ e. IsWorker workers e.worker) made.1.items) }
     ensures refused { IfErr result (IsRefused (queue_refusal capacity workers)) }
 {
     if is_out_of_range(MAX_CAPACITY, capacity) || is_out_of_range(MAX_WORKERS, workers) {
@@ -115,8 +117,8 @@ pub fn queue(
     let mut ends = Vec::with_capacity(alloc, workers)?;
     let (line, mut token) = Line::ruled(alloc, capacity)?;
     let queue = Arc::new(alloc, line)?;
-    for worker in 0..workers {
-        ends.push(another_end(&queue, &mut token, worker as u64)?)?;
+    for made in 0..workers {
+        ends.push(another_end(&queue, &mut token, made as u64 + 1)?)?;
     }
     let intake = Intake {
         queue,
@@ -139,12 +141,12 @@ fn another_end(
     worker: u64,
 ) -> Result<IngressEnd, AllocError>
     requires queue { IsPassOf (arc_value queue.now) token.old }
-    requires known { view token.old ≡ an_intake worker [] [] [] }
+    requires known { (made : ℕ) × (worker ≡ suc made) × (view token.old ≡ an_intake made [] [] []) }
     ensures end { IfOk result (λ end. end
         ≡ new_end token.old.table_id (ruled_capacity (arc_value queue.now)) worker) }
     ensures queue { IfOk result (λ _. IsPassOf (arc_value queue.now) token.new) }
     ensures link { IfOk result (λ _. token.new.table_id ≡ token.old.table_id) }
-    ensures known { IfOk result (λ _. view token.new ≡ an_intake (suc worker) [] [] []) }
+    ensures known { IfOk result (λ _. view token.new ≡ an_intake worker [] [] []) }
 {
     let theirs = Arc::try_clone(queue)?;
     let own = queue.another::<Ends>(token);

@@ -52,7 +52,7 @@ pub(crate) struct Ends;
 impl Split<QueueView> for Ends {
     ghost left = { λ v. an_intake (suc v.made) v.popped v.ahead v.closed };
 
-    ghost right = { λ v. an_end v.made [] };
+    ghost right = { λ v. an_end (suc v.made) [] };
 }
 
 /// An end is laid beside the intake, looked at, and taken away again.

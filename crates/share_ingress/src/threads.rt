@@ -1,6 +1,6 @@
 //! Workers in threads of their own.
 ghost use Rattle.std.specs.Prelude.{◌≡◌, ◌<◌, ◌≤◌, ◌+◌, ◌++◌, ◌∷◌, [], IfOk, IfErr, MatchResult, vec_len, vec_capacity};
-ghost use Rattle.share_ingress.specs.Threads.{IsJobDone, Matches};
+ghost use Rattle.share_ingress.specs.Threads.{IsJobDone, IsNotStarted, Matches};
 
 use crate::ends::IngressEnd;
 use crate::reader::IngressReader;
@@ -122,7 +122,7 @@ where
 }
 
 fn not_started<R: Source + Drop, G: Gate + Drop>(job: Job<R, G>) -> Done<G>
-    ensures { IsJobDone R.gives R.left G.told job result }
+    ensures { IsNotStarted job result }
 {
     let Job {
         reader: _,

@@ -1,10 +1,11 @@
 //! Workers, which queue the records that they read.
-ghost use Rattle.std.specs.Prelude.{◌≡◌, None, MatchResult};
+ghost use Rattle.std.specs.Prelude.{◌≡◌, ◌≢◌, None, MatchResult};
 ghost use Rattle.share_ingress.specs.Ends.{with_offer};
 ghost use Rattle.share_ingress.specs.GateCalls.{GateCall, item_next, item_queued, queue_full};
-ghost use Rattle.share_ingress.specs.Gates.{Waits, Drops, Ran};
+ghost use Rattle.share_ingress.specs.Gates.{Waits, Drops, Ran, RanOut};
 ghost use Rattle.share_ingress.specs.Reader.{left_of};
 ghost use Rattle.share_ingress.specs.Workers.{Worked};
+ghost use Rattle.share_ingress.specs.declared.workers.Why.TheVariants.{NotStarted};
 
 use crate::ends::{IngressEnd, Offered};
 use crate::reader::{IngressReader, Next};
@@ -53,15 +54,16 @@ pub struct Done<G> {
 
 /// Reads records and queues their items, in order, until the reader ends or the gate stops it. While the queue is full,
 /// the item in hand is offered again and again, each time for a turn of the reader's bound; an item that is not queued
-/// at the end is dropped. The reader is dropped.
+/// at the end is dropped, and nothing is read after it. The reader is dropped.
 pub fn run_worker<T: Wait, R: Source + Drop, G: Gate>(
     rt: &T,
     reader: IngressReader<R>,
     end: IngressEnd,
     gate: G,
 ) -> Done<G>
+    ensures started { result.why ≢ NotStarted }
     ensures worked { Worked (left_of R.left reader) end result.end result.tally result.why }
-    ensures ran { Ran R.gives G.told reader end gate result.tally result.why result.end result.gate }
+    ensures ran { RanOut R.gives G.told reader end gate result.tally result.why result.end result.gate }
 {
     let mut reader = reader;
     let mut end = end;
@@ -83,7 +85,7 @@ fn work<T: Wait, R: Source, G: Gate>(
     gate: &mut G,
 ) -> (Why, u64)
     ensures worked { Worked (left_of R.left reader.old) end.old end.new result.1 result.0 }
-    ensures ran { Ran R.gives G.told reader.old end.old gate.old result.1 result.0 end.new gate.new }
+    ensures ran { Ran R.gives G.told reader.old end.old gate.old result.1 result.0 end.new gate.new reader.new }
 {
     let first = end.queued();
     for _ in rt.forever() {

@@ -37,7 +37,7 @@ fn a_queue_of_one_place_takes_one(rt: HostRuntime) -> Result<(), Fail> {
     let mut end = ends.pop().ok_or("end")?;
     assert_eq!(rt; offered(&rt, rt.alloc(), &mut end, 7), Some(1));
     assert_eq!(rt; offered(&rt, rt.alloc(), &mut end, 8), Some(0));
-    assert_eq!(rt; taken(&rt, &mut intake), Some((0, 1, 7)));
+    assert_eq!(rt; taken(&rt, &mut intake), Some((1, 1, 7)));
     assert_eq!(rt; offered(&rt, rt.alloc(), &mut end, 9), Some(2));
     assert_eq!(rt; end.queued(), 2);
     Ok(())
@@ -51,9 +51,9 @@ fn offers_come_in_the_order_of_their_pushes(rt: HostRuntime) -> Result<(), Fail>
     assert_eq!(rt; offered(&rt, rt.alloc(), &mut first, 1), Some(1));
     assert_eq!(rt; offered(&rt, rt.alloc(), &mut second, 2), Some(1));
     assert_eq!(rt; offered(&rt, rt.alloc(), &mut first, 3), Some(2));
-    assert_eq!(rt; taken(&rt, &mut intake), Some((0, 1, 1)));
-    assert_eq!(rt; taken(&rt, &mut intake), Some((1, 1, 2)));
-    assert_eq!(rt; taken(&rt, &mut intake), Some((0, 2, 3)));
+    assert_eq!(rt; taken(&rt, &mut intake), Some((1, 1, 1)));
+    assert_eq!(rt; taken(&rt, &mut intake), Some((2, 1, 2)));
+    assert_eq!(rt; taken(&rt, &mut intake), Some((1, 2, 3)));
     assert_eq!(rt; taken(&rt, &mut intake), None);
     Ok(())
 }

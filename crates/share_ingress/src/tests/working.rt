@@ -103,7 +103,7 @@ fn a_worker_counts_its_own_items(rt: HostRuntime) -> Result<(), Fail> {
         assert_eq!(rt; done.tally, 3);
         assert_eq!(rt; done.gate.calls.as_slice(), b"b1o1b2o2b3o3".as_slice());
         for (n, payload) in [(1, b'b'), (2, b'c'), (3, b'd')] {
-            assert_eq!(rt; taken(&rt, &mut intake), Some((0, 3 * round + n, payload)));
+            assert_eq!(rt; taken(&rt, &mut intake), Some((1, 3 * round + n, payload)));
         }
         let Done { end: back, .. } = done;
         end = back;
@@ -309,7 +309,7 @@ fn workers_beside(rt: HostRuntime) -> Result<(), Fail> {
         let Some((worker, n, _payload)) = taken(&rt, &mut intake) else {
             return Err("offer".into());
         };
-        let place = if worker == 0 { 0 } else { 1 };
+        let place = if worker == 1 { 0 } else { 1 };
         assert_eq!(rt; n, numbers[place].saturating_add(1));
         numbers[place] = n;
     }

@@ -1,6 +1,6 @@
 -- The rule of the queue from the workers to the link: of each worker, what its end pushed is what the intake popped of
 -- it and then what the queue holds of it.
-use Rattle.std.specs.Prelude.{◌≡◌, ◌<◌, ℕ, suc, Bool, true, false, ◌||◌, nat_eq, List, [], ◌∷◌, ◌++◌, length}
+use Rattle.std.specs.Prelude.{◌≡◌, ◌≤◌, ℕ, suc, Bool, true, false, ◌||◌, nat_eq, List, [], ◌∷◌, ◌++◌, length}
 use mathlib.Core.Option.{some}
 use lib.ListN.{get_elem?}
 use Rattle.share_model.specs.lists.Each.{Each}
@@ -84,12 +84,16 @@ spent = record {
 
 -- The rule
 
+-- a worker of a queue that has so many: they are numbered from 1
+abbrev pub IsWorker : ℕ → ℕ → Type 0
+IsWorker workers w = (1 ≤ w) × (w ≤ workers)
+
 -- an end is that of its worker, which is one of those made and not closed; what it pushed was popped or is held
 pub record IsEnd (seat : ℕ → ℕ) (got items : List Offer) (made : ℕ) (shut : ℕ → Bool) (pass : ℕ) (v : QueueView)
     : Type 0
   where
     pub alone : pass ≡ seat v.worker
-    pub known : v.worker < made
+    pub known : IsWorker made v.worker
     pub still : shut v.worker ≡ false
     pub pushed : v.pushed ≡ of_worker v.worker got ++ of_worker v.worker items
 
@@ -109,9 +113,9 @@ pub record KeepsOrder (items : List Offer) (views : List QueueView) : Type 0 whe
   pub got : List Offer
   pub made : ℕ
   pub shut : ℕ → Bool
-  pub below : Each (λ o. o.worker < made) (got ++ items)
+  pub known : Each (λ o. IsWorker made o.worker) (got ++ items)
   pub numbered : (w : ℕ) → Numbered 0 (of_worker w got ++ of_worker w items)
-  pub emptied : (w : ℕ) → shut w ≡ true → (w < made) × (of_worker w items ≡ [])
+  pub emptied : (w : ℕ) → shut w ≡ true → IsWorker made w × (of_worker w items ≡ [])
   pub ends : (pass : ℕ) (v : QueueView) → get_elem? views pass ≡ some v → v.sends ≡ true
       → IsEnd seat got items made shut pass v
   pub intake : (pass : ℕ) (v : QueueView) → get_elem? views pass ≡ some v → v.gets ≡ true
@@ -131,7 +135,7 @@ OwnLast v items = (before : List Offer) × (v.pushed ≡ before ++ of_worker v.w
 pub record Taken (v : QueueView) (x : Offer) (w : QueueView) : Type 0 where
   pub view_is : w ≡ an_intake v.made (v.popped ++ x ∷ []) w.ahead v.closed
   pub front : Begins (x ∷ w.ahead) v.ahead
-  pub known : x.worker < v.made
+  pub known : IsWorker v.made x.worker
   pub number : x.n ≡ suc (length (of_worker x.worker v.popped))
   pub still : has x.worker v.closed ≡ false
 

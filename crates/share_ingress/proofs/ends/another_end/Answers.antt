@@ -2,4 +2,4 @@ use Rattle.share_ingress.proofs.Moves.{forks}
 use Rattle.share_ingress.proofs.ends.another_end.Goals as goal
 
 pub another-own-requires-clause-rule : goal.another-own-requires-clause-rule
-another-own-requires-clause-rule c = forks _ _ _ _ _ _ c.requires.known
+another-own-requires-clause-rule c = forks _ _ _ _ _ _ c.requires.known.2

@@ -5,10 +5,10 @@ use Rattle.share_model.specs.ingress.Queue.{an_intake}
 use Rattle.share_ingress.specs.Ends.{new_ends}
 use Rattle.share_ingress.proofs.ends.queue.Given as goal
 
-abbrev pub invariant-loop-worker : goal.invariant-loop-worker
-invariant-loop-worker l = record {
-  ends : l.ends.items ≡ new_ends l.token.table_id l.fn.capacity l.worker;
+abbrev pub invariant-loop-made : goal.invariant-loop-made
+invariant-loop-made l = record {
+  ends : l.ends.items ≡ new_ends l.token.table_id l.fn.capacity l.made;
   queue : IsPassOf (arc_value l.queue) l.token;
-  known : view l.token ≡ an_intake l.worker [] [] [];
+  known : view l.token ≡ an_intake l.made [] [] [];
   capacity : ruled_capacity (arc_value l.queue) ≡ l.fn.capacity;
 }

@@ -30,9 +30,8 @@ pub returns-in-Err-clause-ran : goal.returns-in-Err-clause-ran
 returns-in-Err-clause-ran g c =
     let taken = takes g.R.Source.gives g.R.Source.left _ _ _ _ c.in-Item.ensures.again c.in-Item.ensures.first in
     ran_dropped g.R.Source.gives g.G.Gate.told _ _ _ _ _ _ c.loop.invariant.running _ taken.calls _ _ _
-    c.queued-first.ensures.count c.queued-in-Item.ensures.count refl _ c.before-in-Item.ensures _ _ _ _
-    c.in-Err.ensures.gate
-    c.in-Err.ensures.end
+    c.queued-first.ensures.count c.queued-in-Item.ensures.count refl _ c.before-in-Item.ensures _
+    c.in-Err.ensures.reader _ _ _ c.in-Err.ensures.gate c.in-Err.ensures.end
 
 pub loop-preserved : goal.loop-preserved
 loop-preserved g c =

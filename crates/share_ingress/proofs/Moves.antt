@@ -213,18 +213,20 @@ module _ (pass made : ℕ) (popped ahead : List Offer) (closed : List ℕ) where
         numbered = h.numbered;
         emptied = λ u s. let old = h.emptied u s in ((old.0.0, omega (arith, old.0.1)), old.1);
         ends = views_snoc
-            (λ j v. v.sends ≡ true → IsEnd (moved h.seat (suc h.made) (length views)) h.got items (suc h.made) h.shut j v)
+            (λ j v. v.sends ≡ true
+            → IsEnd (moved h.seat (suc h.made) (length views)) h.got items (suc h.made) h.shut j v)
             (set views pass now) (an_end (suc made) [])
             (views_set _ views pass now (λ s. absurd (not_true s)) (λ j v apart e s. let old = h.ends j v e s in
             record {
-              alone = old.alone ∙ moved_else h.seat (suc h.made) (length views) v.worker (λ f. omega (arith, f, old.known.1));
+              alone = old.alone
+                  ∙ moved_else h.seat (suc h.made) (length views) v.worker (λ f. omega (arith, f, old.known.1));
               known = (old.known.0, omega (arith, old.known.1));
               still = old.still;
               pushed = old.pushed;
             }))
             (λ s. record {
-              alone = length_set views pass now ∙ moved_here h.seat (suc h.made) (length views) (suc made) (ap (λ n. suc n)
-                  was.made_is);
+              alone = length_set views pass now
+                  ∙ moved_here h.seat (suc h.made) (length views) (suc made) (ap (λ n. suc n) was.made_is);
               known = (omega arith, omega (arith, was.made_is));
               still = rw was.made_is (by_shut (h.shut (suc h.made)) refl);
               pushed = none;

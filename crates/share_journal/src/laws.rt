@@ -1,5 +1,5 @@
-//! What holds of every recorder and its journal. A function here does nothing: its contract is a law, which is proved with
-//! it.
+//! What holds of every recorder and its journal. A function here does nothing: its contract is a law, which is proved
+//! with it.
 ghost use Rattle.std.specs.Prelude.{◌≤◌, ℕ, Bool, List};
 ghost use Rattle.share_model.specs.text.Audit.{IsAmple};
 ghost use Rattle.share_model.specs.Headline.{Headline};
@@ -9,9 +9,9 @@ ghost use Rattle.share_journal.specs.Replays.{IsReplayOf};
 use crate::recorder::Recorder;
 use share_model::{Rates, Telling};
 
-/// The sentence that this project stands for, of every recorder: whatever was called, whatever each write accepted and up
-/// to the writer's first fault, the replies, the accounts and the bytes are those of one plain fold, in which each next
-/// frame carries the head packet of the flow with the least pass, on tickets computed from scratch.
+/// The sentence that this project stands for, of every recorder: whatever was called, whatever each write accepted and
+/// up to the writer's first fault, the replies, the accounts and the bytes are those of one plain fold, in which each
+/// next frame carries the head packet of the flow with the least pass, on tickets computed from scratch.
 pub fn recorders_are_one_fold<W: Telling, S: Rates>(recorder: &Recorder<W, S>)
     ensures { Headline recorder.now.link.life recorder.now.link.rates (events_of recorder.now.entries)
         (replies_of recorder.now.entries) recorder.now.link.live (W.told recorder.now.link.writer) }

@@ -1,5 +1,6 @@
 -- Stretches of places, looked at together.
-use Rattle.std.proofs.Common.{◌≡◌, ◌<◌, ◌≤◌, ◌+◌, ◌-◌, ◌%◌, ◌∙◌, ◌⊎◌, ◌&&◌, ◌||◌, ℕ, Bool, true, false, not, List, [], length, get_or, nat_eq, nat_lt}
+use Rattle.std.proofs.Common.{◌≡◌, ◌<◌, ◌≤◌, ◌+◌, ◌-◌, ◌%◌, ◌∙◌, ◌⊎◌, ◌&&◌, ◌||◌, ℕ, Bool, true, false, not, List}
+use Rattle.std.proofs.Common.{[], length, get_or, nat_eq, nat_lt}
 use Rattle.std.proofs.Common.{refl, sym, ap, subst, bit_and, bit_or, inl, inr, arith}
 use Rattle.std.specs.Int.{bit_at}
 use Rattle.std.specs.List.{list_any}
@@ -53,7 +54,8 @@ module _ (ss : List (List Seat)) (flag : ℕ → Bool) (sources bits changed fro
   none : (p : ℕ) → from ≤ p → p < from + 8 → list_any (λ (s : Seat). flag s.from) (seats_at ss p) ≡ false
   none p past under =
       none-touched sources bits flag (seats_at ss p) apart have (within p (omega (arith, under, end)))
-      (subst (λ n. Each (ComesFrom sources) (seats_at ss n)) (omega (arith, past)) (all (p - from) (omega (arith, past, under))))
+      (subst (λ n. Each (ComesFrom sources) (seats_at ss n)) (omega (arith, past))
+      (all (p - from) (omega (arith, past, under))))
 
   pub fresh-stretch : (whole seen : ℕ → ℕ) → ((k : ℕ) → k < 8 → whole (from + k) ≡ seen (from + k))
       → AreFresh ss flag whole seen changed from (from + 8)

@@ -175,8 +175,8 @@ pub fn shares_of_runs()
         (stretch_charges one other rates (run rates before) stretch) }
 {}
 
-/// The sentence that this project stands for, of every run: whoever answers as the fold does, holds what it comes to and
-/// tells its bytes keeps the whole of it. Links do, as the laws of recorders and of scripts say.
+/// The sentence that this project stands for, of every run: whoever answers as the fold does, holds what it comes to
+/// and tells its bytes keeps the whole of it. Links do, as the laws of recorders and of scripts say.
 pub fn runs_are_one_fold()
     ensures { (life : ℕ) (rates : List Rate) (events : List Event) (told : Told)
         → life ≤ max_life → AreInRange rates → MayFollow life rates empty_state events

@@ -19,8 +19,8 @@ use Rattle.share_model.specs.text.Says.{Holds}
 use Rattle.share_script.specs.Printing.{SpooledPart}
 use Rattle.share_script.specs.Session.{AtLine, Stands}
 use Rattle.share_model.specs.link.Seen.{Seen}
-use Rattle.share_script.specs.Script.{Printed, PrintedPart, IsOneFold, NoFeed, Went, Begins, Feeds, FeedsPart, Ends, EndsPart}
-use Rattle.share_script.specs.Script.{Running}
+use Rattle.share_script.specs.Script.{Printed, PrintedPart, IsOneFold, NoFeed, Went, Begins, Feeds, FeedsPart}
+use Rattle.share_script.specs.Script.{Ends, EndsPart, Running}
 use Rattle.share_script.proofs.FeedLemmas.{fed_none, fed_more, fed_then_part, part_longer, part_as, part_of}
 use Rattle.share_script.proofs.WentLemmas.{went_as, begins_as, went_more, begins_more, went_line}
 use Rattle.share_script.proofs.LineLemmas.{lines-end, last-some}

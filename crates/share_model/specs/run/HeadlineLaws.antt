@@ -48,7 +48,8 @@ made_from bs f at (Some h) s found is =
     }
 
 begun_by : (l : Live) (s : Sending) → head_of l.buffers s.head.flow ≡ Some s.head → (o : Option ℕ)
-    → next l.queue.clients ≡ o → option_map (sending_at 0) (option_and_then (head_of l.buffers) o) ≡ Some s → IsBegun l s
+    → next l.queue.clients ≡ o → option_map (sending_at 0) (option_and_then (head_of l.buffers) o) ≡ Some s
+    → IsBegun l s
 begun_by l s head None found is = cc
 begun_by l s head (Some f) found is =
     let made : IsMade f 0 s = made_from l.buffers f 0 (head_of l.buffers f) s refl is in

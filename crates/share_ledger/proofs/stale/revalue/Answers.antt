@@ -18,8 +18,8 @@ loop-stale-preserved c =
     let on = flags_of c.args.awake.now in
     let moved = flags_of c.loop-stale.moved.flags in
     let ss = c.args.backing.now in
-    let same = stretch-same moved v w s u ss on c.args.changed c.requires.ordered c.requires.awake c.requires.were from p
-    inv.up found.0 (omega (arith, found.1)) found.2 inv.left inv.same in
+    let same = stretch-same moved v w s u ss on c.args.changed c.requires.ordered c.requires.awake c.requires.were from
+    p inv.up found.0 (omega (arith, found.1)) found.2 inv.left inv.same in
     let valued = stretch-valued moved v w s u ss on c.args.changed c.requires.ordered c.requires.awake c.requires.were
     from p inv.up found.0 (omega (arith, found.1)) found.2 inv.left inv.same inv.valued in
     let x = numbers_of c.revalue_at.new.values in

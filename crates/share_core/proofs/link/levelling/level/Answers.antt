@@ -35,7 +35,8 @@ loop-other-preserved c =
     record {
       inside = omega (arith, count, found.1);
       done = changed-next _ _ _ (wants g) _ _ other (kept-distinct g c.is_kept.ensures)
-          (omega (arith, wants-count g, count, found.1)) there c.level_at.ensures.queue c.level_at.ensures.levels c.level_at.array_long;
+          (omega (arith, wants-count g, count, found.1)) there c.level_at.ensures.queue c.level_at.ensures.levels
+          c.level_at.array_long;
     }
 
 pub returns-clause-queue : goal.returns-clause-queue
@@ -44,7 +45,8 @@ returns-clause-queue c =
     let ts = c.all_tickets.result.now in
     let count = tickets-count g ts c.all_tickets.ensures in
     let there = changed-to _ _ g _ ts c.loop-other.place (length ts) c.is_kept.ensures c.all_tickets.ensures
-    (omega (arith, count, c.loop-other.invariant.inside)) (omega arith) (c.in_default.ensures.none refl) c.loop-other.invariant.done in
+    (omega (arith, count, c.loop-other.invariant.inside)) (omega arith) (c.in_default.ensures.none refl)
+    c.loop-other.invariant.done in
     left-none _ _ (wants g) (length ts) (omega (arith, wants-count g, count)) there.before.left
 
 pub returns-clause-levels : goal.returns-clause-levels
@@ -53,5 +55,6 @@ returns-clause-levels c =
     let ts = c.all_tickets.result.now in
     let count = tickets-count g ts c.all_tickets.ensures in
     let there = changed-to _ _ g _ ts c.loop-other.place (length ts) c.is_kept.ensures c.all_tickets.ensures
-    (omega (arith, count, c.loop-other.invariant.inside)) (omega arith) (c.in_default.ensures.none refl) c.loop-other.invariant.done in
+    (omega (arith, count, c.loop-other.invariant.inside)) (omega arith) (c.in_default.ensures.none refl)
+    c.loop-other.invariant.done in
     kept-all _ _ g _ (length ts) count there.before

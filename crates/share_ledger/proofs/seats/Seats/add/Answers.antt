@@ -12,5 +12,6 @@ invariant_of-self c =
     let fits : n < 16 = omega (arith, c.requires, ap length c.self.view_is, length-take n room) in (
       omega (arith, fits),
       subst (Each (ComesFrom _)) (sym (take_more_set room n c.args.seat (omega (arith, fits))))
-          (bits-more c.self.inside.sources c.bit_of.result (take n room) c.args.seat c.bit_of.ensures c.self.invariant.1),
+          (bits-more c.self.inside.sources c.bit_of.result (take n room) c.args.seat c.bit_of.ensures
+          c.self.invariant.1),
     )

@@ -3,8 +3,8 @@ ghost use Rattle.std.specs.Prelude.{◌≡◌, ◌<◌, ◌≤◌, ◌+◌, ◌*
 ghost use Rattle.share_model.specs.declared.rates.Rate.{Rate};
 ghost use Rattle.share_model.specs.link.Tariff.{units_of};
 
-/// Bytes fill whole cells: no byte is charged no unit; otherwise the units are the overhead and whole cells, as many
-/// units of cells as there are bytes, or up to one cell more, but not a whole one.
+/// Bytes fill whole cells: no byte is charged no unit; otherwise the units are the overhead and the fewest whole cells
+/// that hold the bytes.
 pub fn bytes_fill_whole_cells()
     ensures none { (rate : Rate) → units_of rate 0 ≡ 0 }
     ensures some { (rate : Rate) (count : ℕ) → 1 ≤ rate.cell → 1 ≤ count

@@ -205,6 +205,53 @@ fn a_worker_ends_with_its_reader(rt: HostRuntime) -> Result<(), Fail> {
     Ok(())
 }
 
+/// Gives a record a read, and counts its reads.
+#[derive(Drop)]
+struct Counting {
+    reads: Arc<AtomicU64>,
+}
+
+impl Source for Counting {
+    ghost use Rattle.std.specs.Prelude.{None};
+    ghost use Rattle.share_model.specs.io.Given.{Gives};
+
+    ghost left = { λ _. None };
+
+    ghost gives = { λ _ buffer got _. Gives None buffer got None };
+
+    ghost tells = { λ before buffer got after given. given };
+
+    fn take_bytes(&mut self, buffer: &mut [u8]) -> Got {
+        let _before = self.reads.fetch_add(1, Ordering::SeqCst);
+        if buffer.len() < 5 {
+            return Got::Failed;
+        }
+        buffer[..5].copy_from_slice(&RECORD);
+        Got::Bytes(5)
+    }
+}
+
+#[test]
+fn a_stopped_worker_reads_no_more(rt: HostRuntime) -> Result<(), Fail> {
+    let reads = Arc::new(rt.alloc(), AtomicU64::new(0)).ok().ok_or("word")?;
+    let counting = Counting {
+        reads: Arc::try_clone(&reads)?,
+    };
+    let reader = IngressReader::new(rt.alloc(), counting, 100)
+        .ok()
+        .ok_or("reader")?;
+    let (_intake, mut ends) = queue(rt.alloc(), 1, 1).ok().ok_or("queue")?;
+    let end = ends.pop().ok_or("end")?;
+    let gate = Notes {
+        calls: Vec::new(rt.alloc()),
+        again: 0,
+    };
+    let done = run_worker(&rt, reader, end, gate);
+    assert_eq!(rt; done.why, Why::Stopped);
+    assert_eq!(rt; reads.load(Ordering::SeqCst), 2);
+    Ok(())
+}
+
 /// Gives a record a read; the second only after a word is set, and it fails where that does not come.
 #[derive(Drop)]
 struct Waiting {

@@ -11,4 +11,5 @@ pub mod Standing
 pub mod Tallies
 pub mod Turns
 pub mod Unmet
+pub mod Unmoved
 pub mod Writes

@@ -31,7 +31,6 @@ const MAX_LIFE: u64 = 1 << 24;
 /// it keeps the tickets with which each open flow was levelled last, by its place.
 #[derive(Drop)]
 pub struct Link<S: Rates> {
-    alloc: Global,
     life: u64,
     shelf: S,
     ledger: Ledger,
@@ -104,7 +103,6 @@ impl<S: Rates + Drop> Link<S> {
         let buffers = Buffers::new(alloc)?;
         let books = Books::new(alloc)?;
         Ok(Link {
-            alloc,
             life,
             shelf,
             ledger,

@@ -15,12 +15,12 @@ impl<S: Rates> Link<S> {
         requires { is_spent self.old ≡ false }
         ensures { CommandDid self.old (MakeCurrency name) result self.new }
     {
+        self.ledger.leaves_tickets();
         match self.ledger.make_currency(name) {
             Err(Refusal::NoMemory) => Reply::Refused(Refusal::NoMemory),
             Err(refusal) => self.refuse(refusal),
             Ok(()) => {
                 self.counts.events += 1;
-                level(&mut self.queue, &self.ledger, &mut self.levels);
                 Reply::Done
             }
         }
@@ -30,11 +30,11 @@ impl<S: Rates> Link<S> {
         requires { is_spent self.old ≡ false }
         ensures { Steps (λ rates l. command_step rates l (RemoveCurrency name)) self.old result self.new }
     {
+        self.ledger.leaves_tickets();
         match self.ledger.remove_currency(name) {
             Err(refusal) => self.refuse(refusal),
             Ok(()) => {
                 self.counts.events += 1;
-                level(&mut self.queue, &self.ledger, &mut self.levels);
                 Reply::Done
             }
         }
@@ -44,12 +44,12 @@ impl<S: Rates> Link<S> {
         requires { is_spent self.old ≡ false }
         ensures { CommandDid self.old (MakeTicket amount currency) result self.new }
     {
+        self.ledger.leaves_tickets();
         match self.ledger.make_ticket(amount, currency) {
             Err(Refusal::NoMemory) => Reply::Refused(Refusal::NoMemory),
             Err(refusal) => self.refuse(refusal),
             Ok(ticket) => {
                 self.counts.events += 1;
-                level(&mut self.queue, &self.ledger, &mut self.levels);
                 Reply::Ticket(ticket)
             }
         }
@@ -59,11 +59,11 @@ impl<S: Rates> Link<S> {
         requires { is_spent self.old ≡ false }
         ensures { Steps (λ rates l. command_step rates l (RemoveTicket ticket)) self.old result self.new }
     {
+        self.ledger.leaves_tickets();
         match self.ledger.remove_ticket(ticket) {
             Err(refusal) => self.refuse(refusal),
             Ok(()) => {
                 self.counts.events += 1;
-                level(&mut self.queue, &self.ledger, &mut self.levels);
                 Reply::Done
             }
         }

@@ -1,18 +1,23 @@
 use Rattle.std.proofs.Common.{refl}
 use Rattle.share_base.specs.declared.command.Command.TheVariants.{RemoveCurrency}
-use Rattle.share_core.proofs.Fundings.{sound-done, can-level, level-before}
 use Rattle.share_core.proofs.Living.{living}
+use Rattle.share_core.proofs.Unmoved.{AreUnmoved, kept-unmoved, sound-unmoved, steps-unmoved}
 use Rattle.share_core.proofs.link.Link.remove_currency.Goals as goal
 
-pub level-requires-clause-can : goal.level-requires-clause-can
-level-requires-clause-can g c = can-level c.self.invariant.1 _ _ c.in-Ok.ensures.done.1 refl
-
-pub level-requires-clause-levels : goal.level-requires-clause-levels
-level-requires-clause-levels g c =
-    level-before c.self.invariant.1 _ c.self.invariant.0.1 _ _ c.in-Ok.ensures.done.1 refl
+pub returns-in-Ok : goal.returns-in-Ok
+returns-in-Ok g c =
+    let unmoved : AreUnmoved _ _ =
+    record { flows = refl; tickets = c.leaves_tickets.ensures.remove_currency c.args.name } in
+    rw (c.in-Ok.ensures.done.1)
+    (steps-unmoved c.self.invariant.1 _ c.self.view_is c.requires
+    (RemoveCurrency c.args.name) c.in-Ok.ensures.done.0 _ _ refl unmoved)
 
 pub invariant_of-self-in-Ok : goal.invariant_of-self-in-Ok
 invariant_of-self-in-Ok g c =
-    let done = sound-done c.self.invariant.1 (living _ _ c.self.view_is c.requires c.self.invariant.1)
-    (RemoveCurrency c.args.name) c.in-Ok.ensures.done.0 in
-    ((c.self.invariant.0.0, c.level.ensures.levels), rw (c.level.ensures.queue, c.in-Ok.ensures.done.1) done)
+    let unmoved : AreUnmoved _ _ =
+    record { flows = refl; tickets = c.leaves_tickets.ensures.remove_currency c.args.name } in
+    rw (c.in-Ok.ensures.done.1) (
+      (c.self.invariant.0.0, kept-unmoved _ _ _ unmoved c.self.invariant.0.1),
+      sound-unmoved c.self.invariant.1 (living _ _ c.self.view_is c.requires c.self.invariant.1)
+          (RemoveCurrency c.args.name) c.in-Ok.ensures.done.0 _ refl unmoved,
+    )

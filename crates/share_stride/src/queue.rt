@@ -121,8 +121,8 @@ impl Queue {
     }
 
     /// Levels a client: afterwards it competes with so many tickets, 2^20 at most, or with none does not compete. It
-    /// joins,
-    /// leaves or is modified where that must be so, and nothing changes where it stands so already. It refuses nothing.
+    /// joins, leaves or is modified where that must be so, and nothing changes where it stands so already. It refuses
+    /// nothing.
     pub fn level(&mut self, flow: FlowNo, tickets: u32)
         requires there { IsSome (map.get self.old.clients flow) }
         requires few { tickets ≤ 2 ^ 20 }

@@ -21,7 +21,7 @@ bin/stridelink: $(SOURCES)
 	cp crates/stridelink/out/stridelink bin/stridelink
 
 test:
-	@echo 'the gate: every proof from nothing, the edits that must fail, the tests and the program; most of an hour' >&2
+	@echo 'the gate: every proof from nothing, the edits that must fail, the tests and the program; more than an hour' >&2
 	.ci/layers
 	rt ci
 	mkdir -p bin

@@ -1,14 +1,13 @@
 -- Commands that change the tickets of no flow: the link is level after them as it was before.
-use Rattle.std.proofs.Common.{◌≡◌, ◌<◌, ◌∙◌, ℕ, List, [], ◌∷◌, None, ap, refl, sym, subst, length, map, take}
-use Rattle.std.proofs.Common.{false}
+use Rattle.std.proofs.Common.{◌≡◌, ◌<◌, ◌∙◌, ℕ, false, List, [], ◌∷◌, length, map, take, None, ap, refl, sym, subst}
 use Rattle.std.specs.Prelude.{MatchBool}
 use Rattle.share_base.specs.declared.command.Command.{Command}
 use Rattle.share_base.specs.declared.command.Reply.{Reply}
+use Rattle.share_base.specs.declared.command.Reply.TheVariants.{Refused}
+use Rattle.share_base.specs.declared.refusal.Refusal.TheVariants.{Spent}
 use Rattle.share_model.specs.declared.funding.OpenFlow.{OpenFlow}
 use Rattle.share_model.specs.declared.rates.Rate.{Rate}
 use Rattle.share_model.specs.funding.Graph.{NameBytes, Graph, tickets}
-use Rattle.share_base.specs.declared.command.Reply.TheVariants.{Refused}
-use Rattle.share_base.specs.declared.refusal.Refusal.TheVariants.{Spent}
 use Rattle.share_model.specs.link.Did.{is_spent, Stepped, Steps}
 use Rattle.share_model.specs.link.Live.{Live, counted, with_graph, by_refusal, command_refusal, command_step, commanded}
 use Rattle.share_model.specs.link.Live.{wants}
@@ -39,7 +38,7 @@ wants-unmoved before now unmoved =
     ∙ wants_by (tickets before) (tickets now) unmoved.tickets before.flows
 
 -- no client takes a move
-pub queue-unmoved : {life : ℕ} {rates : List Rate} {l : Live} → Sound life rates l → (now : Graph)
+queue-unmoved : {life : ℕ} {rates : List Rate} {l : Live} → Sound life rates l → (now : Graph)
     → AreUnmoved l.graph now → level_all l.queue (wants now) ≡ l.queue
 queue-unmoved {l = l} was now unmoved =
     level_stays l.queue (wants now) (subst (IsLevel l.queue) (sym (wants-unmoved l.graph now unmoved)) was.level)
@@ -51,7 +50,7 @@ kept-unmoved levels before now unmoved kept =
     ap (λ (es : List (NameBytes × OpenFlow)). take (length es) levels) unmoved.flows ∙ kept
     ∙ ap (map {B = ℕ} (λ (want : ℕ × ℕ). want.1)) (sym (wants-unmoved before now unmoved))
 
--- the link with this graph
+-- the link with this graph is sound
 pub sound-unmoved : {life : ℕ} {rates : List Rate} {l : Live} → Sound life rates l → l.counts.events < life
     → (c : Command) → command_refusal rates l c ≡ None → (now : Graph) → (commanded l c).0 ≡ with_graph l now
     → AreUnmoved l.graph now → Sound life rates (record (counted l) { graph = now })
@@ -59,10 +58,11 @@ sound-unmoved {life = life} {rates = rates} {l = l} was few c allowed now is unm
     subst (λ q. Sound life rates (record (counted l) { graph = now; queue = q })) (queue-unmoved was now unmoved)
     (subst (Sound life rates) is (sound-done was few c allowed))
 
+-- what a contract sees of a link
 abbrev seen : ℕ → List Rate → Live → Seen (Unit {0})
 seen life rates l = record { life = life; rates = rates; live = l; writer = tt }
 
--- and so did the command
+-- and is what the command's step leads to
 pub steps-unmoved : {life : ℕ} {rates : List Rate} {l : Live} → Sound life rates l → (old : Seen (Unit {0}))
     → seen life rates l ≡ old → is_spent old ≡ false
     → (c : Command) → command_refusal rates l c ≡ None → (now : Graph) (reply : Reply)

@@ -1,4 +1,5 @@
-//! Commands: each is one event, or none where memory was refused.
+//! Commands: each is one event, or none where memory was refused. By a law of the ledger (`leaves_tickets`) those that
+//! make or remove currencies and tickets change the tickets of no flow, so they level none.
 ghost use Rattle.std.specs.Prelude.{◌≡◌, false};
 ghost use Rattle.share_base.specs.declared.command.Command.TheVariants.{MakeCurrency, RemoveCurrency, MakeTicket};
 ghost use Rattle.share_base.specs.declared.command.Command.TheVariants.{RemoveTicket, FundCurrency, FundFlow, Unfund};

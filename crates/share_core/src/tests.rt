@@ -185,25 +185,62 @@ fn play<W: Telling, S: Rates>(
     }
 }
 
-// A new link over a tape.
-fn taped<S: Rates + Copy>(rt: &impl Abort, alloc: Global, shelf: S, life: u64) -> Engine<Tape, S> {
-    Engine::new(alloc, shelf, life, Tape::new(alloc)).expect(rt, "a link")
-}
-
-// A new link over a writer with this script.
+// A new link over a writer that gives these answers, and then accepts all.
 fn scripted<S: Rates + Copy>(
     rt: &impl Abort,
     alloc: Global,
     shelf: S,
+    life: u64,
     script: &[Answer],
 ) -> Engine<Scripted, S> {
     let script = Vec::from_slice(alloc, script).expect(rt, "memory");
     let writer = Scripted::new(alloc, script);
-    Engine::new(alloc, shelf, 65536, writer).expect(rt, "a link")
+    Engine::new(alloc, shelf, life, writer).expect(rt, "a link")
 }
 
-fn plays_on_a_new_link<S: Rates + Copy>(rt: &impl Abort, alloc: Global, shelf: S, rows: &[Row]) {
-    play(rt, alloc, &mut taped(rt, alloc, shelf, 65536), rows);
+/// What is played on a new link.
+#[derive(Clone, Copy)]
+enum Case<'a> {
+    Rows(&'a [Row]),
+    LargestPayload,
+    Refused(refusals::Case<'a>),
+    Funded(currencies::Case),
+    Cut(cuts::Case),
+}
+
+fn plays<S: Rates>(
+    rt: &impl Abort,
+    alloc: Global,
+    engine: &mut Engine<Scripted, S>,
+    case: Case<'_>,
+) {
+    match case {
+        Case::Rows(rows) => play(rt, alloc, engine, rows),
+        Case::LargestPayload => sends_the_largest_payload(rt, alloc, engine),
+        Case::Refused(case) => refusals::plays(rt, alloc, engine, case),
+        Case::Funded(case) => currencies::plays(rt, alloc, engine, case),
+        Case::Cut(case) => cuts::plays(rt, alloc, engine, case),
+    }
+}
+
+// A new link for each case. It is dropped by a call: what drops a link at its end is dear to prove.
+fn on_a_new_link<S: Rates + Copy>(
+    rt: &impl Abort,
+    alloc: Global,
+    shelf: S,
+    life: u64,
+    script: &[Answer],
+    case: Case<'_>,
+) {
+    let mut engine = scripted(rt, alloc, shelf, life, script);
+    plays(rt, alloc, &mut engine, case);
+    drop(engine);
+}
+
+fn plays_all<S: Rates + Copy>(rt: &impl Abort, alloc: Global, shelf: S, cases: &[Case<'_>]) {
+    for case in cases {
+        on_a_new_link(rt, alloc, shelf, 65536, &[], *case);
+    }
 }
 
 const ONE_PACKET: [Row; 12] = [
@@ -221,14 +258,19 @@ const ONE_PACKET: [Row; 12] = [
     (Call::Account(2), Wanted::Nothing),
 ];
 
-fn sends_one_packet<S: Rates + Copy>(rt: &impl Abort, alloc: Global, shelf: S) {
-    let mut engine = taped(rt, alloc, shelf, 65536);
-    play(rt, alloc, &mut engine, &ONE_PACKET);
+fn is_one_packet<S: Rates>(rt: &impl Abort, alloc: Global, engine: &mut Engine<Tape, S>) {
+    play(rt, alloc, engine, &ONE_PACKET);
     assert!(rt; !engine.spent());
     assert_eq!(rt; engine.tickets(FlowNo(2)), None);
     assert_eq!(rt; engine.writer().bytes(), FRAME.as_slice());
+}
+
+fn sends_one_packet<S: Rates + Copy>(rt: &impl Abort, alloc: Global, shelf: S) {
+    let mut engine = Engine::new(alloc, shelf, 65536, Tape::new(alloc)).expect(rt, "a link");
+    is_one_packet(rt, alloc, &mut engine);
     let tape = engine.into_writer();
     assert_eq!(rt; tape.bytes(), FRAME.as_slice());
+    drop(tape);
 }
 
 const FUNDED: [Row; 3] = [
@@ -242,15 +284,21 @@ const LARGEST_SENT: [Row; 2] = [
     (Call::Account(1), Wanted::Number(3104)),
 ];
 
-fn sends_the_largest_payload<S: Rates + Copy>(rt: &impl Abort, alloc: Global, shelf: S) {
-    let mut engine = taped(rt, alloc, shelf, 65536);
-    play(rt, alloc, &mut engine, &FUNDED);
+fn sends_the_largest_payload<S: Rates>(
+    rt: &impl Abort,
+    alloc: Global,
+    engine: &mut Engine<Scripted, S>,
+) {
+    play(rt, alloc, engine, &FUNDED);
     let payload = [0; 1490];
     let body = Body::new(alloc, payload.as_slice()).expect(rt, "a payload");
     let accepted = engine.arrive(name(rt, "a"), body);
     assert_eq!(rt; replied(accepted), Wanted::Packet(1).seen());
-    play(rt, alloc, &mut engine, &LARGEST_SENT);
-    let bytes = engine.writer().bytes();
+    play(rt, alloc, engine, &LARGEST_SENT);
+    is_the_largest_frame(rt, engine.writer().bytes());
+}
+
+fn is_the_largest_frame(rt: &impl Abort, bytes: &[u8]) {
     assert_eq!(rt; bytes.len(), 1502);
     assert_eq!(rt;
         &bytes[..12],
@@ -276,11 +324,15 @@ fn answer_as_worked_and_as_a_plain_link<S: Rates + Copy>(
     shelf: S,
 ) -> Result<(), Fail> {
     sends_one_packet(rt, alloc, shelf);
-    sends_the_largest_payload(rt, alloc, shelf);
-    plays_on_a_new_link(rt, alloc, shelf, &UP_TO_THE_CAP);
+    plays_all(
+        rt,
+        alloc,
+        shelf,
+        &[Case::LargestPayload, Case::Rows(&UP_TO_THE_CAP)],
+    );
     refusals::all(rt, alloc, shelf);
-    cuts::all(rt, alloc, shelf);
     currencies::all(rt, alloc, shelf);
+    cuts::all(rt, alloc, shelf);
     random::worlds::all(rt, alloc, shelf)
 }
 
@@ -290,5 +342,7 @@ fn answer_as_worked_and_as_a_plain_link<S: Rates + Copy>(
 fn links_answer_as_worked_and_as_a_plain_link(rt: HostRuntime) -> Result<(), Fail> {
     let alloc = rt.alloc();
     let shelf = share_tariff::shelf!(alloc, (1, 0, 1), (48, 16, 2), (1024, 0, 1), (2048, 1024, 3));
-    answer_as_worked_and_as_a_plain_link(&rt, alloc, &shelf)
+    let answered = answer_as_worked_and_as_a_plain_link(&rt, alloc, &shelf);
+    drop(shelf);
+    answered
 }

@@ -195,6 +195,7 @@ fn compare_bytes(rt: &impl Abort, alloc: Global, writer: &Scripted, run: &Run) {
     assert_eq!(rt; writer.bytes(), run.bytes);
     let counts = writer.counts(alloc).expect(rt, "memory");
     assert_eq!(rt; counts.as_slice(), run.counts);
+    drop(counts);
 }
 
 // The lives of a link and a journal, and how many events each holds.
@@ -209,15 +210,33 @@ fn compare_parts<W, S: Rates>(
     assert_eq!(rt; (engine.events(), journal.len()), (events, events));
 }
 
+// A run on a new recorder, and its audits.
+fn is_played<S: Rates + Copy>(
+    rt: &impl Abort,
+    alloc: Global,
+    shelf: S,
+    recorder: &mut Recorder<Scripted, S>,
+    run: &Run,
+) {
+    assert_eq!(rt; recorder.life(), run.life);
+    play(rt, alloc, recorder, run.rows);
+    compare_bytes(rt, alloc, recorder.engine().writer(), run);
+    audits::all(rt, alloc, shelf, recorder, run);
+}
+
+// Takes a recorder apart, and compares its link and its journal.
+fn has_parts<S: Rates + Copy>(rt: &impl Abort, recorder: Recorder<Scripted, S>, run: &Run) {
+    let (engine, journal) = recorder.into_parts();
+    compare_parts(rt, &engine, &journal, (run.life, run.life), run.entries);
+    drop(engine);
+    drop(journal);
+}
+
 // Plays a run on a new recorder.
 fn plays<S: Rates + Copy>(rt: &impl Abort, alloc: Global, shelf: S, run: &Run) {
     let mut recorder = recording(rt, alloc, shelf, run.life, scripted(rt, alloc, run.answers));
-    assert_eq!(rt; recorder.life(), run.life);
-    play(rt, alloc, &mut recorder, run.rows);
-    compare_bytes(rt, alloc, recorder.engine().writer(), run);
-    audits::all(rt, alloc, shelf, &recorder, run);
-    let (engine, journal) = recorder.into_parts();
-    compare_parts(rt, &engine, &journal, (run.life, run.life), run.entries);
+    is_played(rt, alloc, shelf, &mut recorder, run);
+    has_parts(rt, recorder, run);
 }
 
 fn play_as_worked_and_their_audits_again<S: Rates + Copy>(
@@ -239,19 +258,36 @@ fn recorders_play_as_worked_and_their_audits_again(rt: HostRuntime) -> Result<()
     let alloc = rt.alloc();
     let shelf = share_tariff::shelf!(alloc, (1, 0, 1), (48, 16, 2));
     play_as_worked_and_their_audits_again(&rt, alloc, &shelf);
+    drop(shelf);
     Ok(())
+}
+
+fn lives_have_limits(rt: &impl Abort, alloc: Global) {
+    assert!(rt; Journal::new(alloc, 0).err() == Some(Refusal::Range));
+    assert!(rt; Journal::new(alloc, 16777217).err() == Some(Refusal::Range));
+}
+
+// Two entries: a packet of the second worker, and a write of the link.
+fn has_two(rt: &impl Abort, journal: &Journal) {
+    assert_eq!(rt; (journal.len(), journal.life()), (2, 2));
+    assert!(rt; journal.entry(0).is_none() && journal.entry(3).is_none());
+    let first = journal.entry(1).expect(rt, "an entry");
+    assert_eq!(rt; first.source, Source::Worker(2));
+    let second = journal.entry(2).expect(rt, "an entry");
+    assert_eq!(rt; second.reply, Wanted::Part(3).outcome());
 }
 
 #[test]
 fn numbers_entries_from_one(rt: HostRuntime) {
     let alloc = rt.alloc();
-    assert!(rt; Journal::new(alloc, 0).err() == Some(Refusal::Range));
-    assert!(rt; Journal::new(alloc, 16777217).err() == Some(Refusal::Range));
+    lives_have_limits(&rt, alloc);
     let mut journal = Journal::new(alloc, 2).expect(&rt, "a journal");
     let body = Body::new(alloc, b"hi").expect(&rt, "a payload");
-    let flow = name(&rt, "a");
     journal.push(Entry {
-        event: Event::Arrived { flow, body },
+        event: Event::Arrived {
+            flow: name(&rt, "a"),
+            body,
+        },
         reply: Outcome::Replied(Reply::Refused(Refusal::NoFlow)),
         source: Source::Worker(2),
     });
@@ -260,16 +296,6 @@ fn numbers_entries_from_one(rt: HostRuntime) {
         reply: Wanted::Part(3).outcome(),
         source: Source::Link,
     });
-    assert_eq!(rt; journal.len(), 2);
-    assert_eq!(rt; journal.life(), 2);
-    assert!(rt; journal.entry(0).is_none());
-    assert!(rt; journal.entry(3).is_none());
-    assert_eq!(rt;
-        journal.entry(1).expect(&rt, "an entry").source,
-        Source::Worker(2)
-    );
-    assert_eq!(rt;
-        journal.entry(2).expect(&rt, "an entry").reply,
-        Wanted::Part(3).outcome()
-    );
+    has_two(&rt, &journal);
+    drop(journal);
 }

@@ -81,6 +81,17 @@ fn make<S: Rates>(rt: &impl Abort, alloc: Global, engine: &mut Engine<Tape, S>, 
     }
 }
 
+fn make_all<S: Rates>(
+    rt: &impl Abort,
+    alloc: Global,
+    engine: &mut Engine<Tape, S>,
+    calls: &[Call],
+) {
+    for call in calls {
+        make(rt, alloc, engine, *call);
+    }
+}
+
 // A link after these calls.
 fn link<S: Rates + Copy>(
     rt: &impl Abort,
@@ -90,9 +101,7 @@ fn link<S: Rates + Copy>(
     calls: &[Call],
 ) -> Engine<Tape, S> {
     let mut engine = Engine::new(alloc, shelf, life, Tape::new(alloc)).expect(rt, "a link");
-    for call in calls {
-        make(rt, alloc, &mut engine, *call);
-    }
+    make_all(rt, alloc, &mut engine, calls);
     engine
 }
 
@@ -103,25 +112,31 @@ fn shows<S: Rates>(rt: &impl Abort, alloc: Global, engine: &Engine<Tape, S>, tex
     assert_eq!(rt; from_utf8(tape.bytes()).ok(), Some(text));
     let counts = tape.counts(alloc).expect(rt, "memory");
     assert_eq!(rt; counts.as_slice(), [text.len()].as_slice());
+    drop(counts);
+    drop(tape);
 }
 
 fn shows_what_a_link_holds<S: Rates + Copy>(rt: &impl Abort, alloc: Global, shelf: S) {
     for (calls, text) in texts::links() {
         let engine = link(rt, alloc, shelf, 65536, calls);
         shows(rt, alloc, &engine, text);
+        drop(engine);
     }
+}
+
+fn shows_the_end<S: Rates>(rt: &impl Abort, alloc: Global, engine: &Engine<Tape, S>) {
+    assert!(rt; engine.spent());
+    shows(rt, alloc, engine, texts::TORN_SHOWS);
 }
 
 // The life ends with the last of the seven events.
 fn shows_a_spent_life<S: Rates + Copy>(rt: &impl Abort, alloc: Global, shelf: S) {
     let engine = link(rt, alloc, shelf, 7, texts::TORN);
-    assert!(rt; engine.spent());
-    shows(rt, alloc, &engine, texts::TORN_SHOWS);
+    shows_the_end(rt, alloc, &engine);
+    drop(engine);
 }
 
-// The longest report: that of 64 flows.
-fn shows_the_most_flows<S: Rates + Copy>(rt: &impl Abort, alloc: Global, shelf: S) {
-    let mut engine = link(rt, alloc, shelf, 65536, &[]);
+fn open_64_flows<S: Rates>(rt: &impl Abort, engine: &mut Engine<Tape, S>) {
     for number in 0..64u8 {
         let name = Name::read([b'f', b'0' + number / 10, b'0' + number % 10].as_slice());
         let opened = engine.command(Command::OpenFlow {
@@ -131,9 +146,10 @@ fn shows_the_most_flows<S: Rates + Copy>(rt: &impl Abort, alloc: Global, shelf: 
         });
         assert!(rt; !matches!(&opened, Reply::Refused(_)));
     }
-    let mut tape = Tape::new(alloc);
-    assert_eq!(rt; report(&engine, &mut tape), Ok(()));
-    let bytes = tape.bytes();
+}
+
+// Eleven lines of 35 bytes, a line of 93 bytes for each flow, and the end.
+fn is_the_longest_report(rt: &impl Abort, bytes: &[u8]) {
     assert_eq!(rt; bytes.len(), 11 * 35 + 64 * 93 + 4);
     for number in 0..64 {
         let line = &bytes[11 * 35 + number * 93..11 * 35 + number * 93 + 93];
@@ -141,6 +157,21 @@ fn shows_the_most_flows<S: Rates + Copy>(rt: &impl Abort, alloc: Global, shelf: 
         assert_eq!(rt; &line[14..17], name.as_slice());
         assert_eq!(rt; line[92], b'\n');
     }
+}
+
+fn shows_64_flows<S: Rates>(rt: &impl Abort, alloc: Global, engine: &mut Engine<Tape, S>) {
+    open_64_flows(rt, engine);
+    let mut tape = Tape::new(alloc);
+    assert_eq!(rt; report(engine, &mut tape), Ok(()));
+    is_the_longest_report(rt, tape.bytes());
+    drop(tape);
+}
+
+// The longest report: that of 64 flows.
+fn shows_the_most_flows<S: Rates + Copy>(rt: &impl Abort, alloc: Global, shelf: S) {
+    let mut engine = link(rt, alloc, shelf, 65536, &[]);
+    shows_64_flows(rt, alloc, &mut engine);
+    drop(engine);
 }
 
 // Compares what a writer with these answers holds after a report, which is the first so many bytes of the text, and the
@@ -161,36 +192,62 @@ fn writes<S: Rates>(
     assert_eq!(rt; writer.bytes(), &text[..length], "after {answers:?}");
     let accepted = writer.counts(alloc).expect(rt, "memory");
     assert_eq!(rt; accepted.as_slice(), counts, "after {answers:?}");
+    drop(accepted);
+    drop(writer);
+}
+
+/// What a writer answers to an offer that it refuses, and whether its tape counts that as a call of no bytes.
+const REFUSALS: [(Answer, usize); 3] = [
+    (Answer::Failed, 0),
+    (Answer::Interrupted, 0),
+    (Answer::Accepted(0), 1),
+];
+
+// An offer is refused, after so many bytes.
+fn is_refused<S: Rates>(
+    rt: &impl Abort,
+    alloc: Global,
+    engine: &Engine<Tape, S>,
+    count: usize,
+    row: (Answer, usize),
+) {
+    let (refusal, told) = row;
+    let told = told.min(1);
+    if count == 0 {
+        let none = [0];
+        let wanted = (Err(Fault), 0, &none[..told]);
+        writes(rt, alloc, engine, &[refusal], wanted);
+        return;
+    }
+    let answers = [Answer::Accepted(count), refusal];
+    let some = [count, 0];
+    let wanted = (Err(Fault), count, &some[..1 + told]);
+    writes(rt, alloc, engine, &answers, wanted);
+}
+
+/// Three pieces, of which the last one is cut to the rest.
+const PIECES: [Answer; 3] = [
+    Answer::Accepted(1),
+    Answer::Accepted(35),
+    Answer::Accepted(1000),
+];
+
+fn is_written<S: Rates>(rt: &impl Abort, alloc: Global, engine: &Engine<Tape, S>) {
+    let length = texts::TORN_SHOWS.len();
+    for row in REFUSALS {
+        for count in 0..length {
+            is_refused(rt, alloc, engine, count, row);
+        }
+    }
+    writes(rt, alloc, engine, &[], (Ok(()), length, &[length]));
+    let counts = [1, 35, 446];
+    writes(rt, alloc, engine, &PIECES, (Ok(()), length, &counts));
 }
 
 fn ends_at_the_first_refused_offer<S: Rates + Copy>(rt: &impl Abort, alloc: Global, shelf: S) {
     let engine = link(rt, alloc, shelf, 65536, texts::TORN);
-    let length = texts::TORN_SHOWS.len();
-    for (refusal, told) in [
-        (Answer::Failed, 0),
-        (Answer::Interrupted, 0),
-        (Answer::Accepted(0), 1),
-    ] {
-        assert!(rt; told <= 1);
-        let none = [0];
-        let wanted = (Err(Fault), 0, &none[..told]);
-        writes(rt, alloc, &engine, &[refusal], wanted);
-        for count in 1..length {
-            let answers = [Answer::Accepted(count), refusal];
-            let some = [count, 0];
-            let wanted = (Err(Fault), count, &some[..1 + told]);
-            writes(rt, alloc, &engine, &answers, wanted);
-        }
-    }
-    writes(rt, alloc, &engine, &[], (Ok(()), length, &[length]));
-    let pieces = [
-        Answer::Accepted(1),
-        Answer::Accepted(35),
-        Answer::Accepted(1000),
-    ];
-    let wanted = [1, 35, 446];
-    let wanted = (Ok(()), length, wanted.as_slice());
-    writes(rt, alloc, &engine, &pieces, wanted);
+    is_written(rt, alloc, &engine);
+    drop(engine);
 }
 
 fn shows_links<S: Rates + Copy>(rt: &impl Abort, alloc: Global, shelf: S) {
@@ -207,5 +264,6 @@ fn reports_show_links(rt: HostRuntime) -> Result<(), Fail> {
     // Four tariffs: by the byte; by cells of 48; by cells of 1024; by cells of 2048.
     let shelf = shelf!(alloc, (1, 0, 1), (48, 16, 2), (1024, 0, 1), (2048, 1024, 3));
     shows_links(&rt, alloc, &shelf);
+    drop(shelf);
     Ok(())
 }

@@ -109,8 +109,14 @@ fn run<S: Rates + Copy, I: Source, O: Telling>(
     input: &mut I,
     output: &mut O,
 ) -> Result<(), ScriptFault> {
-    let engine = answered(alloc, shelf, life, input, output)?;
-    print_written(&engine, output)
+    match answered(alloc, shelf, life, input, output) {
+        Ok(engine) => {
+            let printed = print_written(&engine, output);
+            drop(engine);
+            printed
+        }
+        Err(fault) => Err(fault),
+    }
 }
 
 // What such a run prints.
@@ -124,7 +130,9 @@ fn printed<S: Rates + Copy, I: Source>(
     let mut output = Tape::new(alloc);
     let ran = run(alloc, shelf, life, input, &mut output);
     assert_eq!(rt; ran, Ok(()));
-    Ok(output.bytes().to_vec(alloc)?)
+    let text = output.bytes().to_vec(alloc);
+    drop(output);
+    Ok(text?)
 }
 
 /// Lives, scripts, and what they print.
@@ -192,34 +200,59 @@ const SCRIPTS: [(u64, &[u8], &[u8]); 8] = [
     ),
 ];
 
+// The script prints this.
+fn prints<S: Rates + Copy, I: Source>(
+    rt: &impl Abort,
+    alloc: Global,
+    shelf: S,
+    life: u64,
+    input: &mut I,
+    want: &[u8],
+) -> Result<(), Fail> {
+    let text = printed(rt, alloc, shelf, life, input)?;
+    assert_eq!(rt; text.as_slice(), want);
+    drop(text);
+    Ok(())
+}
+
+// The script prints this, given as a whole and by the byte, with and without interruptions.
+fn is_answered<S: Rates + Copy>(
+    rt: &impl Abort,
+    alloc: Global,
+    shelf: S,
+    life: u64,
+    script: &[u8],
+    want: &[u8],
+) -> Result<(), Fail> {
+    prints(rt, alloc, shelf, life, &mut PlainReader(script), want)?;
+    for interrupts in [false, true] {
+        let mut bytewise = Trickle::new(script, usize::MAX, interrupts);
+        prints(rt, alloc, shelf, life, &mut bytewise, want)?;
+    }
+    Ok(())
+}
+
 fn scripts_are_answered<S: Rates + Copy>(
     rt: &impl Abort,
     alloc: Global,
     shelf: S,
 ) -> Result<(), Fail> {
     for (life, script, want) in SCRIPTS {
-        let mut whole = PlainReader(script);
-        let text = printed(rt, alloc, shelf, life, &mut whole)?;
-        assert_eq!(rt; text.as_slice(), want);
-        for interrupts in [false, true] {
-            let mut bytewise = Trickle::new(script, usize::MAX, interrupts);
-            let text = printed(rt, alloc, shelf, life, &mut bytewise)?;
-            assert_eq!(rt; text.as_slice(), want, "by the byte");
-        }
+        is_answered(rt, alloc, shelf, life, script, want)?;
     }
     Ok(())
 }
 
-// What the first flow is charged for a script on a new link.
-fn account_after<S: Rates + Copy, O: Telling>(
+// The link after a script that ends well.
+fn after<S: Rates + Copy, O: Telling>(
+    rt: &impl Abort,
     alloc: Global,
     shelf: S,
     script: &[u8],
     output: &mut O,
-) -> Result<Option<u64>, ScriptFault> {
+) -> Engine<Tape, S> {
     let mut input = PlainReader(script);
-    let engine = answered(alloc, shelf, LIFE, &mut input, output)?;
-    Ok(engine.account(FlowNo(1)))
+    answered(alloc, shelf, LIFE, &mut input, output).expect(rt, "a script")
 }
 
 /// Scripts, what they are answered, and what the first flow is charged.
@@ -238,18 +271,25 @@ const CHARGED: [(&[u8], &[u8], u64); 2] = [
     ),
 ];
 
-fn flows_are_charged<S: Rates + Copy>(
+fn flow_is_charged<S: Rates + Copy>(
     rt: &impl Abort,
     alloc: Global,
     shelf: S,
-) -> Result<(), Fail> {
-    for (script, want, account) in CHARGED {
-        let mut output = Tape::new(alloc);
-        let charged = account_after(alloc, shelf, script, &mut output);
-        assert_eq!(rt; charged, Ok(Some(account)));
-        assert_eq!(rt; output.bytes(), want);
+    row: &(&[u8], &[u8], u64),
+) {
+    let (script, want, account) = *row;
+    let mut output = Tape::new(alloc);
+    let engine = after(rt, alloc, shelf, script, &mut output);
+    assert_eq!(rt; engine.account(FlowNo(1)), Some(account));
+    drop(engine);
+    assert_eq!(rt; output.bytes(), want);
+    drop(output);
+}
+
+fn flows_are_charged<S: Rates + Copy>(rt: &impl Abort, alloc: Global, shelf: S) {
+    for row in &CHARGED {
+        flow_is_charged(rt, alloc, shelf, row);
     }
-    Ok(())
 }
 
 // Adds a line that sends so many zero bytes.
@@ -269,24 +309,45 @@ fn push_zeros(text: &mut Vec<u8>, count: usize) -> Result<(), Fail> {
     Ok(())
 }
 
-fn largest_payload<S: Rates + Copy>(rt: &impl Abort, alloc: Global, shelf: S) -> Result<(), Fail> {
-    let mut script = FUNDED.to_vec(alloc)?;
-    push_send(&mut script, b"a", 1490)?;
-    push_send(&mut script, b"a", 1490)?;
+fn push_two_largest(script: &mut Vec<u8>) -> Result<(), Fail> {
+    script.extend_from_slice(FUNDED)?;
+    push_send(script, b"a", 1490)?;
+    push_send(script, b"a", 1490)?;
     script.extend_from_slice(b"turn 65535\nturn 65535\n")?;
-    let mut want =
-        b"flow 1\nticket 1\nok\npacket 1 1\npacket 1 2\nwrote 1 1 1502 whole\nwrote 1 2 1502 whole\nout "
-            .as_slice()
-            .to_vec(alloc)?;
-    want.extend_from_slice(b"4c01000000010000000105d2")?;
-    push_zeros(&mut want, 1490)?;
-    want.extend_from_slice(b"4c01000000010000000205d2")?;
-    push_zeros(&mut want, 1490)?;
-    want.extend_from_slice(b"\n")?;
-    let mut input = PlainReader(script.as_slice());
-    let text = printed(rt, alloc, shelf, LIFE, &mut input)?;
-    assert_eq!(rt; text.as_slice(), want.as_slice());
     Ok(())
+}
+
+fn push_their_answers(want: &mut Vec<u8>) -> Result<(), Fail> {
+    want.extend_from_slice(b"flow 1\nticket 1\nok\npacket 1 1\npacket 1 2\n")?;
+    want.extend_from_slice(b"wrote 1 1 1502 whole\nwrote 1 2 1502 whole\n")?;
+    want.extend_from_slice(b"out 4c01000000010000000105d2")?;
+    push_zeros(want, 1490)?;
+    want.extend_from_slice(b"4c01000000010000000205d2")?;
+    push_zeros(want, 1490)?;
+    want.extend_from_slice(b"\n")?;
+    Ok(())
+}
+
+fn largest_payload<S: Rates + Copy>(rt: &impl Abort, alloc: Global, shelf: S) -> Result<(), Fail> {
+    let (mut script, mut want) = (Vec::new(alloc), Vec::new(alloc));
+    push_two_largest(&mut script)?;
+    push_their_answers(&mut want)?;
+    let mut input = PlainReader(script.as_slice());
+    prints(rt, alloc, shelf, LIFE, &mut input, want.as_slice())
+}
+
+// Sends a payload of zero bytes, and then declares a fault.
+fn long_line<S: Rates + Copy>(
+    rt: &impl Abort,
+    alloc: Global,
+    shelf: S,
+    row: &(&[u8], usize, &[u8]),
+) -> Result<(), Fail> {
+    let (flow, count, want) = *row;
+    let mut script = Vec::new(alloc);
+    push_send(&mut script, flow, count)?;
+    script.extend_from_slice(b"torn\n")?;
+    is_answered(rt, alloc, shelf, LIFE, script.as_slice(), want)
 }
 
 fn long_lines<S: Rates + Copy>(rt: &impl Abort, alloc: Global, shelf: S) -> Result<(), Fail> {
@@ -297,20 +358,28 @@ fn long_lines<S: Rates + Copy>(rt: &impl Abort, alloc: Global, shelf: S) -> Resu
         (b"ab", 10236, b"no 4 Range\nidle\nout -\n"),
         (b"a", 10237, b"no 3 Syntax\nidle\nout -\n"),
     ];
-    for (flow, count, want) in rows {
-        let mut script = Vec::new(alloc);
-        push_send(&mut script, flow, count)?;
-        script.extend_from_slice(b"torn\n")?;
-        for interrupts in [false, true] {
-            let mut input = Trickle::new(script.as_slice(), usize::MAX, interrupts);
-            let text = printed(rt, alloc, shelf, LIFE, &mut input)?;
-            assert_eq!(rt; text.as_slice(), want, "{count} bytes");
-        }
+    for row in &rows {
+        long_line(rt, alloc, shelf, row)?;
     }
     Ok(())
 }
 
-fn input_that_fails<S: Rates + Copy>(rt: &impl Abort, alloc: Global, shelf: S) -> Result<(), Fail> {
+// The input fails in place of the byte at a place, and this is printed before.
+fn input_fails<S: Rates + Copy>(
+    rt: &impl Abort,
+    alloc: Global,
+    shelf: S,
+    input: &mut Trickle<'_>,
+    want: &[u8],
+) {
+    let mut output = Tape::new(alloc);
+    let ran = run(alloc, shelf, LIFE, input, &mut output);
+    assert_eq!(rt; ran, Err(ScriptFault::Input));
+    assert_eq!(rt; output.bytes(), want);
+    drop(output);
+}
+
+fn input_that_fails<S: Rates + Copy>(rt: &impl Abort, alloc: Global, shelf: S) {
     let rows: [(usize, &[u8]); 5] = [
         (0, b""),
         (10, b""),
@@ -322,13 +391,37 @@ fn input_that_fails<S: Rates + Copy>(rt: &impl Abort, alloc: Global, shelf: S) -
         for interrupts in [false, true] {
             let script = b"open a 4 1\ntorn\ntorn\n".as_slice();
             let mut input = Trickle::new(script, failing, interrupts);
-            let mut output = Tape::new(alloc);
-            let ran = run(alloc, shelf, LIFE, &mut input, &mut output);
-            assert_eq!(rt; ran, Err(ScriptFault::Input));
-            assert_eq!(rt; output.bytes(), want, "{failing} bytes given");
+            input_fails(rt, alloc, shelf, &mut input, want);
         }
     }
-    Ok(())
+}
+
+// Where the output gives these answers, it refuses an offer, and these bytes are printed.
+fn output_fails<S: Rates + Copy>(
+    rt: &impl Abort,
+    alloc: Global,
+    shelf: S,
+    script: &[u8],
+    answers: Vec<Answer>,
+    want: Option<&[u8]>,
+) {
+    let mut input = PlainReader(script);
+    let mut output = Scripted::new(alloc, answers);
+    let ran = run(alloc, shelf, LIFE, &mut input, &mut output);
+    assert_eq!(rt; ran, Err(ScriptFault::Output));
+    assert_eq!(rt; Some(output.bytes()), want);
+    drop(output);
+}
+
+// So many offers are accepted, of the first of which three bytes, and then there is a fault.
+fn accepting(alloc: Global, accepted: usize, fault: Answer) -> Result<Vec<Answer>, Fail> {
+    let mut answers = Vec::new(alloc);
+    for place in 0..accepted {
+        let most = if place == 0 { 3 } else { usize::MAX };
+        answers.push(Answer::Accepted(most))?;
+    }
+    answers.push(fault)?;
+    Ok(answers)
 }
 
 // The answers to the lines of one read are offered together.
@@ -337,7 +430,6 @@ fn output_that_fails<S: Rates + Copy>(
     alloc: Global,
     shelf: S,
 ) -> Result<(), Fail> {
-    let faults = [Answer::Failed, Answer::Interrupted, Answer::Accepted(0)];
     let wants: [&[u8]; 5] = [
         b"",
         b"idl",
@@ -345,19 +437,10 @@ fn output_that_fails<S: Rates + Copy>(
         b"idle\nno 3 Syntax\nout ",
         b"idle\nno 3 Syntax\nout -",
     ];
-    for fault in faults {
+    for fault in [Answer::Failed, Answer::Interrupted, Answer::Accepted(0)] {
         for (accepted, want) in wants.into_iter().enumerate() {
-            let mut answers = Vec::new(alloc);
-            for place in 0..accepted {
-                let most = if place == 0 { 3 } else { usize::MAX };
-                answers.push(Answer::Accepted(most))?;
-            }
-            answers.push(fault)?;
-            let mut input = PlainReader(b"torn\nnone\n".as_slice());
-            let mut output = Scripted::new(alloc, answers);
-            let ran = run(alloc, shelf, LIFE, &mut input, &mut output);
-            assert_eq!(rt; ran, Err(ScriptFault::Output));
-            assert_eq!(rt; output.bytes(), want, "{accepted} offers accepted");
+            let answers = accepting(alloc, accepted, fault)?;
+            output_fails(rt, alloc, shelf, b"torn\nnone\n", answers, Some(want));
         }
     }
     Ok(())
@@ -369,10 +452,10 @@ fn scripts_are_as_worked<S: Rates + Copy>(
     shelf: S,
 ) -> Result<(), Fail> {
     scripts_are_answered(rt, alloc, shelf)?;
-    flows_are_charged(rt, alloc, shelf)?;
+    flows_are_charged(rt, alloc, shelf);
     largest_payload(rt, alloc, shelf)?;
     long_lines(rt, alloc, shelf)?;
-    input_that_fails(rt, alloc, shelf)?;
+    input_that_fails(rt, alloc, shelf);
     output_that_fails(rt, alloc, shelf)
 }
 
@@ -381,5 +464,7 @@ fn scripts_are_as_worked<S: Rates + Copy>(
 fn scripts_over_a_shelf_of_four_tariffs(rt: HostRuntime) -> Result<(), Fail> {
     let alloc = rt.alloc();
     let shelf = shelf!(alloc);
-    scripts_are_as_worked(&rt, alloc, &shelf)
+    let worked = scripts_are_as_worked(&rt, alloc, &shelf);
+    drop(shelf);
+    worked
 }

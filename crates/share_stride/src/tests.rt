@@ -11,7 +11,6 @@ use share_base::{FlowNo, Refusal};
 use share_model::Position;
 use std::alloc::Global;
 use std::process::Abort;
-use std::test::Fail;
 
 const STRIDE_OF_ONE: i128 = 1_099_511_627_776;
 
@@ -24,231 +23,258 @@ fn stands(competing: bool, tickets: u32, stride: u64, place: i128) -> Position {
     }
 }
 
-/// Six picks: the flow that is picked, and whether it leaves after its frame.
-const PICKS: [(u32, bool); 6] = [
-    (1, false),
-    (2, false),
-    (1, false),
-    (1, true),
-    (2, true),
-    (3, true),
+/// A step of a worked example: a move, which is made, or what the queue shows after the steps before it.
+#[derive(Clone, Copy, Debug)]
+enum Row {
+    Made(u32, Move),
+    /// A flow competes: its tickets, its stride and its pass.
+    Competes(u32, u32, u64, i128),
+    /// A flow rests: its tickets, its stride and its remain.
+    Rests(u32, u32, u64, i128),
+    /// The stride of a flow.
+    Stride(u32, u64),
+    /// The pass or the remain of a flow.
+    Place(u32, i128),
+    /// The flow with the least pass, 0 where none competes.
+    Least(u32),
+    /// The tickets of the flows that compete.
+    Tickets(u64),
+    /// The global pass.
+    Pass(u128),
+    /// The clock at the last update of the global pass.
+    Last(u64),
+    Clock(u64),
+}
+
+// The move is made, or the queue shows this.
+fn holds(queue: &mut Queue, row: Row) -> bool {
+    match row {
+        Row::Made(flow, step) => make(queue, flow, step),
+        Row::Competes(flow, tickets, stride, place) => {
+            position(queue, flow) == stands(true, tickets, stride, place)
+        }
+        Row::Rests(flow, tickets, stride, place) => {
+            position(queue, flow) == stands(false, tickets, stride, place)
+        }
+        Row::Stride(flow, stride) => position(queue, flow).stride == stride,
+        Row::Place(flow, place) => position(queue, flow).place == place,
+        Row::Least(flow) => least(queue) == flow,
+        Row::Tickets(tickets) => queue.global().tickets == tickets,
+        Row::Pass(pass) => queue.global().pass == pass,
+        Row::Last(last) => queue.global().last == last,
+        Row::Clock(clock) => queue.global().clock == clock,
+    }
+}
+
+fn play(rt: &impl Abort, queue: &mut Queue, rows: &[Row]) {
+    for row in rows {
+        assert!(rt; holds(queue, *row), "{row:?}");
+    }
+}
+
+// Plays rows on a new queue.
+fn plays(rt: &impl Abort, alloc: Global, rows: &[Row]) {
+    let mut queue = Queue::new(alloc).expect(rt, "memory");
+    play(rt, &mut queue, rows);
+    drop(queue);
+}
+
+/// Three flows with 3, 2 and 1 tickets compete, and each frame is of 1024 units: which flow is picked, and where all
+/// stand after the third pick and after the last one.
+const THREE_FLOWS: [Row; 35] = [
+    Row::Made(1, Move::Add),
+    Row::Made(1, Move::Join(3)),
+    Row::Made(2, Move::Add),
+    Row::Made(2, Move::Join(2)),
+    Row::Made(3, Move::Add),
+    Row::Made(3, Move::Join(1)),
+    Row::Stride(1, 366_503_875_925),
+    Row::Stride(2, 549_755_813_888),
+    Row::Stride(3, 1_099_511_627_776),
+    Row::Least(1),
+    Row::Made(1, Move::Charge(1024)),
+    Row::Least(2),
+    Row::Made(2, Move::Charge(1024)),
+    Row::Least(1),
+    Row::Made(1, Move::Charge(1024)),
+    Row::Place(1, 1_099_511_627_775),
+    Row::Place(2, STRIDE_OF_ONE),
+    Row::Place(3, STRIDE_OF_ONE),
+    Row::Least(1),
+    Row::Made(1, Move::Charge(1024)),
+    Row::Made(1, Move::Leave),
+    Row::Least(2),
+    Row::Made(2, Move::Charge(1024)),
+    Row::Made(2, Move::Leave),
+    Row::Least(3),
+    Row::Made(3, Move::Charge(1024)),
+    Row::Made(3, Move::Leave),
+    Row::Least(0),
+    Row::Tickets(0),
+    Row::Pass(2_199_023_255_549),
+    Row::Last(6144),
+    Row::Clock(6144),
+    Row::Rests(1, 3, 366_503_875_925, 733_007_751_852),
+    Row::Rests(2, 2, 549_755_813_888, 549_755_813_891),
+    Row::Rests(3, 1, 1_099_511_627_776, 3),
 ];
 
-// Three flows with 3, 2 and 1 tickets that compete.
-fn three(rt: &impl Abort, alloc: Global) -> Result<Queue, Refusal> {
-    let mut queue = Queue::new(alloc)?;
-    for (flow, tickets) in [(1, 3), (2, 2), (3, 1)] {
-        assert!(rt; add(&mut queue, flow) && join(&mut queue, flow, tickets));
-    }
-    Ok(queue)
+#[test]
+fn shares_by_tickets(rt: HostRuntime) {
+    plays(&rt, rt.alloc(), &THREE_FLOWS);
 }
 
-// Picks a flow, which is charged a frame of 1024 units.
-fn pick(rt: &impl Abort, queue: &mut Queue, flow: u32, leaves: bool) {
-    assert_eq!(rt; least(queue), flow);
-    assert!(rt; charge(queue, flow, 1024));
-    if leaves {
-        assert!(rt; leave(queue, flow));
-    }
-}
+/// A remain goes over to other tickets by the strides, and not by the tickets.
+const RESCALED: [Row; 14] = [
+    Row::Made(1, Move::Add),
+    Row::Made(2, Move::Add),
+    Row::Made(1, Move::Join(1000)),
+    Row::Made(1, Move::Modify(333)),
+    Row::Made(2, Move::Join(666)),
+    Row::Competes(1, 333, 3_301_836_720, 3_301_836_720),
+    Row::Competes(2, 666, 1_650_918_360, 1_650_918_360),
+    Row::Least(2),
+    Row::Made(2, Move::Charge(13)),
+    Row::Made(2, Move::Leave),
+    Row::Made(1, Move::Modify(1000)),
+    Row::Pass(13_972_616),
+    Row::Rests(2, 666, 1_650_918_360, 1_657_904_668),
+    Row::Place(1, 1_108_831_361),
+];
 
 #[test]
-fn strides_by_tickets(rt: HostRuntime) -> Result<(), Fail> {
-    let mut queue = three(&rt, rt.alloc())?;
-    for (flow, stride) in [
-        (1, 366_503_875_925),
-        (2, 549_755_813_888),
-        (3, 1_099_511_627_776),
-    ] {
-        assert_eq!(rt; position(&queue, flow).stride, stride);
-    }
-    for (flow, leaves) in &PICKS[..3] {
-        pick(&rt, &mut queue, *flow, *leaves);
-    }
-    assert_eq!(rt; position(&queue, 1).place, 1_099_511_627_775);
-    assert_eq!(rt; position(&queue, 2).place, STRIDE_OF_ONE);
-    assert_eq!(rt; position(&queue, 3).place, STRIDE_OF_ONE);
-    Ok(())
+fn rescaled_by_strides(rt: HostRuntime) {
+    plays(&rt, rt.alloc(), &RESCALED);
 }
 
+/// A flow leaves behind the global pass, and returns with other tickets.
+const BEHIND: [Row; 12] = [
+    Row::Made(1, Move::Add),
+    Row::Made(2, Move::Add),
+    Row::Made(1, Move::Join(1)),
+    Row::Made(2, Move::Join(1)),
+    Row::Least(1),
+    Row::Made(1, Move::Charge(3072)),
+    Row::Made(2, Move::Leave),
+    Row::Pass(1_649_267_441_664),
+    Row::Rests(2, 1, 1_099_511_627_776, -549_755_813_888),
+    Row::Made(2, Move::Join(3)),
+    Row::Competes(2, 3, 366_503_875_925, 1_466_015_503_701),
+    Row::Least(2),
+];
+
 #[test]
-fn shares_by_tickets(rt: HostRuntime) -> Result<(), Fail> {
-    let mut queue = three(&rt, rt.alloc())?;
-    for (flow, leaves) in PICKS {
-        pick(&rt, &mut queue, flow, leaves);
-    }
-    assert_eq!(rt; least(&queue), 0);
-    let global = queue.global();
-    assert_eq!(rt;
-        (global.tickets, global.pass, global.last, global.clock),
-        (0, 2_199_023_255_549, 6144, 6144)
-    );
-    for (flow, tickets, stride, remain) in [
-        (1, 3, 366_503_875_925, 733_007_751_852),
-        (2, 2, 549_755_813_888, 549_755_813_891),
-        (3, 1, 1_099_511_627_776, 3),
-    ] {
-        assert_eq!(rt;
-            position(&queue, flow),
-            stands(false, tickets, stride, remain)
-        );
-    }
-    Ok(())
+fn returns_behind(rt: HostRuntime) {
+    plays(&rt, rt.alloc(), &BEHIND);
 }
 
-// A remain goes over to other tickets by the strides, and not by the tickets.
+/// A flow that joins late begins at the global pass.
+const JOINS_LATE: [Row; 8] = [
+    Row::Made(1, Move::Add),
+    Row::Made(2, Move::Add),
+    Row::Made(1, Move::Join(1)),
+    Row::Made(2, Move::Join(1)),
+    Row::Place(2, STRIDE_OF_ONE),
+    Row::Made(1, Move::Charge(1024)),
+    Row::Place(1, 2_199_023_255_552),
+    Row::Least(2),
+];
+
+/// One that is charged after it left keeps the charge.
+const CHARGED_LATE: [Row; 10] = [
+    Row::Made(1, Move::Add),
+    Row::Made(1, Move::Join(1)),
+    Row::Made(1, Move::Leave),
+    Row::Made(1, Move::Charge(1024)),
+    Row::Rests(1, 1, 1_099_511_627_776, 2_199_023_255_552),
+    Row::Least(0),
+    Row::Made(1, Move::Join(1)),
+    Row::Pass(0),
+    Row::Place(1, 2_199_023_255_552),
+    Row::Least(1),
+];
+
 #[test]
-fn rescaled_by_strides(rt: HostRuntime) -> Result<(), Fail> {
-    let mut queue = Queue::new(rt.alloc())?;
-    assert!(rt; add(&mut queue, 1) && add(&mut queue, 2));
-    assert!(rt; join(&mut queue, 1, 1000));
-    assert!(rt; modify(&mut queue, 1, 333) && join(&mut queue, 2, 666));
-    assert_eq!(rt;
-        position(&queue, 1),
-        stands(true, 333, 3_301_836_720, 3_301_836_720)
-    );
-    assert_eq!(rt;
-        position(&queue, 2),
-        stands(true, 666, 1_650_918_360, 1_650_918_360)
-    );
-    assert_eq!(rt; least(&queue), 2);
-    assert!(rt; charge(&mut queue, 2, 13) && leave(&mut queue, 2) && modify(&mut queue, 1, 1000));
-    assert_eq!(rt; queue.global().pass, 13_972_616);
-    assert_eq!(rt;
-        position(&queue, 2),
-        stands(false, 666, 1_650_918_360, 1_657_904_668)
-    );
-    assert_eq!(rt; position(&queue, 1).place, 1_108_831_361);
-    Ok(())
+fn charged_late(rt: HostRuntime) {
+    plays(&rt, rt.alloc(), &JOINS_LATE);
+    plays(&rt, rt.alloc(), &CHARGED_LATE);
 }
 
-// A flow leaves behind the global pass, and returns with other tickets.
+/// A levelling joins, leaves and changes; where nothing must change there is no update of the global pass.
+const LEVELLED: [Row; 23] = [
+    Row::Made(1, Move::Add),
+    Row::Made(2, Move::Add),
+    Row::Made(1, Move::Level(1)),
+    Row::Made(2, Move::Level(1)),
+    Row::Competes(1, 1, 1_099_511_627_776, STRIDE_OF_ONE),
+    Row::Made(1, Move::Charge(1024)),
+    Row::Made(1, Move::Level(1)),
+    Row::Pass(0),
+    Row::Last(0),
+    Row::Made(2, Move::Level(0)),
+    Row::Rests(2, 1, 1_099_511_627_776, 549_755_813_888),
+    Row::Made(1, Move::Charge(1024)),
+    Row::Made(2, Move::Level(0)),
+    Row::Pass(549_755_813_888),
+    Row::Last(1024),
+    Row::Made(1, Move::Level(2)),
+    Row::Competes(1, 2, 549_755_813_888, 2_473_901_162_496),
+    Row::Pass(1_649_267_441_664),
+    Row::Last(2048),
+    Row::Made(2, Move::Level(3)),
+    Row::Competes(2, 3, 366_503_875_925, 1_832_519_379_626),
+    Row::Tickets(5),
+    Row::Least(2),
+];
+
 #[test]
-fn returns_behind(rt: HostRuntime) -> Result<(), Fail> {
-    let mut queue = Queue::new(rt.alloc())?;
-    assert!(rt;
-        add(&mut queue, 1) && add(&mut queue, 2) && join(&mut queue, 1, 1) && join(&mut queue, 2, 1)
-    );
-    assert_eq!(rt; least(&queue), 1);
-    assert!(rt; charge(&mut queue, 1, 3072) && leave(&mut queue, 2));
-    assert_eq!(rt; queue.global().pass, 1_649_267_441_664);
-    assert_eq!(rt;
-        position(&queue, 2),
-        stands(false, 1, 1_099_511_627_776, -549_755_813_888)
-    );
-    assert!(rt; join(&mut queue, 2, 3));
-    assert_eq!(rt;
-        position(&queue, 2),
-        stands(true, 3, 366_503_875_925, 1_466_015_503_701)
-    );
-    assert_eq!(rt; least(&queue), 2);
-    Ok(())
+fn levels_by_tickets(rt: HostRuntime) {
+    plays(&rt, rt.alloc(), &LEVELLED);
 }
 
-// A flow that joins late begins at the global pass, and one that is charged after it left keeps the charge.
-#[test]
-fn charged_late(rt: HostRuntime) -> Result<(), Fail> {
-    let mut queue = Queue::new(rt.alloc())?;
-    assert!(rt;
-        add(&mut queue, 1) && add(&mut queue, 2) && join(&mut queue, 1, 1) && join(&mut queue, 2, 1)
-    );
-    assert_eq!(rt; position(&queue, 2).place, STRIDE_OF_ONE);
-    assert!(rt; charge(&mut queue, 1, 1024));
-    assert_eq!(rt; position(&queue, 1).place, 2_199_023_255_552);
-    assert_eq!(rt; least(&queue), 2);
+/// After 64 flows joined with a ticket each, a tie goes to the least number.
+const TIES: [Row; 13] = [
+    Row::Least(1),
+    Row::Made(1, Move::Charge(1024)),
+    Row::Least(2),
+    Row::Made(2, Move::Leave),
+    Row::Pass(17_179_869_184),
+    Row::Place(2, 1_082_331_758_592),
+    Row::Least(3),
+    Row::Made(2, Move::Join(1)),
+    Row::Place(2, STRIDE_OF_ONE),
+    Row::Least(2),
+    Row::Made(3, Move::Leave),
+    Row::Made(3, Move::Remove),
+    Row::Made(65, Move::Add),
+];
 
-    let mut queue = Queue::new(rt.alloc())?;
-    assert!(rt;
-        add(&mut queue, 1)
-            && join(&mut queue, 1, 1)
-            && leave(&mut queue, 1)
-            && charge(&mut queue, 1, 1024)
-    );
-    assert_eq!(rt;
-        position(&queue, 1),
-        stands(false, 1, 1_099_511_627_776, 2_199_023_255_552)
-    );
-    assert_eq!(rt; least(&queue), 0);
-    assert!(rt; join(&mut queue, 1, 1));
-    assert_eq!(rt; queue.global().pass, 0);
-    assert_eq!(rt; position(&queue, 1).place, 2_199_023_255_552);
-    assert_eq!(rt; least(&queue), 1);
-    Ok(())
-}
-
-// A levelling joins, leaves and changes; where nothing must change there is no update of the global pass.
-#[test]
-fn levels_by_tickets(rt: HostRuntime) -> Result<(), Fail> {
-    let mut queue = Queue::new(rt.alloc())?;
-    assert!(rt;
-        add(&mut queue, 1)
-            && add(&mut queue, 2)
-            && level(&mut queue, 1, 1)
-            && level(&mut queue, 2, 1)
-    );
-    assert_eq!(rt;
-        position(&queue, 1),
-        stands(true, 1, 1_099_511_627_776, STRIDE_OF_ONE)
-    );
-    assert!(rt; charge(&mut queue, 1, 1024) && level(&mut queue, 1, 1));
-    assert_eq!(rt; (queue.global().pass, queue.global().last), (0, 0));
-    assert!(rt; level(&mut queue, 2, 0));
-    assert_eq!(rt;
-        position(&queue, 2),
-        stands(false, 1, 1_099_511_627_776, 549_755_813_888)
-    );
-    assert!(rt; charge(&mut queue, 1, 1024) && level(&mut queue, 2, 0));
-    assert_eq!(rt;
-        (queue.global().pass, queue.global().last),
-        (549_755_813_888, 1024)
-    );
-    assert!(rt; level(&mut queue, 1, 2));
-    assert_eq!(rt;
-        position(&queue, 1),
-        stands(true, 2, 549_755_813_888, 2_473_901_162_496)
-    );
-    assert_eq!(rt;
-        (queue.global().pass, queue.global().last),
-        (1_649_267_441_664, 2048)
-    );
-    assert!(rt; level(&mut queue, 2, 3));
-    assert_eq!(rt;
-        position(&queue, 2),
-        stands(true, 3, 366_503_875_925, 1_832_519_379_626)
-    );
-    assert_eq!(rt; queue.global().tickets, 5);
-    assert_eq!(rt; least(&queue), 2);
-    Ok(())
-}
-
-// Sixty-four flows join from the last to the first: a tie goes to the least number.
-#[test]
-fn ties_by_number(rt: HostRuntime) -> Result<(), Fail> {
-    let mut queue = Queue::new(rt.alloc())?;
+// A queue takes 64 flows. They join from the last to the first.
+fn fill(rt: &impl Abort, queue: &mut Queue) {
     for flow in 1..=64 {
-        assert!(rt; add(&mut queue, flow));
+        assert!(rt; add(queue, flow));
     }
     let missing = !queue.contains(FlowNo(65));
     assert!(rt; missing);
     assert_eq!(rt; queue.add(FlowNo(65)), Err(Refusal::TableFull));
     for flow in (1..=64).rev() {
-        assert!(rt; join(&mut queue, flow, 1));
+        assert!(rt; join(queue, flow, 1));
     }
     for flow in 1..=64 {
-        assert_eq!(rt; position(&queue, flow).place, STRIDE_OF_ONE);
+        assert_eq!(rt; position(queue, flow).place, STRIDE_OF_ONE);
     }
-    assert_eq!(rt; least(&queue), 1);
-    assert!(rt; charge(&mut queue, 1, 1024));
-    assert_eq!(rt; least(&queue), 2);
-    assert!(rt; leave(&mut queue, 2));
-    assert_eq!(rt; queue.global().pass, 17_179_869_184);
-    assert_eq!(rt; position(&queue, 2).place, 1_082_331_758_592);
-    assert_eq!(rt; least(&queue), 3);
-    assert!(rt; join(&mut queue, 2, 1));
-    assert_eq!(rt; position(&queue, 2).place, STRIDE_OF_ONE);
-    assert_eq!(rt; least(&queue), 2);
-    assert!(rt; leave(&mut queue, 3) && remove(&mut queue, 3) && add(&mut queue, 65));
-    Ok(())
+}
+
+fn breaks_ties(rt: &impl Abort, queue: &mut Queue) {
+    fill(rt, queue);
+    play(rt, queue, &TIES);
+}
+
+#[test]
+fn ties_by_number(rt: HostRuntime) {
+    let mut queue = Queue::new(rt.alloc()).expect(&rt, "memory");
+    breaks_ties(&rt, &mut queue);
+    drop(queue);
 }
 
 /// A move of one flow.
@@ -331,45 +357,67 @@ fn agrees(queue: &Queue, plain: &Plain) -> bool {
         && least(queue) == plain.least()
 }
 
+// The number that is drawn after another.
+fn after(number: u64) -> u64 {
+    number
+        .wrapping_mul(6_364_136_223_846_793_005)
+        .wrapping_add(1_442_695_040_888_963_407)
+}
+
+// Makes the move that a number draws on both, and compares them. Says whether it was made.
+fn makes_on_both(
+    rt: &impl Abort,
+    queue: &mut Queue,
+    plain: &mut Plain,
+    flow: u32,
+    number: u64,
+) -> bool {
+    let step = drawn(number);
+    let ours = make(queue, flow, step);
+    assert_eq!(rt; ours, plain.make(flow, step), "{step:?} of {flow}");
+    assert!(rt;
+        agrees(queue, plain) && agrees_on(queue, plain, flow),
+        "{step:?} of {flow}"
+    );
+    ours
+}
+
 // Ten thousand moves of all kinds of so many flows, in an order that is drawn from a sequence of numbers, of which it
 // gives the last.
-fn run(rt: &impl Abort, alloc: Global, flows: u32, start: u64) -> Result<u64, Refusal>
+fn run(rt: &impl Abort, queue: &mut Queue, plain: &mut Plain, flows: u32, start: u64) -> u64
     requires { 0 < flows }
 {
-    let mut queue = Queue::new(alloc)?;
-    let mut plain = Plain::new();
     let mut number = start;
     let mut made = 0u32;
-    for count in 0..10_000u32 {
-        number = number
-            .wrapping_mul(6_364_136_223_846_793_005)
-            .wrapping_add(1_442_695_040_888_963_407);
+    for _ in 0..10_000u32 {
+        number = after(number);
         let flow = (number >> 37) as u32 % flows + 1;
-        let step = drawn(number);
-        let ours = make(&mut queue, flow, step);
-        assert_eq!(rt; ours, plain.make(flow, step), "at move {count}");
-        assert!(rt;
-            agrees(&queue, &plain) && agrees_on(&queue, &plain, flow),
-            "at move {count}"
-        );
-        if ours {
+        if makes_on_both(rt, queue, plain, flow, number) {
             made = made.wrapping_add(1);
         }
     }
     for flow in 1..=64 {
-        assert!(rt; agrees_on(&queue, &plain, flow), "flow {flow} in the end");
+        assert!(rt; agrees_on(queue, plain, flow), "flow {flow} in the end");
     }
     assert!(rt; made > 4_000);
-    Ok(number)
+    number
+}
+
+fn runs(rt: &impl Abort, alloc: Global, flows: u32, start: u64) -> u64
+    requires { 0 < flows }
+{
+    let mut queue = Queue::new(alloc).expect(rt, "memory");
+    let last = run(rt, &mut queue, &mut Plain::new(), flows, start);
+    drop(queue);
+    last
 }
 
 // Sixty thousand moves: of few flows, and of as many as a queue holds.
 #[test]
-fn beside_a_plain_model(rt: HostRuntime) -> Result<(), Fail> {
+fn beside_a_plain_model(rt: HostRuntime) {
     let mut number = 1u64;
     for _ in 0..3u32 {
-        number = run(&rt, rt.alloc(), 8, number)?;
-        number = run(&rt, rt.alloc(), 64, number)?;
+        number = runs(&rt, rt.alloc(), 8, number);
+        number = runs(&rt, rt.alloc(), 64, number);
     }
-    Ok(())
 }

@@ -1,9 +1,9 @@
 //! Flows that are funded through currencies.
 
-use super::{Call, FRAME, Row, TURN, Wanted, play, plays_on_a_new_link, taped};
+use super::{Call, FRAME, Row, TURN, Wanted, on_a_new_link, play, plays_all};
 use crate::Engine;
 use share_base::{Command, Name, Refusal, Reply, Turn};
-use share_model::{Rates, Tape};
+use share_model::{Rates, Scripted};
 use std::alloc::Global;
 use std::process::Abort;
 
@@ -29,13 +29,12 @@ const WITH_AND_WITHOUT_BACKING: [Row; 15] = [
     (Call::Events, Wanted::Number(10)),
 ];
 
-fn waits_for_the_backing_of_its_currency<S: Rates + Copy>(
+fn waits_for_the_backing_of_its_currency<S: Rates>(
     rt: &impl Abort,
     alloc: Global,
-    shelf: S,
+    engine: &mut Engine<Scripted, S>,
 ) {
-    let mut engine = taped(rt, alloc, shelf, 65536);
-    play(rt, alloc, &mut engine, &WITH_AND_WITHOUT_BACKING);
+    play(rt, alloc, engine, &WITH_AND_WITHOUT_BACKING);
     assert_eq!(rt; engine.writer().bytes(), FRAME.as_slice());
 }
 
@@ -67,8 +66,11 @@ const CYCLES: [Row; 7] = [
 ];
 
 // Nine currencies, each of which a ticket of the one before would back: the ninth is too deep.
-fn refuses_a_chain_of_nine<S: Rates + Copy>(rt: &impl Abort, alloc: Global, shelf: S) {
-    let mut chain = taped(rt, alloc, shelf, 65536);
+fn refuses_a_chain_of_nine<S: Rates>(
+    rt: &impl Abort,
+    alloc: Global,
+    engine: &mut Engine<Scripted, S>,
+) {
     let mut number: u32 = 0;
     for currency in NAMES {
         number = number.saturating_add(1);
@@ -76,17 +78,17 @@ fn refuses_a_chain_of_nine<S: Rates + Copy>(rt: &impl Abort, alloc: Global, shel
             (Call::MakeCurrency(currency), Wanted::Done),
             (Call::MakeTicket(1, currency), Wanted::Ticket(number)),
         ];
-        play(rt, alloc, &mut chain, &rows);
+        play(rt, alloc, engine, &rows);
     }
     for at in 1..8 {
         let backs = [(Call::Back(at as u64, NAMES[at]), Wanted::Done)];
-        play(rt, alloc, &mut chain, &backs);
+        play(rt, alloc, engine, &backs);
     }
     let last = [
         (Call::Back(8, "c9"), Wanted::Refused(Refusal::Deep)),
         (Call::Events, Wanted::Number(26)),
     ];
-    play(rt, alloc, &mut chain, &last);
+    play(rt, alloc, engine, &last);
 }
 
 /// Currencies and flows have names of their own.
@@ -96,8 +98,11 @@ const FULL_OF_CURRENCIES: [Row; 3] = [
     (Call::Flow("caa"), Wanted::Nothing),
 ];
 
-fn holds_as_many_as_its_tables<S: Rates + Copy>(rt: &impl Abort, alloc: Global, shelf: S) {
-    let mut engine = taped(rt, alloc, shelf, 65536);
+fn holds_as_many_as_its_tables<S: Rates>(
+    rt: &impl Abort,
+    alloc: Global,
+    engine: &mut Engine<Scripted, S>,
+) {
     for number in 0..64 {
         let letters = [b'c', b'a' + number / 8, b'a' + number % 8];
         let currency = Name::read(letters.as_slice()).expect(rt, "a name");
@@ -106,7 +111,7 @@ fn holds_as_many_as_its_tables<S: Rates + Copy>(rt: &impl Abort, alloc: Global, 
             Reply::Done
         );
     }
-    play(rt, alloc, &mut engine, &FULL_OF_CURRENCIES);
+    play(rt, alloc, engine, &FULL_OF_CURRENCIES);
     for number in 1..18 {
         let wanted = if number == 17 {
             Wanted::Refused(Refusal::Crowded)
@@ -117,15 +122,15 @@ fn holds_as_many_as_its_tables<S: Rates + Copy>(rt: &impl Abort, alloc: Global, 
             (Call::MakeTicket(1, "base"), Wanted::Ticket(number)),
             (Call::Back(u64::from(number), "caa"), wanted),
         ];
-        play(rt, alloc, &mut engine, &rows);
+        play(rt, alloc, engine, &rows);
     }
 }
 
 // Sixteen tickets of a currency after this number, of which each backs the currency before, or funds `a`.
-fn fund_sixteen_times<S: Rates + Copy>(
+fn fund_sixteen_times<S: Rates>(
     rt: &impl Abort,
     alloc: Global,
-    engine: &mut Engine<Tape, S>,
+    engine: &mut Engine<Scripted, S>,
     last: u32,
     currency: &'static str,
     before: Option<&'static str>,
@@ -154,29 +159,61 @@ const ABOVE_ALL_PATHS: [Row; 6] = [
 ];
 
 // Eight currencies of sixteen tickets each, of which each ticket backs the currency before: 16^7 paths.
-fn answers_at_once_however_many_paths<S: Rates + Copy>(rt: &impl Abort, alloc: Global, shelf: S) {
-    let mut engine = taped(rt, alloc, shelf, 65536);
+fn answers_at_once_however_many_paths<S: Rates>(
+    rt: &impl Abort,
+    alloc: Global,
+    engine: &mut Engine<Scripted, S>,
+) {
     let opened = [(Call::Open("a", 1024, 1), Wanted::Opened)];
-    play(rt, alloc, &mut engine, &opened);
+    play(rt, alloc, engine, &opened);
     let mut last: u32 = 0;
     let mut before = None;
     for currency in NAMES {
         let made = [(Call::MakeCurrency(currency), Wanted::Done)];
-        play(rt, alloc, &mut engine, &made);
+        play(rt, alloc, engine, &made);
         if last < 128 {
-            fund_sixteen_times(rt, alloc, &mut engine, last, currency, before);
+            fund_sixteen_times(rt, alloc, engine, last, currency, before);
             before = Some(currency);
             last = last.saturating_add(16);
         }
     }
-    play(rt, alloc, &mut engine, &ABOVE_ALL_PATHS);
+    play(rt, alloc, engine, &ABOVE_ALL_PATHS);
 }
 
-pub fn all<S: Rates + Copy>(rt: &impl Abort, alloc: Global, shelf: S) {
-    waits_for_the_backing_of_its_currency(rt, alloc, shelf);
-    plays_on_a_new_link(rt, alloc, shelf, &INFLATED);
-    plays_on_a_new_link(rt, alloc, shelf, &CYCLES);
-    refuses_a_chain_of_nine(rt, alloc, shelf);
-    holds_as_many_as_its_tables(rt, alloc, shelf);
-    answers_at_once_however_many_paths(rt, alloc, shelf);
+/// What is played on a new link.
+#[derive(Clone, Copy)]
+pub(super) enum Case {
+    Backing,
+    ChainOfNine,
+    FullTables,
+    ManyPaths,
+}
+
+pub(super) fn plays<S: Rates>(
+    rt: &impl Abort,
+    alloc: Global,
+    engine: &mut Engine<Scripted, S>,
+    case: Case,
+) {
+    match case {
+        Case::Backing => waits_for_the_backing_of_its_currency(rt, alloc, engine),
+        Case::ChainOfNine => refuses_a_chain_of_nine(rt, alloc, engine),
+        Case::FullTables => holds_as_many_as_its_tables(rt, alloc, engine),
+        Case::ManyPaths => answers_at_once_however_many_paths(rt, alloc, engine),
+    }
+}
+
+const CASES: [Case; 4] = [
+    Case::Backing,
+    Case::ChainOfNine,
+    Case::FullTables,
+    Case::ManyPaths,
+];
+
+pub(super) fn all<S: Rates + Copy>(rt: &impl Abort, alloc: Global, shelf: S) {
+    for case in CASES {
+        on_a_new_link(rt, alloc, shelf, 65536, &[], super::Case::Funded(case));
+    }
+    let rows = [super::Case::Rows(&INFLATED), super::Case::Rows(&CYCLES)];
+    plays_all(rt, alloc, shelf, &rows);
 }

@@ -1,6 +1,6 @@
 //! One frame of fourteen bytes, cut, interrupted and failed at each of its bytes; full buffers.
 
-use super::{Call, FRAME, Row, TURN, Wanted, play, plays_on_a_new_link, scripted};
+use super::{Call, FRAME, Row, TURN, Wanted, on_a_new_link, play, plays_all};
 use crate::Engine;
 use share_base::{Refusal, Turn};
 use share_model::{Answer, Rates, Scripted};
@@ -15,19 +15,20 @@ const READY: [Row; 4] = [
     (Call::Events, Wanted::Number(4)),
 ];
 
-// A link that has the packet of the frame to send, after four events.
-fn ready<S: Rates + Copy>(
+// The link has the packet of the frame to send, after four events, and then so many bytes of the frame are out.
+fn get_ready<S: Rates>(
     rt: &impl Abort,
     alloc: Global,
-    shelf: S,
+    engine: &mut Engine<Scripted, S>,
     tariff: u64,
-    script: &[Answer],
-) -> Engine<Scripted, S> {
-    let mut engine = scripted(rt, alloc, shelf, script);
+    out: u32,
+) {
     let opened = [(Call::Open("a", 4, tariff), Wanted::Opened)];
-    play(rt, alloc, &mut engine, &opened);
-    play(rt, alloc, &mut engine, &READY);
-    engine
+    play(rt, alloc, engine, &opened);
+    play(rt, alloc, engine, &READY);
+    if out > 0 {
+        play(rt, alloc, engine, &[(TURN, Wanted::Part(out))]);
+    }
 }
 
 /// What the readers give: the events, the account, the tickets, and how many bytes of the frame are out.
@@ -39,12 +40,7 @@ struct Shown {
     out: usize,
 }
 
-fn shows<S: Rates + Copy>(
-    rt: &impl Abort,
-    alloc: Global,
-    engine: &mut Engine<Scripted, S>,
-    shown: Shown,
-) {
+fn shows<S: Rates>(rt: &impl Abort, alloc: Global, engine: &mut Engine<Scripted, S>, shown: Shown) {
     let rows = [
         (Call::Events, Wanted::Number(shown.events)),
         (Call::Account(1), Wanted::Number(shown.account)),
@@ -72,7 +68,7 @@ const ALL_OUT: Shown = Shown {
 };
 
 // One turn, of which count bytes are accepted, so that `out` are out.
-fn goes_on<S: Rates + Copy>(
+fn goes_on<S: Rates>(
     rt: &impl Abort,
     alloc: Global,
     engine: &mut Engine<Scripted, S>,
@@ -97,52 +93,34 @@ fn goes_on<S: Rates + Copy>(
 }
 
 // The frame goes out in pieces of k bytes, of m more, and of the rest.
-fn cut<S: Rates + Copy>(rt: &impl Abort, alloc: Global, shelf: S, k: u32, m: u32) {
-    let script = [Answer::Accepted(k as usize), Answer::Accepted(m as usize)];
-    let mut engine = ready(rt, alloc, shelf, 1, &script);
+fn goes_out_in_pieces<S: Rates>(
+    rt: &impl Abort,
+    alloc: Global,
+    engine: &mut Engine<Scripted, S>,
+    k: u32,
+    m: u32,
+) {
     let first = k.min(14);
     let second = m.min(14 - first);
     let rest = 14 - first - second;
+    get_ready(rt, alloc, engine, 1, 0);
     for (count, out) in [(first, first), (second, first + second), (rest, 14)] {
         if count > 0 {
-            goes_on(rt, alloc, &mut engine, TURN, count, out);
+            goes_on(rt, alloc, engine, TURN, count, out);
         }
     }
-    let idle = [(TURN, Wanted::Is(Turn::Idle))];
-    play(rt, alloc, &mut engine, &idle);
+    play(rt, alloc, engine, &[(TURN, Wanted::Is(Turn::Idle))]);
 }
 
-fn goes_out_in_any_pieces<S: Rates + Copy>(rt: &impl Abort, alloc: Global, shelf: S) {
-    for k in 1..15 {
-        for m in 1..15 {
-            cut(rt, alloc, shelf, k, m);
-        }
-    }
-}
-
-fn goes_out_byte_by_byte<S: Rates + Copy>(rt: &impl Abort, alloc: Global, shelf: S) {
-    let mut engine = ready(rt, alloc, shelf, 1, &[]);
-    for out in 1..15 {
-        goes_on(rt, alloc, &mut engine, Call::Turn(1), 1, out);
-    }
-}
-
-// A link of whose frame j bytes are out, before a call that is answered so.
-fn at<S: Rates + Copy>(
+fn goes_out_byte_by_byte<S: Rates>(
     rt: &impl Abort,
     alloc: Global,
-    shelf: S,
-    tariff: u64,
-    j: u32,
-    answer: Answer,
-) -> Engine<Scripted, S> {
-    if j == 0 {
-        return ready(rt, alloc, shelf, tariff, &[answer]);
+    engine: &mut Engine<Scripted, S>,
+) {
+    get_ready(rt, alloc, engine, 1, 0);
+    for out in 1..15 {
+        goes_on(rt, alloc, engine, Call::Turn(1), 1, out);
     }
-    let script = [Answer::Accepted(j as usize), answer];
-    let mut engine = ready(rt, alloc, shelf, tariff, &script);
-    play(rt, alloc, &mut engine, &[(TURN, Wanted::Part(j))]);
-    engine
 }
 
 /// How the link can be broken: the writer's answer, and the call.
@@ -165,76 +143,66 @@ const AFTER_A_FAULT: [Row; 3] = [
     (Call::Send("a", b"hi"), Wanted::Packet(2)),
 ];
 
-fn fails<S: Rates + Copy>(
+/// A link with a flow of this tariff, of whose frame so many bytes are out.
+#[derive(Clone, Copy)]
+pub(super) struct Standing {
+    tariff: u64,
+    out: u32,
+}
+
+// After a fault the flow has paid for the bytes that are out, and the link sends nothing more.
+fn fails<S: Rates>(
     rt: &impl Abort,
     alloc: Global,
-    shelf: S,
-    tariff: u64,
-    j: u32,
-    fault: (Answer, Call),
+    engine: &mut Engine<Scripted, S>,
+    at: Standing,
+    asked: Call,
 ) {
-    let (answer, asked) = fault;
-    let mut engine = at(rt, alloc, shelf, tariff, j, answer);
-    play(rt, alloc, &mut engine, &[(asked, Wanted::Torn(j))]);
+    get_ready(rt, alloc, engine, at.tariff, at.out);
+    play(rt, alloc, engine, &[(asked, Wanted::Torn(at.out))]);
     let shown = Shown {
-        events: if j == 0 { 5 } else { 6 },
-        account: cost(tariff, j),
+        events: if at.out == 0 { 5 } else { 6 },
+        account: cost(at.tariff, at.out),
         tickets: 10,
-        out: j as usize,
+        out: at.out as usize,
     };
-    shows(rt, alloc, &mut engine, shown);
-    play(rt, alloc, &mut engine, &BROKEN);
-    shows(rt, alloc, &mut engine, shown);
-    play(rt, alloc, &mut engine, &AFTER_A_FAULT);
+    shows(rt, alloc, engine, shown);
+    play(rt, alloc, engine, &BROKEN);
+    shows(rt, alloc, engine, shown);
+    play(rt, alloc, engine, &AFTER_A_FAULT);
     let after = Shown {
         events: shown.events.saturating_add(3),
         tickets: 11,
         ..shown
     };
-    shows(rt, alloc, &mut engine, after);
-}
-
-fn fails_at_each_byte<S: Rates + Copy>(rt: &impl Abort, alloc: Global, shelf: S) {
-    for j in 0..14 {
-        for fault in FAULTS {
-            fails(rt, alloc, shelf, 1, j, fault);
-            fails(rt, alloc, shelf, 2, j, fault);
-        }
-    }
+    shows(rt, alloc, engine, after);
 }
 
 // After an interruption the link is as it was, and the next turn sends the rest.
-fn is_interrupted<S: Rates + Copy>(rt: &impl Abort, alloc: Global, shelf: S, tariff: u64, j: u32) {
-    let mut engine = at(rt, alloc, shelf, tariff, j, Answer::Interrupted);
-    let before = Shown {
-        events: if j == 0 { 4 } else { 5 },
-        account: 0,
-        tickets: 10,
-        out: j as usize,
-    };
-    shows(rt, alloc, &mut engine, before);
-    let again = [(TURN, Wanted::Is(Turn::Again))];
-    play(rt, alloc, &mut engine, &again);
-    shows(rt, alloc, &mut engine, before);
-    let whole = [(TURN, Wanted::Whole(14_u32.saturating_sub(j)))];
-    play(rt, alloc, &mut engine, &whole);
-    let after = Shown {
-        events: before.events.saturating_add(1),
-        account: cost(tariff, 14),
-        ..ALL_OUT
-    };
-    shows(rt, alloc, &mut engine, after);
-}
-
-fn goes_on_after_an_interruption_at_each_byte<S: Rates + Copy>(
+fn is_interrupted<S: Rates>(
     rt: &impl Abort,
     alloc: Global,
-    shelf: S,
+    engine: &mut Engine<Scripted, S>,
+    at: Standing,
 ) {
-    for j in 0..14 {
-        is_interrupted(rt, alloc, shelf, 1, j);
-        is_interrupted(rt, alloc, shelf, 2, j);
-    }
+    get_ready(rt, alloc, engine, at.tariff, at.out);
+    let before = Shown {
+        events: if at.out == 0 { 4 } else { 5 },
+        account: 0,
+        tickets: 10,
+        out: at.out as usize,
+    };
+    shows(rt, alloc, engine, before);
+    play(rt, alloc, engine, &[(TURN, Wanted::Is(Turn::Again))]);
+    shows(rt, alloc, engine, before);
+    let whole = Wanted::Whole(14_u32.saturating_sub(at.out));
+    play(rt, alloc, engine, &[(TURN, whole)]);
+    let after = Shown {
+        events: before.events.saturating_add(1),
+        account: cost(at.tariff, 14),
+        ..ALL_OUT
+    };
+    shows(rt, alloc, engine, after);
 }
 
 const INTERRUPTED_BETWEEN: [Row; 9] = [
@@ -249,15 +217,14 @@ const INTERRUPTED_BETWEEN: [Row; 9] = [
     (Call::Account(1), Wanted::Number(14)),
 ];
 
-fn interrupted_once_between_two_pieces<S: Rates + Copy>(rt: &impl Abort, alloc: Global, shelf: S) {
-    let script = [
-        Answer::Accepted(5),
-        Answer::Interrupted,
-        Answer::Accepted(9),
-    ];
-    let mut engine = ready(rt, alloc, shelf, 1, &script);
-    play(rt, alloc, &mut engine, &INTERRUPTED_BETWEEN);
-    shows(rt, alloc, &mut engine, ALL_OUT);
+fn is_interrupted_between_two_pieces<S: Rates>(
+    rt: &impl Abort,
+    alloc: Global,
+    engine: &mut Engine<Scripted, S>,
+) {
+    get_ready(rt, alloc, engine, 1, 0);
+    play(rt, alloc, engine, &INTERRUPTED_BETWEEN);
+    shows(rt, alloc, engine, ALL_OUT);
     let counts = engine.writer().counts(alloc).expect(rt, "ample memory");
     assert_eq!(rt; counts.as_slice(), [5, 9].as_slice());
 }
@@ -290,12 +257,87 @@ const FULL_AFTER_A_FAULT: [Row; 10] = [
     (Call::Account(1), Wanted::Number(128)),
 ];
 
-pub fn all<S: Rates + Copy>(rt: &impl Abort, alloc: Global, shelf: S) {
-    goes_out_in_any_pieces(rt, alloc, shelf);
-    goes_out_byte_by_byte(rt, alloc, shelf);
-    fails_at_each_byte(rt, alloc, shelf);
-    goes_on_after_an_interruption_at_each_byte(rt, alloc, shelf);
-    interrupted_once_between_two_pieces(rt, alloc, shelf);
-    plays_on_a_new_link(rt, alloc, shelf, &FULL_IN_PART);
-    plays_on_a_new_link(rt, alloc, shelf, &FULL_AFTER_A_FAULT);
+/// What is played on a new link.
+#[derive(Clone, Copy)]
+pub(super) enum Case {
+    Pieces(u32, u32),
+    Bytes,
+    Fault(Standing, Call),
+    Interruption(Standing),
+    InterruptionBetween,
+}
+
+pub(super) fn plays<S: Rates>(
+    rt: &impl Abort,
+    alloc: Global,
+    engine: &mut Engine<Scripted, S>,
+    case: Case,
+) {
+    match case {
+        Case::Pieces(k, m) => goes_out_in_pieces(rt, alloc, engine, k, m),
+        Case::Bytes => goes_out_byte_by_byte(rt, alloc, engine),
+        Case::Fault(at, asked) => fails(rt, alloc, engine, at, asked),
+        Case::Interruption(at) => is_interrupted(rt, alloc, engine, at),
+        Case::InterruptionBetween => is_interrupted_between_two_pieces(rt, alloc, engine),
+    }
+}
+
+// Plays on a new link over a writer that gives these answers.
+fn cut<S: Rates + Copy>(rt: &impl Abort, alloc: Global, shelf: S, script: &[Answer], case: Case) {
+    on_a_new_link(rt, alloc, shelf, 65536, script, super::Case::Cut(case));
+}
+
+// Where no byte is out, the first call has the answer, and else the second.
+fn cut_at<S: Rates + Copy>(
+    rt: &impl Abort,
+    alloc: Global,
+    shelf: S,
+    out: u32,
+    answer: Answer,
+    case: Case,
+) {
+    if out == 0 {
+        cut(rt, alloc, shelf, &[answer], case);
+    } else {
+        let script = [Answer::Accepted(out as usize), answer];
+        cut(rt, alloc, shelf, &script, case);
+    }
+}
+
+fn cut_in_pieces<S: Rates + Copy>(rt: &impl Abort, alloc: Global, shelf: S) {
+    for k in 1..15 {
+        for m in 1..15 {
+            let script = [Answer::Accepted(k as usize), Answer::Accepted(m as usize)];
+            cut(rt, alloc, shelf, &script, Case::Pieces(k, m));
+        }
+    }
+}
+
+fn cut_by_faults<S: Rates + Copy>(rt: &impl Abort, alloc: Global, shelf: S, at: Standing) {
+    for (answer, asked) in FAULTS {
+        cut_at(rt, alloc, shelf, at.out, answer, Case::Fault(at, asked));
+    }
+    let interruption = Case::Interruption(at);
+    cut_at(rt, alloc, shelf, at.out, Answer::Interrupted, interruption);
+}
+
+const BETWEEN: [Answer; 3] = [
+    Answer::Accepted(5),
+    Answer::Interrupted,
+    Answer::Accepted(9),
+];
+
+pub(super) fn all<S: Rates + Copy>(rt: &impl Abort, alloc: Global, shelf: S) {
+    cut(rt, alloc, shelf, &[], Case::Bytes);
+    cut(rt, alloc, shelf, &BETWEEN, Case::InterruptionBetween);
+    cut_in_pieces(rt, alloc, shelf);
+    for out in 0..14 {
+        cut_by_faults(rt, alloc, shelf, Standing { tariff: 1, out });
+        cut_by_faults(rt, alloc, shelf, Standing { tariff: 2, out });
+    }
+    let full = [
+        super::Case::Rows(&FULL_IN_PART),
+        super::Case::Rows(&FULL_AFTER_A_FAULT),
+    ];
+    plays_all(rt, alloc, shelf, &full);
 }

@@ -4,16 +4,15 @@ mod draws;
 mod frames;
 pub mod worlds;
 
-use super::name;
 use super::plain::{Plain, Told};
+use super::{name, scripted};
 use crate::Engine;
 use draws::{Asked, World};
 use frames::Accepted;
-use share_base::{Body, FlowNo, Outcome, Refusal, Reply, Turn};
-use share_model::{Answer, Rates, Scripted};
+use share_base::{Body, FlowNo, Name, Outcome, Refusal, Reply, Turn};
+use share_model::{Rates, Scripted};
 use std::alloc::{AllocError, Global};
 use std::process::Abort;
-use std::test::Fail;
 
 /// The link, the plain link beside it, the packets that were accepted, and the state of the generator.
 #[derive(Drop)]
@@ -84,27 +83,36 @@ impl Met {
     }
 }
 
-fn begun<S: Rates + Copy>(
-    rt: &impl Abort,
-    alloc: Global,
-    shelf: S,
-    world: &World,
-) -> Result<Pair<S>, Fail> {
+fn begun<S: Rates + Copy>(rt: &impl Abort, alloc: Global, shelf: S, world: &World) -> Pair<S> {
     let mut state = world.seed;
-    let answers = draws::answers(alloc, &mut state, world)?;
-    let writer = Scripted::new(alloc, answers.as_slice().to_vec(alloc)?);
-    let engine = Engine::new(alloc, shelf, world.life, writer)?;
-    let plain = Plain::new(alloc, name(rt, "base"), world.life, answers)?;
-    Ok(Pair {
+    let answers = draws::answers(alloc, &mut state, world).expect(rt, "memory");
+    let engine = scripted(rt, alloc, shelf, world.life, answers.as_slice());
+    let plain = Plain::new(alloc, name(rt, "base"), world.life, answers).expect(rt, "memory");
+    Pair {
         engine,
         plain,
         accepted: Vec::new(alloc),
         state,
-    })
+    }
+}
+
+// A packet comes to both.
+fn arrives<S: Rates>(
+    rt: &impl Abort,
+    alloc: Global,
+    pair: &mut Pair<S>,
+    flow: Name,
+    payload: &[u8],
+) -> Result<(Outcome, Outcome), AllocError> {
+    let body = Body::new(alloc, payload).expect(rt, "a payload");
+    let ours = pair.engine.arrive(flow, body);
+    let plain = pair.plain.arrive(flow, payload)?;
+    frames::keep(alloc, &mut pair.accepted, &plain, payload)?;
+    Ok((Outcome::Replied(ours), Outcome::Replied(plain)))
 }
 
 // Asks both the same.
-fn answers<S: Rates + Copy>(
+fn answers<S: Rates>(
     rt: &impl Abort,
     alloc: Global,
     pair: &mut Pair<S>,
@@ -119,11 +127,9 @@ fn answers<S: Rates + Copy>(
         }
         Asked::Arrive(flow, count) => {
             let payload = draws::payload(alloc, &mut pair.state, count)?;
-            let body = Body::new(alloc, payload.as_slice()).expect(rt, "a payload");
-            let ours = pair.engine.arrive(flow, body);
-            let plain = pair.plain.arrive(flow, payload.as_slice())?;
-            frames::keep(alloc, &mut pair.accepted, &plain, payload.as_slice())?;
-            Ok((Outcome::Replied(ours), Outcome::Replied(plain)))
+            let told = arrives(rt, alloc, pair, flow, payload.as_slice());
+            drop(payload);
+            told
         }
         Asked::Turn(most) => {
             let ours = pair.engine.turn(most.max(1));
@@ -139,7 +145,7 @@ fn answers<S: Rates + Copy>(
 }
 
 // Asks both the same, and compares the answers.
-fn ask<S: Rates + Copy>(
+fn ask<S: Rates>(
     rt: &impl Abort,
     alloc: Global,
     pair: &mut Pair<S>,
@@ -151,48 +157,67 @@ fn ask<S: Rates + Copy>(
 }
 
 // The link shows nothing of a flow with this number.
-fn is_gone<S: Rates + Copy>(rt: &impl Abort, engine: &Engine<Scripted, S>, flow: FlowNo) {
+fn is_gone<S: Rates>(rt: &impl Abort, engine: &Engine<Scripted, S>, flow: FlowNo) {
     assert_eq!(rt; engine.account(flow), None);
     assert_eq!(rt; engine.tickets(flow), None);
     assert_eq!(rt; engine.position(flow), None);
 }
 
-// The link shows the same of an open flow, which is the n-th.
-fn shows<S: Rates + Copy>(rt: &impl Abort, engine: &Engine<Scripted, S>, n: u32, told: &Told) {
+// The n-th row of the link is that of this flow, which is found by its name.
+fn shows_row<S: Rates>(rt: &impl Abort, engine: &Engine<Scripted, S>, n: u32, told: &Told) {
     let row = engine.row(n).expect(rt, "a flow");
-    assert_eq!(rt;
-        (row.flow, row.name, row.waiting),
-        (told.flow, told.name, told.waiting)
+    assert!(rt;
+        row.flow == told.flow && row.name == told.name,
+        "the row {n}"
     );
+    assert_eq!(rt; row.waiting, told.waiting);
     assert_eq!(rt; engine.flow(told.name), Some(told.flow));
+}
+
+// The link shows the same of an open flow.
+fn shows<S: Rates>(rt: &impl Abort, engine: &Engine<Scripted, S>, told: &Told) {
     assert_eq!(rt; engine.account(told.flow), Some(told.account));
     assert_eq!(rt; engine.tickets(told.flow), Some(told.tickets));
     assert_eq!(rt; engine.position(told.flow), Some(told.position));
 }
 
 // The link shows the same of all flows.
-fn shows_flows<S: Rates + Copy>(rt: &impl Abort, pair: &Pair<S>) {
+fn shows_flows<S: Rates>(rt: &impl Abort, pair: &Pair<S>) {
     let mut n: u32 = 0;
     for place in 0..pair.plain.flows() {
         if let Some(told) = pair.plain.told(place) {
-            shows(rt, &pair.engine, n, &told);
+            shows_row(rt, &pair.engine, n, &told);
+            shows(rt, &pair.engine, &told);
             n = n.saturating_add(1);
         }
     }
     assert!(rt; pair.engine.row(n).is_none(), "{n} flows are open");
 }
 
-// Both show the same, and wrote the same bytes after the first so many.
-fn agree<S: Rates + Copy>(rt: &impl Abort, pair: &Pair<S>, written: usize) {
-    assert_eq!(rt; pair.engine.events(), pair.plain.events());
-    assert_eq!(rt; pair.engine.spent(), pair.plain.spent());
-    assert_eq!(rt; pair.engine.totals(), pair.plain.totals());
-    assert_eq!(rt; pair.engine.global(), pair.plain.global());
-    shows_flows(rt, pair);
-    let ours = pair.engine.writer().bytes();
-    let plain = pair.plain.bytes();
+// Both have the same bytes after the first so many.
+fn agree_on_bytes(rt: &impl Abort, ours: &[u8], plain: &[u8], written: usize) {
     assert_eq!(rt; ours.len(), plain.len());
     assert_eq!(rt; ours.get(written..), plain.get(written..));
+}
+
+// Both show the same of the link.
+fn agree_on_the_link<S: Rates>(rt: &impl Abort, engine: &Engine<Scripted, S>, plain: &Plain) {
+    assert_eq!(rt; engine.events(), plain.events());
+    assert_eq!(rt; engine.spent(), plain.spent());
+    assert_eq!(rt; engine.totals(), plain.totals());
+    assert_eq!(rt; engine.global(), plain.global());
+}
+
+// Both show the same, and wrote the same bytes after the first so many.
+fn agree<S: Rates>(rt: &impl Abort, pair: &Pair<S>, written: usize) {
+    agree_on_the_link(rt, &pair.engine, &pair.plain);
+    shows_flows(rt, pair);
+    agree_on_bytes(
+        rt,
+        pair.engine.writer().bytes(),
+        pair.plain.bytes(),
+        written,
+    );
 }
 
 // The flow that was closed, if one was.
@@ -203,27 +228,36 @@ fn closed_by(outcome: &Outcome) -> Option<FlowNo> {
     }
 }
 
-// Runs both through a world, and compares them after each event.
-fn run<S: Rates + Copy>(
+// Makes the event of a step on both, and compares them after it.
+fn goes_on<S: Rates>(
     rt: &impl Abort,
     alloc: Global,
-    shelf: S,
+    pair: &mut Pair<S>,
     world: &World,
-) -> Result<Met, Fail> {
-    let mut pair = begun(rt, alloc, shelf, world)?;
+    step: u32,
+) -> Result<Outcome, AllocError> {
+    let written = pair.plain.bytes().len();
+    let issued = pair.plain.next_ticket();
+    let asked = draws::drawn(rt, &mut pair.state, world, step, issued);
+    let outcome = ask(rt, alloc, pair, asked)?;
+    agree(rt, pair, written);
+    if let Some(flow) = closed_by(&outcome) {
+        is_gone(rt, &pair.engine, flow);
+    }
+    Ok(outcome)
+}
+
+// Runs both through a world. The run ends so many events after a fault.
+fn goes_through<S: Rates>(
+    rt: &impl Abort,
+    alloc: Global,
+    pair: &mut Pair<S>,
+    world: &World,
+) -> Result<Met, AllocError> {
     let mut met = NOTHING;
     let mut after: u32 = 0;
     for step in 0..world.steps {
-        let written = pair.plain.bytes().len();
-        let issued = pair.plain.next_ticket();
-        let asked = draws::drawn(rt, &mut pair.state, world, step, issued);
-        let outcome = ask(rt, alloc, &mut pair, asked)?;
-        let closed = closed_by(&outcome);
-        met.add(outcome);
-        agree(rt, &pair, written);
-        if let Some(flow) = closed {
-            is_gone(rt, &pair.engine, flow);
-        }
+        met.add(goes_on(rt, alloc, pair, world, step)?);
         if pair.plain.broken() {
             after = after.saturating_add(1);
         }
@@ -231,10 +265,33 @@ fn run<S: Rates + Copy>(
             break;
         }
     }
-    let bytes = pair.engine.writer().bytes();
-    assert_eq!(rt; bytes, pair.plain.bytes());
-    let whole = frames::are_frames(rt, bytes, pair.accepted.as_slice());
-    assert_eq!(rt; whole, met.whole, "frames of the run");
     met.events = pair.plain.events();
     Ok(met)
+}
+
+// What a run met, and at its end the bytes are the whole frames that it counted.
+fn ended<S: Rates>(
+    rt: &impl Abort,
+    alloc: Global,
+    pair: &mut Pair<S>,
+    world: &World,
+) -> Result<Met, AllocError> {
+    let met = goes_through(rt, alloc, pair, world)?;
+    let bytes = pair.engine.writer().bytes();
+    assert!(rt; bytes == pair.plain.bytes(), "the bytes of the run");
+    let whole = frames::are_frames(rt, bytes, pair.accepted.as_slice());
+    assert_eq!(rt; whole, met.whole, "frames of the run");
+    Ok(met)
+}
+
+fn run<S: Rates + Copy>(
+    rt: &impl Abort,
+    alloc: Global,
+    shelf: S,
+    world: &World,
+) -> Result<Met, AllocError> {
+    let mut pair = begun(rt, alloc, shelf, world);
+    let met = ended(rt, alloc, &mut pair, world);
+    drop(pair);
+    met
 }

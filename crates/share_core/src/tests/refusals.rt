@@ -1,9 +1,9 @@
 //! The order of refusals, the limits, and the end of a life.
 
-use super::{Call, Row, TURN, Wanted, play, plays_on_a_new_link, taped};
+use super::{Call, Row, TURN, Wanted, on_a_new_link, play, plays_all};
 use crate::Engine;
 use share_base::{Refusal, Turn};
-use share_model::{Rates, Tape};
+use share_model::{Rates, Scripted, Tape};
 use std::alloc::Global;
 use std::process::Abort;
 
@@ -36,8 +36,11 @@ const AFTER_REFUSALS: [Row; 5] = [
     (Call::Events, Wanted::Number(14)),
 ];
 
-fn refuses_on_a_new_link<S: Rates + Copy>(rt: &impl Abort, alloc: Global, shelf: S) {
-    let mut engine = taped(rt, alloc, shelf, 65536);
+fn refuses_on_a_new_link<S: Rates>(
+    rt: &impl Abort,
+    alloc: Global,
+    engine: &mut Engine<Scripted, S>,
+) {
     let mut events: u64 = 0;
     for row in &ON_A_NEW_LINK {
         let (asked, refusal) = *row;
@@ -46,10 +49,10 @@ fn refuses_on_a_new_link<S: Rates + Copy>(rt: &impl Abort, alloc: Global, shelf:
             (asked, Wanted::Refused(refusal)),
             (Call::Events, Wanted::Number(events)),
         ];
-        play(rt, alloc, &mut engine, &rows);
-        play(rt, alloc, &mut engine, &STILL_NEW);
+        play(rt, alloc, engine, &rows);
+        play(rt, alloc, engine, &STILL_NEW);
     }
-    play(rt, alloc, &mut engine, &AFTER_REFUSALS);
+    play(rt, alloc, engine, &AFTER_REFUSALS);
     assert!(rt; engine.writer().bytes().is_empty());
 }
 
@@ -90,19 +93,22 @@ const FULL_TABLE: [Row; 8] = [
     (Call::Events, Wanted::Number(1047)),
 ];
 
-fn refuses_one_ticket_too_many<S: Rates + Copy>(rt: &impl Abort, alloc: Global, shelf: S) {
-    let mut engine = taped(rt, alloc, shelf, 65536);
+fn refuses_one_ticket_too_many<S: Rates>(
+    rt: &impl Abort,
+    alloc: Global,
+    engine: &mut Engine<Scripted, S>,
+) {
     let opened = [(Call::Open("a", 1, 1), Wanted::Opened)];
-    play(rt, alloc, &mut engine, &opened);
+    play(rt, alloc, engine, &opened);
     for number in 1..1025 {
         let made = [(Call::MakeTicket(3, "base"), Wanted::Ticket(number))];
-        play(rt, alloc, &mut engine, &made);
+        play(rt, alloc, engine, &made);
     }
     for number in 1..17 {
         let funds = [(Call::Fund(number, "a"), Wanted::Done)];
-        play(rt, alloc, &mut engine, &funds);
+        play(rt, alloc, engine, &funds);
     }
-    play(rt, alloc, &mut engine, &FULL_TABLE);
+    play(rt, alloc, engine, &FULL_TABLE);
 }
 
 /// Each row is one event.
@@ -131,21 +137,19 @@ const SPENT: [Row; 4] = [
 ];
 
 // Makes as many events as the life has; then each kind of call is refused.
-fn lives<S: Rates + Copy>(rt: &impl Abort, alloc: Global, shelf: S, life: usize, rows: &[Row]) {
-    let mut engine = taped(rt, alloc, shelf, life as u64);
+fn ends<S: Rates>(
+    rt: &impl Abort,
+    alloc: Global,
+    engine: &mut Engine<Scripted, S>,
+    life: usize,
+    rows: &[Row],
+) {
     assert!(rt; !engine.spent());
-    play(rt, alloc, &mut engine, &rows[..life.min(rows.len())]);
+    play(rt, alloc, engine, &rows[..life.min(rows.len())]);
     assert!(rt; engine.spent());
-    play(rt, alloc, &mut engine, &SPENT);
+    play(rt, alloc, engine, &SPENT);
     assert!(rt; engine.spent());
     assert_eq!(rt; engine.events(), life as u64);
-}
-
-fn lives_so_many_events<S: Rates + Copy>(rt: &impl Abort, alloc: Global, shelf: S) {
-    for life in 1..6 {
-        lives(rt, alloc, shelf, life, &ENDS_WITH_A_FRAME);
-        lives(rt, alloc, shelf, life, &ENDS_WITH_A_FAULT);
-    }
 }
 
 const LIVES: [(u64, Option<Refusal>); 5] = [
@@ -164,10 +168,45 @@ fn lives_up_to_the_longest_life<S: Rates + Copy>(rt: &impl Abort, alloc: Global,
     }
 }
 
-pub fn all<S: Rates + Copy>(rt: &impl Abort, alloc: Global, shelf: S) {
-    refuses_on_a_new_link(rt, alloc, shelf);
-    plays_on_a_new_link(rt, alloc, shelf, &BESIDE_AN_OPEN_FLOW);
-    refuses_one_ticket_too_many(rt, alloc, shelf);
-    lives_so_many_events(rt, alloc, shelf);
+/// What is played on a new link.
+#[derive(Clone, Copy)]
+pub(super) enum Case<'a> {
+    OnANewLink,
+    OneTicketTooMany,
+    /// A life of so many events, which the rows make.
+    Life(usize, &'a [Row]),
+}
+
+pub(super) fn plays<S: Rates>(
+    rt: &impl Abort,
+    alloc: Global,
+    engine: &mut Engine<Scripted, S>,
+    case: Case<'_>,
+) {
+    match case {
+        Case::OnANewLink => refuses_on_a_new_link(rt, alloc, engine),
+        Case::OneTicketTooMany => refuses_one_ticket_too_many(rt, alloc, engine),
+        Case::Life(life, rows) => ends(rt, alloc, engine, life, rows),
+    }
+}
+
+// Each row of the tables is one event, and the first so many of them are the life.
+fn lives_end<S: Rates + Copy>(rt: &impl Abort, alloc: Global, shelf: S) {
+    for life in 1..6 {
+        for rows in [&ENDS_WITH_A_FRAME, &ENDS_WITH_A_FAULT] {
+            let case = super::Case::Refused(Case::Life(life, rows));
+            on_a_new_link(rt, alloc, shelf, life as u64, &[], case);
+        }
+    }
+}
+
+pub(super) fn all<S: Rates + Copy>(rt: &impl Abort, alloc: Global, shelf: S) {
+    let cases = [
+        super::Case::Refused(Case::OnANewLink),
+        super::Case::Refused(Case::OneTicketTooMany),
+        super::Case::Rows(&BESIDE_AN_OPEN_FLOW),
+    ];
+    plays_all(rt, alloc, shelf, &cases);
+    lives_end(rt, alloc, shelf);
     lives_up_to_the_longest_life(rt, alloc, shelf);
 }

@@ -3,8 +3,8 @@
 use crate::{IngressEnd, Intake, Offered, queue};
 use share_base::{Name, Parcel, Refusal};
 use std::alloc::Global;
+use std::process::Abort;
 use std::sync::Wait;
-use std::test::Fail;
 
 /// What an end answers to one byte for the flow a.
 pub fn offered<T: Wait>(rt: &T, alloc: Global, end: &mut IngressEnd, payload: u8) -> Option<u64> {
@@ -31,31 +31,54 @@ pub fn taken<T: Wait>(rt: &T, intake: &mut Intake) -> Option<(u64, u64, u8)> {
     Some((offer.worker, offer.n, first))
 }
 
-#[test]
-fn a_queue_of_one_place_takes_one(rt: HostRuntime) -> Result<(), Fail> {
-    let (mut intake, mut ends) = queue(rt.alloc(), 1, 1).ok().ok_or("queue")?;
-    let mut end = ends.pop().ok_or("end")?;
-    assert_eq!(rt; offered(&rt, rt.alloc(), &mut end, 7), Some(1));
-    assert_eq!(rt; offered(&rt, rt.alloc(), &mut end, 8), Some(0));
-    assert_eq!(rt; taken(&rt, &mut intake), Some((1, 1, 7)));
-    assert_eq!(rt; offered(&rt, rt.alloc(), &mut end, 9), Some(2));
+fn takes_one<T: Wait + Abort>(rt: &T, alloc: Global, intake: &mut Intake, end: &mut IngressEnd) {
+    assert_eq!(rt; offered(rt, alloc, end, 7), Some(1));
+    assert_eq!(rt; offered(rt, alloc, end, 8), Some(0));
+    assert_eq!(rt; taken(rt, intake), Some((1, 1, 7)));
+    assert_eq!(rt; offered(rt, alloc, end, 9), Some(2));
     assert_eq!(rt; end.queued(), 2);
-    Ok(())
 }
 
 #[test]
-fn offers_come_in_the_order_of_their_pushes(rt: HostRuntime) -> Result<(), Fail> {
-    let (mut intake, mut ends) = queue(rt.alloc(), 4, 2).ok().ok_or("queue")?;
-    let mut second = ends.pop().ok_or("end")?;
-    let mut first = ends.pop().ok_or("end")?;
-    assert_eq!(rt; offered(&rt, rt.alloc(), &mut first, 1), Some(1));
-    assert_eq!(rt; offered(&rt, rt.alloc(), &mut second, 2), Some(1));
-    assert_eq!(rt; offered(&rt, rt.alloc(), &mut first, 3), Some(2));
-    assert_eq!(rt; taken(&rt, &mut intake), Some((1, 1, 1)));
-    assert_eq!(rt; taken(&rt, &mut intake), Some((2, 1, 2)));
-    assert_eq!(rt; taken(&rt, &mut intake), Some((1, 2, 3)));
-    assert_eq!(rt; taken(&rt, &mut intake), None);
-    Ok(())
+fn a_queue_of_one_place_takes_one(rt: HostRuntime) {
+    let (mut intake, mut ends) = queue(rt.alloc(), 1, 1).expect(&rt, "a queue");
+    let mut end = ends.pop().expect(&rt, "an end");
+    takes_one(&rt, rt.alloc(), &mut intake, &mut end);
+    drop(end);
+    drop(ends);
+    drop(intake);
+}
+
+// Two offers of the first end, and one of the second between them.
+fn offer_three<T: Wait + Abort>(
+    rt: &T,
+    alloc: Global,
+    first: &mut IngressEnd,
+    second: &mut IngressEnd,
+) {
+    assert_eq!(rt; offered(rt, alloc, first, 1), Some(1));
+    assert_eq!(rt; offered(rt, alloc, second, 2), Some(1));
+    assert_eq!(rt; offered(rt, alloc, first, 3), Some(2));
+}
+
+fn take_three<T: Wait + Abort>(rt: &T, intake: &mut Intake) {
+    assert_eq!(rt; taken(rt, intake), Some((1, 1, 1)));
+    assert_eq!(rt; taken(rt, intake), Some((2, 1, 2)));
+    assert_eq!(rt; taken(rt, intake), Some((1, 2, 3)));
+    assert_eq!(rt; taken(rt, intake), None);
+}
+
+#[test]
+fn offers_come_in_the_order_of_their_pushes(rt: HostRuntime) {
+    let (mut intake, mut ends) = queue(rt.alloc(), 4, 2).expect(&rt, "a queue");
+    let mut second = ends.pop().expect(&rt, "an end");
+    let mut first = ends.pop().expect(&rt, "an end");
+    offer_three(&rt, rt.alloc(), &mut first, &mut second);
+    take_three(&rt, &mut intake);
+    drop(first);
+    drop(second);
+    drop(ends);
+    drop(intake);
 }
 
 #[test]

@@ -1,6 +1,7 @@
 //! Streams of records: whole, cut, out of range, and from readers that fail or interrupt.
 
 use crate::{Ended, IngressReader, Next};
+use share_base::Parcel;
 use share_model::{Got, PlainReader, Source};
 use std::alloc::{AllocError, Global};
 use std::process::Abort;
@@ -78,8 +79,12 @@ fn count<R: Source>(reader: &mut IngressReader<R>) -> (usize, Ended) {
 /// The same of bytes that are read as a whole, and one a read.
 fn counts_of(alloc: Global, bytes: &[u8]) -> Option<[(usize, Ended); 2]> {
     let mut whole = IngressReader::new(alloc, PlainReader(bytes), 2).ok()?;
+    let at_once = count(&mut whole);
+    drop(whole);
     let mut drops = IngressReader::new(alloc, Dripping::new(bytes, MANY, false), 2000).ok()?;
-    Some([count(&mut whole), count(&mut drops)])
+    let bytewise = count(&mut drops);
+    drop(drops);
+    Some([at_once, bytewise])
 }
 
 #[test]
@@ -133,39 +138,63 @@ fn a_stream_is_cut_at_each_byte(rt: HostRuntime) {
     }
 }
 
+// Both halves of a parcel hold the payload.
+fn holds(rt: &impl Abort, parcel: Parcel, payload: &[u8]) {
+    let (sending, audit) = parcel.split();
+    assert_eq!(rt; sending.as_slice(), payload);
+    assert_eq!(rt; audit.as_slice(), payload);
+    drop(sending);
+    drop(audit);
+}
+
+// The next item is a packet of the flow a with this payload.
+fn gives<R: Source>(rt: &impl Abort, reader: &mut IngressReader<R>, payload: &[u8]) {
+    match reader.next() {
+        Next::Item { name, parcel } => {
+            assert_eq!(rt; name.as_bytes(), b"a".as_slice());
+            holds(rt, parcel, payload);
+        }
+        Next::Ended(ended) => assert!(rt; false, "{ended:?}"),
+    }
+}
+
 #[test]
-fn an_item_is_the_name_and_the_payload(rt: HostRuntime) -> Result<(), Fail> {
+fn an_item_is_the_name_and_the_payload(rt: HostRuntime) {
     let mut reader = IngressReader::new(rt.alloc(), PlainReader(TWO), 10)
         .ok()
-        .ok_or("reader")?;
-    for payload in [b"b".as_slice(), b"cd".as_slice()] {
-        let Next::Item { name, parcel } = reader.next() else {
-            return Err("item".into());
-        };
-        assert_eq!(rt; name.as_bytes(), b"a".as_slice());
-        let (sending, audit) = parcel.split();
-        assert_eq!(rt; sending.as_slice(), payload);
-        assert_eq!(rt; audit.as_slice(), payload);
-    }
-    Ok(())
+        .expect(&rt, "a reader");
+    gives(&rt, &mut reader, b"b");
+    gives(&rt, &mut reader, b"cd");
+    drop(reader);
+}
+
+// A reader of the two records ends so, and again so: how many items it gives, and how it ends.
+fn ends_again(
+    rt: &impl Abort,
+    alloc: Global,
+    dripping: Dripping<'_>,
+    bound: u64,
+    expected: (usize, Ended),
+) {
+    let mut reader = IngressReader::new(alloc, dripping, bound)
+        .ok()
+        .expect(rt, "a reader");
+    assert_eq!(rt; count(&mut reader), expected);
+    assert_eq!(rt; count(&mut reader), (0, expected.1));
+    drop(reader);
 }
 
 #[test]
-fn a_read_fails_at_each_byte(rt: HostRuntime) -> Result<(), Fail> {
+fn a_read_fails_at_each_byte(rt: HostRuntime) {
     for failing in 0..TWO.len() {
         let dripping = Dripping::new(TWO, failing, true);
-        let mut reader = IngressReader::new(rt.alloc(), dripping, 1000)
-            .ok()
-            .ok_or("reader")?;
         let items = if failing < 5 { 0 } else { 1 };
-        assert_eq!(rt; count(&mut reader), (items, Ended::Fault));
-        assert_eq!(rt; count(&mut reader), (0, Ended::Fault));
+        ends_again(&rt, rt.alloc(), dripping, 1000, (items, Ended::Fault));
     }
-    Ok(())
 }
 
 #[test]
-fn each_read_is_counted(rt: HostRuntime) -> Result<(), Fail> {
+fn each_read_is_counted(rt: HostRuntime) {
     for bound in 0..14 {
         let expected = match bound {
             0..=4 => (0, Ended::Bound),
@@ -173,23 +202,15 @@ fn each_read_is_counted(rt: HostRuntime) -> Result<(), Fail> {
             11 => (2, Ended::Bound),
             _ => (2, Ended::End),
         };
-        let mut reader = IngressReader::new(rt.alloc(), Dripping::new(TWO, MANY, false), bound)
-            .ok()
-            .ok_or("reader")?;
-        assert_eq!(rt; count(&mut reader), expected);
-        assert_eq!(rt; count(&mut reader), (0, expected.1));
+        let dripping = Dripping::new(TWO, MANY, false);
+        ends_again(&rt, rt.alloc(), dripping, bound, expected);
     }
-    Ok(())
 }
 
 #[test]
-fn an_interrupted_read_is_made_again(rt: HostRuntime) -> Result<(), Fail> {
+fn an_interrupted_read_is_made_again(rt: HostRuntime) {
     let dripping = Dripping::new(TWO, MANY, true);
-    let mut reader = IngressReader::new(rt.alloc(), dripping, 1000)
-        .ok()
-        .ok_or("reader")?;
-    assert_eq!(rt; count(&mut reader), (2, Ended::End));
-    Ok(())
+    ends_again(&rt, rt.alloc(), dripping, 1000, (2, Ended::End));
 }
 
 /// How many bytes a read asks for.
@@ -247,15 +268,21 @@ fn flooded(alloc: Global, pattern: &[u8]) -> Result<Flood, AllocError> {
     })
 }
 
+// How the flood of a pattern ends.
+fn flood_ends(rt: &impl Abort, alloc: Global, pattern: &[u8], expected: (usize, Ended)) {
+    let flood = flooded(alloc, pattern).expect(rt, "memory");
+    let mut reader = IngressReader::new(alloc, flood, 1 << 40)
+        .ok()
+        .expect(rt, "a reader");
+    assert_eq!(rt; count(&mut reader), expected);
+    drop(reader);
+}
+
 #[test]
-fn a_flood_of_garbage_ends_at_its_first_field(rt: HostRuntime) -> Result<(), Fail> {
+fn a_flood_of_garbage_ends_at_its_first_field(rt: HostRuntime) {
     for garbage in [0, 65, 255] {
-        let mut reader = IngressReader::new(rt.alloc(), flooded(rt.alloc(), &[garbage])?, 1 << 40)
-            .ok()
-            .ok_or("reader")?;
-        assert_eq!(rt; count(&mut reader), (0, Ended::BadRecord));
+        flood_ends(&rt, rt.alloc(), &[garbage], (0, Ended::BadRecord));
     }
-    Ok(())
 }
 
 #[test]
@@ -263,13 +290,7 @@ fn a_flood_of_records_is_read_to_its_end(rt: HostRuntime) -> Result<(), Fail> {
     let mut pattern = Vec::new(rt.alloc());
     pattern.extend_from_slice(&[1, 97, 2, 188])?;
     pattern.extend_from_slice(&[b'x'; 700])?;
-    let mut reader = IngressReader::new(
-        rt.alloc(),
-        flooded(rt.alloc(), pattern.as_slice())?,
-        1 << 40,
-    )
-    .ok()
-    .ok_or("reader")?;
-    assert_eq!(rt; count(&mut reader), (148945, Ended::Cut));
+    flood_ends(&rt, rt.alloc(), pattern.as_slice(), (148945, Ended::Cut));
+    drop(pattern);
     Ok(())
 }

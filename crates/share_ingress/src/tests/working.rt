@@ -7,9 +7,9 @@ use crate::{
 };
 use share_model::{Got, Source};
 use std::alloc::Global;
+use std::process::Abort;
 use std::sync::atomic::{AtomicU64, Ordering};
 use std::sync::{Arc, Wait};
-use std::test::Fail;
 
 /// Three records for the flow a, with the payloads `b`, `c` and `d`.
 const THREE: &[u8] = &[1, 97, 0, 1, 98, 1, 97, 0, 1, 99, 1, 97, 0, 1, 100];
@@ -55,60 +55,107 @@ impl Gate for Notes {
     }
 }
 
-/// What a worker leaves that has the three records, a queue of two places, and a bound.
-fn worked<T: Wait>(rt: &T, alloc: Global, again: u64, bound: u64) -> Option<Done<Notes>> {
-    let (_intake, mut ends) = queue(alloc, 2, 1).ok()?;
-    let end = ends.pop()?;
-    let reader = IngressReader::new(alloc, Dripping::new(THREE, 100, false), bound).ok()?;
-    let gate = Notes {
+// A queue of so many places, with one end.
+fn one_end(rt: &impl Abort, alloc: Global, capacity: usize) -> (Intake, IngressEnd) {
+    let (intake, mut ends) = queue(alloc, capacity, 1).expect(rt, "a queue");
+    let end = ends.pop().expect(rt, "an end");
+    drop(ends);
+    (intake, end)
+}
+
+// A reader of these bytes, one a read, that fails in place of the byte at a place.
+fn dripping<'a>(
+    rt: &impl Abort,
+    alloc: Global,
+    bytes: &'a [u8],
+    failing: usize,
+    bound: u64,
+) -> IngressReader<Dripping<'a>> {
+    IngressReader::new(alloc, Dripping::new(bytes, failing, false), bound)
+        .ok()
+        .expect(rt, "a reader")
+}
+
+fn noting(alloc: Global, again: u64) -> Notes {
+    Notes {
         calls: Vec::new(alloc),
         again,
-    };
-    Some(run_worker(rt, reader, end, gate))
-}
-
-#[test]
-fn a_gate_that_answers_false_stops_the_worker(rt: HostRuntime) -> Result<(), Fail> {
-    let done = worked(&rt, rt.alloc(), 2, 100).ok_or("worked")?;
-    assert_eq!(rt; done.why, Why::Stopped);
-    assert_eq!(rt; done.tally, 2);
-    assert_eq!(rt; done.end.queued(), 2);
-    assert_eq!(rt; done.gate.calls.as_slice(), b"b1o1b2o2b3f2f1f0".as_slice());
-    Ok(())
-}
-
-#[test]
-fn each_round_on_a_full_queue_is_a_turn(rt: HostRuntime) -> Result<(), Fail> {
-    let done = worked(&rt, rt.alloc(), 9, 17).ok_or("worked")?;
-    assert_eq!(rt; done.why, Why::Ended(Ended::Bound));
-    assert_eq!(rt; done.tally, 2);
-    assert_eq!(rt; done.gate.calls.as_slice(), b"b1o1b2o2b3f9f8f7".as_slice());
-    Ok(())
-}
-
-#[test]
-fn a_worker_counts_its_own_items(rt: HostRuntime) -> Result<(), Fail> {
-    let (mut intake, mut ends) = queue(rt.alloc(), 4, 1).ok().ok_or("queue")?;
-    let mut end = ends.pop().ok_or("end")?;
-    for round in 0..3 {
-        let reader = IngressReader::new(rt.alloc(), Dripping::new(THREE, 100, false), 100)
-            .ok()
-            .ok_or("reader")?;
-        let gate = Notes {
-            calls: Vec::new(rt.alloc()),
-            again: 0,
-        };
-        let done = run_worker(&rt, reader, end, gate);
-        assert_eq!(rt; done.why, Why::Ended(Ended::End));
-        assert_eq!(rt; done.tally, 3);
-        assert_eq!(rt; done.gate.calls.as_slice(), b"b1o1b2o2b3o3".as_slice());
-        for (n, payload) in [(1, b'b'), (2, b'c'), (3, b'd')] {
-            assert_eq!(rt; taken(&rt, &mut intake), Some((1, 3 * round + n, payload)));
-        }
-        let Done { end: back, .. } = done;
-        end = back;
     }
-    Ok(())
+}
+
+/// What a worker leaves that has the three records, a queue of two places, and a bound.
+fn worked<T: Wait + Abort>(rt: &T, alloc: Global, again: u64, bound: u64) -> Done<Notes> {
+    let (intake, end) = one_end(rt, alloc, 2);
+    let done = run_worker(
+        rt,
+        dripping(rt, alloc, THREE, 100, bound),
+        end,
+        noting(alloc, again),
+    );
+    drop(intake);
+    done
+}
+
+// Why the worker ended, how many items it queued, and the calls of its gate.
+fn left(rt: &impl Abort, done: &Done<Notes>, why: Why, tally: u64, calls: &[u8]) {
+    assert_eq!(rt; done.why, why);
+    assert_eq!(rt; done.tally, tally);
+    assert_eq!(rt; done.gate.calls.as_slice(), calls);
+}
+
+#[test]
+fn a_gate_that_answers_false_stops_the_worker(rt: HostRuntime) {
+    let done = worked(&rt, rt.alloc(), 2, 100);
+    left(&rt, &done, Why::Stopped, 2, b"b1o1b2o2b3f2f1f0");
+    assert_eq!(rt; done.end.queued(), 2);
+    drop(done);
+}
+
+#[test]
+fn each_round_on_a_full_queue_is_a_turn(rt: HostRuntime) {
+    let done = worked(&rt, rt.alloc(), 9, 17);
+    left(&rt, &done, Why::Ended(Ended::Bound), 2, b"b1o1b2o2b3f9f8f7");
+    drop(done);
+}
+
+// The three records stand in the queue, the first of them with the number after this one.
+fn three_are_taken<T: Wait + Abort>(rt: &T, intake: &mut Intake, last: u64) {
+    for (n, payload) in [(1, b'b'), (2, b'c'), (3, b'd')] {
+        assert_eq!(rt;
+            taken(rt, intake),
+            Some((1, last.saturating_add(n), payload))
+        );
+    }
+}
+
+// A round of the worker with this end, which it gives back.
+fn one_more_round<T: Wait + Abort>(
+    rt: &T,
+    alloc: Global,
+    intake: &mut Intake,
+    end: IngressEnd,
+    last: u64,
+) -> IngressEnd {
+    let done = run_worker(
+        rt,
+        dripping(rt, alloc, THREE, 100, 100),
+        end,
+        noting(alloc, 0),
+    );
+    left(rt, &done, Why::Ended(Ended::End), 3, b"b1o1b2o2b3o3");
+    three_are_taken(rt, intake, last);
+    let Done { end, gate, .. } = done;
+    drop(gate);
+    end
+}
+
+#[test]
+fn a_worker_counts_its_own_items(rt: HostRuntime) {
+    let (mut intake, first) = one_end(&rt, rt.alloc(), 4);
+    let second = one_more_round(&rt, rt.alloc(), &mut intake, first, 0);
+    let third = one_more_round(&rt, rt.alloc(), &mut intake, second, 3);
+    drop(one_more_round(&rt, rt.alloc(), &mut intake, third, 6));
+    drop(intake);
 }
 
 /// Has the queue's other side, and writes down what stands in the queue at each of its calls. It takes what is queued
@@ -153,56 +200,49 @@ impl<T: Wait> Gate for Watching<T> {
     }
 }
 
-/// The calls of a worker that has the three records and a queue of one place.
-fn watched<T: Wait + Copy + Drop>(
-    rt: &T,
-    alloc: Global,
-    at_once: bool,
-) -> Option<Done<Watching<T>>> {
-    let (intake, mut ends) = queue(alloc, 1, 1).ok()?;
-    let end = ends.pop()?;
-    let reader = IngressReader::new(alloc, Dripping::new(THREE, 100, false), 100).ok()?;
+// A worker that has the three records and a queue of one place makes these calls.
+fn watched<T: Wait + Abort + Copy + Drop>(rt: &T, alloc: Global, at_once: bool, calls: &[u8]) {
+    let (intake, end) = one_end(rt, alloc, 1);
     let gate = Watching {
         rt: *rt,
         intake,
         calls: Vec::new(alloc),
         at_once,
     };
-    Some(run_worker(rt, reader, end, gate))
+    let done = run_worker(rt, dripping(rt, alloc, THREE, 100, 100), end, gate);
+    assert_eq!(rt; done.gate.calls.as_slice(), calls);
+    drop(done);
 }
 
 #[test]
-fn an_item_is_offered_between_the_calls_of_its_gate(rt: HostRuntime) -> Result<(), Fail> {
-    let at_once = watched(&rt, rt.alloc(), true).ok_or("at once")?;
-    assert_eq!(rt; at_once.gate.calls.as_slice(), b"b-o1b-o2b-o3".as_slice());
-    let full = watched(&rt, rt.alloc(), false).ok_or("full")?;
-    assert_eq!(rt; full.gate.calls.as_slice(), b"bobf1obf2o".as_slice());
-    Ok(())
+fn an_item_is_offered_between_the_calls_of_its_gate(rt: HostRuntime) {
+    watched(&rt, rt.alloc(), true, b"b-o1b-o2b-o3");
+    watched(&rt, rt.alloc(), false, b"bobf1obf2o");
+}
+
+// A worker whose reader has these bytes, and fails in place of the byte at a place, ends so.
+fn worker_ends<T: Wait + Abort>(rt: &T, alloc: Global, row: (&[u8], usize, Ended, u64)) {
+    let (bytes, failing, ended, tally) = row;
+    let (intake, end) = one_end(rt, alloc, 4);
+    let reader = IngressReader::new(alloc, Dripping::new(bytes, failing, true), 100)
+        .ok()
+        .expect(rt, "a reader");
+    let done = run_worker(rt, reader, end, noting(alloc, 0));
+    drop(intake);
+    assert_eq!(rt; (done.why, done.tally), (Why::Ended(ended), tally));
+    assert_eq!(rt; done.gate.calls.len() as u64, tally.saturating_mul(4));
+    drop(done);
 }
 
 #[test]
-fn a_worker_ends_with_its_reader(rt: HostRuntime) -> Result<(), Fail> {
-    let cases: [(&[u8], usize, Ended, u64); 3] = [
-        (THREE, 7, Ended::Fault, 1),
-        (&THREE[..12], 100, Ended::Cut, 2),
+fn a_worker_ends_with_its_reader(rt: HostRuntime) {
+    worker_ends(&rt, rt.alloc(), (THREE, 7, Ended::Fault, 1));
+    worker_ends(&rt, rt.alloc(), (&THREE[..12], 100, Ended::Cut, 2));
+    worker_ends(
+        &rt,
+        rt.alloc(),
         (&[1, 97, 0, 1, 98, 0], 100, Ended::BadRecord, 1),
-    ];
-    for (bytes, failing, ended, tally) in cases {
-        let (_intake, mut ends) = queue(rt.alloc(), 4, 1).ok().ok_or("queue")?;
-        let end = ends.pop().ok_or("end")?;
-        let reader = IngressReader::new(rt.alloc(), Dripping::new(bytes, failing, true), 100)
-            .ok()
-            .ok_or("reader")?;
-        let gate = Notes {
-            calls: Vec::new(rt.alloc()),
-            again: 0,
-        };
-        let done = run_worker(&rt, reader, end, gate);
-        assert_eq!(rt; done.why, Why::Ended(ended));
-        assert_eq!(rt; done.tally, tally);
-        assert_eq!(rt; done.gate.calls.len() as u64, 4 * tally);
-    }
-    Ok(())
+    );
 }
 
 /// Gives a record a read, and counts its reads.
@@ -232,24 +272,21 @@ impl Source for Counting {
 }
 
 #[test]
-fn a_stopped_worker_reads_no_more(rt: HostRuntime) -> Result<(), Fail> {
-    let reads = Arc::new(rt.alloc(), AtomicU64::new(0)).ok().ok_or("word")?;
+fn a_stopped_worker_reads_no_more(rt: HostRuntime) {
+    let reads = word(&rt, rt.alloc());
     let counting = Counting {
-        reads: Arc::try_clone(&reads)?,
+        reads: Arc::try_clone(&reads).ok().expect(&rt, "a word"),
     };
     let reader = IngressReader::new(rt.alloc(), counting, 100)
         .ok()
-        .ok_or("reader")?;
-    let (_intake, mut ends) = queue(rt.alloc(), 1, 1).ok().ok_or("queue")?;
-    let end = ends.pop().ok_or("end")?;
-    let gate = Notes {
-        calls: Vec::new(rt.alloc()),
-        again: 0,
-    };
-    let done = run_worker(&rt, reader, end, gate);
+        .expect(&rt, "a reader");
+    let (intake, end) = one_end(&rt, rt.alloc(), 1);
+    let done = run_worker(&rt, reader, end, noting(rt.alloc(), 0));
+    drop(intake);
     assert_eq!(rt; done.why, Why::Stopped);
+    drop(done);
     assert_eq!(rt; reads.load(Ordering::SeqCst), 2);
-    Ok(())
+    drop(reads);
 }
 
 /// Gives a record a read; the second only after a word is set, and it fails where that does not come.
@@ -315,51 +352,78 @@ impl Gate for Setting {
 }
 
 fn job(
+    rt: &impl Abort,
     alloc: Global,
     end: IngressEnd,
     own: &Arc<AtomicU64>,
     other: &Arc<AtomicU64>,
-) -> Result<Job<Waiting, Setting>, Fail> {
+) -> Job<Waiting, Setting> {
     let waiting = Waiting {
         reads: 0,
-        word: Arc::try_clone(other)?,
+        word: Arc::try_clone(other).ok().expect(rt, "a word"),
     };
     let reader = IngressReader::new(alloc, waiting, 100)
         .ok()
-        .ok_or("reader")?;
-    let word = Arc::try_clone(own)?;
-    Ok(Job {
+        .expect(rt, "a reader");
+    let word = Arc::try_clone(own).ok().expect(rt, "a word");
+    Job {
         reader,
         end,
         gate: Setting { word },
-    })
+    }
 }
 
-#[test]
-fn workers_beside(rt: HostRuntime) -> Result<(), Fail> {
-    let (mut intake, mut ends) = queue(rt.alloc(), 4, 2).ok().ok_or("queue")?;
-    let one = Arc::new(rt.alloc(), AtomicU64::new(0)).ok().ok_or("word")?;
-    let other = Arc::new(rt.alloc(), AtomicU64::new(0)).ok().ok_or("word")?;
-    let second = job(rt.alloc(), ends.pop().ok_or("end")?, &other, &one)?;
-    let first = job(rt.alloc(), ends.pop().ok_or("end")?, &one, &other)?;
-    let mut jobs = Vec::with_capacity(rt.alloc(), 2)?;
-    jobs.push(first).ok().ok_or("push")?;
-    jobs.push(second).ok().ok_or("push")?;
-    let all = run_workers(&rt, rt.alloc(), jobs).ok().ok_or("workers")?;
+fn word(rt: &impl Abort, alloc: Global) -> Arc<AtomicU64> {
+    Arc::new(alloc, AtomicU64::new(0)).ok().expect(rt, "memory")
+}
+
+// Two jobs, of which each reads on only after the other has queued an item.
+fn jobs_beside(
+    rt: &impl Abort,
+    alloc: Global,
+    ends: &mut Vec<IngressEnd>,
+) -> Vec<Job<Waiting, Setting>> {
+    let (one, other) = (word(rt, alloc), word(rt, alloc));
+    let second = job(rt, alloc, ends.pop().expect(rt, "an end"), &other, &one);
+    let first = job(rt, alloc, ends.pop().expect(rt, "an end"), &one, &other);
+    drop(one);
+    drop(other);
+    let mut jobs = Vec::with_capacity(alloc, 2).expect(rt, "memory");
+    jobs.push(first).ok().expect(rt, "room");
+    jobs.push(second).ok().expect(rt, "room");
+    jobs
+}
+
+fn are_done(rt: &impl Abort, all: &[Done<Setting>]) {
     assert_eq!(rt; all.len(), 2);
-    for done in &all {
+    for done in all {
         assert_eq!(rt; done.why, Why::Ended(Ended::End));
         assert_eq!(rt; done.tally, 2);
     }
+}
+
+// Four offers stand in the queue, those of each worker in their order.
+fn come_in_order<T: Wait + Abort>(rt: &T, intake: &mut Intake) {
     let mut numbers: [u64; 2] = [0, 0];
     for _ in 0..4 {
-        let Some((worker, n, _payload)) = taken(&rt, &mut intake) else {
-            return Err("offer".into());
-        };
+        let (worker, n, _payload) = taken(rt, intake).expect(rt, "an offer");
         let place = if worker == 1 { 0 } else { 1 };
         assert_eq!(rt; n, numbers[place].saturating_add(1));
         numbers[place] = n;
     }
-    assert_eq!(rt; taken(&rt, &mut intake), None);
-    Ok(())
+    assert_eq!(rt; taken(rt, intake), None);
+}
+
+#[test]
+fn workers_beside(rt: HostRuntime) {
+    let (mut intake, mut ends) = queue(rt.alloc(), 4, 2).expect(&rt, "a queue");
+    let jobs = jobs_beside(&rt, rt.alloc(), &mut ends);
+    drop(ends);
+    let all = run_workers(&rt, rt.alloc(), jobs)
+        .ok()
+        .expect(&rt, "workers");
+    are_done(&rt, all.as_slice());
+    drop(all);
+    come_in_order(&rt, &mut intake);
+    drop(intake);
 }

@@ -72,14 +72,18 @@ fn is_cut(
     let mut output = bytewise(rt, alloc, accepted, last);
     assert_eq!(rt; journal.audit(&mut output), Err(Fault));
     assert_eq!(rt; Some(output.bytes()), want.get(..accepted));
+    drop(output);
 }
 
 // The audit is this text, in one piece and byte by byte.
 fn is_written(rt: &impl Abort, alloc: Global, journal: &Journal, want: &[u8]) {
-    is_text(rt, audit_of(rt, alloc, journal).bytes(), want);
+    let audit = audit_of(rt, alloc, journal);
+    is_text(rt, audit.bytes(), want);
+    drop(audit);
     let mut output = bytewise(rt, alloc, want.len(), Answer::Failed);
     assert_eq!(rt; journal.audit(&mut output), Ok(()));
     is_text(rt, output.bytes(), want);
+    drop(output);
 }
 
 // Whatever byte of the audit a writer refuses, the journal is as it was.
@@ -149,7 +153,9 @@ fn comes_to<S: Rates + Copy>(
     let mut output = Tape::new(alloc);
     let engine = after(rt, alloc, shelf, life, script, &mut output);
     is_text(rt, output.bytes(), printed);
+    drop(output);
     show_the_same(rt, link, &engine);
+    drop(engine);
 }
 
 // The audit, run as a script in a life that is not shorter, is answered by the journal's replies.
@@ -171,6 +177,28 @@ pub(super) fn replays<S: Rates + Copy>(
         replies.bytes(),
         recorder.engine(),
     );
+    drop(audit);
+    drop(replies);
+}
+
+// The audit with its first line at its end.
+fn edited(rt: &impl Abort, alloc: Global, journal: &Journal) -> Vec<u8> {
+    let audit = audit_of(rt, alloc, journal);
+    let events = audit.bytes().get(8..).expect(rt, "a first line");
+    let mut script = events.to_vec(alloc).expect(rt, "memory");
+    drop(audit);
+    script.extend_from_slice(b"audit 1\n").expect(rt, "memory");
+    script
+}
+
+fn printed_by_the_edited(rt: &impl Abort, alloc: Global, journal: &Journal) -> Vec<u8> {
+    let replies = replies_of(rt, alloc, journal);
+    let mut printed = replies.bytes().to_vec(alloc).expect(rt, "memory");
+    drop(replies);
+    printed
+        .extend_from_slice(b"no 3 Syntax\n")
+        .expect(rt, "memory");
+    printed
 }
 
 // An edited audit is a script like any other: its first line is no line at its end, and the others are answered alike.
@@ -180,15 +208,8 @@ fn replays_edited<S: Rates + Copy>(
     shelf: S,
     recorder: &Recorder<Scripted, S>,
 ) {
-    let audit = audit_of(rt, alloc, recorder.journal());
-    let events = audit.bytes().get(8..).expect(rt, "a first line");
-    let mut script = events.to_vec(alloc).expect(rt, "memory");
-    script.extend_from_slice(b"audit 1\n").expect(rt, "memory");
-    let replies = replies_of(rt, alloc, recorder.journal());
-    let mut printed = replies.bytes().to_vec(alloc).expect(rt, "memory");
-    printed
-        .extend_from_slice(b"no 3 Syntax\n")
-        .expect(rt, "memory");
+    let script = edited(rt, alloc, recorder.journal());
+    let printed = printed_by_the_edited(rt, alloc, recorder.journal());
     comes_to(
         rt,
         alloc,
@@ -198,6 +219,8 @@ fn replays_edited<S: Rates + Copy>(
         printed.as_slice(),
         recorder.engine(),
     );
+    drop(script);
+    drop(printed);
 }
 
 pub(super) fn all<S: Rates + Copy>(

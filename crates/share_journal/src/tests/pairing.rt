@@ -31,6 +31,8 @@ fn lives_that_differ<S: Rates + Copy>(rt: &impl Abort, alloc: Global, shelf: S) 
     let journal = Journal::new(alloc, 5).expect(rt, "a journal");
     let (engine, journal) = parts_back(rt, engine, journal);
     compare_parts(rt, &engine, &journal, (4, 5), 0);
+    drop(engine);
+    drop(journal);
 }
 
 fn used_parts<S: Rates + Copy>(rt: &impl Abort, alloc: Global, shelf: S) {
@@ -39,6 +41,8 @@ fn used_parts<S: Rates + Copy>(rt: &impl Abort, alloc: Global, shelf: S) {
     let (engine, journal) = recorder.into_parts();
     let (engine, journal) = parts_back(rt, engine, journal);
     compare_parts(rt, &engine, &journal, (4, 4), 1);
+    drop(engine);
+    drop(journal);
 }
 
 pub(super) fn all<S: Rates + Copy>(rt: &impl Abort, alloc: Global, shelf: S) {

@@ -165,10 +165,13 @@ fn run<S: Rates + Copy>(rt: &impl Abort, alloc: Global, shelf: S, world: &World,
     let mut draws = Draws::new(world.seed);
     let answers = draws.answers(rt, alloc, world.fault);
     let writer = scripted(rt, alloc, answers.as_slice());
+    drop(answers);
     let mut recorder = recording(rt, alloc, shelf, world.life, writer);
     let interrupted = drive(rt, alloc, &mut recorder, &mut draws, world);
     audits::replays(rt, alloc, shelf, &recorder, life);
-    met_by(rt, recorder.journal(), interrupted)
+    let met = met_by(rt, recorder.journal(), interrupted);
+    drop(recorder);
+    met
 }
 
 // Each kind of event but a fault was done so often at least, and so many faults were met.

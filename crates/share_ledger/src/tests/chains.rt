@@ -1,133 +1,95 @@
 //! Cycles, long chains, and the deepest graph that may stand.
 
-use super::{Change, empty, made, name, numbered, refused};
-use crate::Ledger;
-use share_base::{FlowNo, Refusal};
+use super::many::Many;
+use super::{Call, DONE, Row, Table, plays};
+use share_base::Refusal;
 use std::alloc::Global;
 use std::process::Abort;
 
-// Nine currencies c1 to c9, a ticket of each with its number, of which the first seven fund the next currency.
-pub(super) fn chain_of_eight(rt: &impl Abort, ledger: &mut Ledger) {
-    for k in 1..10 {
-        let currency = numbered(rt, b'c', k);
-        made(rt, ledger, &[Change::MakeCurrency(currency)]);
-        made(rt, ledger, &[Change::MakeTicket(1, currency)]);
-    }
-    for k in 1..8 {
-        let next = numbered(rt, b'c', k + 1);
-        made(rt, ledger, &[Change::FundCurrency(k as u64, next)]);
-    }
-}
+/// Nine currencies c1 to c9, a ticket of each with its number, of which the first seven fund the next currency.
+pub(super) const CHAIN_OF_EIGHT: [Row; 25] = [
+    (Call::MakeCurrency("c1"), DONE),
+    (Call::MakeTicket(1, "c1"), Ok(Some(1))),
+    (Call::MakeCurrency("c2"), DONE),
+    (Call::MakeTicket(1, "c2"), Ok(Some(2))),
+    (Call::MakeCurrency("c3"), DONE),
+    (Call::MakeTicket(1, "c3"), Ok(Some(3))),
+    (Call::MakeCurrency("c4"), DONE),
+    (Call::MakeTicket(1, "c4"), Ok(Some(4))),
+    (Call::MakeCurrency("c5"), DONE),
+    (Call::MakeTicket(1, "c5"), Ok(Some(5))),
+    (Call::MakeCurrency("c6"), DONE),
+    (Call::MakeTicket(1, "c6"), Ok(Some(6))),
+    (Call::MakeCurrency("c7"), DONE),
+    (Call::MakeTicket(1, "c7"), Ok(Some(7))),
+    (Call::MakeCurrency("c8"), DONE),
+    (Call::MakeTicket(1, "c8"), Ok(Some(8))),
+    (Call::MakeCurrency("c9"), DONE),
+    (Call::MakeTicket(1, "c9"), Ok(Some(9))),
+    (Call::Back(1, "c2"), DONE),
+    (Call::Back(2, "c3"), DONE),
+    (Call::Back(3, "c4"), DONE),
+    (Call::Back(4, "c5"), DONE),
+    (Call::Back(5, "c6"), DONE),
+    (Call::Back(6, "c7"), DONE),
+    (Call::Back(7, "c8"), DONE),
+];
 
-#[test]
-fn no_cycle(rt: HostRuntime) {
-    let (x, y) = (name(&rt, "x"), name(&rt, "y"));
-    let mut ledger = empty(&rt, rt.alloc());
-    made(
-        &rt,
-        &mut ledger,
-        &[
-            Change::MakeCurrency(x),
-            Change::MakeCurrency(y),
-            Change::MakeTicket(1, x),
-            Change::MakeTicket(1, y),
-            Change::FundCurrency(1, y),
-        ],
-    );
-    refused(
-        &rt,
-        &mut ledger,
-        &[
-            (Change::FundCurrency(2, x), Refusal::Cycle),
-            (Change::FundCurrency(2, y), Refusal::Cycle),
-        ],
-    );
-}
+const NO_CYCLE: [Row; 7] = [
+    (Call::MakeCurrency("x"), DONE),
+    (Call::MakeCurrency("y"), DONE),
+    (Call::MakeTicket(1, "x"), Ok(Some(1))),
+    (Call::MakeTicket(1, "y"), Ok(Some(2))),
+    (Call::Back(1, "y"), DONE),
+    (Call::Back(2, "x"), Err(Refusal::Cycle)),
+    (Call::Back(2, "y"), Err(Refusal::Cycle)),
+];
 
-#[test]
-fn no_long_chain(rt: HostRuntime) {
-    let mut ledger = empty(&rt, rt.alloc());
-    chain_of_eight(&rt, &mut ledger);
-    let last = numbered(&rt, b'c', 9);
-    refused(
-        &rt,
-        &mut ledger,
-        &[(Change::FundCurrency(8, last), Refusal::Deep)],
-    );
-}
+const NO_LONG_CHAIN: [Row; 1] = [(Call::Back(8, "c9"), Err(Refusal::Deep))];
 
-// Eight currencies, each backed by the one before it through sixteen tickets: 16^8 paths.
-fn deep_chain(rt: &impl Abort, alloc: Global) -> Ledger {
-    let base = name(rt, "base");
-    let mut ledger = empty(rt, alloc);
-    for k in 1..=8 {
-        made(
-            rt,
-            &mut ledger,
-            &[Change::MakeCurrency(numbered(rt, b'c', k))],
-        );
-    }
-    for k in 0..8_u64 {
-        let from = if k == 0 {
-            base
-        } else {
-            numbered(rt, b'c', k as usize)
-        };
-        let to = numbered(rt, b'c', k as usize + 1);
-        for j in 1..=16_u64 {
-            made(
-                rt,
-                &mut ledger,
-                &[
-                    Change::MakeTicket(65536, from),
-                    Change::FundCurrency(16 * k + j, to),
-                ],
-            );
-        }
-    }
-    ledger
-}
+/// Eight currencies, each backed by the one before it through sixteen tickets: 16^8 paths. 64 flows are funded by
+/// fourteen tickets each of the last currency: 1024 tickets in all.
+const DEEP_GRAPH: [Row; 17] = [
+    (Call::MakeCurrency("c1"), DONE),
+    (Call::MakeCurrency("c2"), DONE),
+    (Call::MakeCurrency("c3"), DONE),
+    (Call::MakeCurrency("c4"), DONE),
+    (Call::MakeCurrency("c5"), DONE),
+    (Call::MakeCurrency("c6"), DONE),
+    (Call::MakeCurrency("c7"), DONE),
+    (Call::MakeCurrency("c8"), DONE),
+    (Call::Many(Many::Back(65536, "base", "c1")), DONE),
+    (Call::Many(Many::Back(65536, "c1", "c2")), DONE),
+    (Call::Many(Many::Back(65536, "c2", "c3")), DONE),
+    (Call::Many(Many::Back(65536, "c3", "c4")), DONE),
+    (Call::Many(Many::Back(65536, "c4", "c5")), DONE),
+    (Call::Many(Many::Back(65536, "c5", "c6")), DONE),
+    (Call::Many(Many::Back(65536, "c6", "c7")), DONE),
+    (Call::Many(Many::Back(65536, "c7", "c8")), DONE),
+    (Call::Many(Many::Flows("c8")), DONE),
+];
 
-// The deep chain, and 64 flows that are funded by fourteen tickets each of the last currency: 1024 tickets in all.
-fn deep_graph(rt: &impl Abort, alloc: Global) -> Ledger {
-    let last = numbered(rt, b'c', 8);
-    let mut ledger = deep_chain(rt, alloc);
-    for k in 0..64 {
-        made(rt, &mut ledger, &[Change::Open(numbered(rt, b'f', k))]);
-    }
-    for k in 0..896_u64 {
-        let flow = numbered(rt, b'f', (k / 14) as usize);
-        made(
-            rt,
-            &mut ledger,
-            &[Change::MakeTicket(1, last), Change::FundFlow(k + 129, flow)],
-        );
-    }
-    ledger
-}
+/// Each call answers at once, whatever the number of paths.
+const ANSWERS_AT_ONCE: [Row; 7] = [
+    (Call::MakeTicket(1, "base"), Err(Refusal::TableFull)),
+    (Call::Back(1, "c8"), Err(Refusal::Funding)),
+    (Call::Many(Many::Activate), DONE),
+    (Call::TicketsOfEach(64), Ok(Some(1048576 / 896 * 14))),
+    (Call::SetActive(64, false), DONE),
+    (Call::TicketsOfEach(63), Ok(Some(1048576 / 882 * 14))),
+    (Call::Tickets(64), Ok(Some(0))),
+];
 
-// Each call answers at once, whatever the number of paths.
-#[test]
-fn deep_graph_answers_at_once(rt: HostRuntime) {
-    let (base, last) = (name(&rt, "base"), numbered(&rt, b'c', 8));
-    let mut ledger = deep_graph(&rt, rt.alloc());
-    refused(
-        &rt,
-        &mut ledger,
-        &[
-            (Change::MakeTicket(1, base), Refusal::TableFull),
-            (Change::FundCurrency(1, last), Refusal::Funding),
-        ],
-    );
-    for flow in 1..=64 {
-        ledger.set_active(FlowNo(flow), true);
-    }
-    for flow in 1..=64 {
-        assert_eq!(rt; ledger.tickets(FlowNo(flow)), 1048576 / 896 * 14);
-    }
-    ledger.set_active(FlowNo(64), false);
-    for flow in 1..=63 {
-        assert_eq!(rt; ledger.tickets(FlowNo(flow)), 1048576 / 882 * 14);
-    }
-    assert_eq!(rt; ledger.tickets(FlowNo(64)), 0);
+const TABLES: [Table; 3] = [
+    ("no cycle", &[], &NO_CYCLE),
+    ("no long chain", &CHAIN_OF_EIGHT, &NO_LONG_CHAIN),
+    (
+        "a deep graph answers at once",
+        &DEEP_GRAPH,
+        &ANSWERS_AT_ONCE,
+    ),
+];
+
+pub(super) fn all(rt: &impl Abort, alloc: Global) {
+    plays(rt, alloc, &TABLES);
 }

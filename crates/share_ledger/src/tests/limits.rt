@@ -1,159 +1,88 @@
 //! Holders and tables that are full.
 
-use super::{Change, apply, empty, made, name, numbered, refused};
-use crate::Ledger;
-use share_base::{FlowNo, Name, Refusal, Reply};
+use super::many::Many;
+use super::{Call, DONE, NONE, Row, Table, plays};
+use share_base::Refusal;
 use std::alloc::Global;
 use std::process::Abort;
 
-#[test]
-fn holders_are_crowded_at_sixteen(rt: HostRuntime) {
-    let (base, x, a) = (name(&rt, "base"), name(&rt, "x"), name(&rt, "a"));
-    let mut ledger = empty(&rt, rt.alloc());
-    made(
-        &rt,
-        &mut ledger,
-        &[Change::MakeCurrency(x), Change::Open(a)],
-    );
-    for k in 1..=16_u64 {
-        made(
-            &rt,
-            &mut ledger,
-            &[Change::MakeTicket(1, base), Change::FundFlow(k, a)],
-        );
-    }
-    for k in 17..=32_u64 {
-        made(
-            &rt,
-            &mut ledger,
-            &[Change::MakeTicket(1, base), Change::FundCurrency(k, x)],
-        );
-    }
-    made(&rt, &mut ledger, &[Change::MakeTicket(1, base)]);
-    refused(
-        &rt,
-        &mut ledger,
-        &[
-            (Change::FundFlow(33, a), Refusal::Crowded),
-            (Change::FundCurrency(33, x), Refusal::Crowded),
-        ],
-    );
-    ledger.set_active(FlowNo(1), true);
-    assert_eq!(rt; ledger.tickets(FlowNo(1)), 16);
-    made(
-        &rt,
-        &mut ledger,
-        &[Change::Unfund(16), Change::FundFlow(33, a)],
-    );
-    assert_eq!(rt; ledger.tickets(FlowNo(1)), 16);
-}
+/// The tickets 1 to 16 fund the flow, 17 to 32 back the currency.
+const CROWDED_AT_SIXTEEN: [Row; 12] = [
+    (Call::MakeCurrency("x"), DONE),
+    (Call::Open("a"), Ok(Some(1))),
+    (Call::Many(Many::Fund("a")), DONE),
+    (Call::Many(Many::Back(1, "base", "x")), DONE),
+    (Call::MakeTicket(1, "base"), Ok(Some(33))),
+    (Call::Fund(33, "a"), Err(Refusal::Crowded)),
+    (Call::Back(33, "x"), Err(Refusal::Crowded)),
+    (Call::SetActive(1, true), DONE),
+    (Call::Tickets(1), Ok(Some(16))),
+    (Call::Unfund(16), DONE),
+    (Call::Fund(33, "a"), DONE),
+    (Call::Tickets(1), Ok(Some(16))),
+];
 
-// 64 currencies, 64 flows of the same names, and 1024 tickets.
-fn full(rt: &impl Abort, alloc: Global) -> Ledger {
-    let base = name(rt, "base");
-    let mut ledger = empty(rt, alloc);
-    for k in 0..64 {
-        let both = numbered(rt, b'c', k);
-        made(
-            rt,
-            &mut ledger,
-            &[Change::MakeCurrency(both), Change::Open(both)],
-        );
-    }
-    for _ in 0..1024 {
-        made(rt, &mut ledger, &[Change::MakeTicket(1, base)]);
-    }
-    ledger
-}
+const FULL: [Row; 1] = [(Call::Many(Many::Full), DONE)];
 
-#[test]
-fn tables_are_full(rt: HostRuntime) {
-    let (base, fresh) = (name(&rt, "base"), name(&rt, "fresh"));
-    let taken = numbered(&rt, b'c', 7);
-    let mut ledger = full(&rt, rt.alloc());
-    assert_eq!(rt; ledger.add_flow_refusal(fresh), Some(Refusal::TableFull));
-    assert_eq!(rt; ledger.add_flow_refusal(taken), Some(Refusal::Taken));
-    refused(
-        &rt,
-        &mut ledger,
-        &[
-            (Change::MakeCurrency(fresh), Refusal::TableFull),
-            (Change::MakeCurrency(taken), Refusal::Taken),
-            (Change::MakeCurrency(base), Refusal::Taken),
-            (Change::Open(fresh), Refusal::TableFull),
-            (Change::Open(taken), Refusal::Taken),
-            (Change::MakeTicket(1, base), Refusal::TableFull),
-            (Change::MakeTicket(0, fresh), Refusal::Range),
-            (Change::MakeTicket(1, fresh), Refusal::NoCurrency),
-        ],
-    );
-}
+const TABLES_ARE_FULL: [Row; 10] = [
+    (Call::WhyNot("fresh"), Err(Refusal::TableFull)),
+    (Call::WhyNot("c07"), Err(Refusal::Taken)),
+    (Call::MakeCurrency("fresh"), Err(Refusal::TableFull)),
+    (Call::MakeCurrency("c07"), Err(Refusal::Taken)),
+    (Call::MakeCurrency("base"), Err(Refusal::Taken)),
+    (Call::Open("fresh"), Err(Refusal::TableFull)),
+    (Call::Open("c07"), Err(Refusal::Taken)),
+    (Call::MakeTicket(1, "base"), Err(Refusal::TableFull)),
+    (Call::MakeTicket(0, "fresh"), Err(Refusal::Range)),
+    (Call::MakeTicket(1, "fresh"), Err(Refusal::NoCurrency)),
+];
 
-// An active flow of this name and number stands at a place.
-fn stands(rt: &impl Abort, ledger: &Ledger, place: usize, name: Name, flow: FlowNo) {
-    let (found, open) = ledger.flow_at(place).expect(rt, "a flow");
-    assert_eq!(rt; found, name);
-    assert_eq!(rt; open.number, flow);
-    assert!(rt; open.active);
-}
+const ROOM_AFTER_REMOVALS: [Row; 8] = [
+    (Call::Close(8), DONE),
+    (Call::Flow("c07"), NONE),
+    (Call::Open("c07"), Ok(Some(65))),
+    (Call::RemoveCurrency("c07"), DONE),
+    (Call::MakeCurrency("fresh"), DONE),
+    (Call::RemoveTicket(5), DONE),
+    (Call::MakeTicket(1, "fresh"), Ok(Some(1025))),
+    (Call::NextTicket, Ok(Some(1026))),
+];
 
-#[test]
-fn flows_by_place(rt: HostRuntime) {
-    let (base, a, b) = (name(&rt, "base"), name(&rt, "a"), name(&rt, "b"));
-    let mut ledger = empty(&rt, rt.alloc());
-    made(
-        &rt,
-        &mut ledger,
-        &[
-            Change::Open(a),
-            Change::Open(b),
-            Change::MakeTicket(5, base),
-            Change::FundFlow(1, b),
-        ],
-    );
-    ledger.set_active(FlowNo(2), true);
-    assert_eq!(rt; ledger.flow_count(), 2);
-    assert!(rt; ledger.flow_at(2).is_none());
-    stands(&rt, &ledger, 1, b, FlowNo(2));
-    ledger.remove_flow(FlowNo(1));
-    stands(&rt, &ledger, 0, b, FlowNo(2));
-    assert!(rt; ledger.flow_count() == 1);
-    if 0 < ledger.flow_count() {
-        assert_eq!(rt; ledger.tickets_at(0), 5);
-    }
-    assert_eq!(rt; ledger.tickets(FlowNo(1)), 0);
-}
+const FLOWS_BY_PLACE: [Row; 13] = [
+    (Call::Open("a"), Ok(Some(1))),
+    (Call::Open("b"), Ok(Some(2))),
+    (Call::MakeTicket(5, "base"), Ok(Some(1))),
+    (Call::Fund(1, "b"), DONE),
+    (Call::SetActive(2, true), DONE),
+    (Call::Flows, Ok(Some(2))),
+    (Call::FlowAt(2), NONE),
+    (Call::ActiveAt(1, "b"), Ok(Some(2))),
+    (Call::Close(1), DONE),
+    (Call::ActiveAt(0, "b"), Ok(Some(2))),
+    (Call::Flows, Ok(Some(1))),
+    (Call::TicketsAt(0), Ok(Some(5))),
+    (Call::Tickets(1), Ok(Some(0))),
+];
 
-#[test]
-fn open_names_are_taken(rt: HostRuntime) {
-    let a = name(&rt, "a");
-    let mut ledger = empty(&rt, rt.alloc());
-    assert_eq!(rt; ledger.flow_count(), 0);
-    assert_eq!(rt; ledger.add_flow_refusal(a), None);
-    made(&rt, &mut ledger, &[Change::Open(a)]);
-    assert_eq!(rt; ledger.add_flow_refusal(a), Some(Refusal::Taken));
-}
+const OPEN_NAMES_ARE_TAKEN: [Row; 4] = [
+    (Call::Flows, Ok(Some(0))),
+    (Call::WhyNot("a"), NONE),
+    (Call::Open("a"), Ok(Some(1))),
+    (Call::WhyNot("a"), Err(Refusal::Taken)),
+];
 
-#[test]
-fn full_tables_have_room_after_removals(rt: HostRuntime) {
-    let fresh = name(&rt, "fresh");
-    let taken = numbered(&rt, b'c', 7);
-    let mut ledger = full(&rt, rt.alloc());
-    ledger.remove_flow(FlowNo(8));
-    assert_eq!(rt; ledger.flow(taken), None);
-    assert_eq!(rt;
-        apply(&mut ledger, Change::Open(taken)),
-        Reply::Flow(FlowNo(65))
-    );
-    made(
-        &rt,
-        &mut ledger,
-        &[
-            Change::RemoveCurrency(taken),
-            Change::MakeCurrency(fresh),
-            Change::RemoveTicket(5),
-            Change::MakeTicket(1, fresh),
-        ],
-    );
-    assert_eq!(rt; ledger.next_ticket(), 1026);
+const TABLES: [Table; 5] = [
+    ("holders are crowded at sixteen", &[], &CROWDED_AT_SIXTEEN),
+    ("tables are full", &FULL, &TABLES_ARE_FULL),
+    (
+        "full tables have room after removals",
+        &FULL,
+        &ROOM_AFTER_REMOVALS,
+    ),
+    ("flows by place", &[], &FLOWS_BY_PLACE),
+    ("open names are taken", &[], &OPEN_NAMES_ARE_TAKEN),
+];
+
+pub(super) fn all(rt: &impl Abort, alloc: Global) {
+    plays(rt, alloc, &TABLES);
 }

@@ -91,7 +91,12 @@ impl Model {
     }
 
     fn has_currency(&self, name: Name) -> bool {
-        self.accounts.iter().any(|account| account.name == name)
+        for account in &self.accounts {
+            if account.name == name {
+                return true;
+            }
+        }
+        false
     }
 
     fn is_base(&self, name: Name) -> bool {
@@ -158,6 +163,33 @@ impl Model {
         self.rank_of(name).saturating_add(1)
     }
 
+    // Lifts the currency that a ticket backs to this rank at least. Whether it rose.
+    fn lift(&mut self, ticket: &Issued, rank: u64) -> bool {
+        let mut risen = false;
+        for account in self.accounts.iter_mut() {
+            if funds_currency(ticket, account.name) && account.rank < rank {
+                account.rank = rank;
+                risen = true;
+            }
+        }
+        risen
+    }
+
+    // Lifts each currency above those that back it. Whether any rose.
+    fn lift_all(&mut self) -> bool {
+        let mut risen = false;
+        for k in 0..self.issued.len() {
+            let Some(ticket) = self.issued.get(k).copied() else {
+                break;
+            };
+            if !self.is_base(ticket.currency) {
+                let above = self.rank_of(ticket.currency).saturating_add(1);
+                risen |= self.lift(&ticket, above);
+            }
+        }
+        risen
+    }
+
     // The longest chain of currencies that ends at each, `base` not counted. The run has eleven currencies, so a
     // rank of 12 is met in a cycle alone.
     fn rank(&mut self) {
@@ -165,23 +197,7 @@ impl Model {
             account.rank = 0;
         }
         for _ in 0..20 {
-            let mut risen = false;
-            for k in 0..self.issued.len() {
-                let Some(ticket) = self.issued.get(k).copied() else {
-                    return;
-                };
-                if self.is_base(ticket.currency) {
-                    continue;
-                }
-                let above = self.rank_of(ticket.currency).saturating_add(1);
-                for account in self.accounts.iter_mut() {
-                    if funds_currency(&ticket, account.name) && account.rank < above {
-                        account.rank = above;
-                        risen = true;
-                    }
-                }
-            }
-            if !risen {
+            if !self.lift_all() {
                 return;
             }
         }
@@ -199,9 +215,21 @@ impl Model {
     }
 
     fn is_active_flow(&self, flow: u32) -> bool {
-        self.opened
-            .iter()
-            .any(|open| open.number == flow && open.active)
+        for open in &self.opened {
+            if open.number == flow {
+                return open.active;
+            }
+        }
+        false
+    }
+
+    fn is_active_currency(&self, name: Name) -> bool {
+        for account in &self.accounts {
+            if account.name == name {
+                return account.active > 0;
+            }
+        }
+        false
     }
 
     fn is_active(&self, ticket: &Issued) -> bool {
@@ -209,11 +237,7 @@ impl Model {
         match funds {
             Funds::Nothing => false,
             Funds::Flow(flow) => self.is_active_flow(flow),
-            Funds::Currency(name) => {
-                self.accounts
-                    .iter()
-                    .any(|account| account.name == name && account.active > 0)
-            }
+            Funds::Currency(name) => self.is_active_currency(name),
         }
     }
 
@@ -253,32 +277,44 @@ impl Model {
         }
     }
 
-    /// Active amounts from the ends of chains backwards, and then values from their beginnings on.
-    pub(crate) fn settle(&mut self) {
-        self.rank();
+    fn clear(&mut self) {
         for account in self.accounts.iter_mut() {
             account.active = 0;
             account.value = 0;
         }
-        for step in 0..10_u64 {
-            for k in 0..self.issued.len() {
-                let Some(ticket) = self.issued.get(k).copied() else {
-                    return;
-                };
-                if self.rank_of(ticket.currency) == 9 - step && !self.is_base(ticket.currency) {
-                    self.add_to_active(&ticket);
-                }
+    }
+
+    fn add_active_of(&mut self, rank: u64) {
+        for k in 0..self.issued.len() {
+            let Some(ticket) = self.issued.get(k).copied() else {
+                return;
+            };
+            if self.rank_of(ticket.currency) == rank && !self.is_base(ticket.currency) {
+                self.add_to_active(&ticket);
             }
         }
-        for step in 0..10_u64 {
-            for k in 0..self.issued.len() {
-                let Some(ticket) = self.issued.get(k).copied() else {
-                    return;
-                };
-                if self.step_of(ticket.currency) == step {
-                    self.add_to_value(&ticket);
-                }
+    }
+
+    fn add_values_of(&mut self, step: u64) {
+        for k in 0..self.issued.len() {
+            let Some(ticket) = self.issued.get(k).copied() else {
+                return;
+            };
+            if self.step_of(ticket.currency) == step {
+                self.add_to_value(&ticket);
             }
+        }
+    }
+
+    /// Active amounts from the ends of chains backwards, and then values from their beginnings on.
+    pub(crate) fn settle(&mut self) {
+        self.rank();
+        self.clear();
+        for step in 0..10_u64 {
+            self.add_active_of(9 - step);
+        }
+        for step in 0..10_u64 {
+            self.add_values_of(step);
         }
     }
 

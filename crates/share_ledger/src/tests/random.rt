@@ -1,12 +1,11 @@
 //! A long run of changes, drawn by a generator, of a ledger and of the model beside it.
 
 use super::model::Model;
-use super::{Change, apply, empty, name, numbered};
+use super::{Change, apply, empty, name, number_of, numbered};
 use crate::Ledger;
 use share_base::{FlowNo, Name, Refusal, Reply};
-use std::alloc::{AllocError, Global};
+use std::alloc::Global;
 use std::process::Abort;
-use std::test::Fail;
 
 /// The steps of each run.
 const STEPS: u32 = 12500;
@@ -89,6 +88,13 @@ fn bit_of(refusal: &Refusal) -> u64 {
     1_u64.wrapping_shl(refusal.number())
 }
 
+fn met_in(reply: Reply) -> u64 {
+    match reply {
+        Reply::Refused(refusal) => bit_of(&refusal),
+        _ => 0,
+    }
+}
+
 /// The refusals that a long run has to meet.
 const REFUSALS: [Refusal; 12] = [
     Refusal::Range,
@@ -105,38 +111,50 @@ const REFUSALS: [Refusal; 12] = [
     Refusal::Deep,
 ];
 
-// Makes one step on both: a flow turns active or idle, or is removed, or a change is asked of both. Gives the refusal
-// of the change, if it was one.
-fn step(
-    rt: &impl Abort,
-    state: &mut u64,
-    ledger: &mut Ledger,
-    model: &mut Model,
-) -> Result<Option<Refusal>, AllocError> {
+// The number of an open flow, which both give.
+fn number_in_both(rt: &impl Abort, ledger: &Ledger, model: &Model, name: Name) -> Option<u32> {
+    let number = model.flow(name);
+    assert_eq!(rt; number_of(ledger.flow(name)), number);
+    number
+}
+
+fn set_active(ledger: &mut Ledger, model: &mut Model, flow: u32, active: bool) {
+    ledger.set_active(FlowNo(flow), active);
+    model.set_active(flow, active);
+}
+
+fn close(ledger: &mut Ledger, model: &mut Model, flow: u32) {
+    ledger.remove_flow(FlowNo(flow));
+    model.close(flow);
+}
+
+fn is_taken(rt: &impl Abort, ledger: &Ledger, name: Name, taken: bool) {
+    assert_eq!(rt; ledger.add_flow_refusal(name).is_some(), taken);
+}
+
+// Asks both for a change, and compares the answers.
+fn ask(rt: &impl Abort, state: &mut u64, ledger: &mut Ledger, model: &mut Model) -> Reply {
+    let asked = drawn(rt, state, ledger.next_ticket());
+    let same = asked;
+    let wanted = model.apply(same).expect(rt, "memory");
+    assert_eq!(rt; apply(ledger, asked), wanted);
+    wanted
+}
+
+// Makes one step on both: a flow turns active or idle, or is removed, or a change is asked of both. Gives the answer
+// to the change, if it was one.
+fn step(rt: &impl Abort, state: &mut u64, ledger: &mut Ledger, model: &mut Model) -> Reply {
     let k = next(state);
     let name = flow(rt, k);
-    let number = model.flow(name);
-    assert_eq!(rt; ledger.flow(name).map(|flow| flow.number()), number);
-    match number {
-        Some(number) if k % 64 < 30 => {
-            ledger.set_active(FlowNo(number), k % 3 > 0);
-            model.set_active(number, k % 3 > 0);
-        }
-        Some(number) if k % 64 == 30 => {
-            ledger.remove_flow(FlowNo(number));
-            model.close(number);
-        }
-        _ => {
-            assert_eq!(rt; ledger.add_flow_refusal(name).is_some(), number.is_some());
-            let change = drawn(rt, state, ledger.next_ticket());
-            let wanted = model.apply(change)?;
-            assert_eq!(rt; apply(ledger, change), wanted, "{change:?}");
-            if let Reply::Refused(refusal) = wanted {
-                return Ok(Some(refusal));
-            }
+    match number_in_both(rt, ledger, model, name) {
+        Some(number) if k % 64 < 30 => set_active(ledger, model, number, k % 3 > 0),
+        Some(number) if k % 64 == 30 => close(ledger, model, number),
+        number => {
+            is_taken(rt, ledger, name, number.is_some());
+            return ask(rt, state, ledger, model);
         }
     }
-    Ok(None)
+    Reply::Done
 }
 
 // Whether both have the same flows open, in the same order, with the same tickets by place.
@@ -169,53 +187,59 @@ fn agree(rt: &impl Abort, ledger: &Ledger, model: &Model) -> bool {
     true
 }
 
-// A run from a state of the generator.
-fn run(rt: &impl Abort, alloc: Global, seed: u64) -> Result<(), AllocError> {
-    let base = name(rt, "base");
-    let mut ledger = empty(rt, alloc);
-    let mut model = Model::new(alloc, base)?;
-    let mut state = seed;
-    let mut met: u64 = 0;
-    for count in 0..STEPS {
-        if let Some(refusal) = step(rt, &mut state, &mut ledger, &mut model)? {
-            met |= bit_of(&refusal);
-        }
-        model.settle();
-        assert!(rt; agree(rt, &ledger, &model), "after step {count}");
-        assert!(rt;
-            agree_by_place(rt, &ledger, &model),
-            "by place after step {count}"
-        );
-    }
+fn compare(rt: &impl Abort, ledger: &Ledger, model: &Model, count: u32) {
+    assert!(rt; agree(rt, ledger, model), "after step {count}");
+    assert!(rt;
+        agree_by_place(rt, ledger, model),
+        "by place after step {count}"
+    );
+}
+
+fn met_all(rt: &impl Abort, met: u64) {
     for refusal in REFUSALS {
         assert!(rt;
             met & bit_of(&refusal) != 0,
             "the run never met {refusal:?}"
         );
     }
-    Ok(())
+}
+
+// A run from a state of the generator.
+fn run(rt: &impl Abort, ledger: &mut Ledger, model: &mut Model, seed: u64) {
+    let mut state = seed;
+    let mut met: u64 = 0;
+    for count in 0..STEPS {
+        met |= met_in(step(rt, &mut state, ledger, model));
+        model.settle();
+        compare(rt, ledger, model, count);
+    }
+    met_all(rt, met);
+}
+
+fn runs_from_the_start(rt: &impl Abort, alloc: Global, seed: u64) {
+    let mut model = Model::new(alloc, name(rt, "base")).expect(rt, "memory");
+    let mut ledger = empty(rt, alloc);
+    run(rt, &mut ledger, &mut model, seed);
+    drop(ledger);
+    drop(model);
 }
 
 #[test]
-fn long_run_beside_a_plain_model(rt: HostRuntime) -> Result<(), Fail> {
-    run(&rt, rt.alloc(), 88172645463325252)?;
-    Ok(())
+fn long_run_beside_a_plain_model(rt: HostRuntime) {
+    runs_from_the_start(&rt, rt.alloc(), 88172645463325252);
 }
 
 #[test]
-fn second_run_beside_a_plain_model(rt: HostRuntime) -> Result<(), Fail> {
-    run(&rt, rt.alloc(), 3935559000370003845)?;
-    Ok(())
+fn second_run_beside_a_plain_model(rt: HostRuntime) {
+    runs_from_the_start(&rt, rt.alloc(), 3935559000370003845);
 }
 
 #[test]
-fn third_run_beside_a_plain_model(rt: HostRuntime) -> Result<(), Fail> {
-    run(&rt, rt.alloc(), 2685821657736338717)?;
-    Ok(())
+fn third_run_beside_a_plain_model(rt: HostRuntime) {
+    runs_from_the_start(&rt, rt.alloc(), 2685821657736338717);
 }
 
 #[test]
-fn fourth_run_beside_a_plain_model(rt: HostRuntime) -> Result<(), Fail> {
-    run(&rt, rt.alloc(), 1181783497276652981)?;
-    Ok(())
+fn fourth_run_beside_a_plain_model(rt: HostRuntime) {
+    runs_from_the_start(&rt, rt.alloc(), 1181783497276652981);
 }

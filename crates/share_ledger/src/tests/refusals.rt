@@ -1,192 +1,125 @@
 //! Each refusal, and the order in which they stand.
 
-use super::chains::chain_of_eight;
-use super::{Change, empty, made, name, numbered, refused};
-use crate::Ledger;
-use share_base::{FlowNo, Name, Refusal};
+use super::chains::CHAIN_OF_EIGHT;
+use super::many::Many;
+use super::{Call, DONE, NONE, Row, Table, plays};
+use share_base::Refusal;
 use std::alloc::Global;
 use std::process::Abort;
 
-#[test]
-fn refusals_of_a_fresh_ledger(rt: HostRuntime) {
-    let (base, nope) = (name(&rt, "base"), name(&rt, "nope"));
-    let mut ledger = empty(&rt, rt.alloc());
-    refused(
-        &rt,
-        &mut ledger,
-        &[
-            (Change::MakeCurrency(base), Refusal::Taken),
-            (Change::RemoveCurrency(base), Refusal::Base),
-            (Change::RemoveCurrency(nope), Refusal::NoCurrency),
-            (Change::MakeTicket(0, nope), Refusal::Range),
-            (Change::MakeTicket(1048577, base), Refusal::Range),
-            (Change::MakeTicket(1, nope), Refusal::NoCurrency),
-            (Change::RemoveTicket(1), Refusal::NoTicket),
-            (Change::FundFlow(9, nope), Refusal::NoTicket),
-            (Change::FundCurrency(9, nope), Refusal::NoTicket),
-            (Change::Unfund(1), Refusal::NoTicket),
-        ],
-    );
-    made(&rt, &mut ledger, &[Change::MakeTicket(1, base)]);
-    refused(&rt, &mut ledger, &[(Change::Unfund(1), Refusal::Unfunded)]);
-}
+const OF_A_FRESH_LEDGER: [Row; 12] = [
+    (Call::MakeCurrency("base"), Err(Refusal::Taken)),
+    (Call::RemoveCurrency("base"), Err(Refusal::Base)),
+    (Call::RemoveCurrency("nope"), Err(Refusal::NoCurrency)),
+    (Call::MakeTicket(0, "nope"), Err(Refusal::Range)),
+    (Call::MakeTicket(1048577, "base"), Err(Refusal::Range)),
+    (Call::MakeTicket(1, "nope"), Err(Refusal::NoCurrency)),
+    (Call::RemoveTicket(1), Err(Refusal::NoTicket)),
+    (Call::Fund(9, "nope"), Err(Refusal::NoTicket)),
+    (Call::Back(9, "nope"), Err(Refusal::NoTicket)),
+    (Call::Unfund(1), Err(Refusal::NoTicket)),
+    (Call::MakeTicket(1, "base"), Ok(Some(1))),
+    (Call::Unfund(1), Err(Refusal::Unfunded)),
+];
 
-#[test]
-fn refusals_of_a_backed_currency(rt: HostRuntime) {
-    let (base, x) = (name(&rt, "base"), name(&rt, "x"));
-    let mut ledger = empty(&rt, rt.alloc());
-    made(
-        &rt,
-        &mut ledger,
-        &[
-            Change::MakeCurrency(x),
-            Change::MakeTicket(1, x),
-            Change::MakeTicket(1, base),
-            Change::FundCurrency(2, x),
-        ],
-    );
-    refused(
-        &rt,
-        &mut ledger,
-        &[
-            (Change::RemoveCurrency(x), Refusal::InUse),
-            (Change::FundCurrency(1, x), Refusal::Cycle),
-            (Change::FundCurrency(2, base), Refusal::Base),
-            (Change::RemoveTicket(2), Refusal::Funding),
-        ],
-    );
-}
+const OF_A_BACKED_CURRENCY: [Row; 8] = [
+    (Call::MakeCurrency("x"), DONE),
+    (Call::MakeTicket(1, "x"), Ok(Some(1))),
+    (Call::MakeTicket(1, "base"), Ok(Some(2))),
+    (Call::Back(2, "x"), DONE),
+    (Call::RemoveCurrency("x"), Err(Refusal::InUse)),
+    (Call::Back(1, "x"), Err(Refusal::Cycle)),
+    (Call::Back(2, "base"), Err(Refusal::Base)),
+    (Call::RemoveTicket(2), Err(Refusal::Funding)),
+];
 
-// The chain of eight, and sixteen tickets of `base`, from number 10 on, that fund the ninth currency.
-fn crowded_ninth(rt: &impl Abort, alloc: Global) -> Ledger {
-    let (base, last) = (name(rt, "base"), numbered(rt, b'c', 9));
-    let mut ledger = empty(rt, alloc);
-    chain_of_eight(rt, &mut ledger);
-    for k in 10..26_u64 {
-        made(
-            rt,
-            &mut ledger,
-            &[Change::MakeTicket(1, base), Change::FundCurrency(k, last)],
-        );
-    }
-    ledger
-}
+/// After the chain of eight: the tickets 10 to 25, of `base`, fund the ninth currency. Each ticket and currency meets
+/// one test more than the one before it, and the first that stands answers.
+const OF_FUNDING_IN_ORDER: [Row; 12] = [
+    (Call::Many(Many::Back(1, "base", "c9")), DONE),
+    (Call::Back(99, "nope"), Err(Refusal::NoTicket)),
+    (Call::Back(1, "nope"), Err(Refusal::NoCurrency)),
+    (Call::Back(1, "base"), Err(Refusal::Base)),
+    (Call::Back(1, "c9"), Err(Refusal::Funding)),
+    (Call::Back(9, "c9"), Err(Refusal::Crowded)),
+    (Call::Back(8, "c9"), Err(Refusal::Crowded)),
+    (Call::Back(8, "c1"), Err(Refusal::Cycle)),
+    (Call::Unfund(25), DONE),
+    (Call::Back(9, "c9"), Err(Refusal::Cycle)),
+    (Call::Back(8, "c9"), Err(Refusal::Deep)),
+    (Call::Back(25, "c9"), DONE),
+];
 
-// Each ticket and currency meets one test more than the one before it, and the first that stands answers.
-#[test]
-fn refusals_of_funding_stand_in_order(rt: HostRuntime) {
-    let (base, nope) = (name(&rt, "base"), name(&rt, "nope"));
-    let (first, last) = (numbered(&rt, b'c', 1), numbered(&rt, b'c', 9));
-    let mut ledger = crowded_ninth(&rt, rt.alloc());
-    refused(
-        &rt,
-        &mut ledger,
-        &[
-            (Change::FundCurrency(99, nope), Refusal::NoTicket),
-            (Change::FundCurrency(1, nope), Refusal::NoCurrency),
-            (Change::FundCurrency(1, base), Refusal::Base),
-            (Change::FundCurrency(1, last), Refusal::Funding),
-            (Change::FundCurrency(9, last), Refusal::Crowded),
-            (Change::FundCurrency(8, last), Refusal::Crowded),
-            (Change::FundCurrency(8, first), Refusal::Cycle),
-        ],
-    );
-    made(&rt, &mut ledger, &[Change::Unfund(25)]);
-    refused(
-        &rt,
-        &mut ledger,
-        &[
-            (Change::FundCurrency(9, last), Refusal::Cycle),
-            (Change::FundCurrency(8, last), Refusal::Deep),
-        ],
-    );
-    made(&rt, &mut ledger, &[Change::FundCurrency(25, last)]);
-}
+const OF_A_FLOW_IN_ORDER: [Row; 5] = [
+    (Call::Many(Many::Back(1, "base", "c9")), DONE),
+    (Call::Open("a"), Ok(Some(1))),
+    (Call::Fund(99, "nope"), Err(Refusal::NoTicket)),
+    (Call::Fund(1, "nope"), Err(Refusal::NoFlow)),
+    (Call::Fund(1, "a"), Err(Refusal::Funding)),
+];
 
-#[test]
-fn refusals_of_a_flow_stand_in_order(rt: HostRuntime) {
-    let (nope, a) = (name(&rt, "nope"), name(&rt, "a"));
-    let mut ledger = crowded_ninth(&rt, rt.alloc());
-    made(&rt, &mut ledger, &[Change::Open(a)]);
-    refused(
-        &rt,
-        &mut ledger,
-        &[
-            (Change::FundFlow(99, nope), Refusal::NoTicket),
-            (Change::FundFlow(1, nope), Refusal::NoFlow),
-            (Change::FundFlow(1, a), Refusal::Funding),
-        ],
-    );
-}
-
-// A number that no ticket has is refused by each command that takes one.
-fn refuses_number(rt: &impl Abort, ledger: &mut Ledger, number: u64, flow: Name, currency: Name) {
-    refused(
-        rt,
-        ledger,
-        &[
-            (Change::FundFlow(number, flow), Refusal::NoTicket),
-            (Change::FundCurrency(number, currency), Refusal::NoTicket),
-            (Change::RemoveTicket(number), Refusal::NoTicket),
-            (Change::Unfund(number), Refusal::NoTicket),
-        ],
-    );
-}
-
-// 2^32 + 1, which would be 1 in 32 bits.
+/// 2^32 + 1, which would be 1 in 32 bits.
 const CUT: u64 = 4_294_967_297;
 
-#[test]
-fn numbers_are_not_cut_to_32_bits(rt: HostRuntime) {
-    let (base, a) = (name(&rt, "base"), name(&rt, "a"));
-    let mut ledger = empty(&rt, rt.alloc());
-    made(
-        &rt,
-        &mut ledger,
-        &[Change::MakeTicket(1, base), Change::Open(a)],
-    );
-    refuses_number(&rt, &mut ledger, CUT, a, base);
-    refuses_number(&rt, &mut ledger, 0, a, base);
-    made(&rt, &mut ledger, &[Change::FundFlow(1, a)]);
-}
+/// A number that no ticket has is refused by each command that takes one.
+const NUMBERS_ARE_NOT_CUT: [Row; 11] = [
+    (Call::MakeTicket(1, "base"), Ok(Some(1))),
+    (Call::Open("a"), Ok(Some(1))),
+    (Call::Fund(CUT, "a"), Err(Refusal::NoTicket)),
+    (Call::Back(CUT, "base"), Err(Refusal::NoTicket)),
+    (Call::RemoveTicket(CUT), Err(Refusal::NoTicket)),
+    (Call::Unfund(CUT), Err(Refusal::NoTicket)),
+    (Call::Fund(0, "a"), Err(Refusal::NoTicket)),
+    (Call::Back(0, "base"), Err(Refusal::NoTicket)),
+    (Call::RemoveTicket(0), Err(Refusal::NoTicket)),
+    (Call::Unfund(0), Err(Refusal::NoTicket)),
+    (Call::Fund(1, "a"), DONE),
+];
 
-#[test]
-fn amounts_are_not_cut_to_32_bits(rt: HostRuntime) {
-    let base = name(&rt, "base");
-    let mut ledger = empty(&rt, rt.alloc());
-    for amount in [CUT, u64::MAX] {
-        refused(
-            &rt,
-            &mut ledger,
-            &[(Change::MakeTicket(amount, base), Refusal::Range)],
-        );
-    }
-}
+const AMOUNTS_ARE_NOT_CUT: [Row; 2] = [
+    (Call::MakeTicket(CUT, "base"), Err(Refusal::Range)),
+    (Call::MakeTicket(u64::MAX, "base"), Err(Refusal::Range)),
+];
 
-#[test]
-fn names_of_flows_and_currencies_are_apart(rt: HostRuntime) {
-    let (base, x) = (name(&rt, "base"), name(&rt, "x"));
-    let mut ledger = empty(&rt, rt.alloc());
-    made(
-        &rt,
-        &mut ledger,
-        &[Change::Open(base), Change::MakeCurrency(x), Change::Open(x)],
-    );
-    assert_eq!(rt; ledger.flow(base), Some(FlowNo(1)));
-    made(
-        &rt,
-        &mut ledger,
-        &[Change::MakeTicket(7, base), Change::FundFlow(1, base)],
-    );
-    ledger.set_active(FlowNo(1), true);
-    assert_eq!(rt; ledger.tickets(FlowNo(1)), 7);
-    ledger.remove_flow(FlowNo(1));
-    assert_eq!(rt; ledger.flow(base), None);
-    assert_eq!(rt; ledger.tickets(FlowNo(1)), 0);
-    made(
-        &rt,
-        &mut ledger,
-        &[Change::Open(base), Change::FundFlow(1, base)],
-    );
-    assert_eq!(rt; ledger.flow(base), Some(FlowNo(3)));
+const NAMES_ARE_APART: [Row; 14] = [
+    (Call::Open("base"), Ok(Some(1))),
+    (Call::MakeCurrency("x"), DONE),
+    (Call::Open("x"), Ok(Some(2))),
+    (Call::Flow("base"), Ok(Some(1))),
+    (Call::MakeTicket(7, "base"), Ok(Some(1))),
+    (Call::Fund(1, "base"), DONE),
+    (Call::SetActive(1, true), DONE),
+    (Call::Tickets(1), Ok(Some(7))),
+    (Call::Close(1), DONE),
+    (Call::Flow("base"), NONE),
+    (Call::Tickets(1), Ok(Some(0))),
+    (Call::Open("base"), Ok(Some(3))),
+    (Call::Fund(1, "base"), DONE),
+    (Call::Flow("base"), Ok(Some(3))),
+];
+
+const TABLES: [Table; 7] = [
+    ("refusals of a fresh ledger", &[], &OF_A_FRESH_LEDGER),
+    ("refusals of a backed currency", &[], &OF_A_BACKED_CURRENCY),
+    (
+        "refusals of funding stand in order",
+        &CHAIN_OF_EIGHT,
+        &OF_FUNDING_IN_ORDER,
+    ),
+    (
+        "refusals of a flow stand in order",
+        &CHAIN_OF_EIGHT,
+        &OF_A_FLOW_IN_ORDER,
+    ),
+    ("numbers are not cut to 32 bits", &[], &NUMBERS_ARE_NOT_CUT),
+    ("amounts are not cut to 32 bits", &[], &AMOUNTS_ARE_NOT_CUT),
+    (
+        "names of flows and currencies are apart",
+        &[],
+        &NAMES_ARE_APART,
+    ),
+];
+
+pub(super) fn all(rt: &impl Abort, alloc: Global) {
+    plays(rt, alloc, &TABLES);
 }

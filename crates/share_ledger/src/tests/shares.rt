@@ -1,123 +1,108 @@
 //! Worked figures: the tickets of flows, as activity comes and goes.
 
-use super::{Change, empty, made, name};
-use share_base::FlowNo;
+use super::{Call, DONE, NONE, Row, Table, plays};
+use std::alloc::Global;
+use std::process::Abort;
 
-#[test]
-fn three_currencies_deep(rt: HostRuntime) {
-    let (base, x, y) = (name(&rt, "base"), name(&rt, "x"), name(&rt, "y"));
-    let (a, b, c) = (name(&rt, "a"), name(&rt, "b"), name(&rt, "c"));
-    let mut ledger = empty(&rt, rt.alloc());
-    made(
-        &rt,
-        &mut ledger,
-        &[
-            Change::MakeCurrency(x),
-            Change::MakeCurrency(y),
-            Change::Open(a),
-            Change::Open(b),
-            Change::Open(c),
-            Change::MakeTicket(100, base),
-            Change::FundCurrency(1, x),
-            Change::MakeTicket(3, x),
-            Change::FundCurrency(2, y),
-            Change::MakeTicket(4, x),
-            Change::FundFlow(3, a),
-            Change::MakeTicket(1, y),
-            Change::FundFlow(4, b),
-            Change::MakeTicket(1, y),
-            Change::FundFlow(5, c),
-        ],
-    );
-    for (active, wanted) in [
-        ([true, true, true], [57, 21, 21]),
-        ([true, true, false], [57, 42, 0]),
-        ([true, false, false], [100, 0, 0]),
-    ] {
-        ledger.set_active(FlowNo(1), active[0]);
-        ledger.set_active(FlowNo(2), active[1]);
-        ledger.set_active(FlowNo(3), active[2]);
-        assert_eq!(rt; ledger.tickets(FlowNo(1)), wanted[0]);
-        assert_eq!(rt; ledger.tickets(FlowNo(2)), wanted[1]);
-        assert_eq!(rt; ledger.tickets(FlowNo(3)), wanted[2]);
-    }
-    assert_eq!(rt; ledger.flow(b), Some(FlowNo(2)));
-    assert_eq!(rt; ledger.flow(x), None);
-}
+const THREE_CURRENCIES_DEEP: [Row; 15] = [
+    (Call::MakeCurrency("x"), DONE),
+    (Call::MakeCurrency("y"), DONE),
+    (Call::Open("a"), Ok(Some(1))),
+    (Call::Open("b"), Ok(Some(2))),
+    (Call::Open("c"), Ok(Some(3))),
+    (Call::MakeTicket(100, "base"), Ok(Some(1))),
+    (Call::Back(1, "x"), DONE),
+    (Call::MakeTicket(3, "x"), Ok(Some(2))),
+    (Call::Back(2, "y"), DONE),
+    (Call::MakeTicket(4, "x"), Ok(Some(3))),
+    (Call::Fund(3, "a"), DONE),
+    (Call::MakeTicket(1, "y"), Ok(Some(4))),
+    (Call::Fund(4, "b"), DONE),
+    (Call::MakeTicket(1, "y"), Ok(Some(5))),
+    (Call::Fund(5, "c"), DONE),
+];
 
-#[test]
-fn shares_follow_activity(rt: HostRuntime) {
-    let (base, x, a, b) = (
-        name(&rt, "base"),
-        name(&rt, "x"),
-        name(&rt, "a"),
-        name(&rt, "b"),
-    );
-    let mut ledger = empty(&rt, rt.alloc());
-    made(
-        &rt,
-        &mut ledger,
-        &[
-            Change::MakeCurrency(x),
-            Change::MakeTicket(1000, base),
-            Change::FundCurrency(1, x),
-            Change::MakeTicket(1, x),
-            Change::MakeTicket(2, x),
-            Change::Open(a),
-            Change::Open(b),
-            Change::FundFlow(2, a),
-            Change::FundFlow(3, b),
-        ],
-    );
-    ledger.set_active(FlowNo(1), true);
-    assert_eq!(rt; ledger.tickets(FlowNo(1)), 1000);
-    ledger.set_active(FlowNo(2), true);
-    assert_eq!(rt; ledger.tickets(FlowNo(1)), 333);
-    assert_eq!(rt; ledger.tickets(FlowNo(2)), 666);
-    ledger.set_active(FlowNo(2), false);
-    assert_eq!(rt; ledger.tickets(FlowNo(1)), 1000);
-    assert_eq!(rt; ledger.tickets(FlowNo(2)), 0);
-}
+/// The three flows active, then two, then one.
+const FEWER_AND_FEWER: [Row; 20] = [
+    (Call::SetActive(1, true), DONE),
+    (Call::SetActive(2, true), DONE),
+    (Call::SetActive(3, true), DONE),
+    (Call::Tickets(1), Ok(Some(57))),
+    (Call::Tickets(2), Ok(Some(21))),
+    (Call::Tickets(3), Ok(Some(21))),
+    (Call::SetActive(1, true), DONE),
+    (Call::SetActive(2, true), DONE),
+    (Call::SetActive(3, false), DONE),
+    (Call::Tickets(1), Ok(Some(57))),
+    (Call::Tickets(2), Ok(Some(42))),
+    (Call::Tickets(3), Ok(Some(0))),
+    (Call::SetActive(1, true), DONE),
+    (Call::SetActive(2, false), DONE),
+    (Call::SetActive(3, false), DONE),
+    (Call::Tickets(1), Ok(Some(100))),
+    (Call::Tickets(2), Ok(Some(0))),
+    (Call::Tickets(3), Ok(Some(0))),
+    (Call::Flow("b"), Ok(Some(2))),
+    (Call::Flow("x"), NONE),
+];
 
-#[test]
-fn idle_currency_comes_alive(rt: HostRuntime) {
-    let (base, x, a) = (name(&rt, "base"), name(&rt, "x"), name(&rt, "a"));
-    let mut ledger = empty(&rt, rt.alloc());
-    made(
-        &rt,
-        &mut ledger,
-        &[
-            Change::MakeCurrency(x),
-            Change::MakeTicket(5, x),
-            Change::Open(a),
-            Change::FundFlow(1, a),
-        ],
-    );
-    ledger.set_active(FlowNo(1), true);
-    assert_eq!(rt; ledger.tickets(FlowNo(1)), 0);
-    made(
-        &rt,
-        &mut ledger,
-        &[Change::MakeTicket(10, base), Change::FundCurrency(2, x)],
-    );
-    assert_eq!(rt; ledger.tickets(FlowNo(1)), 10);
-}
+const FOLLOW_ACTIVITY: [Row; 17] = [
+    (Call::MakeCurrency("x"), DONE),
+    (Call::MakeTicket(1000, "base"), Ok(Some(1))),
+    (Call::Back(1, "x"), DONE),
+    (Call::MakeTicket(1, "x"), Ok(Some(2))),
+    (Call::MakeTicket(2, "x"), Ok(Some(3))),
+    (Call::Open("a"), Ok(Some(1))),
+    (Call::Open("b"), Ok(Some(2))),
+    (Call::Fund(2, "a"), DONE),
+    (Call::Fund(3, "b"), DONE),
+    (Call::SetActive(1, true), DONE),
+    (Call::Tickets(1), Ok(Some(1000))),
+    (Call::SetActive(2, true), DONE),
+    (Call::Tickets(1), Ok(Some(333))),
+    (Call::Tickets(2), Ok(Some(666))),
+    (Call::SetActive(2, false), DONE),
+    (Call::Tickets(1), Ok(Some(1000))),
+    (Call::Tickets(2), Ok(Some(0))),
+];
 
-#[test]
-fn tickets_of_a_flow_have_a_cap(rt: HostRuntime) {
-    let (base, a) = (name(&rt, "base"), name(&rt, "a"));
-    let mut ledger = empty(&rt, rt.alloc());
-    made(
-        &rt,
-        &mut ledger,
-        &[
-            Change::Open(a),
-            Change::MakeTicket(1048576, base),
-            Change::FundFlow(1, a),
-            Change::MakeTicket(1048576, base),
-            Change::FundFlow(2, a),
-        ],
-    );
-    ledger.set_active(FlowNo(1), true);
-    assert_eq!(rt; ledger.tickets(FlowNo(1)), 1048576);
+const AN_IDLE_CURRENCY_COMES_ALIVE: [Row; 9] = [
+    (Call::MakeCurrency("x"), DONE),
+    (Call::MakeTicket(5, "x"), Ok(Some(1))),
+    (Call::Open("a"), Ok(Some(1))),
+    (Call::Fund(1, "a"), DONE),
+    (Call::SetActive(1, true), DONE),
+    (Call::Tickets(1), Ok(Some(0))),
+    (Call::MakeTicket(10, "base"), Ok(Some(2))),
+    (Call::Back(2, "x"), DONE),
+    (Call::Tickets(1), Ok(Some(10))),
+];
+
+const A_FLOW_HAS_A_CAP: [Row; 7] = [
+    (Call::Open("a"), Ok(Some(1))),
+    (Call::MakeTicket(1048576, "base"), Ok(Some(1))),
+    (Call::Fund(1, "a"), DONE),
+    (Call::MakeTicket(1048576, "base"), Ok(Some(2))),
+    (Call::Fund(2, "a"), DONE),
+    (Call::SetActive(1, true), DONE),
+    (Call::Tickets(1), Ok(Some(1048576))),
+];
+
+const TABLES: [Table; 4] = [
+    (
+        "three currencies deep",
+        &THREE_CURRENCIES_DEEP,
+        &FEWER_AND_FEWER,
+    ),
+    ("shares follow activity", &[], &FOLLOW_ACTIVITY),
+    (
+        "an idle currency comes alive",
+        &[],
+        &AN_IDLE_CURRENCY_COMES_ALIVE,
+    ),
+    ("the tickets of a flow have a cap", &[], &A_FLOW_HAS_A_CAP),
+];
+
+pub(super) fn all(rt: &impl Abort, alloc: Global) {
+    plays(rt, alloc, &TABLES);
 }

@@ -1,8 +1,7 @@
 //! Scripts that ask for reports, and scripts that are audits.
 
-use super::{LIFE, Trickle, printed, run};
-use crate::ScriptFault;
-use share_model::{Answer, PlainReader, Rates, Scripted};
+use super::{LIFE, is_answered, output_fails};
+use share_model::{Answer, Rates};
 use std::alloc::Global;
 use std::process::Abort;
 use std::test::Fail;
@@ -83,14 +82,23 @@ fn reports_and_audits<S: Rates + Copy>(
     shelf: S,
 ) -> Result<(), Fail> {
     for (life, script, want) in SCRIPTS {
-        let mut whole = PlainReader(script);
-        let text = printed(rt, alloc, shelf, life, &mut whole)?;
-        assert_eq!(rt; text.as_slice(), want);
-        let mut bytewise = Trickle::new(script, usize::MAX, true);
-        let text = printed(rt, alloc, shelf, life, &mut bytewise)?;
-        assert_eq!(rt; text.as_slice(), want, "by the byte");
+        is_answered(rt, alloc, shelf, life, script, want)?;
     }
     Ok(())
+}
+
+// The first answer, the report and the last answer are offered one after the other. So many bytes are accepted.
+fn accepting(alloc: Global, length: usize) -> Result<Vec<Answer>, Fail> {
+    let mut answers = Vec::new(alloc);
+    let mut left = length;
+    for offer in [5, 389, 12] {
+        if left > 0 {
+            answers.push(Answer::Accepted(left.min(offer)))?;
+            left -= left.min(offer);
+        }
+    }
+    answers.push(Answer::Failed)?;
+    Ok(answers)
 }
 
 // The answer that waits is offered before the report, and the report before the answer after it.
@@ -99,27 +107,10 @@ fn output_that_fails_at_each_byte<S: Rates + Copy>(
     alloc: Global,
     shelf: S,
 ) -> Result<(), Fail> {
-    let script = b"torn\nreport\nnone\n".as_slice();
-    let offers = [5, 389, 12];
     for length in 0..406 {
-        let mut answers = Vec::new(alloc);
-        let mut left = length;
-        for offer in offers {
-            if left > 0 {
-                answers.push(Answer::Accepted(left.min(offer)))?;
-                left -= left.min(offer);
-            }
-        }
-        answers.push(Answer::Failed)?;
-        let mut input = PlainReader(script);
-        let mut output = Scripted::new(alloc, answers);
-        let ran = run(alloc, shelf, LIFE, &mut input, &mut output);
-        assert_eq!(rt; ran, Err(ScriptFault::Output));
-        assert_eq!(rt;
-            Some(output.bytes()),
-            BETWEEN_ANSWERS.get(..length),
-            "{length} bytes accepted"
-        );
+        let answers = accepting(alloc, length)?;
+        let want = BETWEEN_ANSWERS.get(..length);
+        output_fails(rt, alloc, shelf, b"torn\nreport\nnone\n", answers, want);
     }
     Ok(())
 }
@@ -137,5 +128,7 @@ fn reports_are_among_lines<S: Rates + Copy>(
 fn reports_among_lines(rt: HostRuntime) -> Result<(), Fail> {
     let alloc = rt.alloc();
     let shelf = shelf!(alloc);
-    reports_are_among_lines(&rt, alloc, &shelf)
+    let worked = reports_are_among_lines(&rt, alloc, &shelf);
+    drop(shelf);
+    worked
 }

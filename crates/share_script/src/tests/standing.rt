@@ -1,10 +1,9 @@
 //! Where flows stand in the queue after scripts: tickets, strides, passes and remains by the rules.
 
-use super::{LIFE, answered};
-use crate::ScriptFault;
+use super::after;
 use share_base::FlowNo;
 use share_core::Engine;
-use share_model::{GlobalPart, LinkState, PlainReader, Position, Rates, Tape, Totals};
+use share_model::{GlobalPart, LinkState, Position, Rates, Tape, Totals};
 use std::alloc::Global;
 use std::process::Abort;
 use std::test::Fail;
@@ -205,14 +204,14 @@ const ROWS: [Row; 15] = [
 ];
 
 // The link after a script.
-fn after<S: Rates + Copy>(
+fn link_after<S: Rates + Copy>(
+    rt: &impl Abort,
     alloc: Global,
     shelf: S,
     script: &[u8],
-) -> Result<Engine<Tape, S>, ScriptFault> {
-    let mut input = PlainReader(script);
+) -> Engine<Tape, S> {
     let mut output = Tape::new(alloc);
-    answered(alloc, shelf, LIFE, &mut input, &mut output)
+    after(rt, alloc, shelf, script, &mut output)
 }
 
 // The flows of a link stand as a row says.
@@ -231,84 +230,72 @@ fn stand_so<S: Rates>(rt: &impl Abort, engine: &Engine<Tape, S>, row: &Row) {
 }
 
 // Runs the script of a row, and compares.
-fn stands<S: Rates + Copy>(
-    rt: &impl Abort,
-    alloc: Global,
-    shelf: S,
-    row: &Row,
-) -> Result<(), Fail> {
-    let engine = after(alloc, shelf, row.1)?;
+fn stands<S: Rates + Copy>(rt: &impl Abort, alloc: Global, shelf: S, row: &Row) {
+    let engine = link_after(rt, alloc, shelf, row.1);
     stand_so(rt, &engine, row);
-    Ok(())
+    drop(engine);
 }
 
 // What a link counted after a script.
 fn totals_after<S: Rates + Copy>(
-    alloc: Global,
-    shelf: S,
-    script: &[u8],
-) -> Result<Totals, ScriptFault> {
-    let engine = after(alloc, shelf, script)?;
-    Ok(engine.totals())
-}
-
-// Three packets are dropped with a flow of which one was written, and its account is past.
-fn a_closed_flow_is_counted<S: Rates + Copy>(
     rt: &impl Abort,
     alloc: Global,
     shelf: S,
-) -> Result<(), Fail> {
+    script: &[u8],
+) -> Totals {
+    let engine = link_after(rt, alloc, shelf, script);
+    let totals = engine.totals();
+    drop(engine);
+    totals
+}
+
+// Three packets are dropped with a flow of which one was written, and its account is past.
+fn a_closed_flow_is_counted<S: Rates + Copy>(rt: &impl Abort, alloc: Global, shelf: S) {
     let totals = totals_after(
+        rt,
         alloc,
         shelf,
         b"open a 4 1\nmktkt 1 base\nfund 1 flow a\nsend a 61\nsend a 61\nsend a 61\nsend a 61\n\
         turn 5\nclose a\nturn 65535\nclose a\nopen a 4 1\nfund 1 flow a\n",
-    )?;
+    );
     assert_eq!(rt; totals.accepted, 4);
     assert_eq!(rt; totals.written, 1);
     assert_eq!(rt; totals.waiting, 0);
     assert_eq!(rt; totals.dropped, 3);
     assert_eq!(rt; totals.past, 13);
     assert_eq!(rt; totals.link, LinkState::Free);
-    Ok(())
 }
 
 // A torn head of a flow that is closed stays torn, and is not dropped.
-fn a_torn_flow_is_closed<S: Rates + Copy>(
-    rt: &impl Abort,
-    alloc: Global,
-    shelf: S,
-) -> Result<(), Fail> {
+fn a_torn_flow_is_closed<S: Rates + Copy>(rt: &impl Abort, alloc: Global, shelf: S) {
     let totals = totals_after(
+        rt,
         alloc,
         shelf,
         b"open a 4 2\nmktkt 1 base\nfund 1 flow a\nsend a 6869\nturn 7\ntorn\nturn 65535\nmkcur x\n\
         close a\n",
-    )?;
+    );
     assert_eq!(rt; totals.accepted, 1);
     assert_eq!(rt; totals.torn, 1);
     assert_eq!(rt; totals.dropped, 0);
     assert_eq!(rt; totals.past, 128);
     assert_eq!(rt; totals.bytes, 7);
     assert_eq!(rt; totals.link, LinkState::Torn);
-    Ok(())
 }
 
-fn flows_stand_as_worked<S: Rates + Copy>(
-    rt: &impl Abort,
-    alloc: Global,
-    shelf: S,
-) -> Result<(), Fail> {
+fn flows_stand_as_worked<S: Rates + Copy>(rt: &impl Abort, alloc: Global, shelf: S) {
     for row in &ROWS {
-        stands(rt, alloc, shelf, row)?;
+        stands(rt, alloc, shelf, row);
     }
-    a_closed_flow_is_counted(rt, alloc, shelf)?;
-    a_torn_flow_is_closed(rt, alloc, shelf)
+    a_closed_flow_is_counted(rt, alloc, shelf);
+    a_torn_flow_is_closed(rt, alloc, shelf);
 }
 
 #[test]
 fn flows_stand_in_the_queue_after_scripts(rt: HostRuntime) -> Result<(), Fail> {
     let alloc = rt.alloc();
     let shelf = shelf!(alloc);
-    flows_stand_as_worked(&rt, alloc, &shelf)
+    flows_stand_as_worked(&rt, alloc, &shelf);
+    drop(shelf);
+    Ok(())
 }

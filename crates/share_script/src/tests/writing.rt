@@ -27,8 +27,8 @@ impl Written for Outcome {
     }
 }
 
-// The text goes out in one offer; and of it, whatever byte is refused, all that comes before.
-fn is_written<T: Written>(
+// The text goes out in one offer.
+fn is_written_at_once<T: Written>(
     rt: &impl Abort,
     alloc: Global,
     written: &T,
@@ -37,14 +37,40 @@ fn is_written<T: Written>(
     let mut whole = Tape::new(alloc);
     assert_eq!(rt; written.write(&mut whole), Ok(()));
     assert_eq!(rt; whole.bytes(), want);
-    assert_eq!(rt; whole.counts(alloc)?.len(), 1);
+    let counts = whole.counts(alloc);
+    drop(whole);
+    assert_eq!(rt; counts?.len(), 1);
+    Ok(())
+}
+
+// Of the text, whose next byte is refused so, all that comes before goes out.
+fn is_refused<T: Written>(
+    rt: &impl Abort,
+    alloc: Global,
+    written: &T,
+    before: &[u8],
+    fault: Answer,
+) -> Result<(), Fail> {
+    let mut answers = vec![in alloc; Answer::Accepted(1); before.len()]?;
+    answers.push(fault)?;
+    let mut output = Scripted::new(alloc, answers);
+    assert_eq!(rt; written.write(&mut output), Err(NotWritten));
+    assert_eq!(rt; output.bytes(), before);
+    drop(output);
+    Ok(())
+}
+
+// The text goes out in one offer; and of it, whatever byte is refused, all that comes before.
+fn is_written<T: Written>(
+    rt: &impl Abort,
+    alloc: Global,
+    written: &T,
+    want: &[u8],
+) -> Result<(), Fail> {
+    is_written_at_once(rt, alloc, written, want)?;
     for fault in [Answer::Failed, Answer::Interrupted, Answer::Accepted(0)] {
         for accepted in 0..want.len() {
-            let mut answers = vec![in alloc; Answer::Accepted(1); accepted]?;
-            answers.push(fault)?;
-            let mut output = Scripted::new(alloc, answers);
-            assert_eq!(rt; written.write(&mut output), Err(NotWritten));
-            assert_eq!(rt; output.bytes(), &want[..accepted]);
+            is_refused(rt, alloc, written, &want[..accepted], fault)?;
         }
     }
     Ok(())

@@ -1,9 +1,9 @@
 //! Worked values: the spellings of names, the lengths of payloads, and the number, name and text of each refusal.
 use crate::{Body, FlowNo, Name, Parcel, Refusal, Reply, TicketNo};
+use std::alloc::Global;
 use std::cmp::Ordering;
 use std::hash::{DefaultHasher, Hash, Hasher};
 use std::process::Abort;
-use std::test::Fail;
 
 #[test]
 fn names_are_spelled(rt: HostRuntime) {
@@ -27,13 +27,15 @@ fn names_are_spelled(rt: HostRuntime) {
         (b"a{".as_slice(), false),
     ];
     for (bytes, good) in spellings {
-        match Name::read(bytes) {
-            Some(name) => {
-                assert!(rt; good, "{bytes:?} is no name");
-                assert_eq!(rt; name.as_bytes(), bytes);
-            }
-            None => assert!(rt; !good, "{bytes:?} is a name"),
-        }
+        assert!(rt; is_name(bytes) == good, "{bytes:?}");
+    }
+}
+
+// The bytes spell a name, which is kept as they are.
+fn is_name(bytes: &[u8]) -> bool {
+    match Name::read(bytes) {
+        Some(name) => name.as_bytes() == bytes,
+        None => false,
     }
 }
 
@@ -58,17 +60,18 @@ fn names_are_ordered_and_hashed_as_their_bytes(rt: HostRuntime) {
         ("abcdefghijklmnop", "abcdefghijklmnoq", Ordering::Less),
     ];
     for (left, right, order) in rows {
-        let a = name(&rt, left);
-        let b = name(&rt, right);
-        assert_eq!(rt; a.cmp(&b), order, "{left} and {right}");
-        assert_eq!(rt; a.partial_cmp(&b), Some(order), "{left} and {right}");
-        assert_eq!(rt; a == b, order == Ordering::Equal, "{left} and {right}");
-        assert_eq!(rt;
-            hash_of(&a) == hash_of(&b),
-            order == Ordering::Equal,
-            "{left} and {right}"
-        );
+        let ordered = are_ordered(&name(&rt, left), &name(&rt, right), order);
+        assert!(rt; ordered, "{left} and {right}");
     }
+}
+
+// Both orders say so, and equality and hashes agree with them.
+fn are_ordered(left: &Name, right: &Name, order: Ordering) -> bool {
+    let is_equal = order == Ordering::Equal;
+    left.cmp(right) == order
+        && left.partial_cmp(right) == Some(order)
+        && (left == right) == is_equal
+        && (hash_of(left) == hash_of(right)) == is_equal
 }
 
 #[test]
@@ -82,22 +85,36 @@ fn payloads_are_1_to_1490_bytes(rt: HostRuntime) {
     ];
     for (count, refusal) in rows {
         let payload = &bytes[..count];
-        match Body::new(rt.alloc(), payload) {
-            Ok(body) => {
-                assert_eq!(rt; refusal, None, "a body of {count} bytes");
-                assert_eq!(rt; body.as_slice(), payload);
-            }
-            Err(answer) => assert_eq!(rt; refusal, Some(answer), "a body of {count} bytes"),
+        let body = body_is(rt.alloc(), payload, refusal);
+        assert!(rt; body, "a body of {count} bytes");
+        let parcel = parcel_is(rt.alloc(), payload, refusal);
+        assert!(rt; parcel, "a parcel of {count} bytes");
+    }
+}
+
+// A body is refused so, or it holds the payload.
+fn body_is(alloc: Global, payload: &[u8], refusal: Option<Refusal>) -> bool {
+    match Body::new(alloc, payload) {
+        Ok(body) => {
+            let holds = body.as_slice() == payload;
+            drop(body);
+            holds && refusal.is_none()
         }
-        match Parcel::new(rt.alloc(), payload) {
-            Ok(parcel) => {
-                assert_eq!(rt; refusal, None, "a parcel of {count} bytes");
-                let (sending, audit) = parcel.split();
-                assert_eq!(rt; sending.as_slice(), payload);
-                assert_eq!(rt; audit.as_slice(), payload);
-            }
-            Err(answer) => assert_eq!(rt; refusal, Some(answer), "a parcel of {count} bytes"),
+        Err(answer) => refusal == Some(answer),
+    }
+}
+
+// A parcel is refused so, or each half holds the payload.
+fn parcel_is(alloc: Global, payload: &[u8], refusal: Option<Refusal>) -> bool {
+    match Parcel::new(alloc, payload) {
+        Ok(parcel) => {
+            let (sending, audit) = parcel.split();
+            let hold = sending.as_slice() == payload && audit.as_slice() == payload;
+            drop(sending);
+            drop(audit);
+            hold && refusal.is_none()
         }
+        Err(answer) => refusal == Some(answer),
     }
 }
 
@@ -196,25 +213,36 @@ const REFUSALS: [(Refusal, u32, &str, &str); 20] = [
 ];
 
 #[test]
-fn refusals_have_numbers_names_and_texts(rt: HostRuntime) -> Result<(), Fail> {
+fn refusals_have_numbers_names_and_texts(rt: HostRuntime) {
     for (refusal, number, name, text) in REFUSALS {
-        assert_eq!(rt; refusal.number(), number, "{refusal:?}");
-        assert_eq!(rt; refusal.name().as_bytes(), name.as_bytes(), "{refusal:?}");
-        assert_eq!(rt; refusal.same(), refusal);
-        let shown = refusal.to_string(rt.alloc())?;
-        assert_eq!(rt; shown.as_bytes(), text.as_bytes(), "{refusal:?}");
+        let told = is_named(refusal, number, name) && is_shown(rt.alloc(), refusal, text);
+        assert!(rt; told, "{name}");
     }
-    Ok(())
+}
+
+// The refusal has this number and this name, and is itself.
+fn is_named(refusal: Refusal, number: u32, name: &str) -> bool {
+    refusal.number() == number
+        && refusal.name().as_bytes() == name.as_bytes()
+        && refusal.same() == refusal
+}
+
+// The refusal is shown by this text.
+fn is_shown(alloc: Global, refusal: Refusal, text: &str) -> bool {
+    match refusal.to_string(alloc) {
+        Ok(shown) => shown.as_bytes() == text.as_bytes(),
+        Err(_) => false,
+    }
 }
 
 #[test]
 fn numbers_and_replies_are_read(rt: HostRuntime) {
-    assert_eq!(rt; FlowNo(7).number(), 7);
-    assert_eq!(rt; TicketNo(4_294_967_295).number(), 4_294_967_295);
+    assert!(rt; FlowNo(7).number() == 7);
+    assert!(rt; TicketNo(4_294_967_295).number() == 4_294_967_295);
     let reply = Reply::Closed {
         flow: FlowNo(1),
         dropped: 3,
         account: 13,
     };
-    assert_eq!(rt; reply.same(), reply);
+    assert!(rt; reply.same() == reply);
 }

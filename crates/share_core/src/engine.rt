@@ -73,7 +73,10 @@ impl<W: Drop, S: Rates + Drop> Engine<W, S> {
         ensures refused { IfErr result (IsRefused (life_refusal life)) }
     {
         let link = Link::new(alloc, shelf, life)?;
-        let frame = Vec::with_capacity(alloc, MAX_FRAME)?;
+        let Ok(frame) = Vec::with_capacity(alloc, MAX_FRAME) else {
+            drop(link);
+            return Err(Refusal::NoMemory);
+        };
         Ok(Engine {
             link,
             frame,
@@ -282,7 +285,13 @@ impl<W, S: Rates + Drop> Engine<W, S> {
     pub fn into_writer(self) -> W
         ensures { result ≡ self.writer }
     {
-        let Engine { writer, .. } = self;
+        let Engine {
+            link,
+            frame,
+            writer,
+        } = self;
+        drop(link);
+        drop(frame);
         writer
     }
 }

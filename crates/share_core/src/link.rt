@@ -98,10 +98,10 @@ impl<S: Rates + Drop> Link<S> {
         if life < 1 || life > MAX_LIFE {
             return Err(Refusal::Range);
         }
-        let ledger = Ledger::new(alloc)?;
-        let queue = Queue::new(alloc)?;
-        let buffers = Buffers::new(alloc)?;
         let books = Books::new(alloc)?;
+        let buffers = Buffers::new(alloc)?;
+        let queue = Queue::new(alloc)?;
+        let ledger = Ledger::new(alloc)?;
         Ok(Link {
             life,
             shelf,

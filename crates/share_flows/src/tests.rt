@@ -2,101 +2,132 @@
 mod guarded;
 
 use crate::Buffers;
-use guarded::{close, head, pop, push, through};
+use guarded::{close, head, is_open, open, pop, push, through};
 use share_base::{Body, FlowNo, Refusal};
 use std::alloc::Global;
 use std::process::Abort;
-use std::test::Fail;
 
-const FLOW: FlowNo = FlowNo(1);
+/// A step of a worked example: a call on the buffer of a flow, and what it answers. A packet is the byte of its payload.
+#[derive(Clone, Copy, Debug)]
+enum Row {
+    /// A buffer for so many packets is opened; `None` where it is open already.
+    Open(u32, u64, Option<Result<(), Refusal>>),
+    /// A packet is put in: it is given a number, or given back; `None` where no buffer is open.
+    Push(u32, u8, Option<Result<u32, u8>>),
+    /// The head packet and its number.
+    Head(u32, Option<(u32, u8)>),
+    /// The head packet is taken out.
+    Pop(u32, Option<u8>),
+    /// A packet is put in at the flow's place, and the head packet and its number are taken out.
+    Through(u32, u8, Option<(u32, u8)>),
+    /// The buffer is closed, and the packets that it held are told.
+    Close(u32, Option<u32>),
+    /// Whether a buffer is open, whether it is busy, and the packets that it holds.
+    Shows(u32, bool, bool, u32),
+}
 
 // A payload of one byte.
 fn body(rt: &impl Abort, alloc: Global, byte: u8) -> Body {
     Body::new(alloc, &[byte]).expect(rt, "a payload")
 }
 
-// Buffers with that of one flow open.
-fn opened(rt: &impl Abort, alloc: Global, limit: u64) -> Buffers {
-    let mut buffers = Buffers::new(alloc).expect(rt, "buffers");
-    assert!(rt; buffers.find(FLOW).is_none());
-    assert_eq!(rt; buffers.open(FLOW, limit), Ok(()));
-    buffers
+// The call of a row answers what the row says.
+fn holds(rt: &impl Abort, alloc: Global, buffers: &mut Buffers, row: Row) -> bool {
+    match row {
+        Row::Open(flow, limit, answer) => open(buffers, FlowNo(flow), limit) == answer,
+        Row::Push(flow, byte, answer) => {
+            push(buffers, FlowNo(flow), body(rt, alloc, byte)) == answer
+        }
+        Row::Head(flow, packet) => head(buffers, FlowNo(flow)) == packet,
+        Row::Pop(flow, byte) => pop(buffers, FlowNo(flow)) == byte,
+        Row::Through(flow, byte, packet) => {
+            through(buffers, FlowNo(flow), body(rt, alloc, byte)) == packet
+        }
+        Row::Close(flow, dropped) => close(buffers, FlowNo(flow)) == dropped,
+        Row::Shows(flow, open, busy, packets) => {
+            is_open(buffers, FlowNo(flow)) == open
+                && buffers.is_busy(FlowNo(flow)) == busy
+                && buffers.len(FlowNo(flow)) == packets
+        }
+    }
+}
+
+fn play(rt: &impl Abort, alloc: Global, buffers: &mut Buffers, rows: &[Row]) {
+    for row in rows {
+        assert!(rt; holds(rt, alloc, buffers, *row), "{row:?}");
+    }
+}
+
+// Plays rows on new buffers.
+fn plays(rt: &impl Abort, alloc: Global, rows: &[Row]) {
+    let mut buffers = Buffers::new(alloc).expect(rt, "memory");
+    play(rt, alloc, &mut buffers, rows);
+    drop(buffers);
 }
 
 #[test]
 fn a_refused_packet_takes_no_number(rt: HostRuntime) {
-    let alloc = rt.alloc();
-    let mut buffers = opened(&rt, alloc, 1);
-    assert_eq!(rt; push(&mut buffers, FLOW, body(&rt, alloc, 61)), Some(Ok(1)));
-    assert_eq!(rt;
-        push(&mut buffers, FLOW, body(&rt, alloc, 62)),
-        Some(Err(62))
-    );
-    assert_eq!(rt; head(&buffers, FLOW), Some((1, 61)));
-    assert_eq!(rt; pop(&mut buffers, FLOW), Some(61));
-    assert_eq!(rt; push(&mut buffers, FLOW, body(&rt, alloc, 63)), Some(Ok(2)));
-    assert_eq!(rt; head(&buffers, FLOW), Some((2, 63)));
-    assert_eq!(rt; buffers.len(FLOW), 1);
-    assert!(rt; buffers.is_busy(FLOW) && !buffers.is_busy(FlowNo(2)));
+    let rows = [
+        Row::Shows(1, false, false, 0),
+        Row::Open(1, 1, Some(Ok(()))),
+        Row::Push(1, 61, Some(Ok(1))),
+        Row::Push(1, 62, Some(Err(62))),
+        Row::Head(1, Some((1, 61))),
+        Row::Pop(1, Some(61)),
+        Row::Push(1, 63, Some(Ok(2))),
+        Row::Head(1, Some((2, 63))),
+        Row::Shows(1, true, true, 1),
+        Row::Shows(2, false, false, 0),
+    ];
+    plays(&rt, rt.alloc(), &rows);
 }
 
 #[test]
 fn closing_tells_the_packets_held(rt: HostRuntime) {
-    let alloc = rt.alloc();
-    let mut buffers = opened(&rt, alloc, 4);
-    for byte in 1..5 {
-        assert_eq!(rt;
-            push(&mut buffers, FLOW, body(&rt, alloc, byte)),
-            Some(Ok(u32::from(byte)))
-        );
-    }
-    assert_eq!(rt; pop(&mut buffers, FLOW), Some(1));
-    assert_eq!(rt; close(&mut buffers, FLOW), Some(3));
-    assert!(rt; buffers.find(FLOW).is_none());
-    assert_eq!(rt; close(&mut buffers, FLOW), None);
-    if buffers.find(FLOW).is_none() {
-        assert_eq!(rt; buffers.open(FLOW, 4), Ok(()));
-    }
-    assert_eq!(rt;
-        push(&mut buffers, FLOW, body(&rt, alloc, 9)),
-        Some(Ok(1)),
-        "numbers begin anew"
-    );
+    let rows = [
+        Row::Open(1, 4, Some(Ok(()))),
+        Row::Push(1, 1, Some(Ok(1))),
+        Row::Push(1, 2, Some(Ok(2))),
+        Row::Push(1, 3, Some(Ok(3))),
+        Row::Push(1, 4, Some(Ok(4))),
+        Row::Pop(1, Some(1)),
+        Row::Close(1, Some(3)),
+        Row::Shows(1, false, false, 0),
+        Row::Close(1, None),
+        Row::Open(1, 4, Some(Ok(()))),
+        // numbers begin anew
+        Row::Push(1, 9, Some(Ok(1))),
+    ];
+    plays(&rt, rt.alloc(), &rows);
 }
 
 #[test]
 fn a_place_is_of_its_flow(rt: HostRuntime) {
-    let alloc = rt.alloc();
-    let mut buffers = opened(&rt, alloc, 2);
-    assert!(rt; buffers.find(FlowNo(7)).is_none());
-    if buffers.find(FlowNo(7)).is_none() {
-        assert_eq!(rt; buffers.open(FlowNo(7), 2), Ok(()));
-    }
-    assert_eq!(rt; push(&mut buffers, FLOW, body(&rt, alloc, 8)), Some(Ok(1)));
-    assert_eq!(rt;
-        through(&mut buffers, FlowNo(7), body(&rt, alloc, 9)),
-        Some((1, 9))
-    );
-    assert_eq!(rt;
-        through(&mut buffers, FLOW, body(&rt, alloc, 9)),
-        Some((1, 8))
-    );
-    assert_eq!(rt; through(&mut buffers, FlowNo(2), body(&rt, alloc, 9)), None);
-    assert_eq!(rt; (buffers.len(FLOW), buffers.len(FlowNo(7))), (1, 0));
+    let rows = [
+        Row::Open(1, 2, Some(Ok(()))),
+        Row::Shows(7, false, false, 0),
+        Row::Open(7, 2, Some(Ok(()))),
+        Row::Push(1, 8, Some(Ok(1))),
+        Row::Through(7, 9, Some((1, 9))),
+        Row::Through(1, 9, Some((1, 8))),
+        Row::Through(2, 9, None),
+        Row::Shows(1, true, true, 1),
+        Row::Shows(7, true, false, 0),
+    ];
+    plays(&rt, rt.alloc(), &rows);
 }
 
 #[test]
-fn limits_have_a_range(rt: HostRuntime) -> Result<(), Fail> {
-    for (limit, answer) in [
-        (0, Err(Refusal::Range)),
-        (1, Ok(())),
-        (1024, Ok(())),
-        (1025, Err(Refusal::Range)),
-        (4294967297, Err(Refusal::Range)),
-    ] {
-        let mut buffers = Buffers::new(rt.alloc())?;
-        assert_eq!(rt; buffers.open(FLOW, limit), answer, "of {limit}");
-        assert_eq!(rt; buffers.find(FLOW).is_some(), answer.is_ok());
-    }
-    Ok(())
+fn limits_have_a_range(rt: HostRuntime) {
+    let rows = [
+        Row::Open(1, 0, Some(Err(Refusal::Range))),
+        Row::Open(1, 1025, Some(Err(Refusal::Range))),
+        Row::Open(1, 4294967297, Some(Err(Refusal::Range))),
+        Row::Shows(1, false, false, 0),
+        Row::Open(1, 1, Some(Ok(()))),
+        Row::Open(2, 1024, Some(Ok(()))),
+        Row::Shows(1, true, false, 0),
+        Row::Shows(2, true, false, 0),
+    ];
+    plays(&rt, rt.alloc(), &rows);
 }

@@ -63,7 +63,7 @@ const ROWS: [(&[u8], FrameRead); 15] = [
 #[test]
 fn bytes_are_read(rt: HostRuntime) {
     for (bytes, answer) in ROWS {
-        assert_eq!(rt; read_frame(bytes), answer, "of {bytes:?}");
+        assert!(rt; read_frame(bytes) == answer, "{bytes:?}");
     }
 }
 
@@ -76,17 +76,16 @@ fn fields_have_places(rt: HostRuntime) {
         (Place::Seq, 6),
         (Place::Len, 10),
     ] {
-        assert_eq!(rt; place.start(), start);
+        assert!(rt; place.start() == start, "{place:?}");
     }
 }
 
 #[test]
 fn frames_are_cut_anywhere(rt: HostRuntime) {
     for count in 0..HI.len() {
-        assert_eq!(rt;
-            read_frame(&HI[..count]),
-            FrameRead::More,
-            "of {count} bytes"
+        assert!(rt;
+            read_frame(&HI[..count]) == FrameRead::More,
+            "{count} bytes"
         );
     }
 }
@@ -94,11 +93,9 @@ fn frames_are_cut_anywhere(rt: HostRuntime) {
 #[test]
 fn headers_are_read_again(rt: HostRuntime) {
     no_frame_begins_another();
-    assert_eq!(rt; header(FlowNo(1), 1, 2).as_slice(), &HI[..HEADER]);
-    assert_eq!(rt;
-        header(FlowNo(0x01020304), 0x05060708, 0x090a),
-        *b"\x4c\x01\x01\x02\x03\x04\x05\x06\x07\x08\x09\x0a"
-    );
+    assert!(rt; header(FlowNo(1), 1, 2).as_slice() == &HI[..HEADER]);
+    let numbers = header(FlowNo(0x01020304), 0x05060708, 0x090a);
+    assert!(rt; numbers == *b"\x4c\x01\x01\x02\x03\x04\x05\x06\x07\x08\x09\x0a");
     for (flow, seq, len) in [
         (1, 1, 1),
         (1, 1, 1490),
@@ -106,17 +103,25 @@ fn headers_are_read_again(rt: HostRuntime) {
         (0x80000000, 0x01000000, 256),
         (4294967295, 4294967295, 1490),
     ] {
-        let mut bytes = [0; 1502];
-        bytes[..HEADER].copy_from_slice(&header(FlowNo(flow), seq, len));
-        let whole = HEADER + usize::from(len);
-        assert!(rt; whole <= 1502);
-        let answer = FrameRead::Frame {
-            flow: FlowNo(flow),
-            seq,
-            len,
-        };
-        assert_eq!(rt; read_frame(&bytes[..whole]), answer);
-        assert_eq!(rt; read_frame(&bytes[..whole - 1]), FrameRead::More);
-        assert_eq!(rt; read_frame(&bytes[..HEADER]), FrameRead::More);
+        let again = is_read_again(header(FlowNo(flow), seq, len), flow, seq, len);
+        assert!(rt; again, "packet {seq} of flow {flow}, {len} bytes");
+    }
+}
+
+// The header before a payload of so many zeros is read as a frame, and as less than one where its end is cut off.
+fn is_read_again(header: [u8; HEADER], flow: u32, seq: u32, len: u16) -> bool {
+    let mut bytes = [0; 1502];
+    bytes[..HEADER].copy_from_slice(&header);
+    let whole = usize::from(len).saturating_add(HEADER);
+    let flow = FlowNo(flow);
+    is_read(bytes.get(..whole), FrameRead::Frame { flow, seq, len })
+        && is_read(bytes.get(..whole.saturating_sub(1)), FrameRead::More)
+        && is_read(bytes.get(..HEADER), FrameRead::More)
+}
+
+fn is_read(bytes: Option<&[u8]>, answer: FrameRead) -> bool {
+    match bytes {
+        Some(bytes) => read_frame(bytes) == answer,
+        None => false,
     }
 }

@@ -3,37 +3,76 @@
 mod plain;
 
 use crate::{Answer, Got, PlainReader, PlainWriter, Scripted, Source, Tape, Telling};
+use std::alloc::{AllocError, Global};
 use std::io;
 use std::io::{ErrorKind, Read, Write};
-use std::test::Fail;
+use std::process::Abort;
 
-#[test]
-fn a_tape_holds_each_piece(rt: HostRuntime) -> Result<(), Fail> {
-    let mut tape = Tape::new(rt.alloc());
-    assert_eq!(rt; tape.bytes(), b"".as_slice());
-    for piece in [b"ab".as_slice(), b"".as_slice(), b"cde".as_slice()] {
-        assert_eq!(rt; tape.offer(piece), Answer::Accepted(piece.len()));
+// The writer answers so to this piece, offered again and again.
+fn answers<W: Telling>(writer: &mut W, piece: &[u8], wanted: &[Answer]) -> bool {
+    for answer in wanted {
+        if writer.offer(piece) != *answer {
+            return false;
+        }
     }
-    assert_eq!(rt; tape.bytes(), b"abcde".as_slice());
-    assert_eq!(rt; tape.counts(rt.alloc())?.as_slice(), [2, 0, 3].as_slice());
-    Ok(())
+    true
 }
 
-#[test]
-fn a_tape_tells_the_count_of_each_call(rt: HostRuntime) -> Result<(), Fail> {
-    let bytes = [b'x'; 2000];
-    let lengths = [0, 1, 254, 255, 256, 0, 509, 510, 511, 1502, 2000, 1];
-    let mut tape = Tape::new(rt.alloc());
+// The writer takes a whole piece of each length.
+fn takes_whole<W: Telling>(writer: &mut W, bytes: &[u8], lengths: &[usize]) -> bool {
     for length in lengths {
-        assert_eq!(rt; tape.offer(&bytes[..length]), Answer::Accepted(length));
+        let offered = match bytes.get(..*length) {
+            Some(piece) => writer.offer(piece),
+            None => Answer::Failed,
+        };
+        if offered != Answer::Accepted(*length) {
+            return false;
+        }
     }
-    assert_eq!(rt; tape.bytes().len(), 5799);
-    assert_eq!(rt; tape.counts(rt.alloc())?.as_slice(), lengths.as_slice());
-    Ok(())
+    true
+}
+
+// These counts were told.
+fn told(counts: Result<Vec<usize>, AllocError>, wanted: &[usize]) -> bool {
+    match counts {
+        Ok(counts) => counts.as_slice() == wanted,
+        Err(_) => false,
+    }
 }
 
 #[test]
-fn a_script_is_followed_and_then_all_is_accepted(rt: HostRuntime) -> Result<(), Fail> {
+fn a_tape_holds_each_piece(rt: HostRuntime) {
+    let mut tape = Tape::new(rt.alloc());
+    holds_each_piece(&rt, &mut tape, rt.alloc());
+    drop(tape);
+}
+
+fn holds_each_piece(rt: &impl Abort, tape: &mut Tape, alloc: Global) {
+    assert!(rt; tape.bytes().is_empty(), "a new tape");
+    let taken = answers(tape, b"ab", &[Answer::Accepted(2)])
+        && answers(tape, b"", &[Answer::Accepted(0)])
+        && answers(tape, b"cde", &[Answer::Accepted(3)]);
+    assert!(rt; taken, "the answers");
+    assert!(rt; tape.bytes() == b"abcde".as_slice(), "the bytes");
+    assert!(rt; told(tape.counts(alloc), &[2, 0, 3]), "the counts");
+}
+
+#[test]
+fn a_tape_tells_the_count_of_each_call(rt: HostRuntime) {
+    let mut tape = Tape::new(rt.alloc());
+    tells_each_count(&rt, &mut tape, rt.alloc());
+    drop(tape);
+}
+
+fn tells_each_count(rt: &impl Abort, tape: &mut Tape, alloc: Global) {
+    let lengths = [0, 1, 254, 255, 256, 0, 509, 510, 511, 1502, 2000, 1];
+    assert!(rt; takes_whole(tape, &[b'x'; 2000], &lengths), "the answers");
+    assert!(rt; tape.bytes().len() == 5799, "the bytes");
+    assert!(rt; told(tape.counts(alloc), &lengths), "the counts");
+}
+
+#[test]
+fn a_script_is_followed_and_then_all_is_accepted(rt: HostRuntime) {
     let script = [
         Answer::Accepted(2),
         Answer::Interrupted,
@@ -41,8 +80,14 @@ fn a_script_is_followed_and_then_all_is_accepted(rt: HostRuntime) -> Result<(), 
         Answer::Failed,
         Answer::Accepted(0),
     ];
-    let mut writer = Scripted::new(rt.alloc(), script.to_vec(rt.alloc())?);
-    let answers = [
+    let script = script.to_vec(rt.alloc()).expect(&rt, "memory");
+    let mut writer = Scripted::new(rt.alloc(), script);
+    follows(&rt, &mut writer, rt.alloc());
+    drop(writer);
+}
+
+fn follows(rt: &impl Abort, writer: &mut Scripted, alloc: Global) {
+    let wanted = [
         Answer::Accepted(2),
         Answer::Interrupted,
         Answer::Accepted(3),
@@ -51,15 +96,9 @@ fn a_script_is_followed_and_then_all_is_accepted(rt: HostRuntime) -> Result<(), 
         Answer::Accepted(3),
         Answer::Accepted(3),
     ];
-    for answer in answers {
-        assert_eq!(rt; writer.offer(b"abc"), answer);
-    }
-    assert_eq!(rt; writer.bytes(), b"ababcabcabc".as_slice());
-    assert_eq!(rt;
-        writer.counts(rt.alloc())?.as_slice(),
-        [2, 3, 0, 3, 3].as_slice()
-    );
-    Ok(())
+    assert!(rt; answers(writer, b"abc", &wanted), "the answers");
+    assert!(rt; writer.bytes() == b"ababcabcabc".as_slice(), "the bytes");
+    assert!(rt; told(writer.counts(alloc), &[2, 3, 0, 3, 3]), "the counts");
 }
 
 /// Takes two bytes at the first call, is interrupted at the second, takes none at the third, and then fails.
@@ -95,18 +134,21 @@ fn a_writer_of_std_is_told_on(rt: HostRuntime) {
         calls: 0,
         bytes: Vec::new(rt.alloc()),
     });
-    let answers = [
+    writer_is_told_on(&rt, &mut writer);
+    drop(writer);
+}
+
+fn writer_is_told_on(rt: &impl Abort, writer: &mut PlainWriter<FailingWriter>) {
+    let wanted = [
         Answer::Accepted(2),
         Answer::Interrupted,
         Answer::Accepted(0),
         Answer::Failed,
         Answer::Failed,
     ];
-    for answer in answers {
-        assert_eq!(rt; writer.offer(b"abc"), answer);
-    }
-    assert_eq!(rt; writer.0.bytes.as_slice(), b"ab".as_slice());
-    assert_eq!(rt; writer.0.calls, 5);
+    assert!(rt; answers(writer, b"abc", &wanted), "the answers");
+    assert!(rt; writer.0.bytes.as_slice() == b"ab".as_slice(), "the bytes");
+    assert!(rt; writer.0.calls == 5, "the calls");
 }
 
 /// Gives `x` at the first call, is interrupted at the second, is at its end at the third, and then fails.
@@ -137,27 +179,31 @@ impl Read for FailingReader {
 fn a_reader_of_std_is_told_on(rt: HostRuntime) {
     let mut reader = PlainReader(FailingReader { calls: 0 });
     let mut buffer = [b'.'; 2];
-    let answers = [
+    let wanted = [
         Got::Bytes(1),
         Got::Interrupted,
         Got::End,
         Got::Failed,
         Got::Failed,
     ];
-    for got in answers {
-        assert_eq!(rt; reader.take_bytes(&mut buffer), got);
+    for got in wanted {
+        assert!(rt; reader.take_bytes(&mut buffer) == got, "{got:?}");
     }
-    assert_eq!(rt; buffer.as_slice(), b"x.".as_slice());
-    assert_eq!(rt; reader.0.calls, 5);
+    assert!(rt; buffer.as_slice() == b"x.".as_slice(), "the buffer");
+    assert!(rt; reader.0.calls == 5, "the calls");
 }
 
 #[test]
 fn bytes_in_memory_are_read_in_pieces(rt: HostRuntime) {
     let mut reader = PlainReader(b"abc".as_slice());
     let mut buffer = [b'.'; 2];
-    assert_eq!(rt; reader.take_bytes(&mut buffer), Got::Bytes(2));
-    assert_eq!(rt; buffer.as_slice(), b"ab".as_slice());
-    assert_eq!(rt; reader.take_bytes(&mut buffer), Got::Bytes(1));
-    assert_eq!(rt; buffer.as_slice(), b"cb".as_slice());
-    assert_eq!(rt; reader.take_bytes(&mut buffer), Got::End);
+    let rows = [
+        (Got::Bytes(2), b"ab".as_slice()),
+        (Got::Bytes(1), b"cb".as_slice()),
+        (Got::End, b"cb".as_slice()),
+    ];
+    for (got, held) in rows {
+        let read = reader.take_bytes(&mut buffer) == got && buffer.as_slice() == held;
+        assert!(rt; read, "{got:?}");
+    }
 }

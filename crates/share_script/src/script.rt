@@ -115,8 +115,13 @@ pub fn run_script<S: Rates + Drop, I: Source, O: Telling>(
 {
     let _events = engine.events();
     let mut session = Session::new(engine);
-    run_lines(alloc, &mut session, input, output)?;
-    Ok(session.into_engine())
+    match run_lines(alloc, &mut session, input, output) {
+        Ok(()) => Ok(session.into_engine()),
+        Err(fault) => {
+            drop(session);
+            Err(fault)
+        }
+    }
 }
 
 fn run_lines<S: Rates + Drop, I: Source, O: Telling>(

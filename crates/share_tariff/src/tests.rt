@@ -5,6 +5,7 @@ use crate::{Book, Charge, Shelf, Tariff, posted, shelf, units_by_division};
 use closures::units_by_steps;
 use share_base::Refusal;
 use share_model::Rates;
+use std::alloc::Global;
 use std::process::Abort;
 use std::sync::Arc;
 use std::sync::atomic::{AtomicU64, Ordering};
@@ -16,12 +17,14 @@ const COUNTS: [u32; 5] = [0, 1, 48, 49, 1502];
 /// The units of these counts under the tariff of cell 48 and overhead 16.
 const BY_48: [u64; 5] = [0, 64, 64, 112, 1552];
 
-// Compares a tariff's units for each of the counts.
-fn charges(rt: &impl Abort, tariff: &Tariff, units: [u64; 5]) {
+// The tariff has these units for the counts, and adds what it should to an account of 7.
+fn charges(tariff: &Tariff, units: [u64; 5]) -> bool {
     for (count, wanted) in COUNTS.into_iter().zip(units) {
-        assert!(rt; count < 65536);
-        assert_eq!(rt; tariff.units(count), wanted, "for {count} bytes");
+        if count >= 65536 || tariff.units(count) != wanted {
+            return false;
+        }
     }
+    tariff.post(7, 1552) == 3111
 }
 
 #[test]
@@ -33,56 +36,67 @@ fn charges_whatever_closures_are_stored(rt: HostRuntime) -> Result<(), Fail> {
     let book: Book = Box::new(alloc, |account: u64, units: u64| -> u64 {
         posted(2, account, units)
     })?;
-    let dividing = Tariff::new(48, 16, 2, charge, book)?;
-    charges(&rt, &dividing, BY_48);
+    let tariff = Tariff::new(48, 16, 2, charge, book)?;
+    assert!(rt; charges(&tariff, BY_48), "by division");
+    drop(tariff);
     let charge: Charge = Box::new(alloc, |count: u32| -> u64 { units_by_steps(48, 16, count) })?;
     let book: Book = Box::new(alloc, |account: u64, units: u64| -> u64 {
         posted(2, account, units)
     })?;
-    let stepping = Tariff::new(48, 16, 2, charge, book)?;
-    charges(&rt, &stepping, BY_48);
-    assert_eq!(rt; stepping.post(7, 1552), 3111);
+    let tariff = Tariff::new(48, 16, 2, charge, book)?;
+    assert!(rt; charges(&tariff, BY_48), "by steps");
+    drop(tariff);
     Ok(())
 }
 
-// Compares the units of the counts under a tariff, and an account of 7 after 100 units.
-fn shows<S: Rates>(rt: &impl Abort, shelf: &S, number: u64, units: [u64; 5], account: u64) {
-    assert!(rt; shelf.has(number));
-    for (count, wanted) in COUNTS.into_iter().zip(units) {
-        assert!(rt; count < 65536);
-        assert_eq!(rt;
-            shelf.units(number, count),
-            wanted,
-            "for {count} bytes by tariff {number}"
-        );
+// The shelf has these units for the counts under a tariff, and makes this of an account of 7 and 100 units.
+fn shows<S: Rates>(shelf: &S, number: u64, units: [u64; 5], account: u64) -> bool {
+    if !shelf.has(number) {
+        return false;
     }
-    assert_eq!(rt; shelf.post(number, 7, 100), account, "by tariff {number}");
+    for (count, wanted) in COUNTS.into_iter().zip(units) {
+        if count >= 65536 || shelf.units(number, count) != wanted {
+            return false;
+        }
+    }
+    shelf.post(number, 7, 100) == account
 }
 
 #[test]
 fn shelves_number_their_tariffs(rt: HostRuntime) -> Result<(), Fail> {
-    let alloc = rt.alloc();
-    let shelf = shelf!(alloc, (1, 0, 1), (48, 16, 2), (1024, 0, 1), (2048, 1024, 3));
+    let shelf = shelf!(
+        rt.alloc(),
+        (1, 0, 1),
+        (48, 16, 2),
+        (1024, 0, 1),
+        (2048, 1024, 3)
+    );
+    shows_four(&rt, &shelf);
+    drop(shelf);
+    Ok(())
+}
+
+fn shows_four(rt: &impl Abort, shelf: &Shelf) {
     for (number, units, account) in [
         (1, [0, 1, 48, 49, 1502], 107),
         (2, BY_48, 207),
         (3, [0, 1024, 1024, 1024, 2048], 107),
         (4, [0, 3072, 3072, 3072, 3072], 307),
     ] {
-        shows(&rt, &shelf, number, units, account);
-        let lent = &shelf;
-        shows(&rt, &lent, number, units, account);
+        assert!(rt; shows(shelf, number, units, account), "tariff {number}");
+        assert!(rt;
+            shows(&shelf, number, units, account),
+            "tariff {number} of a lent shelf"
+        );
     }
     assert!(rt; shelf.get(2).map(|tariff| tariff.units(49)) == Some(112));
     assert!(rt; shelf.get(0).is_none() && shelf.get(5).is_none());
     assert!(rt; !shelf.has(0) && !shelf.has(5));
-    Ok(())
 }
 
 #[test]
 fn tariffs_have_ranges(rt: HostRuntime) -> Result<(), Fail> {
-    let alloc = rt.alloc();
-    let token = Arc::new(alloc, 0u8)?;
+    let token = Arc::new(rt.alloc(), 0u8)?;
     for (cell, overhead, price, refusal) in [
         (1, 0, 0, None),
         (2048, 1024, 65535, None),
@@ -92,21 +106,36 @@ fn tariffs_have_ranges(rt: HostRuntime) -> Result<(), Fail> {
         (1, 0, 65536, Some(Refusal::Range)),
         (4294967297, 4294967296, 4294967296, Some(Refusal::Range)),
     ] {
-        let held = Arc::try_clone(&token)?;
-        let charge: Charge = Box::new(alloc, move |count: u32| -> u64 {
-            let _ = &held;
-            units_by_division(cell, overhead, count)
-        })?;
-        let book: Book = Box::new(alloc, move |account: u64, units: u64| -> u64 {
-            posted(price, account, units)
-        })?;
-        assert_eq!(rt;
-            Tariff::new(cell, overhead, price, charge, book).err(),
-            refusal
+        let answer = refused(&rt, rt.alloc(), &token, cell, overhead, price);
+        let dropped = Arc::strong_count(&token) == 1;
+        assert!(rt;
+            answer == refusal && dropped,
+            "({cell}, {overhead}, {price})"
         );
-        assert_eq!(rt; Arc::strong_count(&token), 1, "the boxes are dropped");
     }
     Ok(())
+}
+
+// What a tariff whose charge holds the token is refused by. Its boxes are dropped, whatever it is.
+fn refused(
+    rt: &impl Abort,
+    alloc: Global,
+    token: &Arc<u8>,
+    cell: u64,
+    overhead: u64,
+    price: u64,
+) -> Option<Refusal> {
+    let held = Arc::try_clone(token).expect(rt, "memory");
+    let charge: Charge = Box::new(alloc, move |count: u32| -> u64 {
+        let _ = &held;
+        units_by_division(cell, overhead, count)
+    })
+    .expect(rt, "memory");
+    let book: Book = Box::new(alloc, move |account: u64, units: u64| -> u64 {
+        posted(price, account, units)
+    })
+    .expect(rt, "memory");
+    Tariff::new(cell, overhead, price, charge, book).err()
 }
 
 #[test]
@@ -131,26 +160,26 @@ fn shelves_hold_one_to_eight(rt: HostRuntime) -> Result<(), Fail> {
             })?;
             tariffs.push(Tariff::new(1, 0, 1, charge, book)?)?;
         }
-        assert_eq!(rt;
-            Arc::strong_count(&token),
-            1 + count,
-            "the tariffs hold their closures"
-        );
-        assert_eq!(rt; Shelf::new(tariffs).err(), refusal, "of {count}");
-        assert_eq!(rt; Arc::strong_count(&token), 1, "the tariffs are dropped");
+        let held = Arc::strong_count(&token) == 1 + count;
+        let answer = Shelf::new(tariffs).err();
+        let dropped = Arc::strong_count(&token) == 1;
+        assert!(rt; answer == refusal && held && dropped, "of {count}");
     }
     Ok(())
 }
 
-// A rate asks its closures as often as it is asked itself: each of the two words counts the calls of one of them.
+// The words, which count the calls of the closures, are these.
+fn counted(charged: &AtomicU64, booked: &AtomicU64, charges: u64, books: u64) -> bool {
+    charged.load(Ordering::SeqCst) == charges && booked.load(Ordering::SeqCst) == books
+}
+
+// A rate asks its closures as often as it is asked itself.
 fn asks_once(rt: &impl Abort, tariff: &Tariff, charged: &AtomicU64, booked: &AtomicU64) {
     for asked in 1..=3 {
-        assert_eq!(rt; tariff.units(49), 112);
-        assert_eq!(rt; charged.load(Ordering::SeqCst), asked);
-        assert_eq!(rt; booked.load(Ordering::SeqCst), asked - 1);
-        assert_eq!(rt; tariff.post(7, 100), 207);
-        assert_eq!(rt; charged.load(Ordering::SeqCst), asked);
-        assert_eq!(rt; booked.load(Ordering::SeqCst), asked);
+        let charges = tariff.units(49) == 112 && counted(charged, booked, asked, asked - 1);
+        assert!(rt; charges, "charge {asked}");
+        let books = tariff.post(7, 100) == 207 && counted(charged, booked, asked, asked);
+        assert!(rt; books, "book {asked}");
     }
 }
 
@@ -171,5 +200,6 @@ fn a_stored_closure_is_called_once_for_each_answer(rt: HostRuntime) -> Result<()
     })?;
     let tariff = Tariff::new(48, 16, 2, charge, book)?;
     asks_once(&rt, &tariff, &charged, &booked);
+    drop(tariff);
     Ok(())
 }

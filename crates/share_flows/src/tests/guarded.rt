@@ -4,11 +4,22 @@ ghost use Rattle.share_model.specs.link.Buffers.{buffer_of, is_full};
 ghost use Rattle.share_flows.specs.Places.{Stands};
 
 use crate::{Buffers, Place};
-use share_base::{Body, FlowNo};
+use share_base::{Body, FlowNo, Refusal};
 
 // The first byte of a payload.
 fn byte_of(body: &Body) -> u8 {
     *body.as_slice().first().unwrap_or(&0)
+}
+
+pub(crate) fn is_open(buffers: &Buffers, flow: FlowNo) -> bool {
+    buffers.find(flow).is_some()
+}
+
+pub(crate) fn open(buffers: &mut Buffers, flow: FlowNo, limit: u64) -> Option<Result<(), Refusal>> {
+    if buffers.find(flow).is_some() {
+        return None;
+    }
+    Some(buffers.open(flow, limit))
 }
 
 pub(crate) fn push(buffers: &mut Buffers, flow: FlowNo, body: Body) -> Option<Result<u32, u8>> {

@@ -21,4 +21,4 @@ pub returns-in_err-books-clause-refused : goal.returns-in_err-books-clause-refus
 returns-in_err-books-clause-refused g c =
     let allowed : life_refusal c.args.life ≡ None =
     grind (arith, nat_tests, c.if-life-lt1.false, c.if-life-gt-MAX_LIFE.false) in
-    refused-memory _ (life_refusal c.args.life) allowed c.from_residual-in_err-books.ensures
+    refused-memory _ (life_refusal c.args.life) allowed c.from_residual.ensures

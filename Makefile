@@ -3,7 +3,7 @@
 
 SOURCES := crates.txt $(shell find crates -name '*.rt' -o -name '*.antt' | grep -v /out/)
 
-.PHONY: run try build test bench
+.PHONY: run try build test edits bench
 
 run: bin/stridelink
 	bin/stridelink run < examples/one-packet.script
@@ -29,6 +29,9 @@ test:
 	examples/compare.sh
 	examples/faults.sh
 	examples/answers.sh
+
+edits:
+	.ci/edits
 
 bench: bin/stridelink
 	python3 bench/bench.py

@@ -99,7 +99,9 @@ fn run<S: Rates + Drop, I: Source, O: Telling>(
         return Err(ScriptFault::NoMemory);
     };
     let engine = run_script(alloc, engine, input, output)?;
-    print_bytes(output, engine.writer().bytes())?;
+    let printed = print_bytes(output, engine.writer().bytes());
+    drop(engine);
+    printed?;
     Ok(())
 }
 

@@ -7,7 +7,8 @@ use share_base::{Body, FlowNo, Refusal};
 use std::alloc::Global;
 use std::process::Abort;
 
-/// A step of a worked example: a call on the buffer of a flow, and what it answers. A packet is the byte of its payload.
+/// A step of a worked example: a call on the buffer of a flow, and what it answers. A packet is told by the byte of its
+/// payload.
 #[derive(Clone, Copy, Debug)]
 enum Row {
     /// A buffer for so many packets is opened; `None` where it is open already.

@@ -23,7 +23,7 @@ bin/stridelink: $(SOURCES)
 test:
 	@echo 'the gate: every proof from nothing, the edits that must fail, the tests and the program; more than an hour' >&2
 	.ci/layers
-	rt ci
+	RT_JOBS=$$(.ci/jobs) rt ci
 	mkdir -p bin
 	cp crates/stridelink/out/stridelink bin/stridelink
 	examples/compare.sh

@@ -40,7 +40,7 @@ enum Call {
 }
 
 /// What a call answers, in few words: a packet and a frame are of the first flow, and a frame of its first packet.
-#[derive(Clone, Copy, Debug)]
+#[derive(Clone, Copy)]
 enum Wanted {
     Done,
     Opened,

@@ -32,7 +32,7 @@ fn get_ready<S: Rates>(
 }
 
 /// What the readers give: the events, the account, the tickets, and how many bytes of the frame are out.
-#[derive(Clone, Copy, Debug)]
+#[derive(Clone, Copy)]
 struct Shown {
     events: u64,
     account: u64,

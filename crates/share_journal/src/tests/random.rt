@@ -11,7 +11,7 @@ use std::alloc::Global;
 use std::process::Abort;
 
 /// A run: how many calls are made in which life, which write call fails, and from which step on faults are declared.
-#[derive(Clone, Copy, Debug)]
+#[derive(Clone, Copy)]
 struct World {
     seed: u64,
     steps: u32,

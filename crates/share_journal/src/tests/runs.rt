@@ -26,7 +26,7 @@ pub(super) enum Call {
 }
 
 /// What a call answers, in few words: a packet and a frame are of the first flow, and a frame of its first packet.
-#[derive(Clone, Copy, Debug)]
+#[derive(Clone, Copy)]
 pub(super) enum Wanted {
     Done,
     Opened,
@@ -48,7 +48,7 @@ pub(super) type Row = (u64, Call, Wanted, bool);
 
 /// The life, what the writer answers, and the calls; then the bytes that the writer holds, the counts of the calls that
 /// it accepted, how many entries there are, and their audit.
-#[derive(Clone, Copy, Debug)]
+#[derive(Clone, Copy)]
 pub(super) struct Run {
     pub(super) life: u64,
     pub(super) answers: &'static [Answer],

@@ -4,7 +4,7 @@
 use super::Move;
 
 /// A client. The flow 0 marks a free row.
-#[derive(Clone, Copy, Debug)]
+#[derive(Clone, Copy)]
 pub(crate) struct Row {
     pub(crate) flow: u32,
     /// 0 before it first joins.

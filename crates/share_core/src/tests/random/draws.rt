@@ -7,7 +7,7 @@ use std::alloc::{AllocError, Global};
 use std::process::Abort;
 
 /// A run: how long it is, and how many names it draws from.
-#[derive(Clone, Copy, Debug)]
+#[derive(Clone, Copy)]
 pub(super) struct World {
     pub(super) seed: u64,
     /// The most events that are tried.

@@ -9,7 +9,7 @@ use std::process::Abort;
 use std::test::Fail;
 
 /// What a run has to meet: these refusals, so many torn frames, and at least so many of the others.
-#[derive(Clone, Copy, Debug)]
+#[derive(Clone, Copy)]
 struct Wanted {
     refusals: &'static [Refusal],
     events: u64,

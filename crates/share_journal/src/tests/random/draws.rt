@@ -6,7 +6,7 @@ use std::alloc::Global;
 use std::process::Abort;
 
 /// An xorshift generator, and the number of the ticket that was issued last.
-#[derive(Clone, Copy, Debug)]
+#[derive(Clone, Copy)]
 pub(super) struct Draws {
     state: u64,
     ticket: u64,

@@ -13,5 +13,5 @@ mod tests;
 pub use command::{Command, Event, Outcome, Reply, Turn};
 pub use naming::Name;
 pub use number::{FlowNo, TicketNo};
-pub use parcel::{Body, Parcel};
+pub use parcel::{Body, MAX_IN_PLACE, Parcel};
 pub use refusal::Refusal;

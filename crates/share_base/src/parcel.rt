@@ -1,19 +1,24 @@
 //! The payloads of packets, and the two copies in which a payload is handed in.
-ghost use Rattle.std.specs.Prelude.{◌≡◌, ◌<◌, ◌≤◌, length, IfOk, IfErr, None};
+ghost use Rattle.std.specs.Prelude.{◌≡◌, ◌<◌, ◌≤◌, length, take, IsOk, IfOk, IfErr, None};
 ghost use Rattle.share_base.specs.Body.{payload_refusal};
 ghost use Rattle.share_base.specs.Refusal.{IsRefused};
 
 use crate::refusal::Refusal;
+use smallvec::SmallVec;
 use std::alloc::Global;
 use std::marker::Model;
 
 /// The longest payload, in bytes.
 pub const MAX_PAYLOAD: usize = 1490;
 
-/// The payload of a packet: 1 to 1490 bytes. A contract sees it as these bytes.
+/// The longest payload that takes no memory beside its own, in bytes.
+pub const MAX_IN_PLACE: usize = 16;
+
+/// The payload of a packet: 1 to 1490 bytes. Up to 16 of them are held in place, more in an allocation. A contract sees
+/// it as these bytes.
 #[derive(Drop)]
 pub struct Body {
-    bytes: Vec<u8>,
+    bytes: SmallVec<u8, MAX_IN_PLACE>,
 }
 
 impl Model for Body {
@@ -27,15 +32,17 @@ impl Model for Body {
 }
 
 impl Body {
-    /// A copy of these bytes. `Range` where they are not 1 to 1490, `NoMemory` where a growth was refused.
+    /// A copy of these bytes. `Range` where they are not 1 to 1490, `NoMemory` where a growth was refused, which only
+    /// more than 16 of them take.
     pub fn new(alloc: Global, bytes: &[u8]) -> Result<Body, Refusal>
         ensures ok { IfOk result (λ body. (body ≡ bytes.now) × (payload_refusal bytes.now ≡ None)) }
         ensures refused { IfErr result (IsRefused (payload_refusal bytes.now)) }
+        ensures in_place { payload_refusal bytes.now ≡ None → length bytes.now ≤ MAX_IN_PLACE → IsOk result }
     {
         if bytes.is_empty() || bytes.len() > MAX_PAYLOAD {
             return Err(Refusal::Range);
         }
-        let bytes = Vec::from_slice(alloc, bytes)?;
+        let bytes = SmallVec::from_slice(alloc, bytes)?;
         Ok(Body { bytes })
     }
 
@@ -45,7 +52,20 @@ impl Body {
         requires few { length bytes.items ≤ 1490 }
         ensures { result ≡ bytes.items }
     {
-        Body { bytes }
+        Body {
+            bytes: SmallVec::from_vec(bytes),
+        }
+    }
+
+    /// The first bytes of an array, 1 to 16 of them, as a payload. It takes no memory.
+    pub fn from_array(alloc: Global, bytes: [u8; MAX_IN_PLACE], count: usize) -> Body
+        requires some { 1 ≤ count }
+        requires few { count ≤ MAX_IN_PLACE }
+        ensures { result ≡ take count bytes }
+    {
+        Body {
+            bytes: SmallVec::from_buf_and_len(alloc, bytes, count),
+        }
     }
 
     /// The bytes.

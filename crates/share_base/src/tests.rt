@@ -1,5 +1,7 @@
 //! Worked values: the spellings of names, the lengths of payloads, and the number, name and text of each refusal.
-use crate::{Body, FlowNo, Name, Parcel, Refusal, Reply, TicketNo};
+ghost use Rattle.std.specs.Prelude.{◌≤◌};
+
+use crate::{Body, FlowNo, MAX_IN_PLACE, Name, Parcel, Refusal, Reply, TicketNo};
 use std::alloc::Global;
 use std::cmp::Ordering;
 use std::hash::{DefaultHasher, Hash, Hasher};
@@ -80,6 +82,8 @@ fn payloads_are_1_to_1490_bytes(rt: HostRuntime) {
     let rows = [
         (0, Some(Refusal::Range)),
         (1, None),
+        (16, None),
+        (17, None),
         (1490, None),
         (1491, Some(Refusal::Range)),
     ];
@@ -116,6 +120,31 @@ fn parcel_is(alloc: Global, payload: &[u8], refusal: Option<Refusal>) -> bool {
         }
         Err(answer) => refusal == Some(answer),
     }
+}
+
+#[test]
+fn payloads_are_made_of_vectors_and_arrays(rt: HostRuntime) {
+    let bytes: [u8; MAX_IN_PLACE] = [1, 2, 3, 4, 5, 6, 7, 8, 9, 10, 11, 12, 13, 14, 15, 16];
+    for count in 1..MAX_IN_PLACE + 1 {
+        let made = is_made(rt.alloc(), bytes, count);
+        assert!(rt; made, "a body of {count} bytes");
+    }
+}
+
+// The first bytes, as an array and as a vector, are the payload.
+fn is_made(alloc: Global, bytes: [u8; MAX_IN_PLACE], count: usize) -> bool
+    requires some { 1 ≤ count }
+    requires few { count ≤ MAX_IN_PLACE }
+{
+    let Ok(vector) = Vec::from_slice(alloc, &bytes[..count]) else {
+        return false;
+    };
+    let of_vector = Body::from_vec(vector);
+    let of_array = Body::from_array(alloc, bytes, count);
+    let is_made = of_vector.as_slice() == &bytes[..count] && of_array.as_slice() == &bytes[..count];
+    drop(of_vector);
+    drop(of_array);
+    is_made
 }
 
 // Each refusal, its number, its name and its text.

@@ -1,5 +1,5 @@
 //! Lines of a script, read from their bytes.
-ghost use Rattle.std.specs.Prelude.{◌≡◌, ◌≤◌, ◌∷◌, ◌&&◌, ℕ, List, codes, length, nat_le, option_map, IfOk, IfErr};
+ghost use Rattle.std.specs.Prelude.{◌≡◌, ◌≤◌, ◌*◌, ◌∷◌, ◌&&◌, ℕ, List, codes, length, nat_le, option_map, IfOk, IfErr};
 ghost use Rattle.std.specs.Prelude.{IfSome, if◌then◌else◌};
 ghost use Rattle.share_base.specs.declared.refusal.Refusal.TheVariants.{Syntax};
 ghost use Rattle.share_base.specs.declared.command.Command.{Command};
@@ -14,7 +14,7 @@ ghost use Rattle.share_script.specs.Words.{ReadsRanged, short_line_by, sent_by};
 
 use crate::payload::{decode, is_payload};
 use crate::words::Words;
-use share_base::{Body, Command, Name, Refusal};
+use share_base::{Body, Command, MAX_IN_PLACE, Name, Refusal};
 use share_model::{HolderKind, Line};
 use std::alloc::{AllocError, Global};
 
@@ -310,6 +310,9 @@ fn sent(alloc: Global, flow: Name, digits: &[u8]) -> Result<Line, Refusal>
     if digits.len() > 2 * MAX_PAYLOAD {
         return Err(unread(digits, Refusal::Range));
     }
+    if digits.len() <= 2 * MAX_IN_PLACE {
+        return sent_in_place(alloc, flow, digits);
+    }
     let Ok(mut bytes) = zeros(alloc, digits.len().div_ceil(2)) else {
         return Err(unread(digits, Refusal::NoMemory));
     };
@@ -318,6 +321,22 @@ fn sent(alloc: Global, flow: Name, digits: &[u8]) -> Result<Line, Refusal>
         Some(_) => Ok(Line::Send {
             flow,
             body: Body::from_vec(bytes),
+        }),
+    }
+}
+
+// The packet of a payload that needs no memory.
+#[inline(always)]
+fn sent_in_place(alloc: Global, flow: Name, digits: &[u8]) -> Result<Line, Refusal>
+    requires { length digits.now ≤ 2 * MAX_IN_PLACE }
+    ensures { ReadsRanged (sent_by flow (payload_of digits.now)) result }
+{
+    let mut bytes = [0; MAX_IN_PLACE];
+    match decode(digits, &mut bytes) {
+        None => Err(Refusal::Syntax),
+        Some(count) => Ok(Line::Send {
+            flow,
+            body: Body::from_array(alloc, bytes, count),
         }),
     }
 }

@@ -161,8 +161,10 @@ def measure_loops():
     with tempfile.TemporaryDirectory() as folder:
         used = ["share_base", "share_model", "share_ledger", "share_stride"]
         program = build_crate(folder, "loops", ["main", "ledger", "stride"], used, ["anyhow"], ["stride", "8", "1"])
-        for flows in (8, 64):
+        for flows in (1, 8, 64):
             print("least and charge, %2d flows: %.3f us" % (flows, per_round(program, "stride", flows, 1, 2_000_000)))
+        for tickets in (16, 128, 1024):
+            print("set_active, %4d tickets: %.3f us" % (tickets, per_round(program, "turns", tickets, 1, 50_000)))
         for kind, what in LEDGER_LOOPS:
             print("%s: %.1f us" % (what, per_round(program, kind, 65, 1, 5_000)))
         for kind in ("level", "change"):

@@ -11,7 +11,7 @@ use std::marker::Model;
 /// The longest payload, in bytes.
 pub const MAX_PAYLOAD: usize = 1490;
 
-/// The longest payload that takes no memory beside its own, in bytes.
+/// The longest payload that is held in place, in bytes.
 pub const MAX_IN_PLACE: usize = 16;
 
 /// The payload of a packet: 1 to 1490 bytes. Up to 16 of them are held in place, more in an allocation. A contract sees

@@ -329,7 +329,7 @@ fn sent(alloc: Global, flow: Name, digits: &[u8]) -> Result<Line, Refusal>
 #[inline(always)]
 fn sent_in_place(alloc: Global, flow: Name, digits: &[u8]) -> Result<Line, Refusal>
     requires { length digits.now ≤ 2 * MAX_IN_PLACE }
-    ensures { ReadsRanged (sent_by flow (payload_of digits.now)) result }
+    ensures { result ≡ ranged (sent_by flow (payload_of digits.now)) }
 {
     let mut bytes = [0; MAX_IN_PLACE];
     match decode(digits, &mut bytes) {

@@ -99,9 +99,13 @@ IsKept-removed tickets s f kept there idle = record {
 
 -- ---- What fits the types
 
+pub stride_is : (s : Stride) (f : ℕ) (c : Client) → IsSound s → Some c ≡ get s.clients f
+    → c.stride ≡ stride_of c.tickets
+stride_is s f c sound found = (sound.clients f c (sym found)).stride
+
 pub stride_fits : (s : Stride) (f : ℕ) (c : Client) → IsSound s → Some c ≡ get s.clients f → c.stride ≤ 2 ^ 40
 stride_fits s f c sound found =
-    let stride = (sound.clients f c (sym found)).stride in omega (arith, stride_of-le c.tickets)
+    let stride = stride_is s f c sound found in omega (arith, stride_of-le c.tickets)
 
 -- a distance is within 2^41 strides
 distance_fits : (s : Stride) (f : ℕ) (c : Client) → IsSound s → Some c ≡ get s.clients f

@@ -85,15 +85,27 @@ fn rescaled(new_stride: u64, old_stride: u64, remain: i128) -> i128
     }
 }
 
+// The stride of so many tickets, which is the client's where it has as many.
+fn new_stride(client: &Client, tickets: u32) -> u64
+    requires { client.now.stride ≡ stride_of client.now.tickets }
+    ensures { result ≡ stride_of tickets }
+{
+    if client.tickets == tickets {
+        client.stride
+    } else {
+        stride_of(u64::from(tickets))
+    }
+}
+
 /// The client after it joins with so many tickets.
 pub(crate) fn joined(global_pass: u128, client: &Client, tickets: u32) -> Client
     requires some { 0 < tickets }
     requires pass { global_pass ≤ 2 ^ 80 }
-    requires stride { client.now.stride ≤ 2 ^ 40 }
+    requires stride { client.now.stride ≡ stride_of client.now.tickets }
     requires remain { IsWithin client.now.remain (client.now.stride * 2 ^ 41) }
     ensures { result ≡ model_joined global_pass client.now tickets }
 {
-    let stride = stride_of(u64::from(tickets));
+    let stride = new_stride(client, tickets);
     let remain = rescaled(stride, client.stride, client.remain);
     Client {
         tickets,

@@ -4,6 +4,7 @@
 mod client;
 mod heap;
 mod index;
+mod known;
 mod laws;
 mod moves;
 mod queue;

@@ -7,12 +7,13 @@ ghost use Rattle.share_stride.specs.Table.{IsPlaceIn, client_at};
 ghost use Rattle.share_stride.specs.Queue.{state_of, AreKept, updated};
 
 use crate::client;
+use crate::known::KnownStride;
 use crate::table::{Place, Table};
 use share_model::GlobalPart;
 
 // Moves the global pass on by what was charged since the last update. Mostly that is nothing, where many clients are
 // levelled at once.
-fn update(global: &mut GlobalPart)
+fn update(global: &mut GlobalPart, known: &mut KnownStride)
     requires time { global.old.last ≤ global.old.clock }
     requires pass { global.old.pass ≤ 2 ^ 80 }
     ensures { global.new ≡ updated global.old }
@@ -20,16 +21,19 @@ fn update(global: &mut GlobalPart)
     if global.last == global.clock {
         return;
     }
-    let share = client::share(
-        client::stride_of(global.tickets),
-        global.clock - global.last,
-    );
-    global.pass += share;
+    let stride = known.of(global.tickets);
+    global.pass += client::share(stride, global.clock - global.last);
     global.last = global.clock;
 }
 
 /// Lets a client that does not compete join with so many tickets.
-pub(crate) fn join(clients: &mut Table, global: &mut GlobalPart, place: Place, tickets: u32)
+pub(crate) fn join(
+    clients: &mut Table,
+    global: &mut GlobalPart,
+    known: &mut KnownStride,
+    place: Place,
+    tickets: u32,
+)
     requires place { IsPlaceIn clients.old place }
     requires there { IsSome (map.get clients.old.by_flow place.flow) }
     requires kept { AreKept clients.old global.old }
@@ -40,13 +44,18 @@ pub(crate) fn join(clients: &mut Table, global: &mut GlobalPart, place: Place, t
     ensures joined { state_of clients.new global.new
         ≡ model_join (state_of clients.old global.old) place.flow tickets }
 {
-    update(global);
+    update(global, known);
     clients.enter(place, global.pass, tickets);
     global.tickets += u64::from(tickets);
 }
 
 /// Lets a client that competes leave.
-pub(crate) fn leave(clients: &mut Table, global: &mut GlobalPart, place: Place)
+pub(crate) fn leave(
+    clients: &mut Table,
+    global: &mut GlobalPart,
+    known: &mut KnownStride,
+    place: Place,
+)
     requires place { IsPlaceIn clients.old place }
     requires there { IsSome (map.get clients.old.by_flow place.flow) }
     requires kept { AreKept clients.old global.old }
@@ -55,12 +64,18 @@ pub(crate) fn leave(clients: &mut Table, global: &mut GlobalPart, place: Place)
     ensures left { state_of clients.new global.new
         ≡ model_leave (state_of clients.old global.old) place.flow }
 {
-    update(global);
+    update(global, known);
     global.tickets -= u64::from(clients.leave(place, global.pass));
 }
 
 /// Gives a client that competes other tickets.
-pub(crate) fn modify(clients: &mut Table, global: &mut GlobalPart, place: Place, tickets: u32)
+pub(crate) fn modify(
+    clients: &mut Table,
+    global: &mut GlobalPart,
+    known: &mut KnownStride,
+    place: Place,
+    tickets: u32,
+)
     requires place { IsPlaceIn clients.old place }
     requires there { IsSome (map.get clients.old.by_flow place.flow) }
     requires kept { AreKept clients.old global.old }
@@ -71,7 +86,7 @@ pub(crate) fn modify(clients: &mut Table, global: &mut GlobalPart, place: Place,
     ensures modified { state_of clients.new global.new
         ≡ model_modify (state_of clients.old global.old) place.flow tickets }
 {
-    update(global);
+    update(global, known);
     let before = clients.modify(place, global.pass, tickets);
     global.tickets = global.tickets - u64::from(before) + u64::from(tickets);
 }

@@ -9,6 +9,7 @@ ghost use Rattle.share_model.specs.stride.Moves.{charge as model_charge};
 ghost use Rattle.share_model.specs.stride.Level.{level_one};
 ghost use Rattle.share_model.specs.stride.Bound.{IsSound, IsNearGlobalPass};
 
+use crate::known::KnownStride;
 use crate::table::{MAX_CLIENTS, Table};
 use crate::{client, moves};
 use share_base::{FlowNo, Refusal};
@@ -28,6 +29,7 @@ use std::marker::Model;
 pub struct Queue {
     clients: Table,
     global: GlobalPart,
+    known: KnownStride,
 }
 
 impl Model for Queue {
@@ -58,6 +60,7 @@ impl Queue {
                 last: 0,
                 clock: 0,
             },
+            known: KnownStride::new(),
         })
     }
 
@@ -89,7 +92,13 @@ impl Queue {
     {
         match self.clients.find(flow) {
             None => {}
-            Some(place) => moves::join(&mut self.clients, &mut self.global, place, tickets),
+            Some(place) => moves::join(
+                &mut self.clients,
+                &mut self.global,
+                &mut self.known,
+                place,
+                tickets,
+            ),
         }
     }
 
@@ -102,7 +111,12 @@ impl Queue {
     {
         match self.clients.find(flow) {
             None => {}
-            Some(place) => moves::leave(&mut self.clients, &mut self.global, place),
+            Some(place) => moves::leave(
+                &mut self.clients,
+                &mut self.global,
+                &mut self.known,
+                place,
+            ),
         }
     }
 
@@ -116,7 +130,13 @@ impl Queue {
     {
         match self.clients.find(flow) {
             None => {}
-            Some(place) => moves::modify(&mut self.clients, &mut self.global, place, tickets),
+            Some(place) => moves::modify(
+                &mut self.clients,
+                &mut self.global,
+                &mut self.known,
+                place,
+                tickets,
+            ),
         }
     }
 
@@ -133,11 +153,23 @@ impl Queue {
             Some(place) => {
                 let client = self.clients.at(&place);
                 if !client.competes && tickets > 0 {
-                    moves::join(&mut self.clients, &mut self.global, place, tickets);
+                    moves::join(
+                        &mut self.clients,
+                        &mut self.global,
+                        &mut self.known,
+                        place,
+                        tickets,
+                    );
                 } else if client.competes && tickets == 0 {
-                    moves::leave(&mut self.clients, &mut self.global, place);
+                    moves::leave(&mut self.clients, &mut self.global, &mut self.known, place);
                 } else if client.competes && client.tickets != tickets {
-                    moves::modify(&mut self.clients, &mut self.global, place, tickets);
+                    moves::modify(
+                        &mut self.clients,
+                        &mut self.global,
+                        &mut self.known,
+                        place,
+                        tickets,
+                    );
                 }
             }
         }

@@ -2,7 +2,7 @@
 ghost use Rattle.std.specs.Prelude.{◌≡◌, ◌<◌, ◌≤◌, ◌*◌, ◌^◌, ◌↔◌, pos, ◌-ℤ◌, Some, None, false, length, slice_set};
 ghost use Rattle.std.specs.Prelude.{IsTrue, IsSome, IfSome, IfOk, is_some};
 ghost use Rattle.std.specs.FinMap as map;
-ghost use Rattle.share_model.specs.stride.Moves.{IsNext, joined, left, charged, position};
+ghost use Rattle.share_model.specs.stride.Moves.{IsNext, stride_of, joined, left, charged, position};
 ghost use Rattle.share_stride.specs.Fits.{IsWithin};
 ghost use Rattle.share_stride.specs.Table.{no_clients, client_of, client_at, with_client_at, IsPlaceIn};
 ghost use Rattle.share_stride.specs.Table.{entry_of};
@@ -102,7 +102,8 @@ impl Table {
         requires idle { (client_at self.old place).competes ≡ false }
         requires some { 0 < tickets }
         requires pass { global_pass ≤ 2 ^ 80 }
-        requires stride { (client_at self.old place).stride ≤ 2 ^ 40 }
+        requires stride { (client_at self.old place).stride
+            ≡ stride_of (client_at self.old place).tickets }
         requires remain { IsWithin (client_at self.old place).remain
             ((client_at self.old place).stride * 2 ^ 41) }
         ensures { self.new
@@ -149,7 +150,8 @@ impl Table {
         requires competes { IsTrue (client_at self.old place).competes }
         requires some { 0 < tickets }
         requires pass { global_pass ≤ 2 ^ 80 }
-        requires stride { (client_at self.old place).stride ≤ 2 ^ 40 }
+        requires stride { (client_at self.old place).stride
+            ≡ stride_of (client_at self.old place).tickets }
         requires distance { IsWithin ((client_at self.old place).pass -ℤ pos global_pass)
             ((client_at self.old place).stride * 2 ^ 41) }
         ensures tickets { result ≡ (client_at self.old place).tickets }

@@ -3,7 +3,7 @@ use Rattle.share_model.specs.stride.MoveLaws.{is_there}
 use Rattle.share_model.specs.stride.SoundLaws.{total_small}
 use Rattle.share_stride.specs.Table.{client_at}
 use Rattle.share_stride.specs.Queue.{AreKept, state_of}
-use Rattle.share_stride.proofs.Soundness.{AreKept-updated, IsKept-joined, pass_fits, stride_fits, remain_fits}
+use Rattle.share_stride.proofs.Soundness.{AreKept-updated, IsKept-joined, pass_fits, stride_is, remain_fits}
 use Rattle.share_stride.proofs.moves.join.Goals as goal
 
 pub enter-requires-clause-pass : goal.enter-requires-clause-pass
@@ -20,7 +20,7 @@ enter-requires-clause-stride c =
     subst (AreKept c.args.clients.now) (sym c.update.ensures)
     (AreKept-updated c.args.clients.now c.args.global.now c.requires.kept) in
     let s = state_of c.args.clients.now c.update.new.global in
-    stride_fits s c.args.place.flow (client_at c.args.clients.now c.args.place) kept.sound
+    stride_is s c.args.place.flow (client_at c.args.clients.now c.args.place) kept.sound
     (is_there s c.args.place.flow c.requires.there)
 
 pub enter-requires-clause-remain : goal.enter-requires-clause-remain

@@ -4,7 +4,7 @@ use Rattle.share_model.specs.stride.SoundLaws.{total_small, tickets_le_total}
 use Rattle.share_stride.specs.Table.{client_at}
 use Rattle.share_stride.specs.Queue.{AreKept, state_of}
 use Rattle.share_stride.proofs.Soundness.{AreKept-updated, IsKept-modified, modified_is, updated_is, pass_fits}
-use Rattle.share_stride.proofs.Soundness.{stride_fits, pass_distance_fits}
+use Rattle.share_stride.proofs.Soundness.{stride_is, pass_distance_fits}
 use Rattle.share_stride.proofs.moves.modify.Goals as goal
 
 pub modify-before-requires-clause-pass : goal.modify-before-requires-clause-pass
@@ -21,7 +21,7 @@ modify-before-requires-clause-stride c =
     subst (AreKept c.args.clients.now) (sym c.update.ensures)
     (AreKept-updated c.args.clients.now c.args.global.now c.requires.kept) in
     let s = state_of c.args.clients.now c.update.new.global in
-    stride_fits s c.args.place.flow (client_at c.args.clients.now c.args.place) kept.sound
+    stride_is s c.args.place.flow (client_at c.args.clients.now c.args.place) kept.sound
     (is_there s c.args.place.flow c.requires.there)
 
 pub modify-before-requires-clause-distance : goal.modify-before-requires-clause-distance

@@ -1,9 +1,9 @@
-use Rattle.std.proofs.Common.{sym, ap, subst, ◌∙◌, ◌≤◌, ◌*◌, ◌^◌, set, rules}
+use Rattle.std.proofs.Common.{◌≡◌, sym, ap, subst, ◌∙◌, ◌≤◌, ◌*◌, ◌^◌, set, rules}
 use Rattle.std.specs.Prelude.{FitsSigned}
 use mir.Syntax.{w128}
 use Rattle.share_stride.specs.declared.table.Slot.{Slot}
 use Rattle.share_model.specs.declared.stride.Client.{Client}
-use Rattle.share_model.specs.stride.Moves.{joined}
+use Rattle.share_model.specs.stride.Moves.{stride_of, joined}
 use Rattle.share_stride.specs.Fits.{IsWithin}
 use Rattle.share_stride.specs.Table.{with_client_at}
 use Rattle.share_stride.proofs.RankLaws.{entry_of-read}
@@ -13,7 +13,7 @@ use Rattle.share_stride.proofs.table.Table.enter.Goals as goal
 
 pub joined-slot-requires-clause-stride : goal.joined-slot-requires-clause-stride
 joined-slot-requires-clause-stride c =
-    subst (λ (k : Client). k.stride ≤ 2 ^ 40)
+    subst (λ (k : Client). k.stride ≡ stride_of k.tickets)
     (sym (client_is_at _ _ _ c.self.invariant.indexed c.self.view_is c.args.place c.requires.place _
     c.in-Some.ensures.value)) c.requires.stride
 

@@ -1,7 +1,8 @@
-use Rattle.std.proofs.Common.{sym, ap, subst, ◌∙◌, ◌≤◌, ◌*◌, ◌^◌, arith}
+use Rattle.std.proofs.Common.{◌≡◌, sym, ap, subst, ◌∙◌, ◌≤◌, ◌*◌, ◌^◌, arith}
 use Rattle.share_model.specs.declared.stride.Client.{Client}
-use Rattle.share_model.specs.stride.Moves.{joined, left}
+use Rattle.share_model.specs.stride.Moves.{stride_of, joined, left}
 use Rattle.std.specs.Prelude.{pos, ◌-ℤ◌}
+use Rattle.share_model.specs.stride.DivisionLaws.{stride_of-le}
 use Rattle.share_stride.specs.Fits.{IsWithin}
 use Rattle.share_stride.specs.Table.{with_client_at}
 use Rattle.share_stride.proofs.PlaceLaws.{place_filled, client_is_at, view_written, IsWellFormed-written, place_fits}
@@ -12,16 +13,17 @@ pub left-client-requires-clause-distance : goal.left-client-requires-clause-dist
 left-client-requires-clause-distance c =
     let is = client_is_at _ _ _ c.self.invariant.indexed c.self.view_is c.args.place c.requires.place _
     c.in-Some.ensures.value in
-    let stride = subst (λ (k : Client). k.stride ≤ 2 ^ 40) (sym is) c.requires.stride in
+    let stride = subst (λ (k : Client). k.stride ≡ stride_of k.tickets) (sym is) c.requires.stride in
     let distance =
     subst (λ (k : Client). IsWithin (k.pass -ℤ pos c.args.global_pass) (k.stride * 2 ^ 41)) (sym is)
     c.requires.distance in
+    let small = stride_of-le c.in-Some.slot.now.client.tickets in
     record { below = omega (arith, distance.below); above = omega (arith, distance.above) }
 
 pub joined-slot-requires-clause-stride : goal.joined-slot-requires-clause-stride
 joined-slot-requires-clause-stride c =
     rw c.left-client.ensures
-    (subst (λ (k : Client). k.stride ≤ 2 ^ 40)
+    (subst (λ (k : Client). k.stride ≡ stride_of k.tickets)
     (sym (client_is_at _ _ _ c.self.invariant.indexed c.self.view_is c.args.place c.requires.place _
     c.in-Some.ensures.value)) c.requires.stride)
 

@@ -1,0 +1,47 @@
+//! The stride that is known without a division.
+ghost use Rattle.std.specs.Prelude.{◌≡◌};
+ghost use Rattle.share_model.specs.stride.Moves.{stride_of};
+
+use crate::client;
+use std::marker::Model;
+
+/// Tickets, and the stride of so many: a division that is mostly asked for again. A contract sees nothing of them.
+#[derive(Drop)]
+pub(crate) struct KnownStride {
+    tickets: u64,
+    stride: u64,
+}
+
+impl Model for KnownStride {
+    ghost use Rattle.std.specs.Prelude.{◌≡◌};
+    ghost use Rattle.share_model.specs.stride.Moves.{stride_of};
+
+    ghost Value = { Unit {0} };
+
+    ghost view = { λ _. tt };
+
+    ghost invariant = { λ known. known.stride ≡ stride_of known.tickets };
+}
+
+impl KnownStride {
+    /// That of no tickets.
+    pub(crate) fn new() -> KnownStride
+        ensures { result ≡ tt }
+    {
+        KnownStride {
+            tickets: 0,
+            stride: 0,
+        }
+    }
+
+    /// The stride of so many tickets, 0 of none.
+    pub(crate) fn of(&mut self, tickets: u64) -> u64
+        ensures { result ≡ stride_of tickets }
+    {
+        if tickets != self.tickets {
+            self.stride = client::stride_of(tickets);
+            self.tickets = tickets;
+        }
+        self.stride
+    }
+}

@@ -65,16 +65,22 @@ fn put_hex<O: Telling>(output: &mut O, bytes: &[u8]) -> Result<(), NotWritten>
     ensures offers { MatchResult result (λ _. Offers O.answers output.old output.new)
         (λ _. OfferRefused O.answers output.old output.new) }
 {
+    let mut text = [0u8; 2 * PIECE];
     let mut at = 0;
     while at < bytes.len() {
         let count = (bytes.len() - at).min(PIECE);
-        put_piece(output, &bytes[at..at + count])?;
+        put_piece(output, &bytes[at..at + count], &mut text)?;
         at += count;
     }
     Ok(())
 }
 
-fn put_piece<O: Telling>(output: &mut O, piece: &[u8]) -> Result<(), NotWritten>
+// Prints a piece, spelled in a buffer.
+fn put_piece<O: Telling>(
+    output: &mut O,
+    piece: &[u8],
+    text: &mut [u8; 2 * PIECE],
+) -> Result<(), NotWritten>
     requires { length piece.now ≤ 8192 }
     ensures bytes { MatchResult result
         (λ _. Appends (bytes_told (O.told output.old)) (bytes_told (O.told output.new))
@@ -84,8 +90,7 @@ fn put_piece<O: Telling>(output: &mut O, piece: &[u8]) -> Result<(), NotWritten>
     ensures offers { MatchResult result (λ _. Offers O.answers output.old output.new)
         (λ _. OfferRefused O.answers output.old output.new) }
 {
-    let mut text = [0u8; 2 * PIECE];
-    spell(piece, &mut text);
+    spell(piece, text);
     put(output, &text[..2 * piece.len()])
 }
 

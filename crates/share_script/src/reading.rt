@@ -10,6 +10,7 @@ ghost use Rattle.share_model.specs.text.Lines.{Reads, IsReading, IsUnread, is_in
 ghost use Rattle.share_model.specs.text.Lines.{named_of, numbered_of, mktkt_of, fund_of, funding_of, open_of};
 ghost use Rattle.share_model.specs.text.Lines.{send_of, turn_of, torn_of, report_of, audit_of, ranged, line_by};
 ghost use Rattle.share_model.specs.text.Lines.{words_of};
+ghost use Rattle.std.specs.Str.{bytes_eq};
 ghost use Rattle.share_script.specs.Words.{ReadsRanged, short_line_by, sent_by};
 
 use crate::payload::{decode, is_payload};
@@ -50,6 +51,22 @@ fn read_bytes(alloc: Global, bytes: &[u8]) -> Result<Line, Refusal>
     read_any(alloc, bytes)
 }
 
+// Whether two words are the same. A loop in place ends soonest, since mostly their first bytes differ.
+#[inline(always)]
+fn is_word(word: &[u8], keyword: &[u8]) -> bool
+    ensures { result ≡ bytes_eq word.now keyword.now }
+{
+    if word.len() != keyword.len() {
+        return false;
+    }
+    for place in 0..keyword.len() {
+        if word[place] != keyword[place] {
+            return false;
+        }
+    }
+    true
+}
+
 // Packets and turns come most, and are told soonest by the first bytes of their lines.
 fn after_send(line: &[u8]) -> Option<&[u8]>
     ensures { IfSome result (λ rest. words_of line.now ≡ codes "send" ∷ words_of rest.now) }
@@ -85,42 +102,53 @@ fn read_any(alloc: Global, bytes: &[u8]) -> Result<Line, Refusal>
 fn read_words(alloc: Global, keyword: &[u8], words: &mut Words<'_>) -> Result<Line, Refusal>
     ensures { ReadsRanged (line_by keyword.now words.old) result }
 {
-    if keyword == b"send".as_slice() {
+    if is_word(keyword, b"send") {
         return send(alloc, words);
     }
     ranged(short_line(keyword, words))
 }
 
+// Each arm returns by itself: as one expression, the line is copied once for each `else`.
 fn short_line(keyword: &[u8], words: &mut Words<'_>) -> Option<Line>
     ensures { result ≡ short_line_by keyword.now words.old }
 {
-    if keyword == b"turn".as_slice() {
-        turn(words)
-    } else if keyword == b"open".as_slice() {
-        open(words)
-    } else if keyword == b"close".as_slice() {
-        close(words)
-    } else if keyword == b"mktkt".as_slice() {
-        make_ticket(words)
-    } else if keyword == b"fund".as_slice() {
-        fund(words)
-    } else if keyword == b"unfund".as_slice() {
-        unfund(words)
-    } else if keyword == b"rmtkt".as_slice() {
-        remove_ticket(words)
-    } else if keyword == b"mkcur".as_slice() {
-        make_currency(words)
-    } else if keyword == b"rmcur".as_slice() {
-        remove_currency(words)
-    } else if keyword == b"torn".as_slice() {
-        torn(words)
-    } else if keyword == b"report".as_slice() {
-        report(words)
-    } else if keyword == b"audit".as_slice() {
-        audit(words)
-    } else {
-        None
+    if is_word(keyword, b"turn") {
+        return turn(words);
     }
+    if is_word(keyword, b"open") {
+        return open(words);
+    }
+    if is_word(keyword, b"close") {
+        return close(words);
+    }
+    if is_word(keyword, b"mktkt") {
+        return make_ticket(words);
+    }
+    if is_word(keyword, b"fund") {
+        return fund(words);
+    }
+    if is_word(keyword, b"unfund") {
+        return unfund(words);
+    }
+    if is_word(keyword, b"rmtkt") {
+        return remove_ticket(words);
+    }
+    if is_word(keyword, b"mkcur") {
+        return make_currency(words);
+    }
+    if is_word(keyword, b"rmcur") {
+        return remove_currency(words);
+    }
+    if is_word(keyword, b"torn") {
+        return torn(words);
+    }
+    if is_word(keyword, b"report") {
+        return report(words);
+    }
+    if is_word(keyword, b"audit") {
+        return audit(words);
+    }
+    None
 }
 
 fn ranged(line: Option<Line>) -> Result<Line, Refusal>

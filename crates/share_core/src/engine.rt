@@ -161,8 +161,7 @@ impl<W, S: Rates> Engine<W, S> {
     }
 
     /// The n-th open flow, from 0, in order of opening: its number, its name, and how many packets wait in its buffer,
-    /// a
-    /// torn one not counted. `None` where fewer flows are open.
+    /// a torn one not counted. `None` where fewer flows are open.
     pub fn row(&self, n: u32) -> Option<Row>
         ensures { result ≡ row self.now.live n }
     {

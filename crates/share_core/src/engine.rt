@@ -183,7 +183,7 @@ impl<W, S: Rates> Engine<W, S> {
     /// - `MakeTicket`: `Range` (an amount of 1 to 2^20), `NoCurrency`, `TableFull` (1024 tickets), `NoMemory`;
     /// - `RemoveTicket`: `NoTicket`, `Funding` (it funds something);
     /// - `FundCurrency`: `NoTicket`, `NoCurrency`, `Base`, `Funding`, `Crowded` (16 tickets fund the currency), `Cycle`
-    ///   (the currency backs the ticket's), `Deep` (nine currencies would stand in a chain);
+    ///   (the currency is the ticket's, or backs it), `Deep` (nine currencies would stand in a chain);
     /// - `FundFlow`: `NoTicket`, `NoFlow`, `Funding`, `Crowded` (16 tickets fund the flow);
     /// - `Unfund`: `NoTicket`, `Unfunded`;
     /// - `OpenFlow`: `Range` (a limit of 1 to 1024 packets), `NoTariff`, `Taken`, `TableFull` (64 flows), `NoMemory`;
@@ -216,11 +216,11 @@ impl<W, S: Rates> Engine<W, S> {
         self.link.arrive(&flow, body)
     }
 
-    /// Offers the writer the next bytes of the frame that is sent, at most `most` bytes, in one write call, and its
-    /// answer decides: `Wrote` where it accepted some, `Again` where it was interrupted, which changes nothing, and
-    /// else `Torn`, a fault that breaks the link for good. Nothing is offered, and the answer is `Spent` where the
-    /// life is spent, `Broken` where the link is broken, and `Idle` where there is nothing to send, in this order. It
-    /// takes no memory.
+    /// Offers the writer the next bytes of the frame that is sent, at most `most` bytes, which is at least 1, in one
+    /// write call, and its answer decides: `Wrote` where it accepted some, `Again` where it was interrupted, which
+    /// changes nothing, and else `Torn`, a fault that breaks the link for good. Nothing is offered, and the answer is
+    /// `Spent` where the life is spent, `Broken` where the link is broken, and `Idle` where there is nothing to send,
+    /// in this order. It takes no memory.
     pub fn turn(&mut self, most: u32) -> Turn
     where
         W: Telling,

@@ -82,7 +82,7 @@ impl Journal {
         Some(&self.entries[(number - 1) as usize])
     }
 
-    /// Puts an entry at the end. It takes no memory.
+    /// Puts an entry at the end of a journal that is not full. It takes no memory.
     pub fn push(&mut self, entry: Entry)
         requires { length self.old.entries < self.old.life }
         ensures { self.new ≡ noted self.old (entry ∷ []) }

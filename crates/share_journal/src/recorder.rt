@@ -137,8 +137,8 @@ impl<W: Telling, S: Rates> Recorder<W, S> {
         reply
     }
 
-    /// A turn of the link, as `Engine::turn` makes it, and its entry where the writer accepted bytes or the frame was
-    /// torn. It takes no memory.
+    /// A turn of the link of at least 1 byte, as `Engine::turn` makes it, and its entry where the writer accepted bytes
+    /// or the frame was torn. It takes no memory.
     pub fn turn(&mut self, most: u32) -> Turn
         requires { 1 ≤ most }
         ensures did { TurnDid W.answers self.old.link most result self.new.link }

@@ -56,16 +56,16 @@ impl Ledger {
         self.is_kept();
     }
 
-    /// Funding a currency is `Deep` exactly where nine currencies besides `base` would then stand in a chain,
-    /// each backing the next.
+    /// The test for `Deep` holds of the funding of a currency exactly where nine currencies besides `base` would then
+    /// stand in a chain, each backing the next.
     pub fn deep_is_nine(&self)
         ensures { DeepIsNine self.now }
     {
         self.is_kept();
     }
 
-    /// Funding a currency is a `Cycle` exactly where it backs the ticket's denomination already, by however
-    /// many steps.
+    /// The test for `Cycle` holds of the funding of a currency exactly where that is the ticket's denomination, or
+    /// backs it by however many steps.
     pub fn cycle_is_backing(&self)
         ensures { CycleIsBacking self.now }
     {

@@ -5,7 +5,7 @@
 //! the graph as it is. What weighs on each currency and what it is worth is kept by its place: a change goes up
 //! by weights and down by values, in one pass over the places each. Where a currency is backed by one that was made
 //! later, rounds over all tickets stand for the passes, one for each step that a chain may have. Never is there a
-//! walk over the paths, of which there can be 16^8.
+//! walk over the paths, of which there can be 16^9 from `base` to a flow.
 #![tactic(auto)]
 
 mod bounds;

@@ -141,9 +141,9 @@ pub fn shares_are_within_of_runs()
         → MayFollow life rates empty_state events → SharesAreWithin (run rates events).live.graph }
 {}
 
-/// In a life of at most 2^24 events fewer than 2^36 units are charged; the pass of a flow that competes, and the remain
-/// of another, is within its stride times one more than these units; and accounts stay below 2^52, those of closed
-/// flows together too.
+/// In a life of at most 2^24 events fewer than 2^36 units are charged; the pass of a flow that competes is within its
+/// stride times one more than these units of the global pass, and the remain of another within as much of 0; and
+/// accounts stay below 2^52, those of closed flows together too.
 pub fn bounds_of_runs()
     ensures clock { (life : ℕ) (rates : List Rate) (events : List Event)
         → life ≤ max_life → AreInRange rates

@@ -14,7 +14,7 @@ pub enum Got {
     End,
     /// Nothing was read, and the call may be made again.
     Interrupted,
-    /// Nothing was read, and nothing will be.
+    /// Nothing was read, and the caller is not to ask again.
     Failed,
 }
 

@@ -12,7 +12,7 @@ pub enum Answer {
     Accepted(usize),
     /// Nothing was taken, and the call may be made again.
     Interrupted,
-    /// Nothing was taken, and nothing will be.
+    /// Nothing was taken, and the caller is not to ask again.
     Failed,
 }
 

@@ -33,10 +33,10 @@ pub enum ScriptFault {
     /// A read failed, or the script takes more than 2^32 reads.
     #[error("cannot read the script")]
     Input,
-    /// An offer of an answer's text was refused.
+    /// An offer of an answer, of a report or of the line of the bytes was refused.
     #[error("cannot write the output")]
     Output,
-    /// Memory was refused: for the buffers, or for the bytes of a frame.
+    /// Memory was refused: for the link, for the buffers, or for the bytes of a frame.
     #[error("out of memory")]
     NoMemory,
 }
@@ -85,10 +85,10 @@ impl<T: Drop> From<AllocFailed<T>> for ScriptFault {
     }
 }
 
-/// Runs a script on a new link: each line is answered by a line of output, but `report` by the report of the link, and
-/// `audit 1` as the first line by nothing. The answers to what one read gave are offered before the next read is made.
-/// It ends where the input ends, or at the first fault, which drops the link; what was printed is then a beginning of
-/// the script's text. An interrupted read is made again, 2^32 are made at most.
+/// Runs a script on a new link whose tape is empty: each line is answered by a line of output, but `report` by the
+/// report of the link, and `audit 1` as the first line by nothing. The answers to what one read gave are offered before
+/// the next read is made. It ends where the input ends, or at the first fault, which drops the link; what was printed
+/// is then a beginning of the script's text. An interrupted read is made again, 2^32 are made at most.
 ///
 /// `Input` where a read failed or too many would be made, `Output` where an offer of an answer or a report was refused,
 /// `NoMemory` where no buffers were to be had, before anything is read, or the tape found no memory for a frame.

@@ -16,7 +16,8 @@ use share_model::{Line, NotWritten, Telling, put};
 
 /// Writes the spelling of a line and a line feed. It takes no memory: the text is put together on the stack, so a
 /// writer that accepts it whole is called once. On an error a beginning of the text is written. Whatever its fields
-/// are, the line is one, so it is read from these bytes, or refused as `Range` where the number of a turn is.
+/// are, the line is one, so it is read from these bytes, or refused as `Range` where it is a turn of none or of more
+/// than 65535 bytes.
 pub fn write_line<V: Telling>(line: &Line, output: &mut V) -> Result<(), NotWritten>
     ensures line { IsLine line.now }
     ensures bytes { MatchResult result

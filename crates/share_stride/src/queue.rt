@@ -20,11 +20,11 @@ use std::marker::Model;
 /// The clients of a link, of which those that compete are served in proportion to their tickets. A contract sees
 /// the clients by their flow numbers, the global pass and the clock.
 ///
-/// A client has 1 to 2^20 tickets, and a stride of 2^40 divided by them, rounded down. Passes and remains are on one
-/// scale, where 1024 units are worth a stride: a charge of `u` units adds `stride * u / 1024`, rounded down, to a
-/// client's pass while it competes, and to its remain while it does not. The remain is by how much the pass was ahead
-/// of the global pass when the client left. The global pass is that of a client that had all tickets of those that
-/// compete. The clock counts the units that all clients were charged.
+/// A client that has competed has 1 to 2^20 tickets, and a stride of 2^40 divided by them, rounded down; a new one has
+/// none, and the stride 0. Passes and remains are on one scale, where 1024 units are worth a stride: a charge of `u`
+/// units adds `stride * u / 1024`, rounded down, to a client's pass while it competes, and to its remain while it does
+/// not. The remain is by how much the pass was ahead of the global pass when the client left. The global pass is that
+/// of a client that had all tickets of those that compete. The clock counts the units that all clients were charged.
 #[derive(Drop)]
 pub struct Queue {
     clients: Table,

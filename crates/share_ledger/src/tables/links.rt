@@ -98,8 +98,8 @@ impl Tables {
         }
     }
 
-    /// Cycle or Deep, where the currency cannot be funded by this ticket for want of either. It has a part of the stack
-    /// of its own: its links take 24 KiB, which no other command has to touch.
+    /// Cycle or Deep, where the currency cannot be funded by this ticket for one of them. It has a part of the stack of
+    /// its own: its links take 24 KiB, which no other command has to touch.
     #[inline(never)]
     pub(super) fn chain_refusal(&self, number: u64, currency: Name) -> Option<Refusal>
         requires { is_currency self.now currency ≡ true }

@@ -1,6 +1,7 @@
 //! Scripts that ask for reports, and scripts that are audits.
 
-use super::{LIFE, is_answered, output_fails};
+use super::faults::output_fails;
+use super::{LIFE, is_answered};
 use share_model::{Answer, Rates};
 use std::alloc::Global;
 use std::process::Abort;

@@ -23,7 +23,7 @@ use std::alloc::{AllocError, Global};
 const MAX_LINE: usize = 20480;
 
 /// The longest payload, in bytes.
-const MAX_PAYLOAD: usize = 1490;
+pub(crate) const MAX_PAYLOAD: usize = 1490;
 
 /// The line that these bytes, without a line feed, spell. `Syntax` where they spell none, `Range` where the payload
 /// of a packet has more than 1490 bytes or the number of a turn is not 1 to 65535, `NoMemory` where the copy of a
@@ -380,7 +380,8 @@ fn unread(digits: &[u8], otherwise: Refusal) -> Refusal
     }
 }
 
-fn zeros(alloc: Global, count: usize) -> Result<Vec<u8>, AllocError>
+/// So many zero bytes. An error where memory for them was refused.
+pub(crate) fn zeros(alloc: Global, count: usize) -> Result<Vec<u8>, AllocError>
     ensures { IfOk result (λ bytes. length bytes.items ≡ count) }
 {
     vec![in alloc; 0u8; count]

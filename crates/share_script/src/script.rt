@@ -14,6 +14,7 @@ ghost use Rattle.share_script.specs.Session.{Stands};
 
 use crate::answers::{Session, answer, say};
 use crate::carry::Carry;
+use crate::reading::zeros;
 use crate::spool::Spool;
 use memchr::memchr;
 use share_core::Engine;
@@ -155,12 +156,6 @@ fn run_lines<S: Rates + Drop, I: Source, O: Telling>(
     )?;
     finish(alloc, session, &carry, &mut spool, output)?;
     Ok(())
-}
-
-fn zeros(alloc: Global, count: usize) -> Result<Vec<u8>, AllocError>
-    ensures { IfOk result (λ bytes. length bytes.items ≡ count) }
-{
-    vec![in alloc; 0u8; count]
 }
 
 // Reads and answers all lines that end in a line feed; the rest of the input is carried.

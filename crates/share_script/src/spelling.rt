@@ -6,12 +6,10 @@ ghost use Rattle.share_model.specs.text.Lines.{IsName, IsNumber, IsPayload, HasC
 ghost use Rattle.share_model.specs.text.Lines.{hex, is_byte, command_words, spelled};
 
 use crate::hex::spell;
+use crate::reading::MAX_PAYLOAD;
 use crate::text::{ShortText, Text};
 use share_base::{Body, Command, Event, Name};
 use share_model::Line;
-
-/// The longest payload, in bytes.
-const MAX_PAYLOAD: usize = 1490;
 
 /// Adds the spelling of a line to an empty text. What the types of its fields say is enough for it to be a line.
 pub fn push_spelled(text: &mut ShortText, line: &Line)

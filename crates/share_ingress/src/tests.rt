@@ -1,5 +1,6 @@
 //! Readers, the queue and workers in use: the worked examples, and what no contract says.
 
+mod beside;
 mod queueing;
 mod reading;
 mod working;

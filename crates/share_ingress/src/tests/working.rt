@@ -2,9 +2,7 @@
 
 use crate::tests::queueing::taken;
 use crate::tests::reading::Dripping;
-use crate::{
-    Done, Ended, Gate, IngressEnd, IngressReader, Intake, Why, queue, run_worker,
-};
+use crate::{Done, Ended, Gate, IngressEnd, IngressReader, Intake, Why, queue, run_worker};
 use share_model::{Got, Source};
 use std::alloc::Global;
 use std::process::Abort;

@@ -35,9 +35,8 @@ pub fn next_is_unique()
     ensures { NextIsUnique }
 {}
 
-/// Of two passes, let the one be charged only where it is at most the other. Then it is charged at most the
-/// greater of 0 and these together: what the other is charged, what the other was ahead at the start, and its own
-/// largest charge.
+/// Of two passes, let the one be charged only where it is at most the other. Then it is charged at most the greater of
+/// 0 and these together: what the other is charged, what the other was ahead at the start, and its own largest charge.
 pub fn shares_stay_close()
     ensures { SharesStayClose }
 {}

@@ -4,7 +4,7 @@ use Rattle.std.proofs.Common.{nat_eq, refl, sym, ap, subst, true≢false}
 use Rattle.share_model.specs.lists.Change.{change_first}
 use Rattle.share_model.specs.declared.funding.OpenFlow.{OpenFlow}
 use Rattle.share_model.specs.declared.rates.Rate.{Rate}
-use Rattle.share_model.specs.funding.Graph.{NameBytes, Graph, flow_numbers}
+use Rattle.share_model.specs.funding.Graph.{NameBytes, flow_numbers}
 use Rattle.share_model.specs.funding.Changes.{with_activity, set_active}
 use Rattle.share_model.specs.link.Buffers.{Buffer, is_some_packet, is_busy}
 use Rattle.share_model.specs.link.Live.{Live, wants}
@@ -12,8 +12,7 @@ use Rattle.share_model.specs.link.BufferLaws.{numbers-with_activity}
 use Rattle.share_model.specs.run.QueueLaws.{wants-can_level}
 use Rattle.share_model.specs.run.Sound.{Sound, QueueIsSound}
 use Rattle.share_model.specs.stride.Moves.{Stride}
-use Rattle.share_model.specs.stride.Level.{level_all, CanLevel, IsLevel}
-use Rattle.share_model.specs.stride.LevelLaws.{level_stays}
+use Rattle.share_model.specs.stride.Level.{CanLevel}
 
 -- a flow whose buffer holds a packet is active
 stays : (f : ℕ) (es : List (NameBytes × OpenFlow)) (bs : List Buffer)
@@ -55,10 +54,6 @@ pub stays-active : {life : ℕ} {rates : List Rate} {l : Live} → Sound life ra
 stays-active {l = l} sound f busy =
     ap (λ es. record l.graph { flows = es }) (stays f l.graph.flows l.buffers sound.flows.buffered sound.flows.active
     busy)
-
--- nothing moves in a levelling by a graph that stays
-pub stays-level : (q : Stride) (now g : Graph) → now ≡ g → IsLevel q (wants g) → q ≡ level_all q (wants now)
-stays-level q now g same level = sym (ap (λ g. level_all q (wants g)) same ∙ level_stays q (wants g) level)
 
 -- the flows are clients also after one of them became active, or not
 pub can-settle : {life : ℕ} {rates : List Rate} {l : Live} → Sound life rates l → (q : Stride)

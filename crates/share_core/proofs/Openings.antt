@@ -1,8 +1,8 @@
 -- A flow that is opened, and the queue to which its client is added.
-use Rattle.std.proofs.Common.{◌≡◌, ◌<◌, ◌+◌, ◌∙◌, ℕ, Bool, true, false, List, [], ◌∷◌, length, nat_le, nat_eq, Option}
+use Rattle.std.proofs.Common.{◌≡◌, ◌<◌, ◌+◌, ◌∙◌, ℕ, Bool, true, false, List, [], ◌∷◌, length, nat_le, nat_eq}
 use Rattle.std.proofs.Common.{None, Some, IsSome}
 use Rattle.std.proofs.Common.{Result}
-use Rattle.std.proofs.Common.{Ok, Err, OnOk, IfErr, inl, is_some, refl, sym, ap, subst, arith}
+use Rattle.std.proofs.Common.{Ok, Err, OnOk, IfErr, inl, refl, sym, ap, subst, arith}
 use Rattle.std.proofs.lemmas.Bool.Decides.{nat_tests}
 use Rattle.std.proofs.lemmas.List.{length-map}
 use Rattle.std.specs.FinMap.{get, len}
@@ -25,10 +25,7 @@ use Rattle.share_model.specs.run.SoundLaws.{sound-numbered}
 use Rattle.share_model.specs.run.SoundStepLaws.{numbers-added, openable}
 use Rattle.share_model.specs.stride.Moves.{Stride, add, add_refusal}
 use Rattle.share_model.specs.stride.Level.{CanLevel}
-
-none_of : {A : Type 0} (o : Option A) → is_some o ≡ false → o ≡ None
-none_of None is = refl
-none_of (Some x) is = cc
+use Rattle.share_model.specs.lists.RemoveLaws.{none_from}
 
 -- a queue with room refuses no client
 has_room : (q : Stride) → len q.clients < 64 → add_refusal q ≡ None
@@ -78,12 +75,12 @@ module _ {life : ℕ} {rates : List Rate} {l : Live} (sound : Sound life rates l
   -- the next flow is no client yet, and there is room for it
   pub next-unjoined : get l.queue.clients l.graph.next_flow ≡ None
   next-unjoined =
-      none_of (get l.queue.clients l.graph.next_flow) (sound.queue.clients l.graph.next_flow ∙ fresh)
+      none_from (get l.queue.clients l.graph.next_flow) (sound.queue.clients l.graph.next_flow ∙ fresh)
 
   -- and has no buffer
   pub next-unbuffered : buffer_of l.buffers l.graph.next_flow ≡ None
   next-unbuffered =
-      none_of (buffer_of l.buffers l.graph.next_flow)
+      none_from (buffer_of l.buffers l.graph.next_flow)
       (is_some-find_number (λ (b : Buffer). b.flow) l.graph.next_flow l.buffers
       ∙ (ap (has_number l.graph.next_flow) sound.flows.buffered ∙ fresh))
 

@@ -1,23 +1,12 @@
 -- How many packets wait, in one buffer and in all.
 use Rattle.std.proofs.Common.{◌≡◌, ◌+◌, ◌-◌, ◌≤◌, ℕ, Bool, true, false, List, Option, None, Some}
-use Rattle.std.proofs.Common.{arith, true≢false, sym, ap, ◌∙◌}
-use Rattle.std.proofs.lemmas.Bool.{eqb-true}
+use Rattle.std.proofs.Common.{arith, true≢false, sym, ◌∙◌}
 use Rattle.share_model.specs.declared.rates.Rate.{Rate}
-use Rattle.share_model.specs.link.Buffers.{Buffer, count_in, head_of}
-use Rattle.share_model.specs.link.Live.{Live, is_torn_of}
-use Rattle.share_model.specs.link.Totals.{packets_in, torn_packets, torn_count, waiting}
+use Rattle.share_model.specs.link.Buffers.{Buffer}
+use Rattle.share_model.specs.link.Live.{Live}
+use Rattle.share_model.specs.link.Totals.{packets_in, torn_packets, torn_count}
 use Rattle.share_model.specs.run.CountLaws.{some-held, count-within}
 use Rattle.share_model.specs.run.Sound.{Sound, TornIsNamed, torn_gone}
-
--- a torn packet is in the buffer of its flow
-pub torn_held : {life : ℕ} {rates : List Rate} {l : Live} → Sound life rates l → (f : ℕ)
-    → is_torn_of f l.torn ≡ true → 1 ≤ count_in l.buffers f
-torn_held {l = l} sound f = by_torn l.torn sound.torn.named
-  where
-    by_torn : (o : Option ℕ) → TornIsNamed l.buffers l.broken o → is_torn_of f o ≡ true → 1 ≤ count_in l.buffers f
-    by_torn None named is = absurd (true≢false (sym is))
-    by_torn (Some g) named is =
-        some-held l.buffers f named.head (ap (λ n. head_of l.buffers n) (eqb-true f g is) ∙ named.found)
 
 -- what was accepted, and neither written, nor dropped, nor torn, waits
 record AreWaiting (accepted written dropped held : ℕ) (broken : Bool) (torn : Option ℕ) : Type 0 where
@@ -51,6 +40,3 @@ module _ {life : ℕ} {rates : List Rate} {l : Live} (sound : Sound life rates l
 
   pub torn_within : torn_count l.broken ≤ l.counts.accepted - l.counts.written - l.counts.dropped
   torn_within = all_waiting.torn_is
-
-  pub waiting_is : l.counts.accepted - l.counts.written - l.counts.dropped - torn_count l.broken ≡ waiting l
-  waiting_is = all_waiting.rest

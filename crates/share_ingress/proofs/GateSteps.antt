@@ -1,5 +1,5 @@
 -- What the calls of a worker come to, call after call: those of its gate, and the turns of its reader.
-use Rattle.std.proofs.Common.{◌≡◌, ◌≢◌, inl, inr, ℕ, ◌+◌, ◌-◌, true, length, Option, None, Some, IfSome}
+use Rattle.std.proofs.Common.{◌≡◌, inl, inr, ℕ, ◌+◌, ◌-◌, true, length, Option, None, Some, IfSome}
 use Rattle.std.proofs.Common.{List, arith, refl, sym, ap, ◌∙◌, subst}
 use Rattle.std.proofs.lemmas.List.{length-append}
 use Rattle.share_model.specs.declared.ingress.Ended.{Ended}
@@ -154,10 +154,3 @@ module _ {R G : Type 0} (gives : R → List ℕ → Got → R → Type 0) (told 
           spent = f.spent;
           finished = inl (ends_by now.ended new over left refl again once stands, refl);
         })
-
-  -- and no worker that ran is one that was not started
-  pub ran_started : (reader left : Reading R) (start end : EndView) (gate last : G) (tally : ℕ) (why : Why)
-      → Ran gives told reader start gate tally why end last left → why ≢ NotStarted
-  ran_started reader left start end gate last tally (Over over) f = λ e. cc
-  ran_started reader left start end gate last tally Stopped f = λ e. cc
-  ran_started reader left start end gate last tally NotStarted f = absurd f.finished

@@ -1,17 +1,15 @@
 -- Joining passes, and splitting them again, keeps the rule of the queue.
-use Rattle.std.proofs.Common.{◌≡◌, ◌≢◌, ℕ, ◌+◌, true, ◌||◌, nat_eq}
-use Rattle.std.proofs.Common.{List, [], ◌∷◌, ◌++◌, length, set, arith, refl, sym, ap, ◌∙◌, subst, ⊎_elim}
-use Rattle.std.proofs.lemmas.List.{length-append}
+use Rattle.std.proofs.Common.{◌≡◌, ◌≢◌, ℕ, true}
+use Rattle.std.proofs.Common.{List, ◌++◌, length, set, refl, sym, ap, ◌∙◌, subst, ⊎_elim}
 use mathlib.Core.Option.{some}
 use lib.ListN.{get_elem?}
 use Rattle.crossbeam_queue.specs.Fifo.{Forks, Merges, Learns}
 use Rattle.share_model.specs.declared.ingress.Offer.{Offer}
 use Rattle.share_model.specs.declared.ingress.QueueView.{QueueView}
 use Rattle.share_model.specs.ingress.Queue.{of_worker, Begins, an_end, an_intake, a_host, spent, IsEnd}
-use Rattle.share_model.specs.ingress.Queue.{IsIntake, IsWorker, KeepsOrder, Behind}
-use Rattle.share_ingress.proofs.Offers.{same_or_not, other_test}
+use Rattle.share_model.specs.ingress.Queue.{IsIntake, KeepsOrder, Behind}
 use Rattle.share_ingress.proofs.Offers.{views_set}
-use Rattle.share_ingress.proofs.Offers.{views_snoc, length_set, none_long}
+use Rattle.share_ingress.proofs.Offers.{views_snoc, length_set}
 use Rattle.crossbeam_queue.proofs.Lists.{at_set}
 use Rattle.share_ingress.proofs.Moves.{not_true, moved, moved_here, moved_else}
 
@@ -22,57 +20,6 @@ module _ (pass made : ℕ) (popped ahead : List Offer) (closed : List ℕ) (othe
       → get_elem? (set views pass now) other ≡ some (an_end w pushed) → get_elem? views other ≡ some (an_end w pushed)
   end_was views now two at' = ⊎_elim (λ x. absurd (two x.0)) (λ x. x.1) (at_set views pass other now (an_end w
       pushed) at')
-
-  joins_end : length pushed ≡ length (of_worker w popped)
-      → Merges KeepsOrder pass (an_intake made popped ahead closed) other (an_end w pushed)
-      (an_intake made popped ahead (w ∷ closed)) spent
-  joins_end even items views h at two at' =
-      let was = h.intake pass (an_intake made popped ahead closed) at refl in
-      let now = an_intake made popped ahead (w ∷ closed) in
-      let theirs = h.ends other (an_end w pushed) (end_was views now two at') refl in
-      let long : length (of_worker w popped) ≡ length (of_worker w h.got) = ap (λ t. length (of_worker w t))
-      was.popped in
-      let all : length pushed ≡ length (of_worker w h.got) + length (of_worker w items) =
-      ap (λ t. length t) theirs.pushed ∙ length-append (of_worker w h.got) (of_worker w items) in
-      let none : of_worker w items ≡ [] = none_long (of_worker w items) (omega (arith, even, long, all)) in
-      record {
-        reader = h.reader;
-        seat = h.seat;
-        got = h.got;
-        made = h.made;
-        shut = λ u. nat_eq w u || h.shut u;
-        known = h.known;
-        numbered = h.numbered;
-        emptied = λ u s. ⊎_elim
-            (λ (e : w ≡ u). let P : ℕ → Type 0 = λ n. IsWorker h.made n × (of_worker n items ≡ []) in
-            subst P e (theirs.known, none))
-            (λ (e : w ≢ u). h.emptied u (rw (other_test w u e) at s)) (same_or_not w u);
-        ends = views_set (λ j v. v.sends ≡ true → IsEnd h.seat h.got items h.made (λ u. nat_eq w u || h.shut u) j v)
-            (set views pass now) other spent (λ s. absurd (not_true s))
-            (λ j v apart e. views_set
-            (λ j v. j ≢ other → v.sends ≡ true → IsEnd h.seat h.got items h.made (λ u. nat_eq w u || h.shut u) j v)
-            views pass now (λ _ s. absurd (not_true s)) (λ j v _ e apart s. let old = h.ends j v e s in
-            let else : w ≢ v.worker = λ f. apart (old.alone ∙ ap h.seat (sym f) ∙ sym theirs.alone) in
-            record {
-              alone = old.alone;
-              known = old.known;
-              still = rw (other_test w v.worker else) old.still;
-              pushed = old.pushed;
-            }) j v e apart);
-        intake = views_set
-            (λ j v. v.gets ≡ true → IsIntake h.reader h.got items h.made (λ u. nat_eq w u || h.shut u) j v)
-            (set views pass now) other spent (λ s. absurd (not_true s))
-            (λ j v apart e. views_set
-            (λ j v. v.gets ≡ true → IsIntake h.reader h.got items h.made (λ u. nat_eq w u || h.shut u) j v) views pass
-            now (λ s. record {
-              alone = was.alone;
-              popped = was.popped;
-              made_is = was.made_is;
-              closed = λ u. ap (λ b. nat_eq w u || b) (was.closed u);
-              ahead = was.ahead;
-            })
-            (λ j v apart e s. absurd (apart ((h.intake j v e s).alone ∙ sym was.alone))) j v e);
-      }
 
   -- An end laid beside the intake
 

@@ -10,8 +10,6 @@ use Rattle.share_model.specs.declared.ingress.Offer.{Offer}
 use Rattle.share_model.specs.declared.ingress.QueueView.{QueueView}
 use Rattle.share_model.specs.ingress.Queue.{of_worker, Numbered, an_end, an_intake, IsEnd}
 use Rattle.share_model.specs.ingress.Queue.{IsIntake, IsWorker, KeepsOrder, Put, OwnLast, Taken, Seen}
-use Rattle.atomic_table.specs.Seated.{TableId}
-use Rattle.share_ingress.specs.Ends.{new_end, new_ends}
 use Rattle.share_ingress.proofs.Offers.{same_or_not, same_test, other_test, of_append, of_snoc_same, of_snoc_other}
 use Rattle.share_ingress.proofs.Offers.{of_same, of_moved, of_rest_none, of_first_some, of_above, numbered_snoc}
 use Rattle.share_ingress.proofs.Offers.{numbered_at}
@@ -46,14 +44,6 @@ begins_empty =
     only : (F : ℕ → QueueView → Type 0) → F 0 (an_intake 0 [] [] []) → Views F (an_intake 0 [] [] [] ∷ [])
     only F mine = views_set F (an_intake 0 [] [] [] ∷ []) 0 (an_intake 0 [] [] []) mine
         (λ j u apart e. absurd (apart (at_first j u e)))
-
-pub ends_known : (link : TableId) (capacity workers : ℕ)
-    → Each (λ e. IsWorker workers e.worker) (new_ends link capacity workers)
-ends_known link capacity zero = tt
-ends_known link capacity (suc n) =
-    each_snoc _ (new_ends link capacity n) (new_end link capacity (suc n))
-    (each_more _ _ (new_ends link capacity n) (λ e p. (p.0, omega (arith, p.1))) (ends_known link capacity n))
-    (omega arith, omega arith)
 
 -- A push
 

@@ -1,5 +1,5 @@
 -- Lists of offers, and the views of a queue's passes.
-use Rattle.std.proofs.Common.{◌≡◌, ◌≢◌, ◌⊎◌, inl, inr, ℕ, zero, suc, ◌+◌, ◌<◌, Bool, true, false, nat_eq}
+use Rattle.std.proofs.Common.{◌≡◌, ◌≢◌, ◌⊎◌, inl, inr, ℕ, zero, suc, ◌+◌, Bool, true, false, nat_eq}
 use Rattle.std.proofs.Common.{List, [], ◌∷◌, ◌++◌, length, set, arith, refl, sym, ap, ◌∙◌, subst, ⊎_elim}
 use Rattle.std.proofs.lemmas.List.{append_assoc, append-nil}
 use Rattle.std.proofs.lemmas.Bool.Decides.{nat_tests}
@@ -108,14 +108,6 @@ begins_snoc os front o h = (h.0 ++ o ∷ [], ap (λ t. t ++ o ∷ []) h.1 ∙ ap
 pub begins_all : (os : List Offer) → Begins os os
 begins_all os = ([], sym (append-nil os))
 
-pub none_begins : (os : List Offer) → Begins [] os → os ≡ []
-none_begins [] h = refl
-none_begins (o ∷ os) h = cc
-
-pub none_long : (os : List Offer) → length os ≡ 0 → os ≡ []
-none_long [] e = refl
-none_long (o ∷ os) e = absurd (omega (arith, e))
-
 -- Views
 
 abbrev pub Views : (ℕ → QueueView → Type 0) → List QueueView → Type 0
@@ -141,11 +133,6 @@ views_snoc F views w olds new j u e =
     ⊎_elim (λ (h : get_elem? views j ≡ some u). olds j u h)
     (λ (h : (j ≡ length views) × (w ≡ u)). subst (λ (y : ℕ × QueueView). F y.0 y.1) (λ i. (sym h.0 i, h.1 i)) new)
     (snoc_at views w u j e)
-
-pub at_below : (views : List QueueView) (j : ℕ) (u : QueueView) → get_elem? views j ≡ some u → j < length views
-at_below [] j u e = absurd (some-ne-none u (sym e))
-at_below (x ∷ xs) zero u e = omega arith
-at_below (x ∷ xs) (suc j) u e = let h = at_below xs j u e in omega (arith, h)
 
 pub length_set : (views : List QueueView) (pass : ℕ) (w : QueueView) → length (set views pass w) ≡ length views
 length_set [] pass w = refl

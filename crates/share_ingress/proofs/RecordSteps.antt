@@ -95,10 +95,6 @@ pub first_is : (bs : List ℕ) (n : ℕ) → Some n ≡ slice_get bs 0 → bs �
 first_is [] n e = cc
 first_is (b ∷ bs) n e = let is : n ≡ b = cc in ap (λ m. m ∷ bs) (sym is)
 
-pub none_yet : (bs : List ℕ) → length bs ≡ 0 → NeedsMore bs
-none_yet [] e = inl refl
-none_yet (b ∷ bs) e = absurd (omega (arith, e))
-
 module _ (bs : List ℕ) (n : ℕ) (first : Some n ≡ slice_get bs 0) where
   pub name_length_bad : (n ≡ 0) ⊎ ((n ≢ 0) × (16 < n)) → IsBad bs
   name_length_bad h = bad_name_length n (drop 1 bs) (out_of_range n 16 h) (first_is bs n first)

@@ -3,6 +3,7 @@ use Rattle.std.proofs.Common.{◌≡◌, ℕ, suc, ◌+◌, ◌-◌, Bool, List,
 use Rattle.std.proofs.Common.{arith, refl, sym, ap, ◌∙◌, subst}
 use Rattle.std.proofs.lemmas.List.{append_assoc, append-nil, length-append}
 use Rattle.std.specs.Io.KnownBytes.{Consumes, Keeps, IsAtEnd, prepend_known}
+use Rattle.std.proofs.KnownBytes.{Consumes-nil}
 use Rattle.share_model.specs.lists.Each.{Each}
 use Rattle.share_model.specs.declared.ingress.Ended.{Ended}
 use Rattle.share_model.specs.declared.ingress.Ended.TheVariants.{End, Cut, BadRecord, Fault, NoMemory, Bound}
@@ -60,10 +61,6 @@ queue_more e items i =
     ∙ ap (λ t. e.pushed ++ t) (sym (offers_snoc e.worker (length e.pushed) items i)))
 
 -- Known bytes
-
-consumes_none : (a : Option (List ℕ)) → Consumes a a []
-consumes_none None = tt
-consumes_none (Some xs) = refl
 
 consumes_more : (a b c : Option (List ℕ)) (items : List Item) (i : Item) → Consumes a b (records_of items)
     → Consumes b c (record_of i) → Consumes a c (records_of (items ++ i ∷ []))
@@ -129,7 +126,7 @@ module _ {R : Type 0} (gives : R → List ℕ → Got → R → Type 0) (left : 
         good = tt;
         queued = ap (λ (p : List _). record e { pushed = p }) (sym (append-nil e.pushed));
         long = omega arith;
-        taken = consumes_none _;
+        taken = Consumes-nil _;
       }
 
   -- the reader has not ended where it gives an item

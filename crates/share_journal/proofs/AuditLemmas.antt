@@ -77,12 +77,6 @@ written_part a before now entries rest after e is so part =
     (part_longer a now _ (written after)
     (part_after a before now (written so.front) (written_line (event_line e.event)) so.appends part))
 
-pub written_all : (a now : Option (List ℕ)) (entries : List Entry) → WrittenBefore a now entries []
-    → Appends a now (written entries)
-written_all a now entries so =
-    let P : List Entry → Type 0 = λ es. Appends a now (written es) in
-    subst P (sym (append-nil so.front) ∙ so.are) so.appends
-
 -- What the audit comes to
 
 pub told_bytes : (o : Option Told) (ks : List ℕ) (s t : State) → s ≡ t → IfSome o (TellsRun t ks)

@@ -1,7 +1,8 @@
 -- The graph of the tables, and what the tables of refusals say where they answer nothing.
-use Rattle.std.proofs.Common.{◌≡◌, ℕ, Bool, true, false, ◌||◌, List, [], ◌∷◌, ◌++◌, map, length, take, drop, Option}
-use Rattle.std.proofs.Common.{None, Some, bytes_eq, is_some, refl, sym, ap, ◌∙◌, true≢false}
+use Rattle.std.proofs.Common.{◌≡◌, ℕ, false, List, [], ◌∷◌, ◌++◌, map, length, take, drop}
+use Rattle.std.proofs.Common.{None, bytes_eq, is_some, refl, sym, ap, ◌∙◌}
 use Rattle.std.proofs.lemmas.List.{length-map}
+use Rattle.std.proofs.lemmas.Bool.{or_parts}
 use Rattle.std.specs.List.{list_any}
 use Rattle.std.specs.Map.{lookup}
 use Rattle.share_base.specs.declared.refusal.Refusal.TheVariants.{Taken}
@@ -10,26 +11,19 @@ use Rattle.share_model.specs.declared.funding.OpenFlow.{OpenFlow}
 use Rattle.share_model.specs.funding.Graph.{NameBytes, base, Graph}
 use Rattle.share_model.specs.funding.Changes.{is_currency, make_currency_refusal, add_flow_refusal, flow_named}
 use Rattle.share_model.specs.funding.ChangeLaws.{not-refused}
+use Rattle.share_model.specs.lists.RemoveLaws.{none_from}
 
 -- the graph of the tables by their parts
 abbrev pub lay : List NameBytes → List Ticket → ℕ → List (NameBytes × OpenFlow) → ℕ → Graph
 lay cs ts n es m = record { currencies = cs; tickets = ts; next_ticket = n; flows = es; next_flow = m }
 
-or_right : (x y : Bool) → (x || y) ≡ false → y ≡ false
-or_right true y e = absurd (true≢false e)
-or_right false y e = e
-
 pub fresh-currency : (g : Graph) (c : NameBytes) → make_currency_refusal g c ≡ None
     → list_any (bytes_eq c) g.currencies ≡ false
 fresh-currency g c none =
-    or_right (bytes_eq c base) (list_any (bytes_eq c) g.currencies) (not-refused (is_currency g c) Taken _ none).0
-
-some_none : {X : Type 0} (o : Option X) → is_some o ≡ false → o ≡ None
-some_none None e = refl
-some_none (Some x) e = absurd (true≢false e)
+    (or_parts (bytes_eq c base) (list_any (bytes_eq c) g.currencies) (not-refused (is_currency g c) Taken _ none).0).1
 
 pub fresh-flow : (g : Graph) (f : NameBytes) → add_flow_refusal g f ≡ None → lookup (bytes_eq f) g.flows ≡ None
-fresh-flow g f none = some_none (flow_named g f) (not-refused (is_some (flow_named g f)) Taken _ none).0
+fresh-flow g f none = none_from (flow_named g f) (not-refused (is_some (flow_named g f)) Taken _ none).0
 
 -- a list that is written whole through a slice of it
 pub written-whole : {X : Type 0} (f : X → X) (xs ys zs : List X) (n : ℕ) → ys ≡ map f zs → zs ≡ xs → n ≡ length xs

@@ -5,6 +5,7 @@ use Rattle.std.proofs.Common.{subst, ◌∙◌, arith}
 use Rattle.std.proofs.lemmas.List.Sums.{sum_by-cons}
 use Rattle.std.proofs.lemmas.Bool.Decides.{nat_tests}
 use Rattle.std.proofs.lemmas.Option.{same_Some}
+use Rattle.std.proofs.lemmas.Bool.{eqb-true, lt-ltb, ltb-true}
 use Rattle.share_model.specs.declared.funding.Holder.{Holder}
 use Rattle.share_model.specs.declared.funding.Holder.TheVariants.{Nobody, Currency, Flow}
 use Rattle.share_model.specs.declared.funding.Ticket.{Ticket}
@@ -27,15 +28,13 @@ use Rattle.share_ledger.specs.Seats.{seats_at, seat_of, AreSeated, AreOrdered, b
 use Rattle.share_ledger.proofs.LinkPlaces.{place-base, IsPlaced, placed}
 use Rattle.share_ledger.proofs.NetSteps.{array-set}
 use Rattle.share_ledger.proofs.RouteWorths.{sum-routes, below}
+use Rattle.share_ledger.proofs.Walks.{no-term}
 
 -- one level more
 module _ (ss : List (List Seat)) (ordered : AreOrdered ss) (levels : List ℕ) (p n : ℕ) (long : length levels ≡ 65)
     (within : p < 65) where
   wrote : (k : ℕ) → get_or (set levels p n) k 0 ≡ cond (nat_eq p k) n (get_or levels k 0)
   wrote k = array-set levels p k n 0 (omega arith)
-
-  same : (a b : ℕ) → nat_eq a b ≡ true → a ≡ b
-  same a b e = grind (arith, nat_tests)
 
   apart : (a b : ℕ) → b < a → nat_eq a b ≡ false
   apart a b e = grind (arith, nat_tests)
@@ -79,7 +78,7 @@ module _ (ss : List (List Seat)) (ordered : AreOrdered ss) (levels : List ℕ) (
       by : (b : Bool) → nat_eq p k ≡ b
           → Each (λ (s : Seat). get_or (set levels p n) s.from 0 < get_or (set levels p n) k 0) (seats_at ss k)
       by true e =
-          let is = same p k e in
+          let is = eqb-true p k e in
           moved k n (omega arith) (sym (wrote k ∙ ap (λ b. cond b n (get_or levels k 0)) e)) (seats_at ss k)
           (ordered k (omega arith))
           (subst (λ q. Each (λ (s : Seat). get_or levels s.from 0 < n) (seats_at ss q)) is one)
@@ -217,12 +216,9 @@ module _ (g : Graph) (ok : IsKept g) (ss : List (List Seat)) (seated : AreSeated
   no-faults p [] each = refl
   no-faults p (x ∷ xs) each =
       let rest = no-faults p xs each.1 in
-      let less = below_is (level x.from) (level p) each.0 in
+      let less = lt-ltb (level x.from) (level p) each.0 in
       let here = ap {B = ℕ} (λ b. cond b 0 1) less in
       sum_by-cons (fault p) x xs ∙ omega arith
-    where
-      below_is : (m n : ℕ) → m < n → nat_lt m n ≡ true
-      below_is m n lt = grind (arith, nat_tests)
 
   abbrev ticket-part : ℕ → Ticket → ℕ
   ticket-part p t =
@@ -233,11 +229,6 @@ module _ (g : Graph) (ok : IsKept g) (ss : List (List Seat)) (seated : AreSeated
       sym
       (sym (no-faults p (seats_at ss p) (levels.above p up lt)) ∙ seated.seated (fault p) p lt
       ∙ sum-routes g (λ (r : Route). cond (nat_eq p r.to) (fault p (seat_of r)) 0) true)
-
-  no-term : (f : Ticket → ℕ) (ts : List Ticket) → sum_by f ts ≡ 0 → Each (λ t. f t ≡ 0) ts
-  no-term f [] none = tt
-  no-term f (t ∷ ts) none =
-      let sum = sum_by-cons f t ts in (omega arith, no-term f ts (omega arith))
 
   at-place : (p : ℕ) → 0 < p → p < 65 → Each (λ t. ticket-part p t ≡ 0) g.tickets
   at-place p up lt = no-term (ticket-part p) g.tickets (no-ticket_faults p up lt)
@@ -269,11 +260,8 @@ module _ (g : Graph) (ok : IsKept g) (ss : List (List Seat)) (seated : AreSeated
       itself : (p : ℕ) → nat_eq p p ≡ true
       itself p = grind (arith, nat_tests)
 
-      less : (a b : ℕ) → nat_lt a b ≡ true → a < b
-      less a b e = grind (arith, nat_tests)
-
       by : (a b p : ℕ) (x : Bool) → nat_lt a b ≡ x → ◌≡◌ {A = ℕ} (cond (nat_eq p p) (cond (nat_lt a b) 0 1) 0) 0 → a < b
-      by a b p true e none = less a b e
+      by a b p true e none = ltb-true a b e
       by a b p false e none =
           let here : ◌≡◌ {A = ℕ} (cond (nat_eq p p) (cond (nat_lt a b) 0 1) 0) 1 =
           ap {B = ℕ} (λ x. cond x (cond (nat_lt a b) 0 1) 0) (itself p) ∙ ap {B = ℕ} (λ x. cond x 0 1) e in

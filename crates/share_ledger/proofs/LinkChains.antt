@@ -1,6 +1,6 @@
 -- Rounds over the links of the tickets find the chains of the definitions.
 use Rattle.std.proofs.Common.{Some, find, get_or, set, ◌≡◌, ◌≤◌, ◌<◌, ℕ, zero, suc, Bool, true, false, not, cond}
-use Rattle.std.proofs.Common.{◌&&◌, ◌||◌, List, [], ◌∷◌, map, length, bytes_eq, nat_eq, refl, sym, ap, subst, ◌∙◌}
+use Rattle.std.proofs.Common.{◌&&◌, ◌||◌, List, [], ◌∷◌, map, bytes_eq, nat_eq, refl, sym, ap, subst, ◌∙◌}
 use Rattle.std.proofs.Common.{arith}
 use Rattle.std.specs.List.{list_any}
 use Rattle.share_model.specs.declared.funding.Holder.{Holder}
@@ -17,7 +17,6 @@ use Rattle.share_model.specs.lists.CountLaws.{any-filter}
 use Rattle.share_model.specs.funding.ChangeLaws.{stands}
 use Rattle.share_model.specs.funding.Changes.{is_numbered, is_currency, found_denomination, held_by, with_holder}
 use Rattle.share_model.specs.lists.Change.{change_first}
-use Rattle.std.proofs.lemmas.List.{length-map}
 use Rattle.share_ledger.specs.declared.rounds.Target.TheVariants.{Behind}
 use Rattle.share_ledger.specs.declared.rounds.Link.{Link}
 use Rattle.share_ledger.specs.Places.{place, link_of}
@@ -97,11 +96,6 @@ module _ (g : Graph) where
       each)
 
 -- The ticket of a number, at its place among the links
-first-below : {X : Type 0} (p : X → Bool) (xs : List X) (i : ℕ) → IsFirstAt p xs i → i < length xs
-first-below p [] i first = absurd first
-first-below p (x ∷ xs) zero first = omega arith
-first-below p (x ∷ xs) (suc i) first = let rest = first-below p xs i first.1 in omega arith
-
 module _ (g : Graph) (n : ℕ) where
   linked-at : (ts : List Ticket) (i : ℕ) (d : Link) → IsFirstAt (is_numbered n) ts i
       → (get_or (map (link_of g) ts) i d).from ≡ place (names_of g) (found_denomination (find (is_numbered n) ts))
@@ -143,12 +137,6 @@ module _ (g : Graph) (ok : IsKept g) (n : ℕ) (c : NameBytes) (there : is_curre
 
   pub chain-within_links : Each IsLinkWithin ls
   chain-within_links = subst (Each IsLinkWithin) (sym linked) (links-within g ok.few_currencies g.tickets (placed g ok))
-
-  pub chain-place : i < length ls
-  chain-place =
-      let below =
-      first-below (is_numbered n) g.tickets i first in let same = ap length linked
-      ∙ length-map g.tickets (link_of g) in omega arith
 
   pub chain-from : (d : Link) → (get_or ls i d).from < 65
   chain-from d =

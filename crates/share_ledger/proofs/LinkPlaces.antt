@@ -1,5 +1,5 @@
 -- The places of currencies among the links, and the links of tickets within the places.
-use Rattle.std.proofs.Common.{◌++◌, take, get_or, set, add-one, ◌≡◌, ◌≤◌, ◌<◌, ◌+◌, ◌^◌, ℕ, zero, suc, Bool, true}
+use Rattle.std.proofs.Common.{add-one, ◌≡◌, ◌≤◌, ◌<◌, ◌+◌, ◌^◌, ℕ, zero, suc, Bool, true}
 use Rattle.std.proofs.Common.{false, cond, ◌&&◌, ◌||◌, List, [], ◌∷◌, map, sum_by, length, bytes_eq, nat_eq, refl, sym}
 use Rattle.std.proofs.Common.{ap, ◌∙◌, arith}
 use Rattle.std.specs.List.{list_any}
@@ -14,11 +14,8 @@ use Rattle.share_model.specs.funding.Kept.{names_of, times, IsHolderKnown, IsKep
 use Rattle.share_model.specs.lists.SumLaws.{same_name, name_same, name_sym}
 use Rattle.share_model.specs.funding.SettleLaws.{none_any}
 use Rattle.share_model.specs.funding.ChangeLaws.{absent}
-use Rattle.std.proofs.lemmas.List.{map_more}
 use Rattle.share_model.specs.declared.funding.OpenFlow.{OpenFlow}
-use Rattle.std.proofs.Math.Seq.{take-suc-set}
 use Rattle.share_ledger.specs.declared.rounds.Target.TheVariants.{Asleep, Awake}
-use Rattle.share_ledger.specs.declared.rounds.Link.{Link}
 use Rattle.share_ledger.specs.Places.{place, target_of, link_of}
 use Rattle.share_ledger.specs.Rounds.{IsTargetWithin, IsLinkWithin}
 use Rattle.share_ledger.proofs.Positions.{IsFirstAt}
@@ -90,12 +87,6 @@ sum_by-map f h [] = refl
 sum_by-map f h (x ∷ xs) =
     sum_by-cons f (h x) (map h xs) ∙ ap (λ n. f (h x) + n) (sum_by-map f h xs) ∙ sym (sum_by-cons (λ x. f (h x)) x xs)
 
-pub map-map_of : {X Y Z : Type 0} (P : X → Type 0) (f : Y → Z) (h : X → Y) (k : X → Z) (xs : List X) → Each P xs
-    → ((x : X) → P x → f (h x) ≡ k x) → map f (map h xs) ≡ map k xs
-map-map_of P f h k [] each same = refl
-map-map_of P f h k (x ∷ xs) each same =
-    ap (λ y. y ∷ map f (map h xs)) (same x each.0) ∙ ap (λ l. k x ∷ l) (map-map_of P f h k xs each.1 same)
-
 -- a ticket whose denomination and holder have places, with a small amount
 pub record IsPlaced (g : Graph) (t : Ticket) : Type 0 where
   pub denomination_known : 1 ≤ times t.denomination (names_of g)
@@ -152,15 +143,6 @@ unfolding place
 place-of_made g c i e first =
     sym
     (ap (λ b. cond b 0 (suc (place g.currencies c))) e ∙ ap suc (place-first c g.currencies i first) ∙ sym (add-one i))
-
--- one link more
-pub linked-more : (f : Ticket → Link) (ts : List Ticket) (ls : List Link) (i : ℕ) (t : Ticket) (l : Link)
-    → length ls ≡ length ts → i < length ts → take i ls ≡ map f (take i ts)
-    → t ≡ get_or ts i t → l ≡ f t → take (i + 1) (set ls i l) ≡ map f (take (i + 1) ts)
-linked-more f ts ls i t l long lt so_far e same =
-    ap (λ k. take k (set ls i l)) (add-one i) ∙ take-suc-set ls i l (omega arith)
-    ∙ ap (λ xs. xs ++ l ∷ []) so_far ∙ ap (λ x. map f (take i ts) ++ x ∷ []) (same ∙ ap f e)
-    ∙ sym (map_more f ts i t lt)
 
 -- whether a flow is active, read from the values of the map
 pub active-flow : (g : Graph) (f : ℕ)

@@ -1,9 +1,10 @@
 -- One seat more or fewer: sums over routes that grow, and what weighs on the places.
 use Rattle.std.proofs.Common.{◌≡◌, ◌≤◌, ◌<◌, ◌+◌, ◌^◌, ℕ, Bool, true, false, cond, ◌&&◌, List, [], ◌∷◌, ◌++◌}
 use Rattle.std.proofs.Common.{nat_eq, nat_lt, nat_le, sum_by, length, refl, sym, ap, subst, ◌∙◌}
-use Rattle.std.proofs.Common.{arith, true≢false}
+use Rattle.std.proofs.Common.{arith}
 use Rattle.std.proofs.lemmas.Bool.Decides.{nat_tests}
 use Rattle.std.proofs.lemmas.List.Sums.{sum_by-cons}
+use Rattle.std.proofs.lemmas.Bool.{and_parts, eqb-true, le-leb, leb-true, lt-ltb, ltb-true}
 use Rattle.share_model.specs.funding.Graph.{Graph}
 use Rattle.share_model.specs.funding.Kept.{IsKept}
 use Rattle.share_model.specs.lists.Each.{Each}
@@ -17,6 +18,7 @@ use Rattle.share_ledger.specs.Seats.{funds_of}
 use Rattle.share_ledger.proofs.RouteLists.{gathered-bound}
 use Rattle.share_ledger.proofs.RoutesDone.{done-within, done-few}
 use Rattle.share_ledger.proofs.NetSeats.{sum-joined, each-joined}
+use Rattle.share_ledger.proofs.RouteWorths.{cond_and}
 
 -- one seat more
 pub seated-more : (rs more : List Route) (r : Route) (ss next : List (List Seat)) → AreSeated rs ss → IsRouteWithin r
@@ -72,14 +74,8 @@ module _ (rs less : List Route) (r : Route) (ss next : List (List Seat)) (s : Ar
     (grows : GrowsBy true less rs r)
     (others : (k : ℕ) → nat_eq r.to k ≡ false → seats_at next k ≡ seats_at ss k)
     (out : (F : Seat → ℕ) → sum_by F (seats_at next r.to) + F (seat_of r) ≡ sum_by F (seats_at ss r.to)) where
-  same_to : (a b : ℕ) → nat_eq a b ≡ true → a ≡ b
-  same_to a b e = grind (arith, nat_tests)
-
   other_to : (a b : ℕ) → nat_eq a b ≡ nat_eq b a
   other_to a b = grind (arith, nat_tests)
-
-  self_to : (a : ℕ) → nat_eq a a ≡ true
-  self_to a = grind (arith, nat_tests)
 
   left-at : (P : ℕ → Seat → Type 0) (test : ℕ → Seat → Bool) (p : ℕ)
       → ((s : Seat) → P p s → test p s ≡ true) → ((s : Seat) → test p s ≡ true → P p s)
@@ -88,7 +84,7 @@ module _ (rs less : List Route) (r : Route) (ss next : List (List Seat)) (s : Ar
     where
       by : (b : Bool) → nat_eq r.to p ≡ b → Each (P p) (seats_at next p)
       by true e =
-          let at = same_to r.to p e in
+          let at = eqb-true r.to p e in
           each-left (P p) (test p) (seats_at ss p) (seats_at next p) (seat_of r) into back
           (subst (λ k. (F : Seat → ℕ) → sum_by F (seats_at next k) + F (seat_of r) ≡ sum_by F (seats_at ss k)) at out)
           each
@@ -103,7 +99,7 @@ module _ (rs less : List Route) (r : Route) (ss next : List (List Seat)) (s : Ar
       by true e =
           let all = s.seated F p lt in
           let more = grows (λ (q : Route). cond (nat_eq p q.to) (F (seat_of q)) 0) in
-          let at = same_to r.to p e in
+          let at = eqb-true r.to p e in
           let here = ap {B = ℕ} (λ b. cond b (F (seat_of r)) 0) (other_to p r.to ∙ e) in
           let gone : sum_by F (seats_at next p) + F (seat_of r) ≡ sum_by F (seats_at ss p) =
           subst (λ k. sum_by F (seats_at next k) + F (seat_of r) ≡ sum_by F (seats_at ss k)) at (out F) in
@@ -123,40 +119,19 @@ module _ (rs less : List Route) (r : Route) (ss next : List (List Seat)) (s : Ar
     places = long;
   }
     where
-      below : (n m : ℕ) → n < m → nat_lt n m ≡ true
-      below n m lt = grind (arith, nat_tests)
-
-      most : (n m : ℕ) → n ≤ m → nat_le n m ≡ true
-      most n m le = grind (arith, nat_tests)
-
-      is_below : (n m : ℕ) → nat_lt n m ≡ true → n < m
-      is_below n m e = grind (arith, nat_tests)
-
-      is_most : (n m : ℕ) → nat_le n m ≡ true → n ≤ m
-      is_most n m e = grind (arith, nat_tests)
-
       into : (o : Seat) → IsSeatWithin o → (nat_lt o.from 65 && nat_le o.amount (2 ^ 20)) ≡ true
-      into o w = ap (λ b. b && nat_le o.amount (2 ^ 20)) (below o.from 65 w.from_place) ∙ most o.amount (2 ^ 20) w.small
-
-      both : (a b : Bool) → (a && b) ≡ true → (a ≡ true) × (b ≡ true)
-      both true b e = (refl, e)
-      both false b e = absurd (true≢false (sym e))
+      into o w =
+          ap (λ b. b && nat_le o.amount (2 ^ 20)) (lt-ltb o.from 65 w.from_place) ∙ le-leb o.amount (2 ^ 20) w.small
 
       back : (o : Seat) → (nat_lt o.from 65 && nat_le o.amount (2 ^ 20)) ≡ true → IsSeatWithin o
       back o e =
-          let two = both (nat_lt o.from 65) (nat_le o.amount (2 ^ 20)) e in
-          record { from_place = is_below o.from 65 two.0; small = is_most o.amount (2 ^ 20) two.1 }
+          let two = and_parts (nat_lt o.from 65) (nat_le o.amount (2 ^ 20)) e in
+          record { from_place = ltb-true o.from 65 two.0; small = leb-true o.amount (2 ^ 20) two.1 }
 
   pub ordered-less : AreOrdered ss → AreOrdered next
   ordered-less ordered p lt =
       left-at (λ q (o : Seat). o.from < q) (λ q (o : Seat). nat_lt o.from q) p
-      (λ o l. below o.from p l) (λ o e. is_below o.from p e) (ordered p lt)
-    where
-      below : (n m : ℕ) → n < m → nat_lt n m ≡ true
-      below n m lt = grind (arith, nat_tests)
-
-      is_below : (n m : ℕ) → nat_lt n m ≡ true → n < m
-      is_below n m e = grind (arith, nat_tests)
+      (λ o l. lt-ltb o.from p l) (λ o e. ltb-true o.from p e) (ordered p lt)
 
 -- the same seats for other routes of the same sums
 pub seated-same : (rs more : List Route) (r : Route) (ss : List (List Seat)) → AreSeated rs ss → GrowsBy false rs more r
@@ -189,10 +164,6 @@ gathered-by b rs more r on x grows =
     grows (λ (q : Route). cond (nat_eq x q.from && on q.to) q.amount 0)
     ∙ ap (λ n. sum_by (λ (q : Route). cond (nat_eq x q.from && on q.to) q.amount 0) rs + cond b n 0)
     (cond_and (nat_eq x r.from) (on r.to) r.amount)
-  where
-    cond_and : (a b : Bool) (n : ℕ) → cond (a && b) n 0 ≡ cond a (cond b n 0) 0
-    cond_and true b n = refl
-    cond_and false b n = refl
 
 -- A ticket that comes, or goes: what counts for a place is one more, or one fewer
 module _ (backs funds more_backs more_funds : List Route) (r : Route) (a b : Bool) (on active : ℕ → Bool)

@@ -4,6 +4,7 @@ use Rattle.std.proofs.Common.{true≢false, ◌&&◌, nat_eq, nat_lt, set, get_o
 use Rattle.std.specs.List.{list_all}
 use Rattle.std.proofs.lemmas.Bool.Decides.{nat_tests}
 use Rattle.std.proofs.lemmas.List.Sums.{sum_by-cons}
+use Rattle.std.proofs.lemmas.Bool.{eqb-true}
 use Rattle.share_model.specs.declared.funding.OpenFlow.{OpenFlow}
 use Rattle.share_model.specs.funding.Graph.{NameBytes}
 use Rattle.share_model.specs.funding.Changes.{is_open_as, active_as, with_activity}
@@ -85,16 +86,13 @@ quiet-ready old new shares backs funds lit place n b ready begun backing funding
           ∙ sym (still p above below);
     }
   where
-    same_number : (x y : ℕ) → nat_eq x y ≡ true → x ≡ y
-    same_number x y e = grind (arith, nat_tests)
-
     shared : (p : ℕ) → p < 64 → (a : Bool) → nat_eq place p ≡ a
         → cond a n (numbers_of shares p)
         ≡ min (weighed new.funding.items (flags_of new.active.value) (numbers_of new.values.value)
         (numbers_of new.weights.value) p) (2 ^ 20)
     shared p below true e =
         own ∙ ap (λ k. min (weighed new.funding.items (flags_of new.active.value) (numbers_of new.values.value)
-        (numbers_of new.weights.value) k) (2 ^ 20)) (same_number place p e)
+        (numbers_of new.weights.value) k) (2 ^ 20)) (eqb-true place p e)
     shared p below false e =
         let stands : flags_of old.active.value p ≡ flags_of new.active.value p =
         sym (begun.active_is p ∙ turned p ∙ ap (λ a. cond a b (flags_of old.active.value p)) e) in

@@ -6,6 +6,7 @@ use Rattle.std.proofs.Common.{Some, slice_get}
 use Rattle.std.proofs.lemmas.Bool.Decides.{nat_tests}
 use Rattle.std.proofs.lemmas.List.Sums.{sum_by-cons, sum_by_push, sum_by_more}
 use Rattle.std.proofs.lemmas.Option.{same_Some}
+use Rattle.std.proofs.lemmas.Bool.{and_right, eqb-true}
 use Rattle.share_model.specs.lists.Each.{Each}
 use Rattle.share_model.specs.lists.Laws.{each-append}
 use Rattle.share_model.specs.declared.funding.OpenFlow.{OpenFlow}
@@ -15,9 +16,6 @@ use Rattle.share_ledger.specs.declared.seats.Seat.{Seat}
 use Rattle.share_ledger.specs.Routes.{gathered}
 use Rattle.share_ledger.specs.Seats.{seat_of, seats_at}
 use Rattle.share_ledger.specs.Nets.{activity_of}
-
-same_number : (a b : ℕ) → nat_eq a b ≡ true → a ≡ b
-same_number a b e = grind (arith, nat_tests)
 
 turned : (a b : ℕ) → nat_eq a b ≡ nat_eq b a
 turned a b = grind (arith, nat_tests)
@@ -46,7 +44,7 @@ module _ (ss next : List (List Seat)) (r : Route)
   each-joined P p each own = subst (Each (P p)) (sym (joined p)) (by (nat_eq r.to p) refl)
     where
       by : (b : Bool) → nat_eq r.to p ≡ b → Each (P p) (cond b (seats_at ss p ++ seat_of r ∷ []) (seats_at ss p))
-      by true e = each-append (P p) (seats_at ss p) (seat_of r ∷ []) each (own (same_number r.to p e), tt)
+      by true e = each-append (P p) (seats_at ss p) (seat_of r ∷ []) each (own (eqb-true r.to p e), tt)
       by false e = each
 
 -- the routes so far are one more
@@ -66,32 +64,12 @@ pub gathered-none : (rs : List Route) (flag : ℕ → Bool) (p : ℕ) → ((k : 
 unfolding gathered
 gathered-none rs flag p dark = all rs
   where
-    and_false : (a b : Bool) → b ≡ false → (a && b) ≡ false
-    and_false true b e = e
-    and_false false b e = refl
-
     all : (qs : List Route) → sum_by (λ (r : Route). cond (nat_eq p r.from && flag r.to) r.amount 0) qs ≡ 0
     all [] = refl
     all (r ∷ qs) =
-        let here = ap {B = ℕ} (λ b. cond b r.amount 0) (and_false (nat_eq p r.from) (flag r.to) (dark r.to)) in
+        let here = ap {B = ℕ} (λ b. cond b r.amount 0) (and_right (nat_eq p r.from) (flag r.to) (dark r.to)) in
         let rest = all qs in
         omega (arith, sum_by-cons (λ (r : Route). cond (nat_eq p r.from && flag r.to) r.amount 0) r qs)
-
--- what is gathered by flags that are the same
-pub gathered-same : (rs : List Route) (f h : ℕ → Bool) (p : ℕ) → ((k : ℕ) → f k ≡ h k)
-    → gathered rs f p ≡ gathered rs h p
-unfolding gathered
-gathered-same rs f h p same = all rs
-  where
-    all : (qs : List Route) → sum_by (λ (r : Route). cond (nat_eq p r.from && f r.to) r.amount 0) qs
-        ≡ sum_by (λ (r : Route). cond (nat_eq p r.from && h r.to) r.amount 0) qs
-    all [] = refl
-    all (r ∷ qs) =
-        sum_by-cons (λ (r : Route). cond (nat_eq p r.from && f r.to) r.amount 0) r qs
-        ∙ ap (λ b. cond (nat_eq p r.from && b) r.amount 0
-        + sum_by (λ (r : Route). cond (nat_eq p r.from && f r.to) r.amount 0) qs) (same r.to)
-        ∙ ap (λ n. cond (nat_eq p r.from && h r.to) r.amount 0 + n) (all qs)
-        ∙ sym (sum_by-cons (λ (r : Route). cond (nat_eq p r.from && h r.to) r.amount 0) r qs)
 
 -- the flows before a place, where one more is looked at
 pub before-wakes : (lit held next : ℕ → Bool) (i : ℕ) → ((k : ℕ) → held k ≡ (nat_lt k i && lit k)) → lit i ≡ true
@@ -106,7 +84,7 @@ before-wakes lit held next i was own wakes k = wakes k ∙ by (nat_eq i k) refl
 
     by : (b : Bool) → nat_eq i k ≡ b → cond b true (held k) ≡ (nat_lt k (i + 1) && lit k)
     by true e =
-        let at = same_number i k e in
+        let at = eqb-true i k e in
         sym (ap (λ b. b && lit k) (inside i k at) ∙ ap lit (sym at) ∙ own)
     by false e = was k ∙ ap (λ b. b && lit k) (same i k e)
 
@@ -117,21 +95,11 @@ before-idle lit held i was own k = was k ∙ by (nat_eq i k) refl
     same : (i k : ℕ) → nat_eq i k ≡ false → nat_lt k i ≡ nat_lt k (i + 1)
     same i k e = grind (arith, nat_tests)
 
-    and_false : (a b : Bool) → b ≡ false → (a && b) ≡ false
-    and_false true b e = e
-    and_false false b e = refl
-
     by : (b : Bool) → nat_eq i k ≡ b → (nat_lt k i && lit k) ≡ (nat_lt k (i + 1) && lit k)
     by true e =
-        let dark = ap lit (sym (same_number i k e)) ∙ own in
-        and_false (nat_lt k i) (lit k) dark ∙ sym (and_false (nat_lt k (i + 1)) (lit k) dark)
+        let dark = ap lit (sym (eqb-true i k e)) ∙ own in
+        and_right (nat_lt k i) (lit k) dark ∙ sym (and_right (nat_lt k (i + 1)) (lit k) dark)
     by false e = ap (λ b. b && lit k) (same i k e)
-
-pub before-none : (lit : ℕ → Bool) (k : ℕ) → false ≡ (nat_lt k 0 && lit k)
-before-none lit k = sym (ap (λ b. b && lit k) (none k))
-  where
-    none : (k : ℕ) → nat_lt k 0 ≡ false
-    none k = grind (arith, nat_tests)
 
 -- beyond the flows none is active
 beyond : {X : Type 0} (xs : List X) (d : X) (k : ℕ) → length xs ≤ k → get_or xs k d ≡ d
@@ -148,18 +116,6 @@ pub activity-beyond : (g : Graph) (k : ℕ) → length g.flows ≤ k → activit
 activity-beyond g k le =
     beyond (map (λ (e : NameBytes × OpenFlow). e.1.active) g.flows) false k
     (let same = length-parts g.flows in omega arith)
-
-pub before-all : (g : Graph) (held : ℕ → Bool) (i : ℕ) → ((k : ℕ) → held k ≡ (nat_lt k i && activity_of g k))
-    → length g.flows ≤ i → (k : ℕ) → held k ≡ activity_of g k
-before-all g held i was all k = was k ∙ by (nat_lt k i) refl
-  where
-    above : (n m : ℕ) → nat_lt n m ≡ false → m ≤ n
-    above n m e = grind (arith, nat_tests)
-
-    by : (b : Bool) → nat_lt k i ≡ b → (b && activity_of g k) ≡ activity_of g k
-    by true e = refl
-    by false e =
-        let les = above k i e in sym (activity-beyond g k (omega arith))
 
 -- the activity of the flow at a place
 pub activity-here : (g : Graph) (i : ℕ) (b : Bool)

@@ -6,6 +6,7 @@ use Rattle.std.proofs.lemmas.Bool.Decides.{nat_tests}
 use Rattle.std.proofs.lemmas.List.{get_or-set_other}
 use Rattle.std.proofs.lemmas.Grind.{get_or-set_at}
 use Rattle.std.proofs.lemmas.List.Sums.{sum_by-cons}
+use Rattle.std.proofs.lemmas.Bool.{eqb-true}
 use Rattle.share_model.specs.funding.Graph.{Graph}
 use Rattle.share_model.specs.funding.Kept.{IsKept}
 use Rattle.share_model.specs.lists.Each.{Each}
@@ -231,9 +232,6 @@ pub valued-more : (bs : List (List Seat)) (awake : ℕ → Bool) (v next whole :
     → (k : ℕ) → 0 < k → k < p + 1 → next k ≡ weighed bs awake next whole k
 valued-more bs awake v next whole p n ordered lt set_one here before k above below = by (nat_eq p k) refl
   where
-    same : (a b : ℕ) → nat_eq a b ≡ true → a ≡ b
-    same a b e = grind (arith, nat_tests)
-
     apart : (a b : ℕ) → b < a → nat_eq a b ≡ false
     apart a b e = grind (arith, nat_tests)
 
@@ -247,7 +245,7 @@ valued-more bs awake v next whole p n ordered lt set_one here before k above bel
     by true e =
         set_one k ∙ ap (λ b. cond b n (v k)) e ∙ here
         ∙ weighed-before bs awake v next whole p (ordered p lt) left
-        ∙ ap (weighed bs awake next whole) (same p k e)
+        ∙ ap (weighed bs awake next whole) (eqb-true p k e)
     by false e =
         let under = differ p k e below in
         set_one k ∙ ap (λ b. cond b n (v k)) e ∙ before k above under

@@ -1,28 +1,19 @@
 -- The first element that passes a test, and lists that are changed there.
 use Rattle.std.proofs.Common.{◌≡◌, ℕ, ◌+◌, ◌≤◌, ◌<◌, zero, suc, Bool, true, false, not, cond, List, [], ◌∷◌, ◌++◌, map}
 use Rattle.std.proofs.Common.{length, get_or, set, find, position, nat_lt, nat_eq}
-use Rattle.std.proofs.Common.{Option, None, Some, Result, Ok, Err, IfOk}
+use Rattle.std.proofs.Common.{None, Some}
 use Rattle.std.proofs.Common.{refl, sym, ap, subst, ◌∙◌, arith, bytes_eq, if◌then◌else◌, remove}
 use Rattle.std.specs.List.{list_any}
 use Rattle.std.specs.List.{position_or_len}
 use Rattle.std.specs.Set.{remove_key}
 use Rattle.std.proofs.lemmas.Bool.Decides.{nat_tests}
+use Rattle.std.proofs.lemmas.Bool.{ltb-true}
 use Rattle.indexmap.specs.IndexMap.{set_value_at}
 use Rattle.share_model.specs.declared.funding.OpenFlow.{OpenFlow}
 use Rattle.share_model.specs.funding.Graph.{NameBytes}
 use Rattle.share_model.specs.funding.Changes.{is_open_as, active_as, with_activity}
 use Rattle.share_model.specs.lists.Change.{change_first}
 use Rattle.share_model.specs.lists.Each.{Each}
-
--- what is no `Some` is `None`
-pub option_none : {X : Type 0} (o : Option X) → ((x : X) → o ≡ Some x → ⊥) → o ≡ None
-option_none None e = refl
-option_none (Some x) e = absurd (e x refl)
-
--- what is no `Err` meets what is said of an `Ok`
-pub ok_part : {T E : Type 0} (r : Result T E) (P : Type 0) → ((e : E) → r ≡ Err e → ⊥) → IfOk r (λ _. P) → P
-ok_part (Ok x) P e p = p
-ok_part (Err x) P e p = absurd (e x refl)
 
 -- the first element that passes stands at this place
 abbrev pub IsFirstAt : {X : Type 0} → (X → Bool) → List X → ℕ → Type 0
@@ -55,14 +46,11 @@ module _ {X : Type 0} (p : X → Bool) where
   pub position-first : (xs : List X) (i : ℕ) → position p xs ≡ Some i → IsFirstAt p xs i
   position-first xs i e = by (nat_lt (position_or_len p xs) (length xs)) refl e
     where
-      below : (n m : ℕ) → nat_lt n m ≡ true → n < m
-      below n m e = grind (arith, nat_tests)
-
       by : (b : Bool) → nat_lt (position_or_len p xs) (length xs) ≡ b
           → cond b (Some (position_or_len p xs)) None ≡ Some i → IsFirstAt p xs i
       by true lt e =
           let same : position_or_len p xs ≡ i = cc in
-          place-first xs i same (subst (λ k. k < length xs) same (below (position_or_len p xs) (length xs) lt))
+          place-first xs i same (subst (λ k. k < length xs) same (ltb-true (position_or_len p xs) (length xs) lt))
       by false lt e = absurd cc
 
   pub position-none : (xs : List X) → position p xs ≡ None → Each (λ x. p x ≡ false) xs

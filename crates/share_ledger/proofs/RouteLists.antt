@@ -4,7 +4,7 @@ use Rattle.std.proofs.Common.{◌∷◌, ◌++◌, map, filter, take, set, get_o
 use Rattle.std.proofs.Common.{slice_get, refl, sym, ap, ◌∙◌, arith, add-one}
 use Rattle.std.specs.List.{list_any}
 use Rattle.std.proofs.Math.Seq.{take-suc-set}
-use Rattle.std.proofs.lemmas.List.{get_or-take}
+use Rattle.std.proofs.lemmas.List.{append-nil, get_or-take}
 use Rattle.std.proofs.lemmas.List.Sums.{sum_by-cons}
 use Rattle.std.proofs.lemmas.Bool.Decides.{nat_tests}
 use Rattle.share_model.specs.declared.funding.Ticket.{Ticket}
@@ -77,15 +77,11 @@ listed-more g b ts rs i n t r lt at kind same inside so_far =
     ∙ ap (λ k. routes_of g b (take i ts) ++ cond k (route_of g t ∷ []) []) (sym kind)
     ∙ sym (routes-step g b ts i t lt at)
 
-append-none : {X : Type 0} (xs : List X) → xs ≡ xs ++ []
-append-none [] = refl
-append-none (x ∷ xs) = ap (λ l. x ∷ l) (append-none xs)
-
 pub listed-skip : (g : Graph) (b : Bool) (ts : List Ticket) (rs : List Route) (i n : ℕ) (t : Ticket)
     → i < length ts → t ≡ get_or ts i t → is_kind b t.holder ≡ false
     → take n rs ≡ routes_of g b (take i ts) → take n rs ≡ routes_of g b (take (i + 1) ts)
 listed-skip g b ts rs i n t lt at kind so_far =
-    so_far ∙ append-none (routes_of g b (take i ts))
+    so_far ∙ sym (append-nil (routes_of g b (take i ts)))
     ∙ ap (λ k. routes_of g b (take i ts) ++ cond k (route_of g t ∷ []) []) (sym kind)
     ∙ sym (routes-step g b ts i t lt at)
 

@@ -5,6 +5,7 @@ use Rattle.std.specs.List.{list_any}
 use Rattle.std.proofs.lemmas.List.Sums.{sum_by-cons}
 use Rattle.std.proofs.lemmas.Bool.Decides.{nat_tests}
 use Rattle.std.proofs.lemmas.Nat.{mul-le}
+use Rattle.std.proofs.Math.Bool.{and-false, or-false}
 use Rattle.share_model.specs.declared.funding.Holder.{Holder}
 use Rattle.share_model.specs.declared.funding.Holder.TheVariants.{Nobody, Currency, Flow}
 use Rattle.share_model.specs.declared.funding.Ticket.{Ticket}
@@ -47,19 +48,12 @@ two-sum P v w u (t ∷ ts) each same =
     let here = same t each.0 in
     omega (arith, sum_by-cons v t ts, sum_by-cons w t ts, sum_by-cons u t ts)
 
-or_false : (b : Bool) → (b || false) ≡ b
-or_false true = refl
-or_false false = refl
-
-and_false : (b : Bool) → (b && false) ≡ false
-and_false true = refl
-and_false false = refl
-
 cond_nothing : (b : Bool) → ◌≡◌ {A = ℕ} (cond b 0 0) 0
 cond_nothing true = refl
 cond_nothing false = refl
 
-cond_and : (a b : Bool) (n : ℕ) → cond (a && b) n 0 ≡ cond a (cond b n 0) 0
+-- two conditions, one after the other
+pub cond_and : (a b : Bool) (n : ℕ) → cond (a && b) n 0 ≡ cond a (cond b n 0) 0
 cond_and true b n = refl
 cond_and false b n = refl
 
@@ -166,9 +160,9 @@ module _ (g : Graph) (ok : IsKept g) (lit begun held : ℕ → Bool)
       by : (b : Bool) (o : Holder) → IsHolderKnown g o
           → ((is_kind false o && (b && lit (holder_place g o))) || (is_kind true o && (b && flag (holder_place g o))))
           ≡ (b && is_active_holder g (act g n) o)
-      by b Nobody there = sym (and_false b)
+      by b Nobody there = sym (and-false b)
       by b (Currency d) there = ap (λ a. b && a) (same d there)
-      by b (Flow f) there = or_false (b && lit (flow_place g.flows f)) ∙ ap (λ a. b && a) (flows f there)
+      by b (Flow f) there = or-false (b && lit (flow_place g.flows f)) ∙ ap (λ a. b && a) (flows f there)
 
   awake-is : (n : ℕ) (c : NameBytes) → 1 ≤ times c (names_of g)
       → awake (routes_of g true g.tickets) begun n (place (names_of g) c) ≡ list_any (act g n) (issued g.tickets c)

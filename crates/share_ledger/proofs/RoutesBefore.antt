@@ -6,6 +6,7 @@ use Rattle.std.specs.List.{list_all}
 use Rattle.std.specs.Set.{remove_key}
 use Rattle.std.proofs.lemmas.List.Sums.{sum_by-cons}
 use Rattle.std.proofs.lemmas.Bool.Decides.{nat_tests}
+use Rattle.std.proofs.lemmas.Bool.{and_parts, lt-ltb, ltb-true}
 use Rattle.share_base.specs.declared.refusal.Refusal.TheVariants.{NoCurrency, Base}
 use Rattle.share_model.specs.declared.funding.Holder.{Holder}
 use Rattle.share_model.specs.declared.funding.Holder.TheVariants.{Nobody, Currency, Flow}
@@ -25,6 +26,7 @@ use Rattle.share_ledger.proofs.LinkPlaces.{IsPlaced, placed}
 use Rattle.share_ledger.proofs.RouteLists.{routes-cons, route-within}
 use Rattle.share_ledger.proofs.RouteWorths.{sum-routes}
 use Rattle.share_ledger.proofs.RoutesLeft.{route-same}
+use Rattle.share_ledger.proofs.Walks.{no-term}
 
 -- a name before one that is taken out keeps its place
 place-removed : (c d : NameBytes) (cs : List NameBytes) → place cs d < place cs c
@@ -57,11 +59,6 @@ module _ (g : Graph) (b : Bool) (ss : List (List Seat)) (seated : AreSeated (rou
       let rest = no-faults p xs each.1 in
       let here = ap {B = ℕ} (λ b. cond b 0 1) each.0 in
       sum_by-cons (fault p) x xs ∙ omega arith
-
-  no-term : (f : Ticket → ℕ) (ts : List Ticket) → sum_by f ts ≡ 0 → Each (λ t. f t ≡ 0) ts
-  no-term f [] none = tt
-  no-term f (t ∷ ts) none =
-      let sum = sum_by-cons f t ts in (omega arith, no-term f ts (omega arith))
 
   each-swap : (R : ℕ → Ticket → Type 0) (ts : List Ticket) → ((p : ℕ) → p < 65 → Each (R p) ts)
       → Each (λ t. (p : ℕ) → p < 65 → R p t) ts
@@ -149,12 +146,6 @@ module _ (g : Graph) (ok : IsKept g) (c : NameBytes) (unused : remove_currency_r
 
   module _ (bs fs : List (List Seat)) (backs : AreSeated (backs_of g) bs) (funds : AreSeated (funds_of g) fs)
       (ordered : AreOrdered bs) (before : AreBefore bs fs (place (names_of g) c)) where
-    less : (m n : ℕ) → nat_lt m n ≡ true → m < n
-    less m n e = grind (arith, nat_tests)
-
-    is_less : (m n : ℕ) → m < n → nat_lt m n ≡ true
-    is_less m n lt = grind (arith, nat_tests)
-
     abbrev is_early : ℕ → Seat → Bool
     is_early p s = nat_lt p (place (names_of g) c) && nat_lt s.from (place (names_of g) c)
 
@@ -165,8 +156,8 @@ module _ (g : Graph) (ok : IsKept g) (c : NameBytes) (unused : remove_currency_r
             → Each (λ s. is_early p s ≡ true) xs
         all under [] each = tt
         all under (x ∷ xs) each = (
-          ap (λ k. k && nat_lt x.from (place (names_of g) c)) (is_less p (place (names_of g) c) under)
-              ∙ is_less x.from (place (names_of g) c) (omega (arith, each.0)),
+          ap (λ k. k && nat_lt x.from (place (names_of g) c)) (lt-ltb p (place (names_of g) c) under)
+              ∙ lt-ltb x.from (place (names_of g) c) (omega (arith, each.0)),
           all under xs each.1,
         )
 
@@ -178,17 +169,12 @@ module _ (g : Graph) (ok : IsKept g) (c : NameBytes) (unused : remove_currency_r
         past m n e = grind (arith, nat_tests)
 
         by : (b : Bool) → nat_lt p (place (names_of g) c) ≡ b → Each (λ s. is_early p s ≡ true) (seats_at bs p)
-        by true e = all (less p (place (names_of g) c) e) (seats_at bs p) (ordered p lt)
+        by true e = all (ltb-true p (place (names_of g) c) e) (seats_at bs p) (ordered p lt)
         by false e = none (seats_at bs p) (before.empty p (past p (place (names_of g) c) e) lt)
 
     fund-seats : (p : ℕ) → p < 65 → Each (λ s. nat_lt s.from (place (names_of g) c) ≡ true) (seats_at fs p)
     fund-seats p lt =
         all-each (λ (s : Seat). nat_lt s.from (place (names_of g) c)) (seats_at fs p) (before.before p lt)
-
-    both : (a b : Bool) → (a && b) ≡ true → (a ≡ true) × (b ≡ true)
-    both true true e = (refl, refl)
-    both true false e = absurd (true≢false (sym e))
-    both false b e = absurd (true≢false (sym e))
 
     early-backs : (ts : List Ticket) → Each (IsPlaced g) ts
         → Each (λ t. (p : ℕ) → p < 65 → ticket-part g true bs backs is_early back-seats p t ≡ 0) ts
@@ -198,8 +184,8 @@ module _ (g : Graph) (ok : IsKept g) (c : NameBytes) (unused : remove_currency_r
       λ kind.
           let inside = (route-within g ok t known.0).to_place in
           let told =
-          both _ _ (route-tells g true bs backs is_early back-seats t inside kind none.0) in
-          (less _ _ told.1, λ _. less _ _ told.0),
+          and_parts _ _ (route-tells g true bs backs is_early back-seats t inside kind none.0) in
+          (ltb-true _ _ told.1, λ _. ltb-true _ _ told.0),
       early-backs ts known.1 none.1,
     )
 
@@ -213,7 +199,7 @@ module _ (g : Graph) (ok : IsKept g) (c : NameBytes) (unused : remove_currency_r
           let inside = (route-within g ok t known.0).to_place in
           let told =
           route-tells g false fs funds (λ p s. nat_lt s.from (place (names_of g) c)) fund-seats t inside kind none.0 in
-          (less _ _ told, λ e. absurd (true≢false (sym e))),
+          (ltb-true _ _ told, λ e. absurd (true≢false (sym e))),
       early-funds ts known.1 none.1,
     )
 

@@ -3,8 +3,10 @@ use Rattle.std.proofs.Common.{◌≡◌, ◌≤◌, ◌+◌, ℕ, suc, Bool, tru
 use Rattle.std.proofs.Common.{None, Some, length, bytes_eq, nat_eq, is_some, refl, sym, ap, ◌∙◌, arith, subst, map}
 use Rattle.std.proofs.Common.{◌<◌, ◌^◌, zero, get_or, min, sum_by, true≢false, position}
 use Rattle.std.specs.Set.{remove_key}
+use Rattle.std.proofs.lemmas.List.{append-nil}
 use Rattle.std.proofs.lemmas.List.Sums.{sum_by-cons}
 use Rattle.std.proofs.lemmas.Bool.Decides.{nat_tests}
+use Rattle.std.proofs.lemmas.Bool.{eqb-true}
 use Rattle.share_base.specs.declared.refusal.Refusal.TheVariants.{NoTicket, Funding}
 use Rattle.share_model.specs.declared.funding.Holder.{Holder}
 use Rattle.share_model.specs.declared.funding.Holder.TheVariants.{Nobody, Currency, Flow}
@@ -161,15 +163,11 @@ routes-set_active g ok f a b =
     spot (Currency d) = refl
     spot (Flow k) = flow-place-changed f a k g.flows
 
-append-none : {X : Type 0} (xs : List X) → xs ≡ xs ++ []
-append-none [] = refl
-append-none (x ∷ xs) = ap (λ l. x ∷ l) (append-none xs)
-
 pub routes-make_ticket : (g : Graph) (amount : ℕ) (c : NameBytes) (b : Bool)
     → routes_of g b g.tickets ≡ routes_of (make_ticket g amount c) b (make_ticket g amount c).tickets
 unfolding routes_of
 routes-make_ticket g amount c b =
-    append-none (routes_of g b g.tickets) ∙ sym (routes-append g b g.tickets (made_ticket g amount c))
+    sym (append-nil (routes_of g b g.tickets)) ∙ sym (routes-append g b g.tickets (made_ticket g amount c))
 
 pub routes-remove_ticket : (g : Graph) (n : ℕ) → remove_ticket_refusal g n ≡ None → (b : Bool)
     → routes_of g b g.tickets ≡ routes_of (remove_ticket g n) b (remove_ticket g n).tickets
@@ -226,9 +224,6 @@ kept-opened net ready before after g name n ok at wrote more kept = record {
   funding_places = kept.funding_places;
 }
   where
-    same_number : (a b : ℕ) → nat_eq a b ≡ true → a ≡ b
-    same_number a b e = grind (arith, nat_tests)
-
     opened : IsReady net before (backs_of g) (funds_of g) (activity_of g)
         → IsReady net after (backs_of g) (funds_of g) (activity_of g)
     opened ready = record {
@@ -245,7 +240,7 @@ kept-opened net ready before after g name n ok at wrote more kept = record {
             (numbers_of net.weights.value) p) (2 ^ 20)
         by p true e lt =
             let idle : flags_of net.active.value p ≡ false =
-            ready.begun.active_is p ∙ activity-beyond g p (let same = same_number n p e in omega arith) in
+            ready.begun.active_is p ∙ activity-beyond g p (let same = eqb-true n p e in omega arith) in
             ap (λ b. min (cond b (sum_by (seat_worth (numbers_of net.values.value) (numbers_of net.weights.value))
             (seats_at net.funding.items p)) 0) (2 ^ 20)) (sym idle)
         by p false e lt = ready.shared p lt

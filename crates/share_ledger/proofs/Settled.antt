@@ -1,5 +1,5 @@
 -- Weights, values and tickets that meet the equations of one step, place by place, are those of the definition.
-use Rattle.std.proofs.Common.{◌≡◌, ◌≤◌, ◌<◌, ◌+◌, ◌*◌, ◌/◌, ◌^◌, ℕ, suc, Bool, true, false, cond, ◌&&◌, ◌||◌}
+use Rattle.std.proofs.Common.{◌≡◌, ◌≤◌, ◌<◌, ◌+◌, ◌*◌, ◌/◌, ◌^◌, ℕ, suc, Bool, true, false, cond, ◌&&◌}
 use Rattle.std.proofs.Common.{List, [], ◌∷◌, map, take, sum_by, length, bytes_eq, nat_eq, nat_lt, get_or}
 use Rattle.std.proofs.Common.{Some, option_map, slice_get, refl, sym, ap, ◌∙◌, arith}
 use Rattle.std.specs.List.{list_any}
@@ -19,7 +19,7 @@ use Rattle.share_model.specs.lists.SumLaws.{Each-filter, sum_by-same, sum_by-sam
 use Rattle.share_model.specs.lists.SumLaws.{name_sym, same_name}
 use Rattle.share_model.specs.funding.Kept.{names_of, times, times_open, IsHolderKnown, IsKept}
 use Rattle.share_model.specs.funding.Laws.{uncapped}
-use Rattle.share_model.specs.funding.SettleLaws.{any-same, act-unique, val-unique}
+use Rattle.share_model.specs.funding.SettleLaws.{any-same, act-unique, val-unique, any-above}
 use Rattle.share_ledger.specs.declared.routes.Route.{Route}
 use Rattle.share_ledger.specs.declared.seats.Seat.{Seat}
 use Rattle.share_ledger.specs.Places.{place}
@@ -71,26 +71,6 @@ weighed-poured rs ss on v whole p seated lt = by (on p) refl
         ≡ sum_by (λ (r : Route). cond (nat_eq p r.to && on r.to) (carried v whole r) 0) rs
     by true e = seated.seated (seat_worth v whole) p lt ∙ all true e rs
     by false e = nothing rs ∙ all false e rs
-
--- a sum of amounts that are not zero is above zero exactly where one of them counts
-above-any : (p : Ticket → Bool) (ts : List Ticket) → Each (λ (t : Ticket). 1 ≤ t.amount) ts
-    → nat_lt 0 (sum_by (λ (t : Ticket). cond (p t) t.amount 0) ts) ≡ list_any p ts
-above-any p [] some = refl
-above-any p (t ∷ ts) some = by (p t) refl (above-any p ts some.1)
-  where
-    by : (b : Bool) → p t ≡ b → nat_lt 0 (sum_by (λ (t : Ticket). cond (p t) t.amount 0) ts) ≡ list_any p ts
-        → nat_lt 0 (sum_by (λ (t : Ticket). cond (p t) t.amount 0) (t ∷ ts)) ≡ (b || list_any p ts)
-    by true e rest =
-        let here : cond (p t) t.amount 0 ≡ t.amount = ap {B = ℕ} (λ b. cond b t.amount 0) e in
-        let sum = sum_by-cons (λ (t : Ticket). cond (p t) t.amount 0) t ts in
-        let above : 0 < sum_by (λ (t : Ticket). cond (p t) t.amount 0) (t ∷ ts) = omega (arith, some.0) in
-        grind (arith, nat_tests)
-    by false e rest =
-        let here : cond (p t) t.amount 0 ≡ 0 = ap {B = ℕ} (λ b. cond b t.amount 0) e in
-        let sum = sum_by-cons (λ (t : Ticket). cond (p t) t.amount 0) t ts in
-        let same : sum_by (λ (t : Ticket). cond (p t) t.amount 0) (t ∷ ts)
-        ≡ sum_by (λ (t : Ticket). cond (p t) t.amount 0) ts = omega arith in
-        ap (nat_lt 0) same ∙ rest
 
 -- no route that backs a currency leads to `base`
 backs-apart : (g : Graph) (ts : List Ticket)
@@ -157,7 +137,7 @@ module _ (g : Graph) (ok : IsKept g) (lit on : ℕ → Bool) (whole value : ℕ 
       (counted p lt ∙ gathered-is g ok lit on flows c known
       ∙ sym (sum_by-filter (λ (t : Ticket). cond (lead g on t.holder) t.amount 0)
       (λ (t : Ticket). bytes_eq c t.denomination) g.tickets))
-      ∙ above-any (λ (t : Ticket). lead g on t.holder) (issued g.tickets c)
+      ∙ any-above (λ (t : Ticket). lead g on t.holder) (issued g.tickets c)
       (each_map _ (λ (t : Ticket). 1 ≤ t.amount) (λ t e. e.0.0) (issued g.tickets c)
       (Each-filter (λ (t : Ticket). (1 ≤ t.amount) × (t.amount ≤ 2 ^ 20))
       (λ (t : Ticket). bytes_eq c t.denomination) g.tickets ok.amounts))

@@ -4,6 +4,7 @@ use Rattle.std.proofs.Common.{Bool, true, false, cond, not, ◌&&◌, ◌||◌}
 use Rattle.std.proofs.Common.{sum_by, nat_eq, nat_lt, length, set, refl, sym, ap, ◌∙◌, arith}
 use Rattle.std.specs.List.{list_any}
 use Rattle.std.proofs.lemmas.Bool.Decides.{nat_tests}
+use Rattle.std.proofs.lemmas.Bool.{eqb-true}
 use Rattle.share_model.specs.funding.SettleLaws.{any_none}
 use Rattle.share_model.specs.lists.Each.{Each}
 use Rattle.share_model.specs.lists.Laws.{each_map}
@@ -75,14 +76,13 @@ module _ (moved : ℕ → Bool) (v w s u : ℕ → ℕ) where
     pub fresh-same : (k : ℕ) → 0 < k → k < p + 1 → moved k ≡ false → (w k ≡ v k) × (u k ≡ s k)
     fresh-same k above under still = by (nat_eq k p) refl
       where
-        is : (a b : ℕ) → nat_eq a b ≡ true → a ≡ b
-        is a b e = grind (arith, nat_tests)
-
         less : (a b : ℕ) → nat_eq a b ≡ false → a < b + 1 → a < b
         less a b e l = grind (arith, nat_tests)
 
         by : (b : Bool) → nat_eq k p ≡ b → (w k ≡ v k) × (u k ≡ s k)
-        by true e = (left k (let at = is k p e in omega arith), ap u (is k p e) ∙ weight ∙ ap s (sym (is k p e)))
+        by true e =
+            let at = eqb-true k p e in
+            (left k (omega arith), ap u at ∙ weight ∙ ap s (sym at))
         by false e = same k above (less k p e under) still
 
     pub fresh-valued : ((k : ℕ) → 0 < k → k < p → w k ≡ weighed ss awake w u k)
@@ -166,9 +166,6 @@ module _ (moved next : ℕ → Bool) (v w x s u : ℕ → ℕ) (p n : ℕ)
   pub stale-same : (k : ℕ) → 0 < k → k < p + 1 → next k ≡ false → (x k ≡ v k) × (u k ≡ s k)
   stale-same k up under still = by (nat_eq p k) refl
     where
-      is : (a b : ℕ) → nat_eq a b ≡ true → a ≡ b
-      is a b e = grind (arith, nat_tests)
-
       less : (a b : ℕ) → nat_eq a b ≡ false → b < a + 1 → b < a
       less a b e l = grind (arith, nat_tests)
 
@@ -176,13 +173,13 @@ module _ (moved next : ℕ → Bool) (v w x s u : ℕ → ℕ) (p n : ℕ)
       neither a b c d e = both (nat_eq a b) (nat_eq c d) refl refl e
         where
           both : (f g : Bool) → nat_eq a b ≡ f → nat_eq c d ≡ g → (not f || not g) ≡ false → (a ≡ b) × (c ≡ d)
-          both true true i j e = (is a b i, is c d j)
+          both true true i j e = (eqb-true a b i, eqb-true c d j)
           both true false i j e = absurd (cc)
           both false g i j e = absurd (cc)
 
       by : (b : Bool) → nat_eq p k ≡ b → (x k ≡ v k) × (u k ≡ s k)
       by true e =
-          let at = is p k e in
+          let at = eqb-true p k e in
           let two =
           neither (u p) (s p) (x p) (w p)
           (sym (flagged k ∙ ap (λ b. cond b (not (nat_eq (u p) (s p)) || not (nat_eq (x p) (w p))) (moved k)) e)
@@ -312,9 +309,6 @@ quiet-settled n shares backs funds lit f k begun was same below long own = recor
     nought : (p : ℕ) → 0 < p → nat_eq 0 p ≡ false
     nought p up = grind (arith, nat_tests)
 
-    is : (x y : ℕ) → nat_eq x y ≡ true → x ≡ y
-    is x y e = grind (arith, nat_tests)
-
     awake : (p : ℕ) → 0 < p → p < 65 → flags_of n.awake.value p ≡ nat_lt 0 (numbers_of n.weights.value p)
     awake p up lt = was.awake_was p up lt ∙ ap (nat_lt 0) (sym (same p up lt))
 
@@ -325,7 +319,7 @@ quiet-settled n shares backs funds lit f k begun was same below long own = recor
     by p lt true e =
         own
         ∙ ap (λ q. min (weighed n.funding.items (flags_of n.active.value) (numbers_of n.values.value)
-        (numbers_of n.weights.value) q) (2 ^ 20)) (is f p e)
+        (numbers_of n.weights.value) q) (2 ^ 20)) (eqb-true f p e)
     by p lt false e =
         was.shared p lt e
         ∙ ap (λ q. min q (2 ^ 20))

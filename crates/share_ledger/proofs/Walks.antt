@@ -1,5 +1,5 @@
 -- Rounds over links: what is flagged and summed so far, and rounds that start alike.
-use Rattle.std.proofs.Common.{◌≡◌, ◌≢◌, set, ◌≤◌, ◌<◌, ◌*◌, ◌+◌, ℕ, zero, suc, Bool, true, false}
+use Rattle.std.proofs.Common.{◌≡◌, set, ◌≤◌, ◌<◌, ◌*◌, ◌+◌, ℕ, zero, suc, Bool, true, false}
 use Rattle.std.proofs.Common.{◌&&◌, ◌||◌, not, nat_eq, List, [], ◌∷◌, sum_by, length, get_or, replicate}
 use Rattle.std.proofs.Common.{refl, sym, ap, ◌∙◌, arith, add-one}
 use Rattle.std.specs.List.{list_any}
@@ -9,7 +9,7 @@ use Rattle.share_ledger.specs.declared.rounds.Target.TheVariants.{Asleep, Awake,
 use Rattle.share_ledger.specs.declared.rounds.Link.{Link}
 use Rattle.std.proofs.lemmas.List.{get_or-replicate, get_or-set_other, length-replicate}
 use Rattle.std.proofs.lemmas.Grind.{get_or-set_at}
-use Rattle.std.proofs.lemmas.Bool.Decides.{nat_tests}
+use Rattle.std.proofs.lemmas.Bool.{eqb-false, eqb-true}
 use Rattle.share_ledger.specs.Rounds.{IsTargetWithin, IsLinkWithin, leads, stepped, walked, meets, is_long}
 use Rattle.share_model.specs.lists.Each.{Each}
 use Rattle.share_model.specs.lists.Laws.{each_map}
@@ -64,7 +64,12 @@ meets-more ls from to n =
     ap (meets ls from to) (add-one n)
     ∙ ap (λ k. meets ls from to n || walked false ls (λ p. nat_eq p to) k from) (sym (add-one n))
 
--- amounts and values so far are small
+-- where a sum is nothing, each of its terms is
+pub no-term : {X : Type 0} (f : X → ℕ) (xs : List X) → sum_by f xs ≡ 0 → Each (λ x. f x ≡ 0) xs
+no-term f [] none = tt
+no-term f (x ∷ xs) none = let sum = sum_by-cons f x xs in (omega arith, no-term f xs (omega arith))
+
+-- a sum is at most so many terms, each of at most m
 pub sum_by-bound : {X : Type 0} (P : X → Type 0) (f : X → ℕ) (m : ℕ) (xs : List X) → Each P xs
     → ((x : X) → P x → f x ≤ m) → sum_by f xs ≤ length xs * m
 sum_by-bound P f m [] each small = omega arith
@@ -77,18 +82,12 @@ sum_by-bound P f m (x ∷ xs) each small =
 pub marked-one : (to : ℕ) → to < 65 → (p : ℕ) → p < 65 → get_or (set (replicate 65 false) to true) p false ≡ nat_eq p to
 marked-one to below p lt = by (nat_eq p to) refl
   where
-    same : (a b : ℕ) → nat_eq a b ≡ true → a ≡ b
-    same a b e = grind (arith, nat_tests)
-
-    apart : (a b : ℕ) → nat_eq a b ≡ false → a ≢ b
-    apart a b e = grind (arith, nat_tests)
-
     by : (b : Bool) → nat_eq p to ≡ b → get_or (set (replicate 65 false) to true) p false ≡ b
     by true e =
-        get_or-set_at (replicate 65 false) to p true false (same p to e)
+        get_or-set_at (replicate 65 false) to p true false (eqb-true p to e)
         (let n = length-replicate {A = Bool} 65 false in omega arith)
     by false e =
-        get_or-set_other (replicate 65 false) to p true false (apart p to e) ∙ get_or-replicate 65 p false false lt
+        get_or-set_other (replicate 65 false) to p true false (eqb-false p to e) ∙ get_or-replicate 65 p false false lt
 
 -- chains that are long, from what an array holds
 pub long-is : (ls : List Link) (held start : ℕ → Bool) → Each IsLinkWithin ls → ((p : ℕ) → p < 65 → start p ≡ true)

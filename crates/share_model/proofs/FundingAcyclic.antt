@@ -8,15 +8,10 @@ use Rattle.share_model.specs.funding.Graph.{NameBytes, base, Graph, is_held_by_c
 use Rattle.share_model.specs.lists.Each.{Each}
 use Rattle.share_model.specs.funding.Kept.{IsShallow}
 use Rattle.share_model.specs.funding.Laws.{IsAcyclic}
+use Rattle.share_model.specs.funding.ChainLaws.{leads-more}
 use Rattle.share_model.specs.lists.Laws.{each_map}
 use Rattle.share_model.specs.lists.SumLaws.{same_name, name_sym, Each-all, Each-filter}
 use Rattle.share_model.specs.funding.SettleLaws.{any-more, none_any, runs-none}
-
-step-more : (p q : NameBytes → Bool) → ((c : NameBytes) → p c ≡ true → q c ≡ true) → (h : Holder) → leads_on p h ≡ true
-    → leads_on q h ≡ true
-step-more p q more Nobody e = e
-step-more p q more (Currency c) e = more c e
-step-more p q more (Flow f) e = e
 
 -- what begins a chain begins each shorter one
 pub runs-fewer : (ts : List Ticket) (n : ℕ) (a : NameBytes) → runs ts (suc n) a ≡ true → runs ts n a ≡ true
@@ -24,7 +19,7 @@ unfolding runs
 runs-fewer ts zero a e = refl
 runs-fewer ts (suc n) a e =
     any-more (λ (t : Ticket). leads_on (runs ts (suc n)) t.holder) (λ (t : Ticket). leads_on (runs ts n) t.holder)
-    (issued ts a) (λ t. step-more (runs ts (suc n)) (runs ts n) (runs-fewer ts n) t.holder) e
+    (issued ts a) (λ t. leads-more (runs ts (suc n)) (runs ts n) (runs-fewer ts n) t.holder) e
 
 -- a chain to where another begins makes that one longer by a step at least
 chain-then-runs : (ts : List Ticket) (n m : ℕ) (a b : NameBytes) → chain ts (suc n) a b ≡ true → runs ts m b ≡ true
@@ -33,12 +28,12 @@ unfolding chain runs
 chain-then-runs ts zero m a b e r =
     any-more (λ (t : Ticket). leads_on (λ c. bytes_eq c b) t.holder) (λ (t : Ticket). leads_on (runs ts m) t.holder)
     (issued ts a)
-    (λ t. step-more (λ c. bytes_eq c b) (runs ts m)
+    (λ t. leads-more (λ c. bytes_eq c b) (runs ts m)
     (λ c same. subst (λ x. runs ts m x ≡ true) (sym (same_name c b same)) r) t.holder) e
 chain-then-runs ts (suc n) m a b e r =
     any-more (λ (t : Ticket). leads_on (λ c. chain ts (suc n) c b) t.holder)
     (λ (t : Ticket). leads_on (runs ts m) t.holder) (issued ts a)
-    (λ t. step-more (λ c. chain ts (suc n) c b) (runs ts m)
+    (λ t. leads-more (λ c. chain ts (suc n) c b) (runs ts m)
     (λ c longer. runs-fewer ts m c (chain-then-runs ts n m c b longer r)) t.holder) e
 
 -- where a currency backs itself, chains of each length begin at it

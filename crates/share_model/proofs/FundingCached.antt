@@ -1,10 +1,7 @@
 -- Kept amounts and values that meet the equations of one step give the activity, the values and the tickets of
 -- the definition.
-use Rattle.std.proofs.Common.{◌≡◌, ℕ, ◌*◌, ◌/◌, ◌^◌, ◌≤◌, ◌<◌, Bool, true, false, cond, ◌||◌, min, List, [], ◌∷◌}
-use Rattle.std.proofs.Common.{sum_by, bytes_eq, nat_lt, refl, sym, ap, ◌∙◌, arith}
-use Rattle.std.specs.List.{list_any}
-use Rattle.std.proofs.lemmas.List.Sums.{sum_by-cons}
-use Rattle.std.proofs.lemmas.Bool.Decides.{nat_tests}
+use Rattle.std.proofs.Common.{◌≡◌, ℕ, ◌*◌, ◌/◌, ◌^◌, ◌≤◌, true, false, cond, min}
+use Rattle.std.proofs.Common.{sum_by, bytes_eq, nat_lt, refl, sym, ap, ◌∙◌}
 use Rattle.share_model.specs.declared.funding.Holder.{Holder}
 use Rattle.share_model.specs.declared.funding.Holder.TheVariants.{Nobody, Currency, Flow}
 use Rattle.share_model.specs.declared.funding.Ticket.{Ticket}
@@ -16,27 +13,7 @@ use Rattle.share_model.specs.funding.Kept.{IsShallow, is_awake, kept_worth, IsCa
 use Rattle.share_model.specs.lists.Laws.{each_map}
 use Rattle.share_model.specs.lists.SumLaws.{Each-filter, sum_by-same_of}
 use Rattle.share_model.proofs.FundingShares.{active-is}
-use Rattle.share_model.specs.funding.SettleLaws.{act-unique, val-unique}
-
--- a sum of amounts that are not zero is above zero exactly where one of them counts
-any-above : (p : Ticket → Bool) (ts : List Ticket) → Each (λ (t : Ticket). 1 ≤ t.amount) ts
-    → nat_lt 0 (sum_by (λ (t : Ticket). cond (p t) t.amount 0) ts) ≡ list_any p ts
-any-above p [] some = refl
-any-above p (t ∷ ts) some = by (p t) refl (any-above p ts some.1)
-  where
-    by : (b : Bool) → p t ≡ b → nat_lt 0 (sum_by (λ (t : Ticket). cond (p t) t.amount 0) ts) ≡ list_any p ts
-        → nat_lt 0 (sum_by (λ (t : Ticket). cond (p t) t.amount 0) (t ∷ ts)) ≡ (b || list_any p ts)
-    by true e rest =
-        let here : cond (p t) t.amount 0 ≡ t.amount = ap {B = ℕ} (λ b. cond b t.amount 0) e in
-        let sum = sum_by-cons (λ (t : Ticket). cond (p t) t.amount 0) t ts in
-        let above : 0 < sum_by (λ (t : Ticket). cond (p t) t.amount 0) (t ∷ ts) = omega (arith, some.0) in
-        grind (arith, nat_tests)
-    by false e rest =
-        let here : cond (p t) t.amount 0 ≡ 0 = ap {B = ℕ} (λ b. cond b t.amount 0) e in
-        let sum = sum_by-cons (λ (t : Ticket). cond (p t) t.amount 0) t ts in
-        let same : sum_by (λ (t : Ticket). cond (p t) t.amount 0) (t ∷ ts)
-        ≡ sum_by (λ (t : Ticket). cond (p t) t.amount 0) ts = omega arith in
-        ap (nat_lt 0) same ∙ rest
+use Rattle.share_model.specs.funding.SettleLaws.{act-unique, val-unique, any-above}
 
 module _ (g : Graph) (shallow : IsShallow g) (some : Each (λ (t : Ticket). 1 ≤ t.amount) g.tickets)
     (amount value : NameBytes → ℕ) (kept : IsCached g amount value) where

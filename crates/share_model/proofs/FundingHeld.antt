@@ -8,6 +8,7 @@ use Rattle.std.specs.Set.{remove_key}
 use Rattle.std.proofs.lemmas.List.Folds.{list_any-append}
 use Rattle.std.proofs.lemmas.List.Sums.{sum_by-cons, sum_by_push}
 use Rattle.std.proofs.lemmas.Bool.Decides.{nat_tests}
+use Rattle.std.proofs.Math.Bool.{and-false, or-false}
 use Rattle.share_base.specs.declared.refusal.Refusal.TheVariants.{NoTicket, Funding}
 use Rattle.share_model.specs.declared.funding.Holder.{Holder}
 use Rattle.share_model.specs.declared.funding.Holder.TheVariants.{Nobody, Currency, Flow}
@@ -30,10 +31,6 @@ pub record IsHeldAlike (ts us : List Ticket) : Type 0 where
   pub any : (p : Ticket → Bool) → ((t : Ticket) → is_held t.holder ≡ false → p t ≡ false)
       → list_any p ts ≡ list_any p us
   pub sum : (w : Ticket → ℕ) → ((t : Ticket) → is_held t.holder ≡ false → w t ≡ 0) → sum_by w ts ≡ sum_by w us
-
-and_false : (b : Bool) → (b && false) ≡ false
-and_false true = refl
-and_false false = refl
 
 cond_nothing : (b : Bool) → ◌≡◌ {A = ℕ} (cond b 0 0) 0
 cond_nothing true = refl
@@ -102,7 +99,7 @@ module _ (g h : Graph) (held : IsHeldAlike g.tickets h.tickets)
   holder-alike n same (Currency c) =
       any-filter (λ (t : Ticket). bytes_eq c t.denomination) (act g n) g.tickets
       ∙ held.any (λ (t : Ticket). bytes_eq c t.denomination && act g n t)
-      (λ t e. ap (λ b. bytes_eq c t.denomination && b) (unheld-act g n t e) ∙ and_false (bytes_eq c t.denomination))
+      (λ t e. ap (λ b. bytes_eq c t.denomination && b) (unheld-act g n t e) ∙ and-false (bytes_eq c t.denomination))
       ∙ any-same (λ (t : Ticket). bytes_eq c t.denomination && act g n t)
       (λ (t : Ticket). bytes_eq c t.denomination && act h n t) h.tickets
       (Each-all _ h.tickets (λ t. ap (λ b. bytes_eq c t.denomination && b) (same t)))
@@ -163,13 +160,9 @@ alike-made : (ts : List Ticket) (t : Ticket) → is_held t.holder ≡ false → 
 alike-made ts t unheld = record {
   any = λ p none.
       list_any-append p ts (t ∷ []) ∙ ap (λ b. list_any p ts || (b || false)) (none t unheld)
-      ∙ or_false (list_any p ts);
+      ∙ or-false (list_any p ts);
   sum = λ w none. sum_by_push w ts t ∙ ap (λ n. sum_by w ts + n) (none t unheld) ∙ omega arith;
 }
-  where
-    or_false : (b : Bool) → (b || false) ≡ b
-    or_false true = refl
-    or_false false = refl
 
 alike-removed : (p : Ticket → Bool) (ts : List Ticket) → is_found_held (find p ts) ≡ false
     → IsHeldAlike (remove_key p ts) ts

@@ -3,6 +3,8 @@ use Rattle.std.proofs.Common.{◌≡◌, ◌≤◌, ◌+◌, ◌-◌, ℕ, zero,
 use Rattle.std.proofs.Common.{bytes_eq, nat_le, refl, sym, ap, ◌∙◌, arith, true≢false}
 use Rattle.std.specs.List.{list_any}
 use Rattle.std.proofs.lemmas.Bool.Decides.{nat_tests}
+use Rattle.std.proofs.Math.Bool.{or-true}
+use Rattle.std.proofs.lemmas.Bool.{leb-true}
 use Rattle.share_model.specs.lists.Laws.{each_map}
 use Rattle.share_model.specs.declared.funding.Holder.{Holder}
 use Rattle.share_model.specs.declared.funding.Holder.TheVariants.{Nobody, Currency, Flow}
@@ -27,10 +29,6 @@ some-passes : {X : Type 0} (p : X → Bool) (xs : List X) → list_any p xs ≡ 
 some-passes p [] e = absurd (true≢false (sym e))
 some-passes {X} p (x ∷ xs) e = by (p x) refl e (some-passes p xs)
   where
-    or_true : (b : Bool) → (b || true) ≡ true
-    or_true true = refl
-    or_true false = refl
-
     by : (b : Bool) → p x ≡ b → (b || list_any p xs) ≡ true → (list_any p xs ≡ true → Passing p xs) → Passing p (x ∷ xs)
     by true here e rest = record { item = x; passes = here; among = λ q also. ap (λ b. b || list_any q xs) also }
     by false here e rest =
@@ -38,7 +36,7 @@ some-passes {X} p (x ∷ xs) e = by (p x) refl e (some-passes p xs)
         record {
           item = found.item;
           passes = found.passes;
-          among = λ q also. ap (λ b. q x || b) (found.among q also) ∙ or_true (q x);
+          among = λ q also. ap (λ b. q x || b) (found.among q also) ∙ or-true (q x);
         }
 
 -- where chains of n steps begin, one goes somewhere
@@ -101,22 +99,15 @@ chain-within ts zero zero a b few e = e
 chain-within ts zero (suc m) a b few e = absurd (omega arith)
 chain-within ts (suc n) m a b few e = by (nat_le m n) refl (λ less. chain-within ts n m a b less e)
   where
-    or_true : (b : Bool) → (b || true) ≡ true
-    or_true true = refl
-    or_true false = refl
-
-    less : (k l : ℕ) → nat_le k l ≡ true → k ≤ l
-    less k l e = grind (arith, nat_tests)
-
     last : (k l : ℕ) → nat_le k l ≡ false → k ≤ suc l → k ≡ suc l
     last k l e few = grind (arith, nat_tests)
 
     by : (r : Bool) → nat_le m n ≡ r → (m ≤ n → chain_within ts n a b ≡ true)
         → (chain_within ts n a b || chain ts (suc n) a b) ≡ true
-    by true is rest = ap (λ r. r || chain ts (suc n) a b) (rest (less m n is))
+    by true is rest = ap (λ r. r || chain ts (suc n) a b) (rest (leb-true m n is))
     by false is rest =
         ap (λ r. chain_within ts n a b || r) (sym (ap (λ k. chain ts k a b) (last m n is few)) ∙ e)
-        ∙ or_true (chain_within ts n a b)
+        ∙ or-true (chain_within ts n a b)
 
 module _ (g : Graph) (ok : IsShallow g) where
   runs-few : (a : NameBytes) → runs g.tickets 9 a ≡ false

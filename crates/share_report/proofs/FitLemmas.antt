@@ -10,7 +10,7 @@ use Rattle.share_model.specs.declared.funding.OpenFlow.{OpenFlow}
 use Rattle.share_model.specs.declared.link.Book.{Book}
 use Rattle.share_model.specs.declared.rates.Rate.{Rate}
 use Rattle.share_model.specs.declared.stride.Client.{Client}
-use Rattle.share_model.specs.funding.Graph.{NameBytes, Graph, flow_numbers, tickets}
+use Rattle.share_model.specs.funding.Graph.{NameBytes, flow_numbers, tickets}
 use Rattle.share_model.specs.link.Live.{Live, account_in, account_of, is_book_of, waiting_of}
 use Rattle.share_model.specs.lists.Laws.{rises-below}
 use Rattle.share_model.specs.run.Sound.{Sound}
@@ -20,12 +20,9 @@ use Rattle.share_model.specs.stride.BoundLaws.{distance-idle, distance-competing
 use Rattle.share_model.specs.stride.DivisionLaws.{stride_of-le}
 use Rattle.share_model.specs.stride.Moves.{Stride, new_client, client, position}
 use Rattle.share_model.specs.text.Report.{flow_shown}
+use Rattle.share_model.specs.run.QueueLaws.{tickets-few}
 use Rattle.share_report.specs.Widths.{FitsColumns}
 use Rattle.share_report.proofs.FlowLemmas.{has_number-at}
-
-tickets_few : (g : Graph) (f : ℕ) → tickets g f ≤ 2 ^ 20
-unfolding tickets
-tickets_few g f = omega arith
 
 account_few : {life : ℕ} {rates : List Rate} {l : Live} → Sound life rates l → life ≤ 2 ^ 24 → (f : ℕ)
     → account_of l.books f < 10 ^ 17
@@ -88,7 +85,7 @@ flow_fits life rates l n e short sound at name waiting =
     record {
       flow = omega (arith, given, sound.funding.next_flow, sound.counts.events, short);
       name = name;
-      tickets = omega (arith, tickets_few l.graph f);
+      tickets = omega (arith, tickets-few l.graph f);
       waiting = waiting;
       account = account_few sound short f;
       place = place_few l.queue f (sound.queue.sound short);

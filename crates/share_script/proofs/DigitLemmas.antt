@@ -7,22 +7,11 @@ use Rattle.std.specs.List.{list_all}
 use Rattle.std.proofs.Math.Seq.{drop-cons}
 use Rattle.std.proofs.lemmas.List.{take_more_set}
 use Rattle.std.proofs.lemmas.Bool.Decides.{nat_tests, leb_tells}
+use Rattle.std.proofs.Math.Bool.{and-false, and_assoc}
 use Rattle.share_model.specs.text.Lines.{is_hex_digit, hex_value, is_pairs, from_pairs, payload_of}
 use Rattle.share_script.specs.Digits.{value_or_255, DecodedUpTo, DecodesUpTo}
 
-and_false : (b : Bool) → (b && false) ≡ false
-and_false true = refl
-and_false false = refl
-
-and_assoc : (a b c : Bool) → ((a && b) && c) ≡ (a && (b && c))
-and_assoc true b c = refl
-and_assoc false b c = refl
-
 -- Pairs of digits
-
-both : (a b : Bool) → (a && b) ≡ true → (a ≡ true) × (b ≡ true)
-both true b e = (refl, e)
-both false b e = cc
 
 pub is_pairs-even : (w : List ℕ) → length w % 2 ≡ 0 → is_pairs w ≡ list_all is_hex_digit w
 is_pairs-even [] e = refl
@@ -36,7 +25,7 @@ is_pairs-odd [] e = absurd (omega arith)
 is_pairs-odd (c ∷ []) e = refl
 is_pairs-odd (c ∷ d ∷ cs) e =
     let odd : length cs % 2 ≡ 1 = omega arith in
-    rw (is_pairs-odd cs odd) (and_false _)
+    rw (is_pairs-odd cs odd) (and-false _)
 
 -- at least two digits, and an even number of them
 abbrev pub has_pairs : List ℕ → Bool
@@ -50,16 +39,13 @@ short_or_odd w e = grind (arith, nat_tests)
 
 not_pairs : (w : List ℕ) → (length w < 2) ⊎ (length w % 2 ≡ 1) → (nat_le 2 (length w) && is_pairs w) ≡ false
 not_pairs w (inl short) = let t : nat_le 2 (length w) ≡ false = grind (arith, nat_tests) in rw t refl
-not_pairs w (inr odd) = rw (is_pairs-odd w odd) (and_false (nat_le 2 (length w)))
+not_pairs w (inr odd) = rw (is_pairs-odd w odd) (and-false (nat_le 2 (length w)))
 
 pub no_payload : (w : List ℕ) → has_pairs w ≡ false → (nat_le 2 (length w) && is_pairs w) ≡ false
 no_payload w e = not_pairs w (short_or_odd w e)
 
 pub not_decoded : (w : List ℕ) → has_pairs w ≡ false → payload_of w ≡ None
 not_decoded w e = rw (no_payload w e) refl
-
-pub decoded_none : (w bytes : List ℕ) → DecodedUpTo w bytes 0
-decoded_none w bytes = record { pairs = refl; decoded = refl }
 
 -- the two digits at a place, and those after them
 two_digits : (w : List ℕ) (place : ℕ) → 2 * place + 1 < length w → drop (2 * place) w ≡ get_or w (2 * place) 0
@@ -116,15 +102,12 @@ pub bad_pair : (w bytes : List ℕ) (place high low : ℕ) → DecodedUpTo w byt
 bad_pair w bytes place high low so h eh el (inl bad) =
     let none : is_pairs w ≡ false = so.pairs ∙ ap is_pairs (two_digits w place h)
     ∙ rw (bad_digit (get_or w (2 * place) 0) high eh bad) refl in
-    rw (none, and_false (nat_le 2 (length w))) refl
+    rw (none, and-false (nat_le 2 (length w))) refl
 bad_pair w bytes place high low so h eh el (inr bad) =
     let none : is_pairs w ≡ false = so.pairs ∙ ap is_pairs (two_digits w place h)
-    ∙ rw (bad_digit (get_or w (2 * place + 1) 0) low el bad, and_false (is_hex_digit (get_or w (2 * place) 0)))
+    ∙ rw (bad_digit (get_or w (2 * place + 1) 0) low el bad, and-false (is_hex_digit (get_or w (2 * place) 0)))
     refl in
-    rw (none, and_false (nat_le 2 (length w))) refl
-
-pub decodes_none : (w bytes : List ℕ) → DecodesUpTo w bytes 0 0
-decodes_none w bytes = record { good = λ h. decoded_none w bytes; bad = λ h. absurd (omega arith) }
+    rw (none, and-false (nat_le 2 (length w))) refl
 
 bad_by_greatest : (w bytes : List ℕ) (place high low greatest : ℕ) → DecodesUpTo w bytes place greatest
     → 2 * place + 1 < length w → high ≡ value_or_255 (get_or w (2 * place) 0)

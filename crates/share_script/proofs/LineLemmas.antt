@@ -12,14 +12,11 @@ use Rattle.share_model.specs.declared.rates.Rate.{Rate}
 use Rattle.share_model.specs.text.Lines.{reading}
 use Rattle.share_model.specs.text.Talk.{Progress, is_first, read_event, answered, answer, first_flag, talk, after}
 use Rattle.share_model.specs.text.Talk.{is_feed, last_line, kept, lines_of}
+use Rattle.share_model.specs.text.FeedLaws.{kept-cons}
 use Rattle.share_script.specs.Script.{NoFeed}
 use Rattle.share_script.proofs.ReadingLemmas.{too_long}
 
 -- Lines
-
-pub kept-cons : (l : List ℕ) (ls : List (List ℕ)) → 0 < length ls → kept (l ∷ ls) ≡ l ∷ kept ls
-kept-cons l [] h = absurd (omega arith)
-kept-cons l (m ∷ ms) h = refl
 
 pub lines-feed : (bs rest : List ℕ) → NoFeed bs → lines_of (bs ++ 10 ∷ rest) ≡ bs ∷ lines_of rest
 lines-feed bs rest clean = ap kept (slice_split_at is_feed bs 10 rest clean refl)
@@ -68,12 +65,12 @@ after_same life rates s lacks xs ys ls e =
     ap (λ (a : Progress × List ℕ). after life rates a.0 (drop 1 lacks) ls)
     (answer_same life rates s (first_flag lacks) xs ys e)
 
+short_or_long : (n : ℕ) → (n ≤ 20481) ⊎ (20481 < n)
+short_or_long n = elim (leb_tells n 20481) [ inl p ↦ inl p.1 | inr p ↦ inr p.1 ]
+
 pub reading_cut : (bs : List ℕ) → reading (take 20481 bs) ≡ reading bs
 reading_cut bs = cut_by (short_or_long (length bs))
   where
-    short_or_long : (n : ℕ) → (n ≤ 20481) ⊎ (20481 < n)
-    short_or_long n = elim (leb_tells n 20481) [ inl p ↦ inl p.1 | inr p ↦ inr p.1 ]
-
     cut_by : (length bs ≤ 20481) ⊎ (20481 < length bs) → reading (take 20481 bs) ≡ reading bs
     cut_by (inl h) = ap reading (take_all 20481 bs h)
     cut_by (inr h) = long_same (take 20481 bs) bs (omega (arith, length-take 20481 bs)) (omega arith)
@@ -164,9 +161,6 @@ alike_long xs ys e = record {
 pub alike_cut : (bs rest : List ℕ) → NoFeed bs → Alike (bs ++ rest) (take 20481 bs ++ rest)
 alike_cut bs rest clean = cut_by (short_or_long (length bs))
   where
-    short_or_long : (n : ℕ) → (n ≤ 20481) ⊎ (20481 < n)
-    short_or_long n = elim (leb_tells n 20481) [ inl p ↦ inl p.1 | inr p ↦ inr p.1 ]
-
     cut_by : (length bs ≤ 20481) ⊎ (20481 < length bs) → Alike (bs ++ rest) (take 20481 bs ++ rest)
     cut_by (inl h) = let e : bs ++ rest ≡ take 20481 bs ++ rest = ap (λ r. r ++ rest) (sym (take_all 20481 bs h)) in
         record {

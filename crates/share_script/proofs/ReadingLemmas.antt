@@ -7,6 +7,7 @@ use Rattle.std.specs.List.{join_with_byte}
 use Rattle.std.proofs.lemmas.List.Splits.{slice_split_none, join_with_byte-slice_split}
 use Rattle.std.proofs.lemmas.List.Elements.{All-from_recursion}
 use Rattle.std.proofs.lemmas.Bool.Decides.{nat_tests}
+use Rattle.std.proofs.lemmas.Bool.{and_parts}
 use Rattle.share_base.specs.Body.{is_payload_length}
 use Rattle.share_base.specs.declared.refusal.Refusal.{Refusal}
 use Rattle.share_base.specs.declared.refusal.Refusal.TheVariants.{NoMemory, Syntax, Range}
@@ -22,15 +23,11 @@ use Rattle.share_script.specs.Words.{last, short_line_by, sent_by, ReadsRanged}
 
 -- Packets
 
-both_true : (a b : Bool) → (a && b) ≡ true → (a ≡ true) × (b ≡ true)
-both_true true b e = (refl, e)
-both_true false b e = cc
-
 -- the digits are too many
 long_payload : (flow digits : List ℕ) → 2980 < length digits → (nat_le 2 (length digits) && is_pairs digits) ≡ true
     → Err Range ≡ ranged (sent_by flow (payload_of digits))
 long_payload flow digits long good =
-    let both : (nat_le 2 (length digits) ≡ true) × (is_pairs digits ≡ true) = both_true _ _ good in
+    let both : (nat_le 2 (length digits) ≡ true) × (is_pairs digits ≡ true) = and_parts _ _ good in
     let h = hex-from_pairs digits both.1 in
     let out : nat_le (length (from_pairs digits)) 1490 ≡ false = over _ _ h.2 long in
     rw (both.0, both.1, out) refl
@@ -51,7 +48,7 @@ unheld_sent : (flow digits : List ℕ) → length digits ≤ 2980 → (nat_le 2 
 unheld_sent flow digits few good =
     let is : payload_of digits ≡ Some (from_pairs digits) = rw good refl in
     let only = payload_of-only digits (from_pairs digits) is in
-    let half : 2 * length (from_pairs digits) ≡ length digits = (hex-from_pairs digits (both_true _ _ good).1).2 in
+    let half : 2 * length (from_pairs digits) ≡ length digits = (hex-from_pairs digits (and_parts _ _ good).1).2 in
     let short : length (from_pairs digits) ≤ 1490 = omega arith in
     let r = in_range (length (from_pairs digits)) only.0.0 short in
     inr (refl, (Send flow (from_pairs digits), ap (sent_by flow) is, r.1, refl))

@@ -3,7 +3,7 @@ use Rattle.std.proofs.Common.{◌≡◌, ◌≢◌, ◌<◌, ◌≤◌, inl, inr
 use Rattle.std.proofs.Common.{None, Some, arith, sym, ◌∙◌, ap, subst, refl}
 use mathlib.Core.List.{append_assoc}
 use Rattle.std.specs.Io.KnownBytes.{Appends, Consumes, Keeps}
-use Rattle.std.proofs.KnownBytes.{Consumes-trans}
+use Rattle.std.proofs.KnownBytes.{Consumes-trans, Consumes-nil}
 use Rattle.std.proofs.lemmas.List.{append-nil}
 use Rattle.share_model.specs.declared.rates.Rate.{Rate}
 use Rattle.share_model.specs.io.Told.{Told}
@@ -34,16 +34,12 @@ keeps_nothing None b h = tt
 keeps_nothing (Some x) None h = absurd h
 keeps_nothing (Some x) (Some y) h = sym h
 
-consumes_none : (a : Option (List ℕ)) → Consumes a a []
-consumes_none None = tt
-consumes_none (Some x) = refl
-
 module _ {W : Type 0} (told : W → Option Told) where
   pub running_none : (given a : Option (List ℕ)) (old : AtLine W) (line : List ℕ) → line ≡ []
       → Running told given given a a old old line
   running_none given a old line e = record {
     done = [];
-    reads = consumes_none given;
+    reads = Consumes-nil given;
     fed = let P : List ℕ → Type 0 = λ r. Feeds told a [] a [] old [] [] old r in
         subst P (sym e) (fed_none told a [] old []);
   }

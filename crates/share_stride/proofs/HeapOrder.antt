@@ -1,27 +1,14 @@
 -- The order of a heap beside an open seat, as entries move to it.
 use Rattle.std.proofs.Common.{◌≡◌, ◌≢◌, ℕ, zero, suc, ◌<◌, ◌≤◌, ◌/◌, length, set, List, inl, inr}
 use Rattle.std.proofs.Common.{refl, sym, ap, subst, ◌∙◌, arith}
-use Rattle.std.specs.Prelude.{◌⊎◌, ℤ, ◌<ℤ◌}
-use Rattle.std.proofs.lemmas.Bool.{cases_eq, cases_lt}
-use Rattle.std.proofs.lemmas.Int.{ints, by_lt_z}
+use Rattle.std.proofs.lemmas.Bool.{cases_eq}
+use Rattle.std.proofs.lemmas.Int.{ints}
 use Rattle.std.proofs.lemmas.List.{get_or-set_same, get_or-set_other}
-use Rattle.share_model.specs.stride.Moves.{Precedes}
 use Rattle.share_stride.specs.declared.seating.Entry.{Entry}
 use Rattle.share_stride.specs.Seating.{no_entry, entry_at, IsBefore, IsNoLater, IsBelow, IsOrdered, IsOpen}
 use Rattle.share_stride.specs.Seating.{FitsAbove, FitsBelow, RisesPast, SinksPast}
 
 -- ---- The order of entries
-
--- what is not before another is no earlier
-pub IsNoLater-total : (p q : ℤ) (f g : ℕ) → ¬ (Precedes q g p f) → (p <ℤ q) ⊎ ((p ≡ q) × (f ≤ g))
-IsNoLater-total p q f g not_before =
-    by_lt_z p q (λ less. inl less) (λ back.
-    by_lt_z q p (λ more. absurd (not_before (inl more))) (λ forth.
-    let same : p ≡ q = omega (arith, ints) in
-    elim (cases_lt g f) [
-      | inl lt ↦ absurd (not_before (inr (sym same, lt)))
-      | inr le ↦ inr (same, le)
-    ]))
 
 no_later : (a b : Entry) → IsBefore a b → IsNoLater a b
 no_later a b (inl less) = inl less

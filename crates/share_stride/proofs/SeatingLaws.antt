@@ -42,10 +42,6 @@ KeepsOthers-trans key a b c es fs gs ss ts us first second = record {
       second.kept k (omega arith) apart ∙ first.kept k in_range apart;
 }
 
-pub KeepsOthers-refl : (key count : ℕ) (entries : List Entry) (seats : List ℕ)
-    → KeepsOthers key count entries seats count entries seats
-KeepsOthers-refl key count entries seats = record { as_many = refl; kept = λ _ _ _. refl }
-
 -- ---- An entry moves to the open seat
 
 module _ (entries : List Entry) (seats : List ℕ) (hole key from : ℕ) (lifted : IsLifted entries seats hole key)
@@ -217,15 +213,6 @@ module _ (entries : List Entry) (seats : List ℕ) (hole : ℕ) (x : Entry) (lif
 
 -- ---- The steps of the open seat
 
-pub Rises-start : (entries : List Entry) (seats : List ℕ) (hole : ℕ) (x : Entry) → IsLifted entries seats hole x.key
-    → Rises entries seats hole entries seats hole x
-Rises-start entries seats hole x lifted = record {
-  lifted = lifted;
-  kept = λ count _. KeepsOthers-refl x.key count entries seats;
-  higher = omega arith;
-  is_open = λ count is_open below. (is_open, below);
-}
-
 pub Rises-step : (es : List Entry) (ss : List ℕ) (start : ℕ) (entries : List Entry) (seats : List ℕ) (hole from : ℕ)
     (x : Entry) → Rises es ss start entries seats hole x → RisesPast entries hole x from
     → Rises es ss start (set entries hole (entry_at entries from))
@@ -249,16 +236,6 @@ Rises-step es ss start entries seats hole from x rises past =
             FitsBelow-rise count entries hole from x fits now.0 past now.1,
           );
     }
-
-pub Sinks-start : (count : ℕ) (entries : List Entry) (seats : List ℕ) (hole : ℕ) (x : Entry)
-    → IsLifted entries seats hole x.key → IsOpen count entries hole → FitsAbove entries hole x
-    → Sinks count entries seats entries seats hole x
-Sinks-start count entries seats hole x lifted is_open above = record {
-  lifted = lifted;
-  kept = KeepsOthers-refl x.key count entries seats;
-  is_open = is_open;
-  above = above;
-}
 
 pub Sinks-step : (count : ℕ) (es : List Entry) (ss : List ℕ) (entries : List Entry) (seats : List ℕ) (hole from : ℕ)
     (x : Entry) → count ≤ length es → Sinks count es ss entries seats hole x → SinksPast count entries hole x from

@@ -1,9 +1,9 @@
 -- A key leaves its seat, or two change theirs; a heap counts one more, or one less; new seats.
-use Rattle.std.proofs.Common.{◌≡◌, ◌≢◌, ℕ, ◌+◌, ◌<◌, length, set, List, [], ◌∷◌, ◌++◌}
+use Rattle.std.proofs.Common.{◌≡◌, ◌≢◌, ℕ, ◌+◌, ◌<◌, length, set, List}
 use Rattle.std.proofs.Common.{get_or, inl, inr, refl, sym, ap, subst, ◌∙◌, arith}
 use Rattle.std.proofs.lemmas.Bool.{cases_eq, cases_lt}
 use Rattle.std.proofs.lemmas.List.{get_or-set_same, get_or-set_other, length-set}
-use Rattle.std.proofs.lemmas.List.{same_lists, get_or_default, get_or_append_left, get_or_push, length_push}
+use Rattle.std.proofs.lemmas.List.{same_lists, get_or_default}
 use Rattle.share_stride.specs.declared.seating.Entry.{Entry}
 use Rattle.share_stride.specs.Seating.{no_entry, entry_at, seat_of, IsSeated, IsLifted, Swaps}
 use Rattle.share_stride.specs.Seating.{standing, KeepsOthers}
@@ -128,39 +128,3 @@ pub record IsIdle (entries : List Entry) (seats : List ℕ) (count : ℕ) : Type
   pub seats_long : length seats ≡ count
   pub key_is : (i : ℕ) → i < count → (entry_at entries i).key ≡ i
   pub seat_is : (i : ℕ) → i < count → seat_of seats i ≡ i
-
-pub IsIdle-push : (entries : List Entry) (seats : List ℕ) (count : ℕ) (x : Entry) → x.key ≡ count
-    → IsIdle entries seats count → IsIdle (entries ++ x ∷ []) (seats ++ count ∷ []) (count + 1)
-IsIdle-push entries seats count x is idle =
-    let entries_long = idle.entries_long in
-    let seats_long = idle.seats_long in
-    record {
-      entries_long = omega (arith, length_push entries x);
-      seats_long = omega (arith, length_push seats count);
-      key_is = λ i lt. elim (cases_lt i count) [
-        | inl less ↦
-            ap (λ (e : Entry). e.key) (get_or_append_left entries (x ∷ []) no_entry i (omega arith))
-            ∙ idle.key_is i less
-        | inr le ↦
-            let last : length entries ≡ i = omega arith in
-            ap (λ (e : Entry). e.key) (get_or_push entries x no_entry i last) ∙ is ∙ omega arith
-      ];
-      seat_is = λ i lt. elim (cases_lt i count) [
-        | inl less ↦ get_or_append_left seats (count ∷ []) 0 i (omega arith) ∙ idle.seat_is i less
-        | inr le ↦ let last : length seats ≡ i = omega arith in get_or_push seats count 0 i last ∙ omega arith
-      ];
-    }
-
-pub IsSeated-idle : (entries : List Entry) (seats : List ℕ) (count : ℕ) → IsIdle entries seats count
-    → IsSeated entries seats
-IsSeated-idle entries seats count idle =
-    let long = idle.entries_long in
-    let seats_long = idle.seats_long in
-    record {
-      as_many = omega arith;
-      key_fits = λ i lt. let is = idle.key_is i (omega arith) in omega arith;
-      seat_is = λ i lt. ap (seat_of seats) (idle.key_is i (omega arith)) ∙ idle.seat_is i (omega arith);
-      seat_fits = λ k lt. let is = idle.seat_is k (omega arith) in omega arith;
-      key_is = λ k lt.
-          ap (λ i. (entry_at entries i).key) (idle.seat_is k (omega arith)) ∙ idle.key_is k (omega arith);
-    }

@@ -4,6 +4,7 @@ use Rattle.std.proofs.Common.{map, filter, bytes_eq, refl, sym, ap, subst, ◌�
 use Rattle.std.specs.List.{list_any}
 use Rattle.std.specs.Set.{remove_key}
 use Rattle.std.proofs.lemmas.List.Folds.{list_any-append}
+use Rattle.std.proofs.Math.Bool.{and-false}
 use Rattle.share_model.specs.lists.Change.{change_first}
 use Rattle.share_model.specs.declared.funding.Holder.{Holder}
 use Rattle.share_model.specs.declared.funding.Holder.TheVariants.{Nobody, Currency, Flow}
@@ -23,7 +24,8 @@ abbrev pub IsLess : List Ticket → List Ticket → Type 0
 IsLess us ts =
     (a : NameBytes) (on : NameBytes → Bool) → list_any (steps a on) us ≡ true → list_any (steps a on) ts ≡ true
 
-leads-more : (p q : NameBytes → Bool) → ((c : NameBytes) → p c ≡ true → q c ≡ true)
+-- a step that leads on to less leads on to more
+pub leads-more : (p q : NameBytes → Bool) → ((c : NameBytes) → p c ≡ true → q c ≡ true)
     → (h : Holder) → leads_on p h ≡ true → leads_on q h ≡ true
 leads-more p q more Nobody e = e
 leads-more p q more (Currency c) e = more c e
@@ -57,17 +59,13 @@ short-less us ts less short a b other = by (chain us 8 a b) refl
 pub less-remove : (test : Ticket → Bool) (ts : List Ticket) → IsLess (remove_key test ts) ts
 less-remove test ts a on e = any-remove _ test ts e
 
-and_false : (b : Bool) → (b && false) ≡ false
-and_false true = refl
-and_false false = refl
-
 pub less-made : (ts : List Ticket) (t : Ticket) → t.holder ≡ Nobody → IsLess (ts ++ t ∷ []) ts
 less-made ts t e a on found = by (list_any (steps a on) ts) refl
   where
     none : (steps a on t || false) ≡ false
     none =
         ap (λ h. (bytes_eq a t.denomination && leads_on on h) || false) e
-        ∙ ap (λ b. b || false) (and_false (bytes_eq a t.denomination))
+        ∙ ap (λ b. b || false) (and-false (bytes_eq a t.denomination))
 
     by : (b : Bool) → list_any (steps a on) ts ≡ b → list_any (steps a on) ts ≡ true
     by true q = q
@@ -118,7 +116,7 @@ pub less-held : (n : ℕ) (h : Holder) (ts : List Ticket) → ((on : NameBytes �
 less-held n h ts none =
     less-changed (held_by h)
     (λ a on t e. absurd (true≢false
-    (sym e ∙ ap (λ b. bytes_eq a t.denomination && b) (none on) ∙ and_false (bytes_eq a t.denomination))))
+    (sym e ∙ ap (λ b. bytes_eq a t.denomination && b) (none on) ∙ and-false (bytes_eq a t.denomination))))
     (is_numbered n) ts
 
 pub less-released : (f : ℕ) (ts : List Ticket) → IsLess (map (released f) ts) ts
@@ -129,7 +127,7 @@ less-released f ts = less-mapped (released f) step ts
     step a on t e = by (is_held_by_flow f t.holder) e
       where
         by : (b : Bool) → steps a on (cond b (held_by Nobody t) t) ≡ true → steps a on t ≡ true
-        by true e = absurd (true≢false (sym e ∙ and_false (bytes_eq a t.denomination)))
+        by true e = absurd (true≢false (sym e ∙ and-false (bytes_eq a t.denomination)))
         by false e = e
 
 -- what a chain goes from begins a chain

@@ -1,9 +1,10 @@
 -- The empty graph has the invariant, and the commands on currencies keep it where they are not refused.
-use Rattle.std.proofs.Common.{◌≡◌, ℕ, ◌+◌, ◌≤◌, Bool, true, false, not, cond, ◌||◌, List, [], ◌∷◌}
-use Rattle.std.proofs.Common.{length, bytes_eq, nat_le, None, refl, sym, ap, ◌∙◌, arith, true≢false, length-append}
+use Rattle.std.proofs.Common.{◌≡◌, ℕ, ◌+◌, ◌≤◌, Bool, true, false, not, cond, List, [], ◌∷◌}
+use Rattle.std.proofs.Common.{length, bytes_eq, nat_le, None, refl, sym, ap, ◌∙◌, arith, length-append}
 use Rattle.std.specs.List.{list_any}
 use Rattle.std.specs.Set.{remove_key}
 use Rattle.std.proofs.lemmas.List.Sums.{sum_by-cons}
+use Rattle.std.proofs.lemmas.Bool.{or_parts}
 use Rattle.share_base.specs.declared.refusal.Refusal.TheVariants.{NoCurrency, Taken, Base, InUse, TableFull}
 use Rattle.share_model.specs.lists.Each.{Each}
 use Rattle.share_model.specs.lists.Rises.{Rises}
@@ -93,7 +94,7 @@ module _ (g : Graph) (ok : IsKept g) where
           known =
               both (λ (t : Ticket). times t.denomination (names_of g))
               (λ (t : Ticket). times t.denomination (names_of (remove_currency g c))) g.tickets
-              (λ t e. stay t.denomination (or_left (bytes_eq c t.denomination) (is_held_by_currency c t.holder) e))
+              (λ t e. stay t.denomination (or_parts (bytes_eq c t.denomination) (is_held_by_currency c t.holder) e).0)
               unused ok.sound.known;
         };
         shallow = record { unbacked = ok.shallow.unbacked; short = ok.shallow.short };
@@ -108,14 +109,6 @@ module _ (g : Graph) (ok : IsKept g) where
     where
       left : List NameBytes
       left = remove_key (bytes_eq c) g.currencies
-
-      or_left : (x y : Bool) → (x || y) ≡ false → x ≡ false
-      or_left true y e = absurd (true≢false e)
-      or_left false y e = refl
-
-      or_right : (x y : Bool) → (x || y) ≡ false → y ≡ false
-      or_right true y e = absurd (true≢false e)
-      or_right false y e = e
 
       apart : (d x : NameBytes) → bytes_eq c d ≡ false → bytes_eq c x ≡ true → bytes_eq x d ≡ false
       apart d x e f = ap (λ y. bytes_eq y d) (sym (same_name c x f)) ∙ e
@@ -144,6 +137,6 @@ module _ (g : Graph) (ok : IsKept g) where
           → Each (λ (t : Ticket). IsHolderKnown (remove_currency g c) t.holder) ts
       holders [] e f = tt
       holders (t ∷ ts) e f = (
-        holder t.holder (or_right (bytes_eq c t.denomination) (is_held_by_currency c t.holder) e.0) f.0,
+        holder t.holder (or_parts (bytes_eq c t.denomination) (is_held_by_currency c t.holder) e.0).1 f.0,
         holders ts e.1 f.1,
       )

@@ -1,8 +1,12 @@
 -- In a graph without long chains one more step changes neither activity nor values, and whatever meets the
 -- equations of one step is the activity, and the values.
 use Rattle.std.proofs.Common.{◌≡◌, ℕ, ◌*◌, ◌/◌, zero, suc, Bool, true, false, cond, ◌||◌, List, [], ◌∷◌, filter, sum_by}
+use Rattle.std.proofs.Common.{nat_lt, ◌≤◌, ◌<◌, arith}
 use Rattle.std.proofs.Common.{bytes_eq, refl, sym, ap, subst, ◌∙◌, true≢false}
 use Rattle.std.specs.List.{list_any}
+use Rattle.std.proofs.Math.Bool.{or-true}
+use Rattle.std.proofs.lemmas.List.Sums.{sum_by-cons}
+use Rattle.std.proofs.lemmas.Bool.Decides.{nat_tests}
 use Rattle.share_model.specs.declared.funding.Holder.{Holder}
 use Rattle.share_model.specs.declared.funding.Holder.TheVariants.{Nobody, Currency, Flow}
 use Rattle.share_model.specs.declared.funding.Ticket.{Ticket}
@@ -58,11 +62,27 @@ module _ {X : Type 0} where
       by : (b : Bool) → p x ≡ b → (b || list_any p xs) ≡ true → (list_any p xs ≡ true → list_any q xs ≡ true)
           → (q x || list_any q xs) ≡ true
       by true r e rest = ap (λ b. b || list_any q xs) (more x r)
-      by false r e rest = ap (λ b. q x || b) (rest e) ∙ or_true (q x)
-        where
-          or_true : (b : Bool) → (b || true) ≡ true
-          or_true true = refl
-          or_true false = refl
+      by false r e rest = ap (λ b. q x || b) (rest e) ∙ or-true (q x)
+
+-- a sum of amounts that are not zero is above zero exactly where one of them counts
+pub any-above : (p : Ticket → Bool) (ts : List Ticket) → Each (λ (t : Ticket). 1 ≤ t.amount) ts
+    → nat_lt 0 (sum_by (λ (t : Ticket). cond (p t) t.amount 0) ts) ≡ list_any p ts
+any-above p [] some = refl
+any-above p (t ∷ ts) some = by (p t) refl (any-above p ts some.1)
+  where
+    by : (b : Bool) → p t ≡ b → nat_lt 0 (sum_by (λ (t : Ticket). cond (p t) t.amount 0) ts) ≡ list_any p ts
+        → nat_lt 0 (sum_by (λ (t : Ticket). cond (p t) t.amount 0) (t ∷ ts)) ≡ (b || list_any p ts)
+    by true e rest =
+        let here : cond (p t) t.amount 0 ≡ t.amount = ap {B = ℕ} (λ b. cond b t.amount 0) e in
+        let sum = sum_by-cons (λ (t : Ticket). cond (p t) t.amount 0) t ts in
+        let above : 0 < sum_by (λ (t : Ticket). cond (p t) t.amount 0) (t ∷ ts) = omega (arith, some.0) in
+        grind (arith, nat_tests)
+    by false e rest =
+        let here : cond (p t) t.amount 0 ≡ 0 = ap {B = ℕ} (λ b. cond b t.amount 0) e in
+        let sum = sum_by-cons (λ (t : Ticket). cond (p t) t.amount 0) t ts in
+        let same : sum_by (λ (t : Ticket). cond (p t) t.amount 0) (t ∷ ts)
+        ≡ sum_by (λ (t : Ticket). cond (p t) t.amount 0) ts = omega arith in
+        ap (nat_lt 0) same ∙ rest
 
 -- where no chain of n steps goes from a to anything, none begins at a
 pub runs-none : (ts : List Ticket) (n : ℕ) (a : NameBytes) → ((b : NameBytes) → chain ts n a b ≡ false)
@@ -141,12 +161,8 @@ module _ {X : Type 0} (R : X → X → Bool) (like : (x : X) → R x x ≡ true)
       → list_any q (filter (R t) (x ∷ ts)) ≡ true
   any-filter_more t x ts e = by (R t x)
     where
-      or_true : (b : Bool) → (b || true) ≡ true
-      or_true true = refl
-      or_true false = refl
-
       by : (b : Bool) → list_any q (cond b (x ∷ filter (R t) ts) (filter (R t) ts)) ≡ true
-      by true = ap (λ b. q x || b) e ∙ or_true (q x)
+      by true = ap (λ b. q x || b) e ∙ or-true (q x)
       by false = e
 
   any-own : (ts : List X) → Each (λ t. list_any q (filter (R t) ts) ≡ true) (filter q ts)

@@ -1,11 +1,12 @@
 -- The commands on tickets keep the invariant of the graph, where they are not refused.
 use Rattle.std.proofs.Common.{◌≡◌, ℕ, ◌+◌, ◌^◌, ◌≤◌, Bool, true, false, not, cond, List, [], ◌∷◌, ◌++◌, filter}
-use Rattle.std.proofs.Common.{length, bytes_eq, nat_eq, nat_le, None, is_some}
+use Rattle.std.proofs.Common.{length, bytes_eq, nat_le, None, is_some}
 use Rattle.std.proofs.Common.{refl, sym, ap, subst, ◌∙◌, arith, length-append}
 use Rattle.std.specs.Set.{remove_key}
 use Rattle.std.proofs.lemmas.List.{map-append}
 use Rattle.std.proofs.lemmas.List.Sums.{length-filter}
 use Rattle.std.proofs.lemmas.Bool.Decides.{nat_tests}
+use Rattle.std.proofs.lemmas.Bool.{eqb-true}
 use Rattle.share_base.specs.declared.refusal.Refusal.TheVariants.{Range, NoCurrency, NoTicket, NoFlow, Base, Funding}
 use Rattle.share_base.specs.declared.refusal.Refusal.TheVariants.{Crowded, Cycle, Deep, TableFull}
 use Rattle.share_model.specs.lists.Each.{Each}
@@ -132,12 +133,9 @@ module _ (g : Graph) (ok : IsKept g) where
       held-kept n h refl (found-open f g.flows (not_false (is_some (flow_named g f)) two.0))
       (record {
         backing_room = λ c e. absurd cc;
-        funding_room = λ k e. subst (λ m. length (funding g.tickets m) + 1 ≤ 16) (sym (same k number e)) space;
+        funding_room = λ k e. subst (λ m. length (funding g.tickets m) + 1 ≤ 16) (sym (eqb-true k number e)) space;
       })
       (short-less (with_holder n h g.tickets) g.tickets (less-held n h g.tickets (λ on. refl)) ok.shallow.short)
-    where
-      same : (a b : ℕ) → nat_eq a b ≡ true → a ≡ b
-      same a b e = grind (arith, nat_tests)
 
   pub kept-fund_currency : (n : ℕ) (c : NameBytes) → fund_currency_refusal g n c ≡ None → IsKept (fund_currency g n c)
   kept-fund_currency n c none =

@@ -1,24 +1,11 @@
 -- Calls after calls: what leads from a first to a second, and on to a third, leads from the first to the third.
-use Rattle.std.specs.Prelude.{◌<◌, ℕ, ◌+◌, List, length}
+use Rattle.std.specs.Prelude.{◌<◌, ℕ, ◌+◌, List}
 use Rattle.std.proofs.Common.{add-zero, add_assoc, sym, subst}
 use Rattle.share_model.specs.declared.reader.Got.{Got}
 use Rattle.share_model.specs.declared.writer.Answer.{Answer}
 use Rattle.share_model.specs.declared.writer.Answer.TheVariants.{Accepted, Failed}
-use Rattle.share_model.specs.io.Calls.{
-  GoesOn,
-  Reads,
-  no_reads,
-  one_read,
-  IsNothing,
-  Offers,
-  no_offers,
-  one_offer,
-  OfferRefused,
-  Called,
-  no_call,
-  one_call,
-  CallFailed,
-}
+use Rattle.share_model.specs.io.Calls.{GoesOn, Reads, no_reads, one_read, Offers, no_offers, one_offer, OfferRefused}
+use Rattle.share_model.specs.io.Calls.{Called, no_call, one_call, CallFailed}
 
 -- Reads
 
@@ -45,19 +32,6 @@ pub offers_more : {W : Type 0} {answers : W → List ℕ → Answer → W → Ty
 offers_more before no_offers = before
 offers_more before (one_offer w piece k after offers answered some) =
     one_offer w piece k after (offers_more before offers) answered some
-
-pub refused_once : {W : Type 0} {answers : W → List ℕ → Answer → W → Type 0} {a b : W} (piece : List ℕ)
-    (answer : Answer) → answers a piece answer b → 0 < length piece → IsNothing answer → OfferRefused answers a b
-refused_once {a = a} piece answer answered some nothing =
-    record {
-      before = a;
-      piece = piece;
-      answer = answer;
-      offers = no_offers;
-      answered = answered;
-      some = some;
-      nothing = nothing;
-    }
 
 pub refused_later : {W : Type 0} {answers : W → List ℕ → Answer → W → Type 0} {a b c : W} → Offers answers a b
     → OfferRefused answers b c → OfferRefused answers a c

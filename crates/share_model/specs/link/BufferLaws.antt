@@ -191,18 +191,6 @@ active-busy limit f (e ∷ es) (b ∷ bs) tied rises =
     (λ _. active-busy limit f es bs ties.rest rises.2)
     ∙ ap (λ n. holds_packet (if nat_eq f n then Some b else buffer_of bs f)) (sym ties.number)
 
-head_in_busy : (b : Buffer) (ps : List (List ℕ)) → is_some_packet ps ≡ true → (h : Packet) × (head_in b ps ≡ Some h)
-head_in_busy b [] busy = cc
-head_in_busy b (p ∷ ps) busy = (record { flow = b.flow; seq = b.next - length (p ∷ ps); payload = p }, refl)
-
-head_busy_by : (o : Option Buffer) → holds_packet o ≡ true → (h : Packet) × (option_and_then head_of_buffer o ≡ Some h)
-head_busy_by None busy = cc
-head_busy_by (Some b) busy = head_in_busy b b.packets busy
-
--- a buffer that holds a packet has a head
-pub head_of-busy : (bs : List Buffer) (f : ℕ) → is_busy bs f ≡ true → (h : Packet) × (head_of bs f ≡ Some h)
-head_of-busy bs f busy = head_busy_by (buffer_of bs f) busy
-
 named_by : (n : ℕ) (r : Bool) (x : NameBytes × OpenFlow) (o : Option OpenFlow) (e : OpenFlow) → n ≡ e.number
     → (k : Bool) → (o ≡ Some e → r ≡ true) → (if k then Some x.1 else o) ≡ Some e → (nat_eq n x.1.number || r) ≡ true
 named_by n r x o e is true rest found =

@@ -6,6 +6,7 @@ use Rattle.std.specs.Set.{remove_key}
 use Rattle.std.proofs.lemmas.List.Sums.{sum_by-cons, sum_by-append}
 use Rattle.std.proofs.lemmas.Bool.Decides.{nat_tests}
 use Rattle.std.proofs.lemmas.Map.Made.{sum_by-remove_key}
+use Rattle.std.proofs.Math.Bool.{or-true}
 use Rattle.share_model.specs.lists.Each.{Each}
 use Rattle.share_model.specs.lists.Rises.{Rises}
 use Rattle.share_model.specs.lists.Change.{change_first}
@@ -124,13 +125,9 @@ module _ {X : Type 0} where
   any-remove p test [] e = e
   any-remove p test (x ∷ xs) e = by (test x) e (any-remove p test xs)
     where
-      or_true : (b : Bool) → (b || true) ≡ true
-      or_true true = refl
-      or_true false = refl
-
       by : (b : Bool) → list_any p (cond b xs (x ∷ remove_key test xs)) ≡ true
           → (list_any p (remove_key test xs) ≡ true → list_any p xs ≡ true) → (p x || list_any p xs) ≡ true
-      by true e rest = ap (λ b. p x || b) e ∙ or_true (p x)
+      by true e rest = ap (λ b. p x || b) e ∙ or-true (p x)
       by false e rest = step (p x) e rest
         where
           step : (b : Bool) → (b || list_any p (remove_key test xs)) ≡ true

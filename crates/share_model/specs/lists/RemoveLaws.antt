@@ -3,7 +3,7 @@ use Rattle.std.specs.Prelude.{◌≡◌, ◌<◌, ◌+◌, ℕ, suc, Bool, true,
 use Rattle.std.specs.Prelude.{nat_eq, Option, None, Some, is_some, if◌then◌else◌}
 use Rattle.std.specs.Set.{remove_key}
 use Rattle.std.proofs.Common.{refl, ap, sym, ◌∙◌, arith}
-use Rattle.std.proofs.lemmas.Bool.{cond-false, ne_eqb, eqb-true, or_from}
+use Rattle.std.proofs.lemmas.Bool.{cond-false, ne_eqb, eqb-true, eqb-false, or_from}
 use Rattle.std.proofs.lemmas.List.Sums.{sum_by-cons}
 use Rattle.std.proofs.lemmas.Option.{same_Some}
 use Rattle.share_model.specs.lists.Each.{Each}
@@ -77,14 +77,15 @@ has_number-remove_other f g apart ns =
     same [] = refl
     same (m ∷ ms) = ap (λ ns. m ∷ ns) (same ms)
 
+-- a number below another is not that one
+pub not_above : (n m k : ℕ) → n ≡ m → m < k → n ≡ k → ⊥
+not_above n m k a b c = omega arith
+
 above_none : (f n : ℕ) (ns : List ℕ) → f ≡ n → Each (λ m. n < m) ns → has_number f ns ≡ false
 above_none f n [] same above = refl
 above_none f n (m ∷ ns) same above =
     or_from (nat_eq f m) (has_number f ns) (ne_eqb f m (λ is. not_above f n m same above.0 is))
     (above_none f n ns same above.1)
-  where
-    not_above : (n m k : ℕ) → n ≡ m → m < k → n ≡ k → ⊥
-    not_above n m k a b c = omega arith
 
 -- of numbers that rise, one that was taken out is there no more
 pub has_number-remove_same : (limit f : ℕ) (ns : List ℕ) → Rises limit ns
@@ -139,7 +140,11 @@ remove_key-none p (x ∷ xs) none = by_head (p x) none (remove_key-none p xs)
     by_head true none rest = cc
     by_head false none rest = ap (λ ys. x ∷ ys) (rest none)
 
-none_from : {A : Type 0} (o : Option A) → is_some o ≡ false → o ≡ None
+-- numbers that differ, the other way round
+pub other_way : (f g : ℕ) → nat_eq f g ≡ false → nat_eq g f ≡ false
+other_way f g apart = ne_eqb g f (λ same. eqb-false f g apart (sym same))
+
+pub none_from : {A : Type 0} (o : Option A) → is_some o ≡ false → o ≡ None
 none_from None is = refl
 none_from (Some x) is = cc
 

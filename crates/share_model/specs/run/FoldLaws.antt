@@ -155,11 +155,6 @@ unfolding state_after outcomes
 outcomes-append rates s [] fs = refl
 outcomes-append rates s (e ∷ es) fs = ap (λ os. outcome rates s e ∷ os) (outcomes-append rates (step rates s e) es fs)
 
-pub outcomes-last : (rates : List Rate) (s : State) (es : List Event) (e : Event)
-    → outcomes rates s (es ++ e ∷ []) ≡ outcomes rates s es ++ outcome rates (state_after rates s es) e ∷ []
-unfolding outcomes
-outcomes-last rates s es e = outcomes-append rates s es (e ∷ [])
-
 -- each event has one outcome
 pub length-outcomes : (rates : List Rate) (s : State) (es : List Event) → length (outcomes rates s es) ≡ length es
 unfolding outcomes

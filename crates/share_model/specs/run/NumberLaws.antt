@@ -20,7 +20,7 @@ use Rattle.share_model.specs.lists.Each.{Each}
 use Rattle.share_model.specs.run.Sound.{SoundState}
 use Rattle.share_model.specs.lists.Rises.{Rises}
 use Rattle.share_model.specs.lists.Laws.{find-change_first, find-change_first_other}
-use Rattle.share_model.specs.lists.RemoveLaws.{find-remove_other}
+use Rattle.share_model.specs.lists.RemoveLaws.{find-remove_other, not_above}
 use Rattle.share_model.specs.run.SoundLaws.{sending-head}
 use Rattle.share_model.specs.lists.Laws.{rises-append}
 use Rattle.share_model.specs.run.BytesLaws.{sent_of}
@@ -198,9 +198,6 @@ pub run-numbers : (life : ℕ) (rates : List Rate) (es : List Event) → AreInRa
 run-numbers life rates es range may f =
     numbers_rise (buffer_of (run rates es).live.buffers f) (sent_numbers f (run rates es).done)
     ((run_numbered life rates es range may).numbered f)
-
-not_above : (n m k : ℕ) → n ≡ m → m < k → n ≡ k → ⊥
-not_above n m k a b c = omega arith
 
 none_above : (n m : ℕ) (ns : List ℕ) → n ≡ m → Each (λ k. m < k) ns → filter (nat_eq n) ns ≡ []
 none_above n m [] same above = refl

@@ -4,7 +4,7 @@ use Rattle.std.specs.Prelude.{[], ◌∷◌, ◌++◌, length, map}
 use Rattle.std.specs.Prelude.{nat_eq, Option, None, Some, is_some, IsSome, IsTrue, if◌then◌else◌}
 use Rattle.std.specs.Set.{remove_key}
 use Rattle.std.proofs.Common.{refl, ap, sym, ◌∙◌, subst, arith, inl, inr, length-append}
-use Rattle.std.proofs.lemmas.Bool.{cases_eq, cond_both, eqb-true, eq-eqb}
+use Rattle.std.proofs.lemmas.Bool.{cases_eq, cond_both, eqb-true, eqb-false}
 use Rattle.std.specs.Ordering.{nat_cmp}
 use Rattle.std.specs.FinMap.{FinMap, get, insert, len, len-empty, len-remove, get-empty}
 use Rattle.std.specs.Cmp.{nat_cmp_total}
@@ -14,15 +14,14 @@ use Rattle.share_model.specs.lists.Each.{Each}
 use Rattle.share_model.specs.lists.Rises.{Rises}
 use Rattle.share_model.specs.lists.Laws.{has_number, has_number-head, has_number-later, has_number-last, each_map}
 use Rattle.share_model.specs.lists.RemoveLaws.{has_number-remove_other, has_number-remove_same}
-use Rattle.share_model.specs.lists.RemoveLaws.{length-remove_number}
+use Rattle.share_model.specs.lists.RemoveLaws.{length-remove_number, none_from}
 use Rattle.share_model.specs.funding.Graph.{NameBytes, Graph, flow_numbers, tickets}
 use Rattle.share_model.specs.stride.Moves.{Stride, Move, start, client, update, charge, charged, add, remove}
-use Rattle.share_model.specs.stride.Moves.{new_client, next, IsNext, IsNextFlow}
+use Rattle.share_model.specs.stride.Moves.{new_client, IsNextFlow}
 use Rattle.share_model.specs.stride.MapLaws.{get-insert_same, get-insert_other, get-remove_same, get-remove_other}
 use Rattle.share_model.specs.stride.MapLaws.{len-insert_found, len-insert_new}
 use Rattle.share_model.specs.stride.MoveLaws.{moved_is, change_of, client_is, is_there, client-charge_same}
 use Rattle.share_model.specs.stride.MoveLaws.{client-charge_other}
-use Rattle.share_model.specs.stride.NextLaws.{IsNext-next}
 use Rattle.share_model.specs.stride.SoundLaws.{IsSound-start, IsSound-add, IsSound-charge, IsSound-remove}
 use Rattle.share_model.specs.stride.Level.{level_move, moved_if, level_one, level_all, CanLevel, HasTickets, IsLevel}
 use Rattle.share_model.specs.stride.Level.{AreDistinctFlows}
@@ -156,20 +155,13 @@ queue-added {flows = flows} {q = q} f fresh room was =
       sound = λ short. IsSound-add q f (was.sound short) absent (omega (arith, was.count));
     }
   where
-    none_from : {A : Type 0} (o : Option A) → is_some o ≡ false → o ≡ None
-    none_from None is = refl
-    none_from (Some x) is = cc
-
     by_flow : (g : ℕ) (b : Bool) → nat_eq g f ≡ b
         → is_some (get (insert q.clients f new_client) g) ≡ (b || has_number g flows)
     by_flow g true test =
         ap (λ n. is_some (get (insert q.clients f new_client) n)) (eqb-true g f test)
         ∙ ap is_some (get-insert_same q.clients f new_client)
     by_flow g false test =
-        ap is_some (get-insert_other q.clients f new_client g (differ g test)) ∙ was.clients g
-      where
-        differ : (g : ℕ) → nat_eq g f ≡ false → g ≢ f
-        differ g test same = let t : true ≡ false = sym (eq-eqb g f same) ∙ test in cc
+        ap is_some (get-insert_other q.clients f new_client g (eqb-false g f test)) ∙ was.clients g
 
 -- a flow that is closed
 pub queue-closed : {life events : ℕ} {flows : List ℕ} {q : Stride} (limit f : ℕ) → has_number f flows ≡ true
@@ -190,9 +182,6 @@ queue-closed {flows = flows} {q = q} limit f stands rises was =
       sound = λ short. IsSound-remove idle f (IsSound-level_one q f 0 (was.sound short) there (omega arith));
     }
   where
-    differ : (g : ℕ) → nat_eq g f ≡ false → g ≢ f
-    differ g test same = let t : true ≡ false = sym (eq-eqb g f same) ∙ test in cc
-
     by_flow : (g : ℕ) (b : Bool) → nat_eq g f ≡ b → IsSome (get q.clients f)
         → is_some (get (remove (level_one q f 0) f).clients g) ≡ has_number g (remove_key (nat_eq f) flows)
     by_flow g true test there =
@@ -201,7 +190,7 @@ queue-closed {flows = flows} {q = q} limit f stands rises was =
         ∙ sym (ap (λ n. has_number n (remove_key (nat_eq f) flows)) (eqb-true g f test)
         ∙ has_number-remove_same limit f flows rises))
     by_flow g false test there =
-        ap is_some (get-remove_other (level_one q f 0).clients f g (differ g test))
+        ap is_some (get-remove_other (level_one q f 0).clients f g (eqb-false g f test))
         ∙ (is_there-level_one q f 0 g there ∙ (was.clients g ∙ sym (has_number-remove_other f g test flows)))
 
 -- a charge of an open flow
@@ -219,9 +208,6 @@ queue-charged {events = events} {flows = flows} {q = q} f units stands below few
           (omega (arith, was.clock));
     }
   where
-    differ : (g : ℕ) → nat_eq g f ≡ false → g ≢ f
-    differ g test same = let t : true ≡ false = sym (eq-eqb g f same) ∙ test in cc
-
     by_flow : (g : ℕ) (b : Bool) → nat_eq g f ≡ b → IsSome (get q.clients f)
         → is_some (get (charge q f units).clients g) ≡ is_some (get q.clients g)
     by_flow g true test there =
@@ -229,7 +215,7 @@ queue-charged {events = events} {flows = flows} {q = q} f units stands below few
         ∙ (ap is_some (get-insert_same q.clients f (charged (client q f) units))
         ∙ sym (ap (λ n. is_some (get q.clients n)) (eqb-true g f test) ∙ there))
     by_flow g false test there =
-        ap is_some (get-insert_other q.clients f (charged (client q f) units) g (differ g test))
+        ap is_some (get-insert_other q.clients f (charged (client q f) units) g (eqb-false g f test))
 
 charged_has : (c : Client) (units wanted : ℕ) → HasTickets c wanted → HasTickets (charged c units) wanted
 charged_has c units wanted has =
@@ -266,17 +252,3 @@ next_by q f first =
       ap is_some found,
       subst (λ (c : Client). IsTrue c.competes) (sym (client_is q f first.chosen (sym found))) first.competes.competing,
     )
-
--- the next flow has a client, which competes
-pub next-client : (q : Stride) (f : ℕ) → next q.clients ≡ Some f
-    → IsSome (get q.clients f) × IsTrue (client q f).competes
-next-client q f is = next_by q f (subst (λ o. IsNext q.clients o) is (IsNext-next q.clients))
-
--- so it is open, and has tickets
-pub next-has_tickets : {life events : ℕ} {q : Stride} (g : Graph) (f : ℕ)
-    → QueueIsSound life events (flow_numbers g.flows) q → IsLevel q (wants g) → next q.clients ≡ Some f
-    → (has_number f (flow_numbers g.flows) ≡ true) × (0 < tickets g f)
-next-has_tickets {q = q} g f sound level is =
-    let first = next-client q f is in
-    let stands : has_number f (flow_numbers g.flows) ≡ true = sym (sound.clients f) ∙ first.0 in
-    (stands, (level-flow q g f level stands).competes.0 first.1)

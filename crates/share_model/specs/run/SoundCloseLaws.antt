@@ -3,14 +3,13 @@ use Rattle.std.specs.Prelude.{◌≡◌, ◌<◌, ◌+◌, ℕ, Bool, true, fals
 use Rattle.std.specs.Prelude.{if◌then◌else◌}
 use Rattle.std.specs.Set.{remove_key}
 use Rattle.std.proofs.Common.{refl, ap, sym, ◌∙◌, subst, arith}
-use Rattle.std.proofs.lemmas.Bool.{eqb-false, ne_eqb}
 use Rattle.share_base.specs.declared.command.Command.{Command}
 use Rattle.share_model.specs.declared.funding.OpenFlow.{OpenFlow as FlowEntry}
 use Rattle.share_model.specs.declared.link.Book.{Book}
 use Rattle.share_model.specs.declared.link.Part.{Part}
 use Rattle.share_model.specs.declared.rates.Rate.{Rate}
 use Rattle.share_model.specs.lists.CountLaws.{Each-remove}
-use Rattle.share_model.specs.lists.RemoveLaws.{map-remove_key, values-remove_key}
+use Rattle.share_model.specs.lists.RemoveLaws.{map-remove_key, values-remove_key, other_way}
 use Rattle.share_model.specs.funding.Graph.{NameBytes, flow_numbers}
 use Rattle.share_model.specs.funding.Changes.{without_flow}
 use Rattle.share_model.specs.funding.FlowLaws.{kept-remove_flow}
@@ -45,9 +44,6 @@ flows_closed f {es = es} {bs = bs} {books = books} was = record {
       (λ (e : NameBytes × FlowEntry). e.1.active) (λ (b : Buffer). is_some_packet b.packets) f es bs
       (sym was.buffered) was.active;
 }
-
-other_way : (f g : ℕ) → nat_eq f g ≡ false → nat_eq g f ≡ false
-other_way f g apart = ne_eqb g f (λ same. eqb-false f g apart (sym same))
 
 part_closed : (bs : List Buffer) (f : ℕ) (o : Option Part) → is_part_of f o ≡ false → PartIsSound bs o
     → PartIsSound (closed bs f) o

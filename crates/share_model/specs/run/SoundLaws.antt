@@ -22,7 +22,7 @@ use Rattle.share_model.specs.link.Buffers.{Buffer, is_buffer_of, buffer_of}
 use Rattle.share_model.specs.link.Buffers.{head_in, head_of_buffer, head_of}
 use Rattle.share_model.specs.link.Buffers.{is_busy}
 use Rattle.share_model.specs.link.BufferLaws.{AreTied, head_of-flow}
-use Rattle.share_model.specs.link.BufferLaws.{active-busy, head_of-busy}
+use Rattle.share_model.specs.link.BufferLaws.{active-busy}
 use Rattle.share_model.specs.link.BufferLaws.{number-of_named}
 use Rattle.share_model.specs.lists.Laws.{rises-fresh, rises-below}
 use Rattle.share_model.specs.funding.Graph.{NameBytes, Graph, is_active_flow, act, is_active, worth_by, val, worth}
@@ -37,11 +37,11 @@ use Rattle.share_model.specs.stride.Moves.{next}
 use Rattle.share_model.specs.run.Sound.{IsSoundBuffer, IsOnShelf, accounts_in, IsSoundPart, PartIsSound}
 use Rattle.share_model.specs.funding.Graph.{flow_numbers}
 use Rattle.share_model.specs.run.Sound.{Sound}
-use Rattle.share_model.specs.run.QueueLaws.{next-has_tickets}
 use Rattle.share_model.specs.lists.Laws.{has_number}
 use Rattle.share_model.specs.lists.Laws.{each-find}
 use Rattle.share_model.specs.lists.PartLaws.{sum_by-found}
 use Rattle.share_model.specs.lists.Laws.{is_some-find_number}
+use Rattle.share_model.specs.lists.RemoveLaws.{none_from}
 
 -- Bounds
 
@@ -268,26 +268,6 @@ flow-buffered {l = l} {e = e} sound name found =
     is_some-find_number (λ (b : Buffer). b.flow) e.number l.buffers
     ∙ (ap (has_number e.number) sound.flows.buffered ∙ number-of_named (bytes_eq name) l.graph.flows e found)
 
--- and a book
-pub flow-booked : {life : ℕ} {rates : List Rate} {l : Live} {e : FlowEntry} → Sound life rates l → (name : NameBytes)
-    → flow_named l.graph name ≡ Some e → IsSome (find (is_book_of e.number) l.books)
-flow-booked {l = l} {e = e} sound name found =
-    is_some-find_number (λ (b : Book). b.flow) e.number l.books
-    ∙ (ap (has_number e.number) sound.flows.booked ∙ number-of_named (bytes_eq name) l.graph.flows e found)
-
--- a flow that has a head packet has a book
-pub head-booked : {life : ℕ} {rates : List Rate} {l : Live} {h : Packet} → Sound life rates l → (f : ℕ)
-    → head_of l.buffers f ≡ Some h → IsSome (find (is_book_of f) l.books)
-head-booked {l = l} {h = h} sound f is =
-    is_some-find_number (λ (b : Book). b.flow) f l.books
-    ∙ (ap (has_number f) (sound.flows.booked ∙ sym sound.flows.buffered)
-    ∙ (sym (is_some-find_number (λ (b : Buffer). b.flow) f l.buffers)
-    ∙ option_and_then_some head_of_buffer (buffer_of l.buffers f) h is (λ b found _. ap is_some found)))
-
-none_from : {A : Type 0} (o : Option A) → is_some o ≡ false → o ≡ None
-none_from None is = refl
-none_from (Some x) is = cc
-
 -- and is open
 pub head-stands : {life : ℕ} {rates : List Rate} {l : Live} {h : Packet} → Sound life rates l → (f : ℕ)
     → head_of l.buffers f ≡ Some h → has_number f (flow_numbers l.graph.flows) ≡ true
@@ -311,14 +291,6 @@ next-unbuffered {l = l} sound =
     ∙ (ap (has_number l.graph.next_flow) sound.flows.buffered
     ∙ rises-fresh l.graph.next_flow (flow_numbers l.graph.flows) (sound-numbered sound)))
 
-pub next-unbooked : {life : ℕ} {rates : List Rate} {l : Live} → Sound life rates l
-    → find (is_book_of l.graph.next_flow) l.books ≡ None
-next-unbooked {l = l} sound =
-    none_from (find (is_book_of l.graph.next_flow) l.books)
-    (is_some-find_number (λ (b : Book). b.flow) l.graph.next_flow l.books
-    ∙ (ap (has_number l.graph.next_flow) sound.flows.booked
-    ∙ rises-fresh l.graph.next_flow (flow_numbers l.graph.flows) (sound-numbered sound)))
-
 -- a book's tariff is on the shelf
 pub book-known : {life : ℕ} {rates : List Rate} {l : Live} {b : Book} → Sound life rates l → (f : ℕ)
     → find (is_book_of f) l.books ≡ Some b → IsOnShelf rates b
@@ -336,24 +308,3 @@ pub flow-active : {life : ℕ} {rates : List Rate} {l : Live} → Sound life rat
     → is_active_flow l.graph f ≡ is_busy l.buffers f
 flow-active {l = l} sound f =
     active-busy l.graph.next_flow f l.graph.flows l.buffers (sound-tied sound) (sound-numbered sound)
-
-funded_active : (g : Graph) (f : ℕ) (b : Bool) → is_active_flow g f ≡ b → 0 < tickets g f → b ≡ true
-funded_active g f true is funded = refl
-funded_active g f false is funded = absurd (omega (arith, tickets-idle g f is))
-
--- the next flow is open, and has tickets
-pub next-funded : {life : ℕ} {rates : List Rate} {l : Live} {f : ℕ} → Sound life rates l
-    → next l.queue.clients ≡ Some f → (has_number f (flow_numbers l.graph.flows) ≡ true) × (0 < tickets l.graph f)
-next-funded {l = l} {f = f} sound is = next-has_tickets l.graph f sound.queue sound.level is
-
--- it has a packet
-pub next-buffered : {life : ℕ} {rates : List Rate} {l : Live} {f : ℕ} → Sound life rates l
-    → next l.queue.clients ≡ Some f → (h : Packet) × (head_of l.buffers f ≡ Some h)
-next-buffered {l = l} {f = f} sound is =
-    head_of-busy l.buffers f (sym (flow-active sound f)
-    ∙ funded_active l.graph f (is_active_flow l.graph f) refl (next-funded sound is).1)
-
--- and a book
-pub next-booked : {life : ℕ} {rates : List Rate} {l : Live} {f : ℕ} → Sound life rates l
-    → next l.queue.clients ≡ Some f → IsSome (find (is_book_of f) l.books)
-next-booked sound is = let h = next-buffered sound is in head-booked sound _ h.1

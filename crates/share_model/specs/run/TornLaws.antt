@@ -4,7 +4,7 @@ use Rattle.std.specs.Prelude.{if◌then◌else◌}
 use Rattle.std.specs.Option.{option_or}
 use Rattle.std.specs.Set.{remove_key}
 use Rattle.std.proofs.Common.{refl, ap, sym, ◌∙◌, subst, arith, inl, inr}
-use Rattle.std.proofs.lemmas.Bool.{cond_both, eqb-true, eqb-false, ne_eqb}
+use Rattle.std.proofs.lemmas.Bool.{cond_both, eqb-true, ne_eqb}
 use Rattle.std.proofs.lemmas.List.Folds.{find-append}
 use Rattle.share_base.specs.declared.refusal.Refusal.TheVariants.{BufferFull}
 use Rattle.share_base.specs.declared.command.Command.{Command}
@@ -13,7 +13,7 @@ use Rattle.share_base.specs.declared.command.Reply.TheVariants.{Packet as Packet
 use Rattle.share_model.specs.declared.funding.OpenFlow.{OpenFlow as FlowEntry}
 use Rattle.share_model.specs.declared.rates.Rate.{Rate}
 use Rattle.share_model.specs.lists.Rises.{Rises}
-use Rattle.share_model.specs.lists.RemoveLaws.{find-remove_other, find-absent, has_number-remove_same}
+use Rattle.share_model.specs.lists.RemoveLaws.{find-remove_other, find-absent, has_number-remove_same, other_way}
 use Rattle.share_model.specs.lists.Laws.{has_number}
 use Rattle.share_model.specs.funding.Graph.{NameBytes}
 use Rattle.share_model.specs.funding.Changes.{flow_named}
@@ -77,9 +77,6 @@ closed_absent : (limit : ℕ) (bs : List Buffer) (f g : ℕ) (b : Bool) → nat_
     → buffer_of bs f ≡ None → buffer_of (closed bs g) f ≡ None
 closed_absent limit bs f g true test rises absent = closed-same limit bs f g (eqb-true f g test) rises
 closed_absent limit bs f g false test rises absent = find-remove_other (λ (b : Buffer). b.flow) g f test bs ∙ absent
-
-other_way : (f g : ℕ) → nat_eq f g ≡ false → nat_eq g f ≡ false
-other_way f g apart = ne_eqb g f (λ same. eqb-false f g apart (sym same))
 
 place_named : (limit : ℕ) (bs : List Buffer) (torn : Option ℕ) (g : ℕ) (t : TornFrame) (b : Bool)
     → nat_eq g t.head.flow ≡ b → Rises limit (buffer_flows bs) → torn ≡ Some t.head.flow

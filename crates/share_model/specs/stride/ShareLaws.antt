@@ -1,8 +1,8 @@
 -- Of two flows that compete, the one is charged within its share beside the other.
-use Rattle.std.proofs.Common.{◌≡◌, ◌≢◌, ℕ, Bool, true, false, List, [], ◌∷◌, nat_eq, true≢false, eq-eqb, inl, inr, refl}
+use Rattle.std.proofs.Common.{◌≡◌, ◌≢◌, ℕ, Bool, true, false, List, [], ◌∷◌, nat_eq, inl, inr, refl}
 use Rattle.std.proofs.Common.{sym, ap, subst, ◌∙◌, arith}
 use Rattle.std.specs.Prelude.{ℤ, pos, ◌+ℤ◌, if◌then◌else◌}
-use Rattle.std.proofs.lemmas.Bool.{cases_eq, eqb-true}
+use Rattle.std.proofs.lemmas.Bool.{cases_eq, eqb-true, eqb-false}
 use Rattle.share_model.specs.declared.stride.Client.{Client}
 use Rattle.share_model.specs.stride.Moves.{Stride, moved, charge, charged, client, add, remove, new_client}
 use Rattle.share_model.specs.stride.MoveLaws.{client-moved_other, client-with_client_other, client-remove_other}
@@ -66,9 +66,6 @@ unmoved : (one other : ℕ) (s now : Stride) (charges : List Charge) → client 
 unmoved one other s now charges same_one same_other least =
     from_passes _ _ _ _ charges (ap (λ (c : Client). c.pass) same_one) (ap (λ (c : Client). c.pass) same_other) least
 
-not_equal : (a b : ℕ) → nat_eq a b ≡ false → a ≢ b
-not_equal a b e is = true≢false (sym (eq-eqb a b is) ∙ e)
-
 ChargesLeast-run : (one other : ℕ) (s : Stride) (steps : List Step) → one ≢ other → (client s one).competes ≡ true
     → (client s other).competes ≡ true → IsFairRun one other s steps
     → ChargesLeast (client s one).pass (client s other).pass (charges_of one other s steps)
@@ -110,7 +107,7 @@ ChargesLeast-run one other s (Charges f units ∷ steps) apart one_competes othe
                 (pass-charge_other s f units other (λ also. apart (sym is ∙ sym also))) rest,
           )
       | false ↦ λ e.
-          let differs = not_equal f one e in
+          let differs = eqb-false f one e in
           elim (nat_eq f other) as (λ t. nat_eq f other ≡ t
           → ChargesLeast (client s one).pass (client s other).pass
           (if t then Other (share (client s other) units) ∷ later else later)) [
@@ -118,7 +115,7 @@ ChargesLeast-run one other s (Charges f units ∷ steps) apart one_competes othe
                 from_passes _ _ _ _ later (pass-charge_other s f units one (λ is. differs (sym is)))
                 (pass-charge_same s f units other (eqb-true f other also) other_competes) rest
             | false ↦ λ neither.
-                let apart_other = not_equal f other neither in
+                let apart_other = eqb-false f other neither in
                 from_passes _ _ _ _ later (pass-charge_other s f units one (λ is. differs (sym is)))
                 (pass-charge_other s f units other (λ is. apart_other (sym is))) rest
           ] refl

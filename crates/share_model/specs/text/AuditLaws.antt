@@ -5,6 +5,7 @@ use Rattle.std.specs.Prelude.{length, map, flat_map, slice_index, min, nat_le, d
 use Rattle.std.proofs.Common.{ap, ◌∙◌, arith, cond, lit<, length-append}
 use Rattle.std.proofs.lemmas.Fmt.{length-decimal-le}
 use Rattle.std.proofs.lemmas.Bool.Decides.{nat_tests}
+use Rattle.std.proofs.lemmas.Bool.{and_parts, leb-true}
 use Rattle.share_base.specs.Name.{is_letter}
 use Rattle.share_base.specs.declared.command.Command.TheVariants.{MakeCurrency, RemoveCurrency, MakeTicket}
 use Rattle.share_base.specs.declared.command.Command.TheVariants.{RemoveTicket, FundCurrency, FundFlow, Unfund}
@@ -33,20 +34,17 @@ use Rattle.share_model.specs.text.LinesLaws.{reading-line}
 use Rattle.share_model.specs.text.Talk.{Progress, start, onward, line_event, read_event, answered, answer, first_flag}
 use Rattle.share_model.specs.text.Talk.{talk, after, lines_of}
 use Rattle.share_model.specs.text.Texts.{line_text}
-use Rattle.share_model.specs.text.WordLaws.{both, length-hex}
+use Rattle.share_model.specs.text.WordLaws.{length-hex}
 
 -- How long lines are
 
 short_name : (w : List ℕ) → IsName w → length w ≤ 16
 short_name w h =
-    let few : nat_le (length w) 16 ≡ true = (both (is_letter (slice_index w 0)) _ (both _ _ h).0).1 in
+    let few : nat_le (length w) 16 ≡ true = (and_parts (is_letter (slice_index w 0)) _ (and_parts _ _ h).0).1 in
     grind (arith, nat_tests)
 
 short_number : (n : ℕ) → IsNumber n → length (decimal n) ≤ 20
 short_number n h = length-decimal-le 20 n (lit< tt) (omega (arith, h)) h
-
-few_bytes : (n : ℕ) → nat_le n max_payload ≡ true → n ≤ max_payload
-few_bytes n h = grind (arith, nat_tests)
 
 -- a line in range is not too long
 pub line-short : (l : Line) → HasFields l → is_in_range l ≡ true → length (spelled l) ≤ 20480
@@ -70,7 +68,7 @@ line-short (Change (OpenFlow name limit tariff)) h r =
 line-short (Change (CloseFlow name)) h r = omega (arith, short_name name h)
 line-short (Send flow payload) h r =
     let all = length-append flow (32 ∷ hex payload) in
-    omega (arith, all, length-hex payload, few_bytes (length payload) r, short_name flow h.0)
+    omega (arith, all, length-hex payload, leb-true (length payload) max_payload r, short_name flow h.0)
 line-short (Turn most) h r = omega (arith, short_number most h)
 line-short Torn h r = omega arith
 line-short Report h r = omega arith
@@ -135,11 +133,11 @@ not_lacking false h = refl
 
 first_found : (lacks : List Bool) → IsAmple lacks → first_flag lacks ≡ false
 first_found [] h = refl
-first_found (b ∷ bs) h = not_lacking b (both _ _ h).0
+first_found (b ∷ bs) h = not_lacking b (and_parts _ _ h).0
 
 later_found : (lacks : List Bool) → IsAmple lacks → IsAmple (drop 1 lacks)
 later_found [] h = refl
-later_found (b ∷ bs) h = (both _ _ h).1
+later_found (b ∷ bs) h = (and_parts _ _ h).1
 
 -- each line of an event makes it
 run_made : (life most : ℕ) (rates : List Rate) → life ≤ most → AreInRange rates → (es : List Event) (p : Progress)

@@ -4,6 +4,7 @@ use Rattle.std.specs.Prelude.{◌≡◌, ◌<◌, ◌≤◌, ◌==◌, ℕ, Bool
 use Rattle.std.specs.Prelude.{nat_le, Option, None, Some, Result, Ok, Err, IfOk, refl}
 use Rattle.std.proofs.Common.{ap, sym, ◌∙◌, append_assoc, subst, arith, cond}
 use Rattle.std.proofs.lemmas.Bool.Decides.{nat_tests}
+use Rattle.std.proofs.lemmas.Bool.{leb-true}
 use Rattle.share_base.specs.declared.refusal.Refusal.{Refusal}
 use Rattle.share_base.specs.declared.command.Event.{Event}
 use Rattle.share_base.specs.declared.command.Event.TheVariants.{Commanded, Arrived}
@@ -56,9 +57,6 @@ after-state life rates p lacks (l ∷ ls) =
     ∙ sym (state_after-append rates p.state first rest)
 
 -- Its events may follow one another
-
-few_bytes : (n : ℕ) → nat_le n max_payload ≡ true → n ≤ max_payload
-few_bytes n h = grind (arith, nat_tests)
 
 some_offered : (most : ℕ) → (nat_le 1 most && nat_le most 65535) ≡ true → 1 ≤ most
 some_offered most h = grind (arith, nat_tests)
@@ -123,7 +121,7 @@ module _ (life : ℕ) (rates : List Rate) (p : Progress) (sound : SoundState lif
       read.line.fields
   may_line bytes lack (Send flow body) read =
       let fields = read.line.fields in
-      let few = few_bytes (length body) read.in_range in
+      let few = leb-true (length body) max_payload read.in_range in
       may_call (life_is_spent life p.state.live) lack refl (Arrived flow body) _ _
       (fields.0, record { some = fields.1.0; few = few; bytes = fields.1.1 })
   may_line bytes lack (Turn most) read =

@@ -10,6 +10,7 @@ use Rattle.std.proofs.lemmas.List.Elements.{All-from_recursion}
 use Rattle.std.proofs.lemmas.List.Folds.{list_all-append}
 use Rattle.std.proofs.lemmas.List.Splits.{slice_split_at, length-slice_split}
 use Rattle.std.proofs.lemmas.Bool.Decides.{nat_tests}
+use Rattle.std.proofs.lemmas.Bool.{and_parts}
 use Rattle.share_base.specs.Name.{is_name_byte}
 use Rattle.share_base.specs.declared.command.Command.TheVariants.{MakeCurrency, RemoveCurrency, MakeTicket}
 use Rattle.share_base.specs.declared.command.Command.TheVariants.{RemoveTicket, FundCurrency, FundFlow, Unfund}
@@ -18,9 +19,9 @@ use Rattle.share_model.specs.declared.line.Line.{Line}
 use Rattle.share_model.specs.declared.line.Line.TheVariants.{Change, Send, Turn, Torn, Report, Audit}
 use Rattle.share_model.specs.lists.Each.{Each}
 use Rattle.share_model.specs.text.Audit.{written_line}
-use Rattle.share_model.specs.text.Lines.{hex_digit, hex, spelled, IsName, IsNumber, HasFields}
+use Rattle.share_model.specs.text.Lines.{hex, spelled, IsName, IsNumber, HasFields}
 use Rattle.share_model.specs.text.Talk.{is_feed, kept, lines_of}
-use Rattle.share_model.specs.text.WordLaws.{both}
+use Rattle.share_model.specs.text.WordLaws.{high_hex_digit}
 
 -- Bytes from the space on
 
@@ -42,11 +43,11 @@ seen-name_bytes : (w : List ℕ) → list_all is_name_byte w ≡ true → IsSeen
 unfolding IsSeen
 seen-name_bytes [] h = refl
 seen-name_bytes (b ∷ bs) h =
-    let p : (is_name_byte b ≡ true) × (list_all is_name_byte bs ≡ true) = both _ _ h in
+    let p : (is_name_byte b ≡ true) × (list_all is_name_byte bs ≡ true) = and_parts _ _ h in
     rw (seen-name_byte b p.0, seen-name_bytes bs p.1) refl
 
 seen-name : (w : List ℕ) → IsName w → IsSeen w
-seen-name w h = seen-name_bytes w (both _ _ h).1
+seen-name w h = seen-name_bytes w (and_parts _ _ h).1
 
 seen-digit : (b : ℕ) → 48 ≤ b → is_seen b ≡ true
 unfolding is_seen
@@ -59,9 +60,6 @@ seen-digits (d ∷ ds) h = rw (seen-digit d (digit_from_value d h.0).0, seen-dig
 
 seen-decimal : (n : ℕ) → IsNumber n → IsSeen (decimal n)
 seen-decimal n h = seen-digits _ (decimal_is_IsNumeral n h).0.1
-
-high_hex_digit : (n : ℕ) → 48 ≤ hex_digit n
-high_hex_digit n = grind (arith, nat_tests)
 
 seen-hex : (bs : List ℕ) → IsSeen (hex bs)
 unfolding IsSeen
@@ -101,9 +99,9 @@ no_feeds : (w : List ℕ) → IsSeen w → AllByRecursion (λ b. is_feed b ≡ f
 unfolding IsSeen
 no_feeds [] h = tt
 no_feeds (b ∷ bs) h =
-    let p : (is_seen b ≡ true) × (list_all is_seen bs ≡ true) = both _ _ h in (not_feed b p.0, no_feeds bs p.1)
+    let p : (is_seen b ≡ true) × (list_all is_seen bs ≡ true) = and_parts _ _ h in (not_feed b p.0, no_feeds bs p.1)
 
-kept-cons : (l : List ℕ) (ls : List (List ℕ)) → 0 < length ls → kept (l ∷ ls) ≡ l ∷ kept ls
+pub kept-cons : (l : List ℕ) (ls : List (List ℕ)) → 0 < length ls → kept (l ∷ ls) ≡ l ∷ kept ls
 kept-cons l [] h = absurd (omega arith)
 kept-cons l (m ∷ ms) h = refl
 

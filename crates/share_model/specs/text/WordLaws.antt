@@ -9,16 +9,13 @@ use Rattle.std.proofs.lemmas.Fmt.{decimal_is_IsNumeral}
 use Rattle.std.proofs.lemmas.Str.Parse.{digit_from_value}
 use Rattle.std.proofs.lemmas.Slice.Eq.{bytes_eq-Decides}
 use Rattle.std.proofs.lemmas.Bool.Decides.{nat_tests}
+use Rattle.std.proofs.lemmas.Bool.{and_parts}
 use Rattle.share_base.specs.Name.{is_name, is_name_byte}
 use Rattle.share_model.specs.text.Lines.{hex_digit, hex, is_hex_digit, hex_value, is_pairs, from_pairs}
 use Rattle.share_model.specs.text.Lines.{IsName, IsNumber, IsPayload, is_byte, is_space}
 use Rattle.share_model.specs.text.Lines.{name_of, number_of, payload_of}
 
 -- Booleans
-
-pub both : (a b : Bool) → (a && b) ≡ true → (a ≡ true) × (b ≡ true)
-both true b e = (refl, e)
-both false b e = cc
 
 -- Words hold no space
 
@@ -31,11 +28,11 @@ no_space-name_byte b h = grind (arith, nat_tests)
 pub no_space-name_bytes : (w : List ℕ) → list_all is_name_byte w ≡ true → NoSpace w
 no_space-name_bytes [] h = tt
 no_space-name_bytes (b ∷ bs) h =
-    let p : (is_name_byte b ≡ true) × (list_all is_name_byte bs ≡ true) = both _ _ h in
+    let p : (is_name_byte b ≡ true) × (list_all is_name_byte bs ≡ true) = and_parts _ _ h in
     (no_space-name_byte b p.0, no_space-name_bytes bs p.1)
 
 pub no_space-name : (w : List ℕ) → IsName w → NoSpace w
-no_space-name w h = no_space-name_bytes w (both _ _ h).1
+no_space-name w h = no_space-name_bytes w (and_parts _ _ h).1
 
 no_space-digit : (b : ℕ) → 48 ≤ b → is_space b ≡ false
 no_space-digit b h = grind (arith, nat_tests)
@@ -47,7 +44,7 @@ no_space-digits (d ∷ ds) h = (no_space-digit d (digit_from_value d h.0).0, no_
 pub no_space-decimal : (n : ℕ) → IsNumber n → NoSpace (decimal n)
 no_space-decimal n h = no_space-digits _ (decimal_is_IsNumeral n h).0.1
 
-high_hex_digit : (n : ℕ) → 48 ≤ hex_digit n
+pub high_hex_digit : (n : ℕ) → 48 ≤ hex_digit n
 high_hex_digit n = grind (arith, nat_tests)
 
 pub no_space-hex : (bs : List ℕ) → NoSpace (hex bs)
@@ -118,14 +115,14 @@ joined h l small = (omega arith, omega arith)
 is_pairs-hex : (bs : List ℕ) → list_all is_byte bs ≡ true → is_pairs (hex bs) ≡ true
 is_pairs-hex [] e = refl
 is_pairs-hex (b ∷ bs) e =
-    let p : (is_byte b ≡ true) × (list_all is_byte bs ≡ true) = both _ _ e in
+    let p : (is_byte b ≡ true) × (list_all is_byte bs ≡ true) = and_parts _ _ e in
     let d = divided b (is_byte-small b p.0) in
     rw (is_hex_digit-hex_digit _ d.0, is_hex_digit-hex_digit _ d.1, is_pairs-hex bs p.1) refl
 
 from_pairs-hex : (bs : List ℕ) → list_all is_byte bs ≡ true → from_pairs (hex bs) ≡ bs
 from_pairs-hex [] e = refl
 from_pairs-hex (b ∷ bs) e =
-    let p : (is_byte b ≡ true) × (list_all is_byte bs ≡ true) = both _ _ e in
+    let p : (is_byte b ≡ true) × (list_all is_byte bs ≡ true) = and_parts _ _ e in
     let d = divided b (is_byte-small b p.0) in
     rw (hex_value-hex_digit _ d.0, hex_value-hex_digit _ d.1, d.2, from_pairs-hex bs p.1) refl
 
@@ -144,8 +141,8 @@ pub hex-from_pairs : (w : List ℕ) → is_pairs w ≡ true
 hex-from_pairs [] e = (refl, refl, refl)
 hex-from_pairs (c ∷ []) e = cc
 hex-from_pairs (c ∷ d ∷ cs) e =
-    let p : ((is_hex_digit c && is_hex_digit d) ≡ true) × (is_pairs cs ≡ true) = both _ _ e in
-    let q : (is_hex_digit c ≡ true) × (is_hex_digit d ≡ true) = both _ _ p.0 in
+    let p : ((is_hex_digit c && is_hex_digit d) ≡ true) × (is_pairs cs ≡ true) = and_parts _ _ e in
+    let q : (is_hex_digit c ≡ true) × (is_hex_digit d ≡ true) = and_parts _ _ p.0 in
     let r = hex-from_pairs cs p.1 in
     let hc : hex_value c < 16 = hex_value-small c q.0 in
     let hd : hex_value d < 16 = hex_value-small d q.1 in

@@ -1,6 +1,5 @@
-use Rattle.std.proofs.Common.{◌≡◌, ◌<◌, ℕ, replicate, nat_lt, true, get_or, refl, arith, ◌∙◌, inl, inr}
-use Rattle.std.proofs.lemmas.Bool.{cases_lt}
-use Rattle.std.proofs.lemmas.Bool.Decides.{nat_tests}
+use Rattle.std.proofs.Common.{◌≡◌, ℕ, replicate, get_or, refl, arith, ◌∙◌, inl, inr}
+use Rattle.std.proofs.lemmas.Bool.{cases_lt, ltb-true}
 use Rattle.std.proofs.lemmas.List.{get_or-replicate, get_or_past, length-set}
 use Rattle.share_ledger.specs.Rounds.{numbers_of}
 use Rattle.share_ledger.proofs.LevelChains.{low-more, high-more, above-more}
@@ -11,9 +10,6 @@ start p = elim (cases_lt p 65) [
   | inl inside ↦ get_or-replicate 65 p 0 0 inside
   | inr past ↦ get_or_past (replicate 65 0) p 0 past
 ]
-
-less : (m n : ℕ) → nat_lt m n ≡ true → m < n
-less m n e = grind (arith, nat_tests)
 
 pub loop-place-init : goal.loop-place-init
 loop-place-init c = record {
@@ -51,6 +47,6 @@ returns c = λ higher.
           high = λ p up lt. inv.high p up (omega arith);
           above = λ p up lt. inv.above p up (omega arith);
         },
-        less _ _ higher,
+        ltb-true _ _ higher,
       ),
     )

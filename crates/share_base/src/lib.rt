@@ -11,7 +11,7 @@ mod refusal;
 mod tests;
 
 pub use command::{Command, Event, Outcome, Reply, Turn};
-pub use naming::Name;
+pub use naming::{MAX_NAME, Name};
 pub use number::{FlowNo, TicketNo};
-pub use parcel::{Body, MAX_IN_PLACE, Parcel};
+pub use parcel::{Body, MAX_IN_PLACE, MAX_PAYLOAD, Parcel};
 pub use refusal::Refusal;

@@ -14,3 +14,6 @@ pub use engine::Engine;
 
 /// The most flows that are open at once.
 pub const MAX_FLOWS: usize = 64;
+
+/// The longest life, in events.
+pub const MAX_LIFE: u64 = 1 << 24;

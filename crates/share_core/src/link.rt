@@ -14,8 +14,8 @@ mod levelling;
 mod readers;
 mod sending;
 
-use crate::MAX_FLOWS;
 use crate::books::Books;
+use crate::{MAX_FLOWS, MAX_LIFE};
 use share_base::{FlowNo, Refusal, Reply};
 use share_flows::Buffers;
 use share_ledger::Ledger;
@@ -23,9 +23,6 @@ use share_model::{Counts, Part, Rates};
 use share_stride::Queue;
 use std::alloc::Global;
 use std::marker::Model;
-
-/// The longest life, in events.
-const MAX_LIFE: u64 = 1 << 24;
 
 /// The ledger, the queue, the buffers, the books and the counts of a link, and its shelf of tariffs. Beside the queue
 /// it keeps the tickets with which each open flow was levelled last, by its place.

@@ -6,10 +6,7 @@ ghost use Rattle.share_frame.specs.Fields.{number_in, length_in};
 ghost use Rattle.share_frame.specs.declared.reading.Place.{Place};
 
 use crate::writing::{HEADER, MAGIC, VERSION};
-use share_base::FlowNo;
-
-/// The most bytes of a payload.
-const MAX_PAYLOAD: u16 = 1490;
+use share_base::{FlowNo, MAX_PAYLOAD};
 
 /// The high byte of the greatest length.
 const MAX_HIGH: u8 = 5;
@@ -135,7 +132,7 @@ fn is_good_length(bytes: &[u8]) -> bool
         return bytes.len() <= LEN || bytes[LEN] <= MAX_HIGH;
     }
     let len = length_of(bytes);
-    1 <= len && len <= MAX_PAYLOAD
+    1 <= len && usize::from(len) <= MAX_PAYLOAD
 }
 
 // The number in the four bytes at a place.

@@ -3,13 +3,7 @@ ghost use Rattle.std.specs.Prelude.{◌≡◌, ◌∷◌, ◌++◌, true, length
 ghost use Rattle.share_base.specs.Name.{is_name};
 ghost use Rattle.share_ingress.specs.Found.{IsFound};
 
-use share_base::Name;
-
-/// The longest name, in bytes.
-const MAX_NAME: usize = 16;
-
-/// The longest payload, in bytes.
-const MAX_PAYLOAD: usize = 1490;
+use share_base::{MAX_NAME, MAX_PAYLOAD, Name};
 
 /// How many bytes a record has beside its name and its payload.
 pub(crate) const FRAMING: usize = 3;

@@ -12,12 +12,10 @@ ghost use Rattle.share_journal.specs.Entries.{JournalSeen, entry_at, noted, even
 use crate::audit::{Fault, write_audit};
 use crate::entry::Entry;
 use share_base::Refusal;
+use share_core::MAX_LIFE;
 use share_model::Telling;
 use std::alloc::Global;
 use std::marker::Model;
-
-/// The longest life, in events.
-const MAX_LIFE: u64 = 1 << 24;
 
 /// The events of a link, in order, each with its reply and its source. The room for a whole life is made once, so no
 /// other call takes memory. A contract sees the life and the list of the entries.

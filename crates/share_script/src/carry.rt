@@ -1,11 +1,12 @@
 //! The beginning of a line that a chunk left unfinished.
 ghost use Rattle.std.specs.Prelude.{◌≡◌, ◌↔◌, ◌++◌, [], take, IfOk, IsTrue};
 
+use crate::reading::MAX_LINE;
 use std::alloc::{AllocError, Global};
 use std::marker::Model;
 
 /// One byte more than the longest line, so that a line that is too long is seen to be so.
-const KEPT: usize = 20481;
+const KEPT: usize = MAX_LINE + 1;
 
 /// The beginning of a line, of which only the first 20481 bytes are kept. A contract sees it as these bytes.
 #[derive(Drop)]

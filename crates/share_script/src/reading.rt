@@ -15,15 +15,12 @@ ghost use Rattle.share_script.specs.Words.{ReadsRanged, short_line_by, sent_by};
 
 use crate::payload::{decode, is_payload};
 use crate::words::Words;
-use share_base::{Body, Command, MAX_IN_PLACE, Name, Refusal};
+use share_base::{Body, Command, MAX_IN_PLACE, MAX_PAYLOAD, Name, Refusal};
 use share_model::{HolderKind, Line};
 use std::alloc::{AllocError, Global};
 
 /// The longest line, in bytes before its line feed.
-const MAX_LINE: usize = 20480;
-
-/// The longest payload, in bytes.
-pub(crate) const MAX_PAYLOAD: usize = 1490;
+pub(crate) const MAX_LINE: usize = 20480;
 
 /// The line that these bytes, without a line feed, spell. `Syntax` where they spell none, `Range` where the payload
 /// of a packet has more than 1490 bytes or the number of a turn is not 1 to 65535, `NoMemory` where the copy of a

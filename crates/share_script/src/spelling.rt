@@ -6,9 +6,8 @@ ghost use Rattle.share_model.specs.text.Lines.{IsName, IsNumber, IsPayload, HasC
 ghost use Rattle.share_model.specs.text.Lines.{hex, is_byte, command_words, spelled};
 
 use crate::hex::spell;
-use crate::reading::MAX_PAYLOAD;
 use crate::text::{ShortText, Text};
-use share_base::{Body, Command, Event, Name};
+use share_base::{Body, Command, Event, MAX_PAYLOAD, Name};
 use share_model::Line;
 
 /// Adds the spelling of a line to an empty text. What the types of its fields say is enough for it to be a line.

@@ -7,6 +7,15 @@ ghost use Rattle.share_tariff.specs.Rules.{Charges, Books};
 use share_base::Refusal;
 use share_model::Rate;
 
+/// The largest cell, in units.
+const MAX_CELL: u64 = 2048;
+
+/// The largest overhead of a frame, in units.
+const MAX_OVERHEAD: u64 = 1024;
+
+/// The highest price of a unit.
+const MAX_PRICE: u64 = 65535;
+
 /// The units that so many bytes are charged.
 pub type Charge = Box<dyn Fn(u32) -> u64 + Send>;
 
@@ -89,7 +98,7 @@ impl Tariff {
 fn is_rate(cell: u64, overhead: u64, price: u64) -> bool
     ensures { result ≡ is_rate cell overhead price }
 {
-    1 <= cell && cell <= 2048 && overhead <= 1024 && price <= 65535
+    1 <= cell && cell <= MAX_CELL && overhead <= MAX_OVERHEAD && price <= MAX_PRICE
 }
 
 // The answer of a stored charge.

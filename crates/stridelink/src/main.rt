@@ -1,7 +1,7 @@
 //! A link that shares its bandwidth among packet flows by tickets, driven by a script of lines.
 #![tactic(auto)]
 
-ghost use Rattle.std.specs.Prelude.{◌≡◌, ◌≢◌, ◌⊎◌, [], IfOk, IfErr, IfSome, OnOk, MatchResult, IsOkAnd};
+ghost use Rattle.std.specs.Prelude.{◌≡◌, ◌≢◌, ◌⊎◌, ℕ, [], None, IfOk, IfErr, IfSome, OnOk, MatchResult, IsOkAnd};
 ghost use Rattle.std.specs.Process.{exit_status};
 ghost use Rattle.clap.specs.Values.{kind_of};
 ghost use Rattle.share_script.specs.declared.script.ScriptFault.TheVariants.{Output, NoMemory};
@@ -11,6 +11,7 @@ ghost use Rattle.share_model.specs.io.Told.{TapeAnswers};
 ghost use Rattle.share_model.specs.io.Printing.{bytes_told};
 ghost use Rattle.stridelink.specs.Program.{program_rates, Ran, RanPart};
 ghost use Rattle.share_script.specs.Script.{IsFault};
+ghost use Rattle.share_core.specs.Life.{life_refusal};
 
 // The shelf of the program: tariffs 1 to 4. Their boxes are made in the body that calls it, which returns where memory
 // is refused.
@@ -20,12 +21,13 @@ macro_rules! program_shelf {
     };
 }
 
+mod help;
 #[cfg(test)]
 mod tests;
 
 use clap::error::ErrorKind;
-use clap::{Arg, ArgAction, Command, value_parser};
-use share_core::Engine;
+use clap::{Arg, ArgAction, ArgMatches, Command, value_parser};
+use share_core::{Engine, MAX_LIFE};
 use share_model::{PlainReader, PlainWriter, Rates, Source, Tape, Telling};
 use share_script::{MAX_READS, ScriptFault, print_bytes, run_script};
 use std::alloc::{AllocError, Global};
@@ -41,30 +43,11 @@ const USAGE: u8 = 2;
 /// The version of the program.
 const VERSION: &str = "0.1.0";
 
-/// The lines of a script and their answers, as help tells them.
-const LINES: &str = "Lines of a script:
-  mkcur NAME, rmcur NAME                make or remove a currency
-  mktkt AMOUNT NAME, rmtkt TICKET       make or remove a ticket in a currency
-  fund TICKET cur NAME                  let a ticket fund a currency
-  fund TICKET flow NAME, unfund TICKET  let it fund a flow, or nothing
-  open NAME LIMIT TARIFF, close NAME    open or close a flow; tariffs are 1 to 4
-  send NAME HEX                         a packet comes for a flow
-  turn BYTES                            the link writes at most so many bytes
-  torn                                  the writer is declared failed
-  report                                show what the link holds
-  audit 1                               the first line of an audit; no answer
-Answers:
-  ok, ticket TICKET, flow FLOW          it is done
-  closed FLOW DROPPED ACCOUNT           a flow was closed
-  packet FLOW SEQ                       the packet waits
-  wrote FLOW SEQ BYTES whole (or part)  bytes of a frame went out
-  torn FLOW SEQ BYTES                   the writer failed after so many of a frame
-  idle                                  nothing is to be sent
-  no NUMBER NAME                        the line is refused
-  out HEX                               at the end: all bytes that were written";
-
 /// What is wrong with a word that is no UTF-8.
 const NOT_TEXT: &str = "invalid UTF-8 was detected in one or more arguments";
+
+/// What is wrong with a life that no link has.
+const NO_LIFE: &str = "a life is 1 to 16777216 events";
 
 /// What the words of the command line ask for.
 #[derive(Debug, Drop)]
@@ -84,6 +67,7 @@ fn run<S: Rates + Drop, I: Source, O: Telling>(
     input: &mut I,
     output: &mut O,
 ) -> Result<(), ScriptFault>
+    requires life { life_refusal life ≡ None }
     ensures printed { IfSome (I.left input.old) (λ script. MatchResult result
         (λ _. Ran (bytes_told (O.told output.old)) (bytes_told (O.told output.new))
         life (S.rates shelf) script)
@@ -114,6 +98,7 @@ fn run_on_tariffs<S: Rates + Drop>(
     life: u64,
 ) -> Result<(), ScriptFault>
     requires rates { S.rates shelf ≡ program_rates }
+    requires life { life_refusal life ≡ None }
 {
     let mut input = PlainReader(rt.reader());
     let mut output = PlainWriter(io::writer(rt));
@@ -121,7 +106,9 @@ fn run_on_tariffs<S: Rates + Drop>(
 }
 
 // Runs the script of standard input over a shelf that is made here.
-fn run_on_standard(rt: &(impl Input + Print), alloc: Global, life: u64) -> Result<(), ScriptFault> {
+fn run_on_standard(rt: &(impl Input + Print), alloc: Global, life: u64) -> Result<(), ScriptFault>
+    requires { life_refusal life ≡ None }
+{
     let shelf = program_shelf!(alloc);
     run_on_tariffs(rt, alloc, shelf, life)
 }
@@ -143,7 +130,7 @@ fn command_line<'a>(alloc: Global) -> Result<Command<'a>, AllocError> {
         .long("life")
         .value_name("L")
         .help("the events of the link's life, 1 to 16777216")
-        .value_parser(value_parser!(u64).range(1..=16777216))
+        .value_parser(value_parser!(u64).range(1..=MAX_LIFE as i64))
         .default_value("65536")
         .action(ArgAction::Set);
     let run = Command::new(alloc, "run")
@@ -152,27 +139,38 @@ fn command_line<'a>(alloc: Global) -> Result<Command<'a>, AllocError> {
     Command::new(alloc, "stridelink")
         .version(VERSION)
         .about("a link that shares its bandwidth among packet flows by tickets")
-        .after_help(LINES)
+        .after_help(help::SCRIPTS)
         .subcommand_required(true)
         .subcommand(run)
 }
 
-// What the words ask for.
+// The life that words give.
+fn given_life(matches: &ArgMatches<'_>) -> u64 {
+    match matches.subcommand() {
+        Some((_, run)) => run.get_one::<u64>("life").unwrap_or(LIFE),
+        None => LIFE,
+    }
+}
+
+// What the words ask for. `clap` refuses a life that is out of range; its contract says so of the arguments of a
+// command, but not of those of a subcommand, so the life is looked at once more.
 fn parse(alloc: Global, words: Option<&[String]>) -> Result<Asked, ScriptFault>
     ensures memory { IfErr result (λ fault. fault ≡ NoMemory) }
     ensures text { IfOk result (λ asked. (text : _) → asked ≡ Asked.Text text → kind_of text ≢ ErrorKind.OutOfMemory) }
+    ensures life { IfOk result (λ asked. (life : ℕ) → asked ≡ Asked.Run life → life_refusal life ≡ None) }
 {
     let mut command = command_line(alloc)?;
     let Some(words) = words else {
         return Ok(Asked::Text(command.error(ErrorKind::InvalidValue, NOT_TEXT)?));
     };
-    match command.try_get_matches_from(words) {
-        Ok(matches) => Ok(Asked::Run {
-            life: match matches.subcommand() {
-                Some((_, run)) => run.get_one::<u64>("life").unwrap_or(LIFE),
-                None => LIFE,
-            },
-        }),
+    match command.try_get_matches_from_mut(words) {
+        Ok(matches) => {
+            let life = given_life(&matches);
+            if life < 1 || life > MAX_LIFE {
+                return Ok(Asked::Text(command.error(ErrorKind::ValueValidation, NO_LIFE)?));
+            }
+            Ok(Asked::Run { life })
+        }
         Err(error) if error.kind() == ErrorKind::OutOfMemory => Err(ScriptFault::NoMemory),
         Err(error) => Ok(Asked::Text(error)),
     }

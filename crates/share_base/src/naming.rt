@@ -1,13 +1,12 @@
 //! The names of currencies and flows.
-ghost use Rattle.std.specs.Prelude.{◌≡◌, ◌<◌, ◌≤◌, length, slice_index, nat_eq, true, Some, None, refl, if◌then◌else◌};
+ghost use Rattle.std.specs.Prelude.{◌≡◌, ◌<◌, ◌≤◌, [], ◌∷◌, length, slice_index, nat_eq, true, Some, None, refl};
+ghost use Rattle.std.specs.Prelude.{if◌then◌else◌};
 ghost use Rattle.std.specs.List.{list_all};
 ghost use Rattle.std.specs.Ordering.{nat_cmp};
-ghost use Rattle.std.specs.Hash as fed;
 ghost use Rattle.std.specs.Cmp.Lexicographic.{pointwise, slice_cmp};
-ghost use Rattle.std.specs.Cmp.Lexicographic.{nat_list_eq_equiv, nat_list_cmp_total, texts_ties, texts_po};
+ghost use Rattle.std.specs.Cmp.Lexicographic.{nat_list_eq_equiv, nat_list_cmp_total, texts_ties, texts_po, same_text};
 ghost use Rattle.std.specs.Cmp.{partial_equiv_from_equiv};
-ghost use Rattle.std.specs.Cmp.Rules.{hashing};
-ghost use Rattle.std.proofs.Common.{rules};
+ghost use Rattle.std.proofs.Common.{ap, sym};
 ghost use Rattle.share_base.specs.Name.{is_letter, is_name_byte, is_name, padded};
 
 use std::cmp::Ordering;
@@ -107,13 +106,24 @@ fn is_name_byte(byte: u8) -> bool
     is_letter(byte) || (b'0' <= byte && byte <= b'9') || byte == b'_' || byte == b'-'
 }
 
+// Whether sixteen bytes are the same. All of them are compared, without a branch for each.
+fn are_same(bytes: &[u8; 16], others: &[u8; 16]) -> bool
+    ensures { result ≡ pointwise nat_eq bytes.now others.now }
+{
+    let mut same = true;
+    for place in 0..MAX_NAME {
+        same &= bytes[place] == others[place];
+    }
+    same
+}
+
 impl PartialEq for Name {
     ghost eq = { pointwise nat_eq };
 
     ghost laws = { partial_equiv_from_equiv nat_list_eq_equiv };
 
     fn eq(&self, other: &Name) -> bool {
-        self.as_bytes() == other.as_bytes()
+        self.len == other.len && are_same(&self.bytes, &other.bytes)
     }
 }
 
@@ -146,11 +156,12 @@ impl Ord for Name {
 }
 
 impl Hash for Name {
-    ghost hash_input = { fed.slice fed.u8 };
+    ghost hash_input = { λ name. padded name ∷ [] };
 
-    ghost respects_eq = { Prim.search (hashing, rules) };
+    ghost respects_eq = { λ x y same. ap (λ name. padded name ∷ []) (same_text x y (sym same)) };
 
+    // All sixteen bytes are written at once: a slice of bytes writes its length, and then each of them by itself.
     fn hash<H: Hasher>(&self, state: &mut H) {
-        self.as_bytes().hash(state);
+        state.write(&self.bytes);
     }
 }

@@ -1,5 +1,5 @@
 -- Sums over the seats of one holder.
-use Rattle.std.proofs.Common.{◌≡◌, Fits, w64, ◌≤◌, ◌<◌, ◌^◌, ◌+◌, ◌-◌, ℕ, zero, suc, Bool, true, false, cond, ◌&&◌}
+use Rattle.std.proofs.Common.{◌≡◌, Fits, w32, ◌≤◌, ◌<◌, ◌^◌, ◌+◌, ◌-◌, ℕ, zero, suc, Bool, true, false, cond, ◌&&◌}
 use Rattle.std.proofs.Common.{nat_eq, List, [], ◌∷◌, take, set, sum_by, length, get_or, ap, ◌∙◌, arith, refl}
 use Rattle.std.proofs.lemmas.Bool.Decides.{nat_tests}
 use Rattle.std.proofs.lemmas.List.{get_or-take, get_or-set_other, length-take, length-set}
@@ -23,27 +23,27 @@ taken-bound ss p within few =
     by true s small = small
     by false s small = omega arith
 
-fits_sum : (a b c : ℕ) → a ≤ 2 ^ 31 → b ≤ 2 ^ 24 → c ≤ 2 ^ 20 → Fits w64 (a + b + c)
+fits_sum : (a b c : ℕ) → a ≤ 2 ^ 31 → b ≤ 2 ^ 24 → c ≤ 2 ^ 20 → Fits w32 (a + b + c)
 fits_sum a b c p q r = omega arith
 
-pub raise-fits : (ss : List Seat) (i : ℕ) (d : Seat) (start held : ℕ → ℕ) (amount : ℕ) → Each IsSeatWithin ss
+pub raise-fits : (ss : List Seat) (i : ℕ) (d : Seat) (start held : ℕ → ℕ) → Each IsSeatWithin ss
     → length ss ≤ 16 → i < length ss → ((p : ℕ) → p < 65 → start p ≤ 2 ^ 31)
-    → ((p : ℕ) → p < 65 → held p ≡ start p + taken (take i ss) p) → amount ≡ (get_or ss i d).amount
-    → Fits w64 (held (get_or ss i d).from + amount)
-raise-fits ss i d start held amount within few lt small summed e =
+    → ((p : ℕ) → p < 65 → held p ≡ start p + taken (take i ss) p)
+    → Fits w32 (held (get_or ss i d).from + (get_or ss i d).amount)
+raise-fits ss i d start held within few lt small summed =
     let w = Each-at IsSeatWithin ss i d within lt in
     let p = (get_or ss i d).from in
     let all = taken-bound ss p within few in
     let part = sum_by-take-le (λ (s : Seat). cond (nat_eq p s.from) s.amount 0) ss i in
     let some : taken (take i ss) p ≤ 2 ^ 24 = omega (arith, all, part) in
-    let own : amount ≤ 2 ^ 20 = let s = w.small in omega arith in
-    rw (summed p w.from_place) (fits_sum (start p) (taken (take i ss) p) amount (small p w.from_place) some own)
+    rw (summed p w.from_place)
+    (fits_sum (start p) (taken (take i ss) p) (get_or ss i d).amount (small p w.from_place) some w.small)
 
-pub lower-fits : (ss : List Seat) (i : ℕ) (d : Seat) (start held : ℕ → ℕ) (amount : ℕ) → Each IsSeatWithin ss
+pub lower-fits : (ss : List Seat) (i : ℕ) (d : Seat) (start held : ℕ → ℕ) → Each IsSeatWithin ss
     → i < length ss → ((p : ℕ) → p < 65 → taken ss p ≤ start p)
-    → ((p : ℕ) → p < 65 → held p + taken (take i ss) p ≡ start p) → amount ≡ (get_or ss i d).amount
-    → amount ≤ held (get_or ss i d).from
-lower-fits ss i d start held amount within lt all summed e =
+    → ((p : ℕ) → p < 65 → held p + taken (take i ss) p ≡ start p)
+    → (get_or ss i d).amount ≤ held (get_or ss i d).from
+lower-fits ss i d start held within lt all summed =
     let w = Each-at IsSeatWithin ss i d within lt in
     let p = (get_or ss i d).from in
     let term : Seat → ℕ = λ s. cond (nat_eq p s.from) s.amount 0 in

@@ -196,12 +196,8 @@ impl Ledger {
         ensures { self.new ≡ set_active self.old flow active }
     {
         self.tables.is_kept();
-        let place = self.tables.place_of_flow(flow);
-        if self.tables.set_active(flow, active) {
-            match place {
-                Some(place) => self.kept.set_active(&self.tables, place, active),
-                None => self.kept.renew(&self.tables),
-            }
+        if let Some(place) = self.tables.set_active(flow, active) {
+            self.kept.set_active(&self.tables, place, active);
         }
     }
 

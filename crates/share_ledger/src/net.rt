@@ -26,13 +26,13 @@ pub(crate) struct Net {
     pub(crate) funding: Vec<Seats>,
     pub(crate) active: Box<[bool; PLACES]>,
     pub(crate) awake: Box<[bool; PLACES]>,
-    pub(crate) weights: Box<[u64; PLACES]>,
-    pub(crate) seen: Box<[u64; PLACES]>,
+    pub(crate) weights: Box<[u32; PLACES]>,
+    pub(crate) seen: Box<[u32; PLACES]>,
     pub(crate) values: Box<[u64; PLACES]>,
 }
 
 /// Adds the amounts of seats to the weights of the places that they come from.
-pub(crate) fn raise(seats: &[Seat], weights: &mut [u64; PLACES])
+pub(crate) fn raise(seats: &[Seat], weights: &mut [u32; PLACES])
     requires within { Each IsSeatWithin seats.now }
     requires few { length seats.now ≤ 16 }
     requires small { (p : ℕ) → p < 65 → numbers_of weights.old p ≤ 2 ^ 31 }
@@ -40,43 +40,44 @@ pub(crate) fn raise(seats: &[Seat], weights: &mut [u64; PLACES])
         → numbers_of weights.new p ≡ numbers_of weights.old p + taken seats.now p }
 {
     for seat in seats {
-        weights[seat.from as usize] += u64::from(seat.amount);
+        weights[seat.from as usize] += seat.amount;
     }
 }
 
 /// Takes the amounts of seats from the weights of the places that they come from.
-pub(crate) fn lower(seats: &[Seat], weights: &mut [u64; PLACES])
+pub(crate) fn lower(seats: &[Seat], weights: &mut [u32; PLACES])
     requires within { Each IsSeatWithin seats.now }
     requires held { (p : ℕ) → p < 65 → taken seats.now p ≤ numbers_of weights.old p }
     ensures { (p : ℕ) → p < 65
         → numbers_of weights.new p + taken seats.now p ≡ numbers_of weights.old p }
 {
     for seat in seats {
-        weights[seat.from as usize] -= u64::from(seat.amount);
+        weights[seat.from as usize] -= seat.amount;
     }
 }
 
 /// Adds to the weight of a place.
-pub(crate) fn grow(weights: &mut [u64; PLACES], place: usize, amount: u32)
+pub(crate) fn grow(weights: &mut [u32; PLACES], place: usize, amount: u32)
     requires place { place < 65 }
+    requires amount { amount ≤ 2 ^ 20 }
     requires small { (p : ℕ) → p < 65 → numbers_of weights.old p ≤ 2 ^ 31 }
     ensures { (p : ℕ) → p < 65
         → numbers_of weights.new p ≡ numbers_of weights.old p + (if nat_eq p place then amount else 0) }
 {
-    weights[place] += u64::from(amount);
+    weights[place] += amount;
 }
 
 /// Takes from the weight of a place.
-pub(crate) fn shrink(weights: &mut [u64; PLACES], place: usize, amount: u32)
+pub(crate) fn shrink(weights: &mut [u32; PLACES], place: usize, amount: u32)
     requires place { place < 65 }
     requires held { amount ≤ numbers_of weights.old place }
     ensures { (p : ℕ) → p < 65
         → numbers_of weights.new p + (if nat_eq p place then amount else 0) ≡ numbers_of weights.old p }
 {
-    weights[place] -= u64::from(amount);
+    weights[place] -= amount;
 }
 
-fn worth(seat: &Seat, values: &[u64; PLACES], weights: &[u64; PLACES]) -> u64
+fn worth(seat: &Seat, values: &[u64; PLACES], weights: &[u32; PLACES]) -> u64
     requires within { IsSeatWithin seat.now }
     requires small { (p : ℕ) → p < 65 → numbers_of values.now p ≤ 9 * 2 ^ 30 }
     ensures value { result ≡ seat_worth (numbers_of values.now) (numbers_of weights.now) seat.now }
@@ -86,11 +87,11 @@ fn worth(seat: &Seat, values: &[u64; PLACES], weights: &[u64; PLACES]) -> u64
         return u64::from(seat.amount);
     }
     let from = seat.from as usize;
-    routes::share(values[from], seat.amount, weights[from])
+    routes::share(values[from], seat.amount, u64::from(weights[from]))
 }
 
 /// What seats are worth together.
-pub(crate) fn weigh(seats: &[Seat], values: &[u64; PLACES], weights: &[u64; PLACES]) -> u64
+pub(crate) fn weigh(seats: &[Seat], values: &[u64; PLACES], weights: &[u32; PLACES]) -> u64
     requires within { Each IsSeatWithin seats.now }
     requires few { length seats.now ≤ 16 }
     requires small { (p : ℕ) → p < 65 → numbers_of values.now p ≤ 9 * 2 ^ 30 }
@@ -118,7 +119,7 @@ pub(crate) fn wake(
     awake: &[bool; PLACES],
     place: usize,
     active: &mut [bool; PLACES],
-    weights: &mut [u64; PLACES],
+    weights: &mut [u32; PLACES],
 )
     requires seated { AreSeated (funds_of tables.now) funding.now }
     requires place { place < 65 }
@@ -144,7 +145,7 @@ pub(crate) fn rest(
     awake: &[bool; PLACES],
     place: usize,
     active: &mut [bool; PLACES],
-    weights: &mut [u64; PLACES],
+    weights: &mut [u32; PLACES],
 )
     requires seated { AreSeated (funds_of tables.now) funding.now }
     requires place { place < 65 }
@@ -170,7 +171,7 @@ fn flip(
     active: &[bool; PLACES],
     place: usize,
     awake: &mut [bool; PLACES],
-    weights: &mut [u64; PLACES],
+    weights: &mut [u32; PLACES],
 )
     requires seated { AreSeated (backs_of tables.now) backing.now }
     requires ordered { AreOrdered backing.now }
@@ -202,7 +203,7 @@ fn settle_place(
     active: &[bool; PLACES],
     place: usize,
     awake: &mut [bool; PLACES],
-    weights: &mut [u64; PLACES],
+    weights: &mut [u32; PLACES],
 )
     requires seated { AreSeated (backs_of tables.now) backing.now }
     requires ordered { AreOrdered backing.now }
@@ -222,7 +223,7 @@ fn settle_place(
 }
 
 // Whether each currency is awake where its weight is not zero.
-fn are_settled(awake: &[bool; PLACES], weights: &[u64; PLACES]) -> bool
+fn are_settled(awake: &[bool; PLACES], weights: &[u32; PLACES]) -> bool
     ensures { result ≡ true → AreAwake (flags_of awake.now) (numbers_of weights.now) }
 {
     let mut settled = true;
@@ -233,7 +234,7 @@ fn are_settled(awake: &[bool; PLACES], weights: &[u64; PLACES]) -> bool
 }
 
 /// Whether the weights of all places but that of `base` are the same.
-pub(crate) fn are_same(weights: &[u64; PLACES], seen: &[u64; PLACES]) -> bool
+pub(crate) fn are_same(weights: &[u32; PLACES], seen: &[u32; PLACES]) -> bool
     ensures { result ≡ true → (p : ℕ) → 0 < p → p < 65 → numbers_of weights.now p ≡ numbers_of seen.now p }
 {
     let mut same = true;
@@ -249,7 +250,7 @@ pub(crate) fn spread(
     backing: &[Seats],
     active: &[bool; PLACES],
     awake: &mut [bool; PLACES],
-    weights: &mut [u64; PLACES],
+    weights: &mut [u32; PLACES],
 )
     requires seated { AreSeated (backs_of tables.now) backing.now }
     requires ordered { AreOrdered backing.now }
@@ -270,7 +271,7 @@ pub(crate) fn spread(
 pub(crate) fn value_at(
     holders: &[Seats],
     awake: &[bool; PLACES],
-    weights: &[u64; PLACES],
+    weights: &[u32; PLACES],
     values: &[u64; PLACES],
     place: usize,
 ) -> u64
@@ -293,7 +294,7 @@ pub(crate) fn value_at(
 pub(crate) fn revalue(
     backing: &[Seats],
     awake: &[bool; PLACES],
-    weights: &[u64; PLACES],
+    weights: &[u32; PLACES],
     values: &mut [u64; PLACES],
 ) -> bool
     requires within { (p : ℕ) → p < 65 → Each IsSeatWithin (seats_at backing.now p) }
@@ -318,7 +319,7 @@ pub(crate) fn revalue(
 pub(crate) fn share_at(
     funding: &[Seats],
     active: &[bool; PLACES],
-    weights: &[u64; PLACES],
+    weights: &[u32; PLACES],
     values: &[u64; PLACES],
     place: usize,
 ) -> u32
@@ -336,7 +337,7 @@ pub(crate) fn share_at(
 pub(crate) fn reshare(
     funding: &[Seats],
     active: &[bool; PLACES],
-    weights: &[u64; PLACES],
+    weights: &[u32; PLACES],
     values: &[u64; PLACES],
     shares: &mut [u32; MAX_FLOWS],
 )

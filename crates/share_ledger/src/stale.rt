@@ -69,8 +69,8 @@ fn touches(holder: &Seats, moved: &Moved) -> bool
 // Whether the value of a currency may be another one: its seats or its weight are others, or what a seat is worth.
 fn is_stale(
     backing: &[Seats],
-    weights: &[u64; PLACES],
-    seen: &[u64; PLACES],
+    weights: &[u32; PLACES],
+    seen: &[u32; PLACES],
     moved: &Moved,
     changed: usize,
     place: usize,
@@ -92,8 +92,8 @@ const STEP: usize = 8;
 // Whether no currency of a stretch of places is stale. All of them are looked at, without a branch for each.
 fn are_fresh(
     backing: &[Seats],
-    weights: &[u64; PLACES],
-    seen: &[u64; PLACES],
+    weights: &[u32; PLACES],
+    seen: &[u32; PLACES],
     moved: &Moved,
     changed: usize,
     from: usize,
@@ -118,8 +118,8 @@ fn are_fresh(
 // The first stale currency from a place on. Whole stretches are passed where none is.
 fn next_stale(
     backing: &[Seats],
-    weights: &[u64; PLACES],
-    seen: &[u64; PLACES],
+    weights: &[u32; PLACES],
+    seen: &[u32; PLACES],
     moved: &Moved,
     changed: usize,
     from: usize,
@@ -153,8 +153,8 @@ fn next_stale(
 fn revalue_at(
     backing: &[Seats],
     awake: &[bool; PLACES],
-    weights: &[u64; PLACES],
-    seen: &[u64; PLACES],
+    weights: &[u32; PLACES],
+    seen: &[u32; PLACES],
     place: usize,
     moved: &mut Moved,
     values: &mut [u64; PLACES],
@@ -191,8 +191,8 @@ fn revalue_at(
 pub(crate) fn revalue(
     backing: &[Seats],
     awake: &[bool; PLACES],
-    weights: &[u64; PLACES],
-    seen: &[u64; PLACES],
+    weights: &[u32; PLACES],
+    seen: &[u32; PLACES],
     changed: usize,
     values: &mut [u64; PLACES],
 ) -> Option<Moved>
@@ -271,7 +271,7 @@ fn next_touched(
 pub(crate) fn reshare(
     funding: &[Seats],
     active: &[bool; PLACES],
-    weights: &[u64; PLACES],
+    weights: &[u32; PLACES],
     values: &[u64; PLACES],
     moved: &Moved,
     changed: usize,

@@ -117,11 +117,13 @@ fn lower_all(flags: &mut [bool; PLACES])
     }
 }
 
-fn empty_all(numbers: &mut [u64; PLACES])
-    ensures { (k : ℕ) → numbers_of numbers.new k ≡ 0 }
+fn empty_all(weights: &mut [u32; PLACES], values: &mut [u64; PLACES])
+    ensures weights { (k : ℕ) → numbers_of weights.new k ≡ 0 }
+    ensures values { (k : ℕ) → numbers_of values.new k ≡ 0 }
 {
     for place in 0..PLACES {
-        numbers[place] = 0;
+        weights[place] = 0;
+        values[place] = 0;
     }
 }
 
@@ -131,7 +133,7 @@ fn wake_all(
     funding: &[Seats],
     awake: &[bool; PLACES],
     active: &mut [bool; PLACES],
-    weights: &mut [u64; PLACES],
+    weights: &mut [u32; PLACES],
 )
     requires seated { AreSeated (funds_of tables.now) funding.now }
     requires idle { (k : ℕ) → flags_of active.old k ≡ false }
@@ -155,7 +157,7 @@ fn rouse(
     funding: &[Seats],
     active: &mut [bool; PLACES],
     awake: &mut [bool; PLACES],
-    weights: &mut [u64; PLACES],
+    weights: &mut [u32; PLACES],
     values: &mut [u64; PLACES],
 )
     requires seated { AreSeated (funds_of tables.now) funding.now }
@@ -166,8 +168,7 @@ fn rouse(
 {
     lower_all(active);
     lower_all(awake);
-    empty_all(weights);
-    empty_all(values);
+    empty_all(weights, values);
     wake_all(tables, funding, awake, active, weights);
 }
 

@@ -82,6 +82,7 @@ pub enum Said {
 }
 
 /// Reads the next line and makes what it asks for.
+#[inline(always)]
 pub fn answer<W: Telling + Drop, S: Rates + Drop>(
     alloc: Global,
     session: &mut Session<W, S>,
@@ -100,6 +101,7 @@ pub fn answer<W: Telling + Drop, S: Rates + Drop>(
     answer_bytes(alloc, &mut session.engine, first, bytes)
 }
 
+#[inline(always)]
 fn answer_bytes<W: Telling + Drop, S: Rates + Drop>(
     alloc: Global,
     engine: &mut Engine<W, S>,
@@ -144,6 +146,7 @@ fn refused(refusal: Refusal) -> Said
     Said::Outcome(Outcome::Replied(Reply::Refused(refusal)))
 }
 
+#[inline(always)]
 fn answer_line<W: Telling + Drop, S: Rates + Drop>(
     engine: &mut Engine<W, S>,
     line: Line,

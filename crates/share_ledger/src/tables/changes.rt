@@ -1,5 +1,5 @@
 //! The commands: each changes the graph as its rule says, or is refused with nothing changed.
-ghost use Rattle.std.specs.Prelude.{◌≡◌, ◌-◌, ◌^◌, ◌<◌, false, map, Some, None, IfOk, IfErr, IfSome};
+ghost use Rattle.std.specs.Prelude.{◌≡◌, ◌-◌, ◌^◌, ◌<◌, map, nat_eq, position, Some, None, IfOk, IfErr, IfSome};
 ghost use Rattle.share_base.specs.Refusal.{IsRefused};
 ghost use Rattle.share_model.specs.funding.Changes.{with_holder, make_currency_refusal, make_currency};
 ghost use Rattle.share_model.specs.funding.Changes.{remove_currency_refusal, remove_currency, make_ticket_refusal};
@@ -7,6 +7,7 @@ ghost use Rattle.share_model.specs.funding.Changes.{make_ticket, remove_ticket_r
 ghost use Rattle.share_model.specs.funding.Changes.{fund_currency_refusal, fund_currency, fund_flow_refusal, fund_flow};
 ghost use Rattle.share_model.specs.funding.Changes.{unfund_refusal, unfund, add_flow_refusal, add_flow, released};
 ghost use Rattle.share_model.specs.funding.Changes.{remove_flow, set_active};
+ghost use Rattle.share_model.specs.declared.funding.OpenFlow.{OpenFlow};
 ghost use Rattle.share_model.specs.funding.Kept.{IsKept};
 ghost use Rattle.share_ledger.specs.Levels.{AreBacking};
 ghost use Rattle.share_ledger.specs.Seats.{AreSeated, funds_of};
@@ -190,20 +191,22 @@ impl Tables {
         }
     }
 
-    /// Makes a flow active or idle, and says whether it was not so before.
-    pub(crate) fn set_active(&mut self, flow: FlowNo, active: bool) -> bool
+    /// Makes a flow active or idle, and gives its place where it was not so before.
+    pub(crate) fn set_active(&mut self, flow: FlowNo, active: bool) -> Option<usize>
         ensures change { self.new ≡ set_active self.old flow active }
-        ensures still { result ≡ false → self.new ≡ self.old }
+        ensures still { result ≡ None → self.new ≡ self.old }
+        ensures place { IfSome result (λ place. position (λ (o : OpenFlow). nat_eq flow o.number)
+            (map (λ e. e.1) self.old.flows) ≡ Some place) }
     {
         self.is_kept();
         if let Some(place) = self.place_of_flow(flow) {
             if let Some(open) = self.flows.get_index_mut(place) {
                 let news = open.active != active;
                 open.active = active;
-                return news;
+                return news.then_some(place);
             }
         }
-        false
+        None
     }
 }
 

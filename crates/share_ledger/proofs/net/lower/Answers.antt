@@ -5,5 +5,5 @@ use Rattle.share_ledger.proofs.net.lower.Goals as goal
 pub overflow_sub-weights : goal.overflow_sub-weights
 overflow_sub-weights c =
     lower-fits c.args.seats.now c.loop-seat.seat-index _ (numbers_of c.args.weights.now)
-    (numbers_of c.loop-seat.weights) c.from.result c.requires.within c.loop-seat-test.true
-    c.requires.held c.loop-seat.invariant.lowered c.from.ensures
+    (numbers_of c.loop-seat.weights) c.requires.within c.loop-seat-test.true
+    c.requires.held c.loop-seat.invariant.lowered

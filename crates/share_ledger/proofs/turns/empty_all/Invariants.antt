@@ -4,6 +4,8 @@ use Rattle.share_ledger.proofs.turns.empty_all.Given as goal
 
 abbrev pub invariant-loop-place : goal.invariant-loop-place
 invariant-loop-place l = record {
-  places : length l.numbers ≡ 65;
-  emptied : (k : ℕ) → k < l.place → numbers_of l.numbers k ≡ 0;
+  weights_long : length l.weights ≡ 65;
+  values_long : length l.values ≡ 65;
+  no_weights : (k : ℕ) → k < l.place → numbers_of l.weights k ≡ 0;
+  no_values : (k : ℕ) → k < l.place → numbers_of l.values k ≡ 0;
 }

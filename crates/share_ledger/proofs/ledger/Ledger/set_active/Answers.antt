@@ -1,4 +1,4 @@
-use Rattle.std.proofs.Common.{◌≡◌, ◌∙◌, cond, nat_eq, sym, subst}
+use Rattle.std.proofs.Common.{◌≡◌, cond, nat_eq, sym, subst}
 use Rattle.share_model.specs.funding.Graph.{Graph}
 use Rattle.share_ledger.specs.Nets.{activity_of, IsReady}
 use Rattle.share_ledger.specs.Rounds.{flags_of}
@@ -10,7 +10,7 @@ pub set_active-requires-in-Some-clause-place : goal.set_active-requires-in-Some-
 set_active-requires-in-Some-clause-place c =
     let kept = c.self.inside.kept in
     turned-below c.self.inside.tables c.is_kept.ensures kept.net kept.shares.value c.args.flow c.args.active
-    c.in-Some.place (sym c.place_of_flow-place.ensures ∙ c.in-Some.is)
+    c.in-Some.place c.in-Some.ensures.place
 
 pub set_active-requires-in-Some-clause-ready : goal.set_active-requires-in-Some-clause-ready
 set_active-requires-in-Some-clause-ready c = λ e.
@@ -19,7 +19,7 @@ set_active-requires-in-Some-clause-ready c = λ e.
     (λ (g : Graph). IsReady kept.net kept.shares.value (backs_of g) (funds_of g) (flags_of kept.net.active.value))
     (sym c.set_active.ensures.change)
     (turned-ready c.self.inside.tables c.is_kept.ensures kept.net kept.shares.value c.args.flow c.args.active
-    c.in-Some.place (sym c.place_of_flow-place.ensures ∙ c.in-Some.is) (c.self.invariant.net_ready e))
+    c.in-Some.place c.in-Some.ensures.place (c.self.invariant.net_ready e))
 
 pub set_active-requires-in-Some-clause-turned : goal.set_active-requires-in-Some-clause-turned
 set_active-requires-in-Some-clause-turned c = λ e k.
@@ -28,4 +28,4 @@ set_active-requires-in-Some-clause-turned c = λ e k.
     (λ (g : Graph). activity_of g k ≡ cond (nat_eq c.in-Some.place k) c.args.active (flags_of kept.net.active.value k))
     (sym c.set_active.ensures.change)
     (turned-activity c.self.inside.tables c.is_kept.ensures kept.net kept.shares.value c.args.flow c.args.active
-    c.in-Some.place (sym c.place_of_flow-place.ensures ∙ c.in-Some.is) (c.self.invariant.net_ready e) k)
+    c.in-Some.place c.in-Some.ensures.place (c.self.invariant.net_ready e) k)

@@ -1,4 +1,6 @@
-use Rattle.std.proofs.Common.{◌≡◌, map, nat_eq, Some, position, sym, ap, subst, ◌∙◌}
+use Rattle.std.proofs.Common.{◌≡◌, ℕ, Bool, true, false, map, nat_eq, None, Some, position, refl, sym, ap, subst}
+use Rattle.std.proofs.Common.{◌∙◌}
+use Rattle.std.specs.Bool.{then_some}
 use Rattle.std.proofs.lemmas.Option.{get_or_from_slice_get}
 use Rattle.share_model.specs.declared.funding.OpenFlow.{OpenFlow}
 use Rattle.share_model.specs.funding.Graph.{NameBytes, Graph}
@@ -68,6 +70,11 @@ returns-in_default-clause-change c =
     ap (λ es. record c.args.self.now { flows = es })
     (sym (changed-none (is_open_as c.args.flow) (active_as c.args.active) c.args.self.now.flows none))
 
+-- a place is given where the activity is news
+still-so : (news : Bool) (place : ℕ) → then_some news place ≡ None → news ≡ false
+still-so true place e = cc
+still-so false place e = refl
+
 pub returns-in-Some-get_index_mut-clause-still : goal.returns-in-Some-get_index_mut-clause-still
 returns-in-Some-get_index_mut-clause-still c = λ still.
     let tables =
@@ -88,5 +95,7 @@ returns-in-Some-get_index_mut-clause-still c = λ still.
     in
     ap (λ es. record tables { flows = es })
     (activity-left c.self.inside.flows.entries c.in-Some.place c.in-Some-get_index_mut.open.now (is_open_as c.args.flow)
-    c.args.active first source (stands-so c.in-Some-get_index_mut.open.now.active c.args.active still))
+    c.args.active first source
+    (stands-so c.in-Some-get_index_mut.open.now.active c.args.active
+    (still-so _ _ (sym c.then_some.ensures ∙ still))))
     ∙ c.self.view_is

@@ -1,15 +1,15 @@
 -- What the calls of a worker come to, call after call: those of its gate, and the turns of its reader.
-use Rattle.std.proofs.Common.{◌≡◌, inl, inr, ℕ, ◌+◌, ◌-◌, true, length, Option, None, Some, IfSome}
+use Rattle.std.proofs.Common.{◌≡◌, inl, inr, ℕ, suc, ◌+◌, ◌-◌, Bool, true, length, Option, None, Some, IfSome}
 use Rattle.std.proofs.Common.{List, arith, refl, sym, ap, ◌∙◌, subst}
 use Rattle.std.proofs.lemmas.List.{length-append}
 use Rattle.share_model.specs.declared.ingress.Ended.{Ended}
 use Rattle.share_model.specs.declared.reader.Got.{Got}
 use Rattle.share_model.specs.io.Calls.{Reads, no_reads}
 use Rattle.share_model.specs.io.CallsLaws.{reads_more}
-use Rattle.share_ingress.specs.Ends.{EndView, with_offer}
+use Rattle.share_ingress.specs.Ends.{EndView, with_offer, raised, raises, CameBack}
 use Rattle.share_ingress.specs.GateCalls.{GateCall, item_next, item_queued, queue_full}
 use Rattle.share_ingress.specs.Gates.{WasFull, not_again, once_again, Waits, Drops, Queueing, none_queued, one_queued}
-use Rattle.share_ingress.specs.Gates.{Spends, EndsNow, DropsNext, Finishes, Ran}
+use Rattle.share_ingress.specs.Gates.{Spends, EndsNow, DropsNext, Finishes, Ran, Refuses, MayDrop}
 use Rattle.share_ingress.specs.Reader.{Reading, GoesOn, Stands, Answers}
 use Rattle.share_ingress.specs.declared.reader.Next.TheVariants.{Ended as Answered}
 use Rattle.share_ingress.specs.declared.workers.Why.{Why}
@@ -17,20 +17,59 @@ use Rattle.share_ingress.specs.declared.workers.Why.TheVariants.{Ended as Over, 
 
 -- Rounds on a full queue
 
-module _ {G : Type 0} (told : G → GateCall → G → Type 0) where
-  pub waits_none : (e : EndView) (turns : ℕ) (g : G) → Waits told e turns g turns g
-  waits_none e turns g = record { rounds = 0; again = not_again; spent = omega arith }
+-- an offer that came back left its end as it was, but for the count
+pub refused_more : (e old new : EndView) → old ≡ record e { refused = old.refused } → CameBack old new
+    → new ≡ record e { refused = new.refused }
+refused_more e old new same (inl all) =
+    all.1 ∙ same ∙ ap (λ n. record e { refused = n }) (sym (ap (λ (d : EndView). d.refused) all.1))
+refused_more e old new same (inr full) =
+    full.0 ∙ ap (λ (d : EndView). record d { refused = raised old.refused }) same
+    ∙ ap (λ n. record e { refused = n }) (sym (ap (λ (d : EndView). d.refused) full.0))
 
-  pub waits_more : (e new : EndView) (turns left now : ℕ) (first before after : G)
-      → Waits told e turns first left before → WasFull e → told before (queue_full true) after → new ≡ e
-      → now + 1 ≡ left → Waits told new turns first now after
-  waits_more e new turns left now first before after waits full asked same spent =
-      subst (λ (d : EndView). Waits told d turns first now after) (sym same)
-      (record {
-        rounds = waits.rounds + 1;
-        again = once_again waits.rounds before after waits.again full asked;
-        spent = omega (arith, waits.spent, spent);
-      })
+pub was_full : (e old new : EndView) → old ≡ record e { refused = old.refused } → CameBack old new → WasFull e
+was_full e old new same (inl all) = inl (ap (λ (d : EndView). length d.pushed) (sym same) ∙ all.0)
+was_full e old new same (inr full) = subst (λ (d : EndView). WasFull d) same (inr full.1)
+
+-- and was counted
+pub came_back : (e old new : EndView) (rounds : ℕ) → old ≡ record e { refused = old.refused }
+    → Refuses e rounds old.refused → CameBack old new → Refuses e (rounds + 1) new.refused
+came_back e old new rounds same asked (inl all) = inl (ap (λ (d : EndView). length d.pushed) (sym same) ∙ all.0)
+came_back e old new rounds same (inl most) (inr full) = inl most
+came_back e old new rounds same (inr counted) (inr full) =
+    let next : suc rounds ≡ rounds + 1 = omega arith in
+    inr (ap (λ (d : EndView). d.refused) full.0 ∙ ap raised counted ∙ ap (λ n. raises e.refused n) next)
+
+module _ {G : Type 0} (told : G → GateCall → G → Type 0) where
+  pub waits_none : (e : EndView) (turns : ℕ) (g : G) → Waits told e turns g turns e.refused g
+  waits_none e turns g = record { rounds = 0; again = not_again; spent = omega arith; came_back = inr refl }
+
+  module _ (e old new : EndView) (turns left : ℕ) (first before after : G)
+      (same : old ≡ record e { refused = old.refused }) (waits : Waits told e turns first left old.refused before)
+      (back : CameBack old new) where
+    pub waits_more : (now : ℕ) → told before (queue_full true) after → now + 1 ≡ left
+        → Waits told e turns first now new.refused after
+    waits_more now asked spent =
+        record {
+          rounds = waits.rounds + 1;
+          again = once_again waits.rounds before after waits.again (was_full e old new same back) asked;
+          spent = omega (arith, waits.spent, spent);
+          came_back = came_back e old new waits.rounds same waits.came_back back;
+        }
+
+    pub drops : (now : ℕ) (why : Why) (again : Bool) → now ≡ left → told before (queue_full again) after
+        → MayDrop why again left → Drops told e turns first now new.refused why after
+    drops now why again turned asked reason =
+        subst (λ l. Drops told e turns first l new.refused why after) (sym turned)
+        (record {
+          asked = before;
+          earlier = old.refused;
+          waits = waits;
+          full = was_full e old new same back;
+          came_back = came_back e old new waits.rounds same waits.came_back back;
+          again = again;
+          answered = asked;
+          reason = reason;
+        })
 
 -- A worker at work: the items that were queued, and what they took
 
@@ -80,8 +119,8 @@ module _ {R G : Type 0} (gives : R → List ℕ → Got → R → Type 0) (told 
 
       -- and queued
       pub running_more : (after : Reading R) (waited last : G) (done : EndView) (name payload : List ℕ)
-          → after ≡ record new { turns = after.turns } → Waits told e new.turns asked after.turns waited
-          → told waited (item_queued n) last → done ≡ with_offer e name payload
+          → after ≡ record new { turns = after.turns } → Waits told e new.turns asked after.turns done.refused waited
+          → told waited (item_queued n) last → done ≡ record (with_offer e name payload) { refused = done.refused }
           → Running gives told reader start gate after done last
       running_more after waited last done name payload turned waits queued put =
           let spent = read_more new calls in
@@ -91,8 +130,8 @@ module _ {R G : Type 0} (gives : R → List ℕ → Got → R → Type 0) (told 
             rounds = f.rounds + waits.rounds;
             queued = subst (λ (d : EndView). Queueing told start gate (f.items + 1) (f.rounds + waits.rounds) d last)
                 (sym put)
-                (one_queued f.items f.rounds waits.rounds e name payload g asked waited last f.queued told_next
-                waits.again (let P : ℕ → Type 0 = λ i. told waited (item_queued i) last in subst P n_items queued));
+                (one_queued f.items f.rounds waits.rounds done.refused e name payload g asked waited last f.queued told_next
+                waits.again waits.came_back (let P : ℕ → Type 0 = λ i. told waited (item_queued i) last in subst P n_items queued));
             spent = record {
               count = spent.count;
               reads = subst (λ r. Reads gives reader.reader spent.count r) (sym same) spent.reads;
@@ -102,31 +141,32 @@ module _ {R G : Type 0} (gives : R → List ℕ → Got → R → Type 0) (told 
           }
 
       module _ (left : Reading R) (unread : left ≡ record new { turns = left.turns }) where
-        drops_next : (why : Why) (last : G) → Drops told e new.turns asked left.turns why last
-            → DropsNext gives told (f.items + 1) e new why g last left
-        drops_next why last dropped =
-            record { asked = asked; next = told_next; dropped = dropped; unread = unread }
+        drops_next : (why : Why) (done : EndView) (last : G) → Drops told e new.turns asked left.turns done.refused why last
+            → done ≡ record e { refused = done.refused } → DropsNext gives told (f.items + 1) e new why g done last left
+        drops_next why done last dropped same =
+            record { asked = asked; next = told_next; dropped = dropped; same = same; unread = unread }
 
-        finishes : (why : Why) (last : G) → Drops told e new.turns asked left.turns why last
-            → Finishes gives told (f.items + 1) e new g why last left
-        finishes (Over over) last dropped = inr (drops_next (Over over) last dropped)
-        finishes Stopped last dropped = drops_next Stopped last dropped
-        finishes NotStarted last dropped = absurd dropped.reason
+        finishes : (why : Why) (done : EndView) (last : G) → Drops told e new.turns asked left.turns done.refused why last
+            → done ≡ record e { refused = done.refused } → Finishes gives told (f.items + 1) e new g why done last left
+        finishes (Over over) done last dropped same = inr (drops_next (Over over) done last dropped same)
+        finishes Stopped done last dropped same = drops_next Stopped done last dropped same
+        finishes NotStarted done last dropped same = absurd dropped.reason
 
         -- and dropped
         pub ran_dropped : (why : Why) (last : G) (done : EndView)
-            → Drops told e new.turns asked left.turns why last → done ≡ e
+            → Drops told e new.turns asked left.turns done.refused why last → done ≡ record e { refused = done.refused }
             → Ran gives told reader start gate (n - 1) why done last left
         ran_dropped why last done dropped same =
             let one_less : n - 1 ≡ f.items = omega (arith, n_items) in
-            rw (same, one_less)
+            rw one_less
             (record {
               rounds = f.rounds;
               now = new;
               asked = g;
+              before = e;
               queued = f.queued;
               spent = read_more new calls;
-              finished = finishes why last dropped;
+              finished = finishes why done last dropped same;
             })
 
     ends_by : (o : Option Ended) (new : Reading R) (over : Ended) (left : R → Option (List ℕ)) → now.ended ≡ o
@@ -150,7 +190,8 @@ module _ {R G : Type 0} (gives : R → List ℕ → Got → R → Type 0) (told 
           rounds = f.rounds;
           now = now;
           asked = g;
+          before = e;
           queued = f.queued;
           spent = f.spent;
-          finished = inl (ends_by now.ended new over left refl again once stands, refl);
+          finished = inl (ends_by now.ended new over left refl again once stands, refl, refl);
         })

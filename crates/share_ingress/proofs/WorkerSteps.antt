@@ -45,17 +45,19 @@ each_last : (items : List Item) (i : Item) → Each IsItem items → IsItem i �
 each_last [] i all good = (good, tt)
 each_last (j ∷ items) i all good = (all.0, each_last items i all.1 good)
 
-abbrev queue_items : EndView → List Item → EndView
-queue_items e items = record e { pushed = e.pushed ++ offers_of e.worker (length e.pushed) items }
+abbrev queue_items : EndView → List Item → ℕ → EndView
+queue_items e items refused =
+    record e { pushed = e.pushed ++ offers_of e.worker (length e.pushed) items; refused = refused }
 
 -- one more item is queued
-queue_more : (e : EndView) (items : List Item) (i : Item) → with_offer (queue_items e items) i.name i.payload
-    ≡ queue_items e (items ++ i ∷ [])
-queue_more e items i =
+queue_more : (e : EndView) (items : List Item) (i : Item) (old new : ℕ)
+    → record (with_offer (queue_items e items old) i.name i.payload) { refused = new }
+    ≡ queue_items e (items ++ i ∷ []) new
+queue_more e items i old new =
     let queued = offers_of e.worker (length e.pushed) items in
     let long : length (e.pushed ++ queued) ≡ length e.pushed + length items =
     length-append e.pushed queued ∙ ap (λ n. length e.pushed + n) (offers_length e.worker (length e.pushed) items) in
-    ap (λ (p : List _). record e { pushed = p })
+    ap (λ (p : List _). record e { pushed = p; refused = new })
     (ap (λ n. e.pushed ++ queued ++ offer e.worker (suc n) i.name i.payload ∷ []) long
     ∙ append_assoc e.pushed queued _
     ∙ ap (λ t. e.pushed ++ t) (sym (offers_snoc e.worker (length e.pushed) items i)))
@@ -112,8 +114,8 @@ pub record Working {R : Type 0} (left : R → Option (List ℕ)) (first now : Re
     pub items : List Item
     pub good : Each IsItem items
     pub queued : after ≡ record before {
-      pushed = before.pushed ++ offers_of before.worker (length before.pushed)
-          items;
+      pushed = before.pushed ++ offers_of before.worker (length before.pushed) items;
+      refused = after.refused;
     }
     pub long : length after.pushed ≡ length before.pushed + length items
     pub taken : Consumes (left_of left first) (left_of left now) (records_of items)
@@ -185,10 +187,13 @@ module _ {R : Type 0} (gives : R → List ℕ → Got → R → Type 0) (left : 
     taken_after = subst (λ (r : Reading R). Consumes (left_of left now) (left_of left r) (record_of item)) (sym
         turned) takes.taken
 
-    pub working_more : done ≡ with_offer after item.name item.payload → Working left first after_it before done
+    pub working_more : done ≡ record (with_offer after item.name item.payload) { refused = done.refused }
+        → Working left first after_it before done
     working_more put =
-        let all : done ≡ queue_items before (f.items ++ item ∷ []) =
-        put ∙ ap (λ e. with_offer e item.name item.payload) f.queued ∙ queue_more before f.items item in
+        let all : done ≡ queue_items before (f.items ++ item ∷ []) done.refused =
+        put
+        ∙ ap (λ e. record (with_offer e item.name item.payload) { refused = done.refused }) f.queued
+        ∙ queue_more before f.items item after.refused done.refused in
         record {
           items = f.items ++ item ∷ [];
           good = each_last f.items item f.good takes.good;
@@ -200,7 +205,8 @@ module _ {R : Type 0} (gives : R → List ℕ → Got → R → Type 0) (left : 
           taken = consumes_more _ _ _ f.items item f.taken taken_after;
         }
 
-    pub worked_dropped : (why : Why) (again : Bool) (turns tally : ℕ) → done ≡ after → MayDrop why again turns
+    pub worked_dropped : (why : Why) (again : Bool) (turns tally : ℕ)
+        → done ≡ record after { refused = done.refused } → MayDrop why again turns
         → tally ≡ length after.pushed - length before.pushed → Worked (left_of left first) before done tally why
     worked_dropped (Over End) again turns tally same dropped counted = absurd dropped
     worked_dropped (Over Cut) again turns tally same dropped counted = absurd dropped
@@ -211,14 +217,14 @@ module _ {R : Type 0} (gives : R → List ℕ → Got → R → Type 0) (left : 
         record {
           items = f.items;
           counted = omega (arith, f.long, counted);
-          queued = same ∙ f.queued;
+          queued = same ∙ ap (λ (e : EndView). record e { refused = done.refused }) f.queued;
           told = bound_told _ _ f.items f.good f.taken;
         }
     worked_dropped Stopped again turns tally same dropped counted =
         record {
           items = f.items;
           counted = omega (arith, f.long, counted);
-          queued = same ∙ f.queued;
+          queued = same ∙ ap (λ (e : EndView). record e { refused = done.refused }) f.queued;
           told = stopped_told _ _ _ f.items item (each_last f.items item f.good takes.good) f.taken takes.taken;
         }
     worked_dropped NotStarted again turns tally same dropped counted = absurd dropped

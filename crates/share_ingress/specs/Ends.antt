@@ -1,6 +1,6 @@
 -- What a contract sees of the two sides of the queue, and what their calls do.
 use Rattle.std.specs.Prelude.{◌≡◌, ◌⊎◌, ◌^◌, ℕ, suc, zero, Bool, false, not, ◌&&◌, ◌||◌, nat_le, List, [], ◌∷◌}
-use Rattle.std.specs.Prelude.{◌++◌, length, Option}
+use Rattle.std.specs.Prelude.{◌++◌, ◌+◌, ◌-◌, length, min, Option}
 use Rattle.atomic_table.specs.Seated.{TableId}
 use Rattle.crossbeam_queue.specs.Fifo.{Held}
 use Rattle.share_base.specs.declared.refusal.Refusal.{Refusal}
@@ -11,21 +11,32 @@ use Rattle.share_model.specs.ingress.Queue.{offer, of_worker, has, Begins, IsWor
 use Rattle.share_ingress.specs.declared.ends.Offered.{Offered}
 use Rattle.share_ingress.specs.declared.ends.Offered.TheVariants.{Queued, Full}
 
--- the queue by its name, how many offers it holds at most, the worker, and what this end pushed
+-- the queue by its name, how many offers it holds at most, the worker, what this end pushed, and how many of its offers
+-- a full queue refused
 pub record EndView : Type 0 where
   pub link : TableId
   pub capacity : ℕ
   pub worker : ℕ
   pub pushed : List Offer
+  pub refused : ℕ
 
 -- the queue by its name, how many workers it has, what was popped, what it held just after the last pop, and the
--- workers whose ends were joined to the intake
+-- workers whose ends were joined to the intake, and how many pops found none
 pub record IntakeView : Type 0 where
   pub link : TableId
   pub workers : ℕ
   pub popped : List Offer
   pub ahead : List Offer
   pub closed : List ℕ
+  pub missed : ℕ
+
+-- a count, once more: it stays where a word has no greater number
+abbrev pub raised : ℕ → ℕ
+raised n = min (n + 1) (2 ^ 64 - 1)
+
+abbrev pub raises : ℕ → ℕ → ℕ
+raises n zero = n
+raises n (suc k) = raised (raises n k)
 
 -- A new queue
 
@@ -38,7 +49,13 @@ queue_refusal capacity workers =
     first_refusal ((is_out_of_range 1024 capacity || is_out_of_range 2 workers, Range) ∷ [])
 
 abbrev pub new_end : TableId → ℕ → ℕ → EndView
-new_end link capacity worker = record { link = link; capacity = capacity; worker = worker; pushed = [] }
+new_end link capacity worker = record {
+  link = link;
+  capacity = capacity;
+  worker = worker;
+  pushed = [];
+  refused = 0;
+}
 
 -- the ends of the workers, numbered from 1
 abbrev pub new_ends : TableId → ℕ → ℕ → List EndView
@@ -46,7 +63,14 @@ new_ends link capacity zero = []
 new_ends link capacity (suc n) = new_ends link capacity n ++ new_end link capacity (suc n) ∷ []
 
 abbrev pub new_intake : TableId → ℕ → IntakeView
-new_intake link workers = record { link = link; workers = workers; popped = []; ahead = []; closed = [] }
+new_intake link workers = record {
+  link = link;
+  workers = workers;
+  popped = [];
+  ahead = [];
+  closed = [];
+  missed = 0;
+}
 
 -- What a call did
 
@@ -54,13 +78,26 @@ abbrev pub with_offer : EndView → List ℕ → List ℕ → EndView
 with_offer e name parcel =
     record e { pushed = e.pushed ++ offer e.worker (suc (length e.pushed)) name parcel ∷ [] }
 
--- it was queued as the next offer of this worker; or it came back, where the queue was full at some moment, with what
--- it held of this worker the last of what this end pushed, or where the end has pushed 2^40
+-- one more offer came back
+abbrev pub with_refusal : EndView → EndView
+with_refusal e = record e { refused = raised e.refused }
+
+-- one more pop found none
+abbrev pub with_miss : IntakeView → IntakeView
+with_miss i = record i { missed = raised i.missed }
+
+-- an offer came back: the queue was full at some moment, with what it held of this worker the last of what this end
+-- pushed, and that is counted; or the end has pushed 2^40, and the queue was not asked
+abbrev pub CameBack : EndView → EndView → Type 0
+CameBack old new =
+    ((length old.pushed ≡ 2 ^ 40) × (new ≡ old))
+    ⊎ ((new ≡ with_refusal old)
+    × Held old.capacity (λ items. (before : List Offer) × (old.pushed ≡ before ++ of_worker old.worker items)))
+
+-- it was queued as the next offer of this worker, or came back
 abbrev pub Offers : EndView → List ℕ → List ℕ → Offered → EndView → Type 0
 Offers old name parcel (Queued n) new = (n ≡ suc (length old.pushed)) × (new ≡ with_offer old name parcel)
-Offers old name parcel (Full back) new =
-    (back ≡ parcel) × (new ≡ old) × ((length old.pushed ≡ 2 ^ 40)
-    ⊎ Held old.capacity (λ items. (before : List Offer) × (old.pushed ≡ before ++ of_worker old.worker items)))
+Offers old name parcel (Full back) new = (back ≡ parcel) × CameBack old new
 
 -- the first of what was ahead was popped: from a worker of the queue that is not closed, with its next number
 pub record IsTake (old : IntakeView) (o : Offer) (new : IntakeView) : Type 0 where

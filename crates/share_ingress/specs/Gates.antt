@@ -8,7 +8,7 @@ use Rattle.share_model.specs.declared.ingress.Offer.{Offer}
 use Rattle.share_model.specs.declared.reader.Got.{Got}
 use Rattle.share_model.specs.ingress.Queue.{of_worker}
 use Rattle.share_model.specs.io.Calls.{Reads}
-use Rattle.share_ingress.specs.Ends.{EndView, with_offer}
+use Rattle.share_ingress.specs.Ends.{EndView, with_offer, raises}
 use Rattle.share_ingress.specs.GateCalls.{GateCall, item_next, item_queued, queue_full}
 use Rattle.share_ingress.specs.Reader.{Reading, EndsBy, Stands}
 use Rattle.share_ingress.specs.declared.workers.Why.{Why}
@@ -28,12 +28,17 @@ pub data Again {G : Type 0} (told : G → GateCall → G → Type 0) (e : EndVie
   once_again : (n : ℕ) (before after : G) → Again told e first n before → WasFull e
       → told before (queue_full true) after → Again told e first (n + 1) after
 
--- the same, each time for one of these turns
+-- the end's count tells that so many of its offers came back, where the queue was asked
+abbrev pub Refuses : EndView → ℕ → ℕ → Type 0
+Refuses e rounds refused = (length e.pushed ≡ 2 ^ 40) ⊎ (refused ≡ raises e.refused rounds)
+
+-- the same, each time for one of these turns, and for one offer that came back
 pub record Waits {G : Type 0} (told : G → GateCall → G → Type 0) (e : EndView) (turns : ℕ) (first : G) (left : ℕ)
-    (last : G) : Type 0 where
+    (refused : ℕ) (last : G) : Type 0 where
   pub rounds : ℕ
   pub again : Again told e first rounds last
   pub spent : rounds + left ≡ turns
+  pub came_back : Refuses e rounds refused
 
 -- the gate stopped the worker; or the item was to be offered again, and no turn was left
 abbrev pub MayDrop : Why → Bool → ℕ → Type 0
@@ -48,23 +53,26 @@ MayDrop NotStarted again left = ⊥
 
 -- an item was offered for some of these turns, and dropped when the queue was full once more
 pub record Drops {G : Type 0} (told : G → GateCall → G → Type 0) (e : EndView) (turns : ℕ) (first : G) (left : ℕ)
-    (why : Why) (last : G) : Type 0 where
+    (refused : ℕ) (why : Why) (last : G) : Type 0 where
   pub asked : G
-  pub waits : Waits told e turns first left asked
+  pub earlier : ℕ
+  pub waits : Waits told e turns first left earlier asked
   pub full : WasFull e
+  pub came_back : Refuses e (waits.rounds + 1) refused
   pub again : Bool
   pub answered : told asked (queue_full again) last
   pub reason : MayDrop why again left
 
 -- so many items were queued, one after the other: the gate was told before each was offered and once it was queued,
--- and between these as often as the queue was full, so many times in all
+-- and between these once for each of its offers that came back, so many times in all
 pub data Queueing {G : Type 0} (told : G → GateCall → G → Type 0) (start : EndView) (first : G)
     : ℕ → ℕ → EndView → G → Type 0 where
   none_queued : Queueing told start first 0 0 start first
-  one_queued : (items rounds more : ℕ) (e : EndView) (name payload : List ℕ) (before asked waited after : G)
+  one_queued : (items rounds more refused : ℕ) (e : EndView) (name payload : List ℕ) (before asked waited after : G)
       → Queueing told start first items rounds e before → told before (item_next (items + 1)) asked
-      → Again told e asked more waited → told waited (item_queued (items + 1)) after
-      → Queueing told start first (items + 1) (rounds + more) (with_offer e name payload) after
+      → Again told e asked more waited → Refuses e more refused → told waited (item_queued (items + 1)) after
+      → Queueing told start first (items + 1) (rounds + more)
+      (record (with_offer e name payload) { refused = refused }) after
 
 -- The work of a worker
 
@@ -83,19 +91,21 @@ EndsNow gives now over left =
 
 module _ {R G : Type 0} (gives : R → List ℕ → Got → R → Type 0) (told : G → GateCall → G → Type 0) where
   -- the item with this number was the next one, and was dropped; nothing was read after it
-  pub record DropsNext (n : ℕ) (e : EndView) (now : Reading R) (why : Why) (first last : G) (left : Reading R)
-      : Type 0 where
+  pub record DropsNext (n : ℕ) (e : EndView) (now : Reading R) (why : Why) (first : G) (end : EndView) (last : G)
+      (left : Reading R) : Type 0 where
     pub asked : G
     pub next : told first (item_next n) asked
-    pub dropped : Drops told e now.turns asked left.turns why last
+    pub dropped : Drops told e now.turns asked left.turns end.refused why last
+    pub same : end ≡ record e { refused = end.refused }
     pub unread : left ≡ record now { turns = left.turns }
 
   -- after the items that were queued the reader ended, and the gate got no more calls; or one more item was dropped
-  abbrev pub Finishes : ℕ → EndView → Reading R → G → Why → G → Reading R → Type 0
-  Finishes n e now first (Over over) last left =
-      (EndsNow gives now over left × (last ≡ first)) ⊎ DropsNext n e now (Over over) first last left
-  Finishes n e now first Stopped last left = DropsNext n e now Stopped first last left
-  Finishes n e now first NotStarted last left = ⊥
+  abbrev pub Finishes : ℕ → EndView → Reading R → G → Why → EndView → G → Reading R → Type 0
+  Finishes n e now first (Over over) end last left =
+      (EndsNow gives now over left × (end ≡ e) × (last ≡ first))
+      ⊎ DropsNext n e now (Over over) first end last left
+  Finishes n e now first Stopped end last left = DropsNext n e now Stopped first end last left
+  Finishes n e now first NotStarted end last left = ⊥
 
   -- a worker queued so many items, stopped for this reason and left its reader so: the calls of its reader and of its
   -- gate, and the turns that were spent
@@ -104,9 +114,10 @@ module _ {R G : Type 0} (gives : R → List ℕ → Got → R → Type 0) (told 
     pub rounds : ℕ
     pub now : Reading R
     pub asked : G
-    pub queued : Queueing told start gate tally rounds end asked
+    pub before : EndView
+    pub queued : Queueing told start gate tally rounds before asked
     pub spent : Spends gives reader rounds now
-    pub finished : Finishes (tally + 1) end now asked why last left
+    pub finished : Finishes (tally + 1) before now asked why end last left
 
   -- the same of a worker whose reader was dropped then
   abbrev pub RanOut : Reading R → EndView → G → ℕ → Why → EndView → G → Type 0

@@ -24,5 +24,8 @@ Queues bytes items NotStarted = items ≡ []
 pub record Worked (left : Option (List ℕ)) (before after : EndView) (tally : ℕ) (why : Why) : Type 0 where
   pub items : List Item
   pub counted : tally ≡ length items
-  pub queued : after ≡ record before { pushed = before.pushed ++ offers_of before.worker (length before.pushed) items }
+  pub queued : after ≡ record before {
+    pushed = before.pushed ++ offers_of before.worker (length before.pushed) items;
+    refused = after.refused;
+  }
   pub told : IfSome left (λ bytes. Queues bytes items why)

@@ -6,11 +6,13 @@ ghost use Rattle.share_base.specs.Refusal.{IsRefused};
 ghost use Rattle.share_model.specs.ingress.Queue.{an_intake, of_worker, Begins, IsWorker};
 ghost use Rattle.share_model.specs.lists.Each.{Each};
 ghost use Rattle.share_ingress.specs.Ends.{queue_refusal, new_end, new_ends, new_intake, Offers, IsTake};
+ghost use Rattle.share_ingress.specs.Ends.{with_miss};
 ghost use Rattle.share_ingress.specs.Ends.{is_out_of_range};
 
-use crate::held::{Beside, Ends, Line, Puts, Takes, Token};
+use crate::counted::Counted;
+use crate::held::{Beside, Ends, InOrder, Line, Puts, Takes, Token};
 use share_base::{Name, Parcel, Refusal};
-use share_model::Offer;
+use share_model::{Offer, QueueView};
 use std::alloc::{AllocError, Global};
 use std::marker::Model;
 use std::sync::{Arc, Wait};
@@ -34,11 +36,12 @@ pub enum Offered {
 }
 
 /// A worker's end of the queue, which alone queues this worker's offers. A contract sees the queue by its name, how
-/// many offers it holds at most, the worker, counted from 1, and what the end pushed.
+/// many offers it holds at most, the worker, counted from 1, what the end pushed, and how many of its offers a full
+/// queue refused, counted up to 2^64 - 1.
 #[derive(Drop)]
 pub struct IngressEnd {
     queue: Arc<Line, Global>,
-    token: Token,
+    token: Counted<Offer, QueueView>,
     worker: u64,
     count: u64,
 }
@@ -53,25 +56,27 @@ impl Model for IngressEnd {
     ghost Value = { EndView };
 
     ghost view = { λ e. record {
-      link = e.token.table_id;
+      link = e.token.pass.table_id;
       capacity = ruled_capacity (arc_value e.queue);
       worker = e.worker;
-      pushed = (known e.token).pushed;
+      pushed = (known e.token.pass).pushed;
+      refused = e.token.count;
     } };
 
     ghost invariant = { λ e.
-        IsPassOf (arc_value e.queue) e.token
-        × (known e.token ≡ an_end e.worker (known e.token).pushed)
-        × (e.count ≡ length (known e.token).pushed)
+        IsPassOf (arc_value e.queue) e.token.pass
+        × (known e.token.pass ≡ an_end e.worker (known e.token.pass).pushed)
+        × (e.count ≡ length (known e.token.pass).pushed)
         × (e.count ≤ 2 ^ 40) };
 }
 
 /// The link's side of the queue, which alone pops. A contract sees the queue by its name, how many workers it has, what
-/// was popped, what the queue held just after the last pop, and the workers whose ends were joined to the intake.
+/// was popped, what the queue held just after the last pop, the workers whose ends were joined to the intake, and how
+/// many pops found the queue empty, counted up to 2^64 - 1.
 #[derive(Drop)]
 pub struct Intake {
     queue: Arc<Line, Global>,
-    token: Token,
+    token: Counted<Offer, QueueView>,
     workers: u64,
 }
 
@@ -85,17 +90,19 @@ impl Model for Intake {
     ghost Value = { IntakeView };
 
     ghost view = { λ i. record {
-      link = i.token.table_id;
+      link = i.token.pass.table_id;
       workers = i.workers;
-      popped = (known i.token).popped;
-      ahead = (known i.token).ahead;
-      closed = (known i.token).closed;
+      popped = (known i.token.pass).popped;
+      ahead = (known i.token.pass).ahead;
+      closed = (known i.token.pass).closed;
+      missed = i.token.count;
     } };
 
     ghost invariant = { λ i.
-        IsPassOf (arc_value i.queue) i.token
-        × (known i.token
-        ≡ an_intake i.workers (known i.token).popped (known i.token).ahead (known i.token).closed) };
+        IsPassOf (arc_value i.queue) i.token.pass
+        × (known i.token.pass
+        ≡ an_intake i.workers (known i.token.pass).popped (known i.token.pass).ahead
+        (known i.token.pass).closed) };
 }
 
 /// A new queue of so many places, 1 to 1024, with an end for each of so many workers, 1 or 2, in their order. Refusals:
@@ -122,7 +129,7 @@ pub fn queue(
     }
     let intake = Intake {
         queue,
-        token,
+        token: Counted::new(token),
         workers: workers as u64,
     };
     Ok((intake, ends))
@@ -152,7 +159,7 @@ fn another_end(
     let own = queue.another::<Ends>(token);
     Ok(IngressEnd {
         queue: theirs,
-        token: own,
+        token: Counted::new(own),
         worker,
         count: 0,
     })
@@ -182,7 +189,7 @@ impl IngressEnd {
             name,
             parcel,
         };
-        match self.queue.push_as::<Puts, R>(rt, &mut self.token, offer) {
+        match self.token.push::<InOrder, Puts, R>(&self.queue, rt, offer) {
             Ok(()) => {
                 self.count += 1;
                 Offered::Queued(self.count)
@@ -200,9 +207,9 @@ impl Intake {
     /// and may spin while another thread is in the middle of a push.
     pub fn take<R: Wait>(&mut self, rt: &R) -> Option<Offer>
         ensures some { IfSome result (λ offer. IsTake self.old offer self.new) }
-        ensures none { IfNone result ((self.new ≡ self.old) × (self.old.ahead ≡ [])) }
+        ensures none { IfNone result ((self.new ≡ with_miss self.old) × (self.old.ahead ≡ [])) }
     {
-        self.queue.pop_as::<Takes, R>(rt, &mut self.token)
+        self.token.pop::<InOrder, Takes, R>(&self.queue, rt)
     }
 
     /// Lays an end of this queue beside the intake and gives it back: what was popped of its worker is, in order, the
@@ -218,9 +225,7 @@ impl Intake {
             worker,
             count,
         } = end;
-        self.queue.absorb::<Beside>(&mut self.token, token);
-        self.queue.learn_as::<Beside>(&mut self.token);
-        let token = self.queue.another::<Beside>(&mut self.token);
+        let token = self.token.beside::<InOrder, Beside>(&self.queue, token);
         IngressEnd {
             queue,
             token,

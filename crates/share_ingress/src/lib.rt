@@ -1,6 +1,7 @@
 //! The ingress side of a link: readers of records, the queue from the workers to the link, and the workers.
 #![tactic(auto)]
 
+mod counted;
 mod ends;
 mod held;
 mod laws;

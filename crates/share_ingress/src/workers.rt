@@ -114,11 +114,12 @@ fn put<T: Wait, R: Source, G: Gate>(
     parcel: Parcel,
 ) -> Result<(), Why>
     requires { reader.old.ended ≡ None }
-    ensures end { MatchResult result (λ _. end.new ≡ with_offer end.old name parcel)
-        (λ _. end.new ≡ end.old) }
+    ensures end { MatchResult result
+        (λ _. end.new ≡ record (with_offer end.old name parcel) { refused = end.new.refused })
+        (λ _. end.new ≡ record end.old { refused = end.new.refused }) }
     ensures gate { MatchResult result
-        (λ _. Waits G.told end.old reader.old.turns gate.old reader.new.turns gate.new)
-        (λ why. Drops G.told end.old reader.old.turns gate.old reader.new.turns why gate.new) }
+        (λ _. Waits G.told end.old reader.old.turns gate.old reader.new.turns end.new.refused gate.new)
+        (λ why. Drops G.told end.old reader.old.turns gate.old reader.new.turns end.new.refused why gate.new) }
     ensures reader { reader.new ≡ record reader.old { turns = reader.new.turns } }
 {
     let mut parcel = parcel;

@@ -1,21 +1,23 @@
-use Rattle.std.proofs.Common.{◌∙◌}
+use Rattle.std.proofs.Common.{refl}
 use Rattle.crossbeam_queue.specs.Passes.{view}
+use Rattle.share_model.specs.ingress.Queue.{a_host}
 use Rattle.share_ingress.proofs.Joins.{lays, compares, parts, front_of}
 use Rattle.share_ingress.proofs.ends.Intake.compare.Goals as goal
 
-pub absorb-requires-clause-rule : goal.absorb-requires-clause-rule
-absorb-requires-clause-rule c = lays _ (view c.self.inside.token) _ _ _ _ _ _ _ _ c.self.invariant.1 c.end.invariant.1 _
+pub beside-token-requires-clause-joins : goal.beside-token-requires-clause-joins
+beside-token-requires-clause-joins c =
+    lays _ (view c.self.inside.token.pass) _ _ _ _ _ _ _ _ c.self.invariant.1 c.end.invariant.1 _
 
-pub learn_as-requires-clause-rule : goal.learn_as-requires-clause-rule
-learn_as-requires-clause-rule c =
-    compares _ _ _ _ _ _ _ _ _ _ c.self.invariant.1 c.end.invariant.1 c.absorb.ensures.rule
+pub beside-token-requires-clause-learns : goal.beside-token-requires-clause-learns
+beside-token-requires-clause-learns c = compares _ _ _ _ _ _ _ _ _ _ c.self.invariant.1 c.end.invariant.1 refl
 
-pub another-token-requires-clause-rule : goal.another-token-requires-clause-rule
-another-token-requires-clause-rule c =
-    parts _ _ _ _ _ _ _ _ _ _ c.self.invariant.1 c.end.invariant.1 (c.learn_as.ensures.queue.1 ∙ c.absorb.ensures.rule)
+pub beside-token-requires-clause-parts : goal.beside-token-requires-clause-parts
+beside-token-requires-clause-parts c = parts _ _ _ _ _ _ _ _ _ _ c.self.invariant.1 c.end.invariant.1 refl
 
 pub returns-clause-front : goal.returns-clause-front
 returns-clause-front c =
+    let intake = view c.self.inside.token.pass in
+    let end = view c.end.inside.token.pass in
     rw (← c.self.view_is, ← c.end.view_is)
-    (front_of (view c.absorb.new.pass) (view c.self.inside.token) (view c.end.inside.token) _
-    c.learn_as.ensures.rule.0 c.absorb.ensures.rule c.end.invariant.1 c.learn_as.ensures.rule.1)
+    (front_of (a_host intake end) intake end _ c.beside-token.ensures.learned.0 refl c.end.invariant.1
+    c.beside-token.ensures.learned.1)

@@ -7,7 +7,7 @@ use crate::parcel::Body;
 use crate::refusal::Refusal;
 
 /// A change of the funding or of the flows.
-#[derive(Clone, Copy, Debug)]
+#[derive(Clone, Copy, Debug, PartialEq, Eq)]
 pub enum Command {
     /// Makes a currency.
     MakeCurrency(Name),

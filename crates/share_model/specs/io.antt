@@ -3,6 +3,8 @@ pub mod Calls
 pub mod CallsLaws
 pub mod Counts
 pub mod Given
+pub mod Patient
+pub mod PatientLaws
 pub mod Printing
 pub mod PrintingLaws
 pub mod Scripted

@@ -10,6 +10,7 @@ mod laws;
 mod line;
 mod link;
 mod output;
+mod patient;
 mod rates;
 mod reader;
 mod scripted;
@@ -29,6 +30,7 @@ pub use laws::{
 pub use line::{HolderKind, Line};
 pub use link::{Book, Counts, FlowLine, LinkState, Part, Row, Totals};
 pub use output::{NotWritten, put};
+pub use patient::PatientWriter;
 pub use rates::{Rate, Rates};
 pub use reader::{Got, PlainReader, Source};
 pub use scripted::Scripted;

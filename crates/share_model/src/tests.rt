@@ -1,5 +1,6 @@
 //! Readers and writers in use: what a tape holds, a script that is followed, and std's answers told on.
 
+mod patient;
 mod plain;
 
 use crate::{Answer, Got, PlainReader, PlainWriter, Scripted, Source, Tape, Telling};

@@ -1,29 +1,30 @@
 -- What a contract sees of the two sides of the queue, and what their calls do.
 use Rattle.std.specs.Prelude.{◌≡◌, ◌⊎◌, ◌^◌, ℕ, suc, zero, Bool, false, not, ◌&&◌, ◌||◌, nat_le, List, [], ◌∷◌}
 use Rattle.std.specs.Prelude.{◌++◌, ◌+◌, ◌-◌, length, min, Option}
-use Rattle.atomic_table.specs.Seated.{TableId}
 use Rattle.crossbeam_queue.specs.Fifo.{Held}
 use Rattle.share_base.specs.declared.refusal.Refusal.{Refusal}
 use Rattle.share_base.specs.declared.refusal.Refusal.TheVariants.{Range}
 use Rattle.share_base.specs.Refusal.{first_refusal}
 use Rattle.share_model.specs.declared.ingress.Offer.{Offer}
 use Rattle.share_model.specs.ingress.Queue.{offer, of_worker, has, Begins, IsWorker}
+use Rattle.share_ingress.specs.Names.{LinkName}
 use Rattle.share_ingress.specs.declared.ends.Offered.{Offered}
 use Rattle.share_ingress.specs.declared.ends.Offered.TheVariants.{Queued, Full}
 
 -- the queue by its name, how many offers it holds at most, the worker, what this end pushed, and how many of its offers
 -- a full queue refused
 pub record EndView : Type 0 where
-  pub link : TableId
+  pub link : LinkName
   pub capacity : ℕ
   pub worker : ℕ
   pub pushed : List Offer
   pub refused : ℕ
 
--- the queue by its name, how many workers it has, what was popped, what it held just after the last pop, and the
--- workers whose ends were joined to the intake, and how many pops found none
+-- the queue by its name, how many offers it holds at most, how many workers it has, what was popped, what it held just
+-- after the last pop, the workers whose ends were joined to the intake, and how many pops found none
 pub record IntakeView : Type 0 where
-  pub link : TableId
+  pub link : LinkName
+  pub capacity : ℕ
   pub workers : ℕ
   pub popped : List Offer
   pub ahead : List Offer
@@ -48,7 +49,7 @@ abbrev pub queue_refusal : ℕ → ℕ → Option Refusal
 queue_refusal capacity workers =
     first_refusal ((is_out_of_range 1024 capacity || is_out_of_range 2 workers, Range) ∷ [])
 
-abbrev pub new_end : TableId → ℕ → ℕ → EndView
+abbrev pub new_end : LinkName → ℕ → ℕ → EndView
 new_end link capacity worker = record {
   link = link;
   capacity = capacity;
@@ -58,13 +59,14 @@ new_end link capacity worker = record {
 }
 
 -- the ends of the workers, numbered from 1
-abbrev pub new_ends : TableId → ℕ → ℕ → List EndView
+abbrev pub new_ends : LinkName → ℕ → ℕ → List EndView
 new_ends link capacity zero = []
 new_ends link capacity (suc n) = new_ends link capacity n ++ new_end link capacity (suc n) ∷ []
 
-abbrev pub new_intake : TableId → ℕ → IntakeView
-new_intake link workers = record {
+abbrev pub new_intake : LinkName → ℕ → ℕ → IntakeView
+new_intake link capacity workers = record {
   link = link;
+  capacity = capacity;
   workers = workers;
   popped = [];
   ahead = [];

@@ -2,6 +2,7 @@ pub mod Ends
 pub mod Found
 pub mod GateCalls
 pub mod Gates
+pub mod Names
 pub mod Reader
 pub mod Streams
 pub mod Threads

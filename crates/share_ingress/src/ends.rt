@@ -70,9 +70,9 @@ impl Model for IngressEnd {
         × (e.count ≤ 2 ^ 40) };
 }
 
-/// The link's side of the queue, which alone pops. A contract sees the queue by its name, how many workers it has, what
-/// was popped, what the queue held just after the last pop, the workers whose ends were joined to the intake, and how
-/// many pops found the queue empty, counted up to 2^64 - 1.
+/// The link's side of the queue, which alone pops. A contract sees the queue by its name, how many offers it holds at
+/// most, how many workers it has, what was popped, what the queue held just after the last pop, the workers whose ends
+/// were joined to the intake, and how many pops found the queue empty, counted up to 2^64 - 1.
 #[derive(Drop)]
 pub struct Intake {
     queue: Arc<Line, Global>,
@@ -83,7 +83,7 @@ pub struct Intake {
 impl Model for Intake {
     ghost use Rattle.std.specs.Prelude.{◌≡◌};
     ghost use Rattle.std.specs.Arc.{arc_value};
-    ghost use Rattle.crossbeam_queue.specs.Passes.{view as known, IsPassOf};
+    ghost use Rattle.crossbeam_queue.specs.Passes.{view as known, IsPassOf, ruled_capacity};
     ghost use Rattle.share_model.specs.ingress.Queue.{an_intake};
     ghost use Rattle.share_ingress.specs.Ends.{IntakeView};
 
@@ -91,6 +91,7 @@ impl Model for Intake {
 
     ghost view = { λ i. record {
       link = i.token.pass.table_id;
+      capacity = ruled_capacity (arc_value i.queue);
       workers = i.workers;
       popped = (known i.token.pass).popped;
       ahead = (known i.token.pass).ahead;
@@ -112,10 +113,11 @@ pub fn queue(
     capacity: usize,
     workers: usize,
 ) -> Result<(Intake, Vec<IngressEnd>), Refusal>
-    ensures ok { IfOk result (λ made. (made.0 ≡ new_intake made.0.link workers)
+    ensures ok { IfOk result (λ made. (made.0 ≡ new_intake made.0.link capacity workers)
         × (made.1.items ≡ new_ends made.0.link capacity workers)
         × (queue_refusal capacity workers ≡ None)) }
     ensures workers { IfOk result (λ made. Each (λ e. IsWorker workers e.worker) made.1.items) }
+    ensures linked { IfOk result (λ made. Each (λ e. e.link ≡ made.0.link) made.1.items) }
     ensures refused { IfErr result (IsRefused (queue_refusal capacity workers)) }
 {
     if is_out_of_range(MAX_CAPACITY, capacity) || is_out_of_range(MAX_WORKERS, workers) {
@@ -203,6 +205,13 @@ impl IngressEnd {
 }
 
 impl Intake {
+    /// How many offers the queue holds at most.
+    pub fn capacity(&self) -> usize
+        ensures { result ≡ self.now.capacity }
+    {
+        self.queue.capacity()
+    }
+
     /// Takes the offer in front, or `None` where the queue was empty at some moment of the call. It takes no memory,
     /// and may spin while another thread is in the middle of a push.
     pub fn take<R: Wait>(&mut self, rt: &R) -> Option<Offer>

@@ -1,7 +1,7 @@
 -- The audit of a journal: how it is written, line by line, and what it comes to as a script.
 use Rattle.std.proofs.Common.{◌≡◌, ◌≤◌, ℕ, Bool, List, [], ◌∷◌, ◌++◌, map, Option}
 use Rattle.std.proofs.Common.{None, Some, sym, ◌∙◌, ap, subst, refl}
-use Rattle.std.specs.Prelude.{IfSome, flat_map}
+use Rattle.std.specs.Prelude.{IfSome, filter, flat_map, nat_lt}
 use Rattle.std.specs.Io.KnownBytes.{Appends}
 use Rattle.std.proofs.KnownBytes.{Appends-nil, Appends-trans}
 use Rattle.std.proofs.lemmas.List.{map-append, append-nil}
@@ -12,12 +12,15 @@ use Rattle.share_model.specs.io.PrintingLaws.{part_after, part_longer}
 use Rattle.share_model.specs.io.Told.{Told}
 use Rattle.share_model.specs.link.Seen.{Seen}
 use Rattle.share_model.specs.run.Ends.{TellsRun}
+use Rattle.share_model.specs.run.Events.{writes_in}
 use Rattle.share_model.specs.run.Fold.{State, run, out}
-use Rattle.share_model.specs.text.Audit.{event_line, written_line, IsAmple}
+use Rattle.share_model.specs.text.Audit.{event_line, written_line, audit, IsAmple}
 use Rattle.share_model.specs.text.AuditLaws.{lines-audit, audit-replays}
+use Rattle.share_model.specs.text.LackLaws.{FoundAll, talk-found}
+use Rattle.share_model.specs.text.Talk.{Progress, start, talk, lines_of, FoundMemory}
 use Rattle.share_model.specs.text.Texts.{line_text}
 use Rattle.share_journal.specs.declared.entry.Entry.{Entry}
-use Rattle.share_journal.specs.Entries.{events_of, writes_of}
+use Rattle.share_journal.specs.Entries.{events_of}
 use Rattle.share_journal.specs.Records.{IsRunNow}
 use Rattle.share_journal.specs.Replays.{IsReplayOf}
 
@@ -84,6 +87,11 @@ pub told_bytes : (o : Option Told) (ks : List ℕ) (s t : State) → s ≡ t →
 told_bytes None ks s t same tells = tt
 told_bytes (Some r) ks s t same tells = tells.bytes ∙ ap out (sym same)
 
+pub told_counts : (o : Option Told) (ks : List ℕ) (s : State) → IfSome o (TellsRun s ks)
+    → IfSome o (λ r. filter (nat_lt 0) r.counts ≡ ks)
+told_counts None ks s tells = tt
+told_counts (Some r) ks s tells = tells.counts
+
 pub replay : {W : Type 0} (told : W → Option Told) (link : Seen W) (entries : List Entry)
     → IsRunNow told link entries → (life : ℕ) (lacks : List Bool) → link.life ≤ life → IsAmple lacks
     → IsReplayOf told link entries life lacks
@@ -95,5 +103,21 @@ replay told link entries was life lacks longer ample =
       text = answers.text lacks ample ∙ ap (flat_map line_text) was.replies_are;
       state = state;
       live = ap (λ (s : State). s.live) state ∙ was.ends.live;
-      bytes = told_bytes (told link.writer) (writes_of entries) _ (run link.rates es) state was.tells;
+      bytes = told_bytes (told link.writer) (writes_in es) _ (run link.rates es) state was.tells;
+    }
+
+-- the same by the text that the audit is answered with, where no line of it says that memory was lacking
+pub replay_told : {W : Type 0} (told : W → Option Told) (link : Seen W) (entries : List Entry)
+    → IsRunNow told link entries → (life : ℕ) (lacks : List Bool) → link.life ≤ life
+    → FoundMemory (talk life link.rates start lacks (lines_of (audit (events_of entries))))
+    → IsReplayOf told link entries life lacks
+replay_told told link entries was life lacks longer found =
+    let all = talk-found life link.rates start lacks (lines_of (audit (events_of entries))) found in
+    let same = replay told link entries was life [] longer refl in
+    let P : Progress → Type 0 = λ p. IfSome (told link.writer) (λ t. t.bytes ≡ out p.state) in record {
+      lines = same.lines;
+      text = all.text ∙ same.text;
+      state = ap (λ (p : Progress). p.state) all.state ∙ same.state;
+      live = ap (λ (p : Progress). p.state.live) all.state ∙ same.live;
+      bytes = subst P (sym all.state) same.bytes;
     }

@@ -17,16 +17,16 @@ use Rattle.share_model.specs.link.Live.{Live, empty_link}
 use Rattle.share_model.specs.link.Seen.{Seen}
 use Rattle.share_model.specs.link.Tariff.{AreInRange}
 use Rattle.share_model.specs.run.Ends.{IsEndOf, TellsRun}
-use Rattle.share_model.specs.run.Events.{MayFollow}
+use Rattle.share_model.specs.run.Events.{MayFollow, write_of, writes_in}
 use Rattle.share_model.specs.run.Fold.{State, empty_state, run, state_after, outcomes, out}
 use Rattle.share_model.specs.run.FoldLaws.{state-empty, state_after-append, outcomes-append, may_follow-append}
 use Rattle.share_model.specs.run.FoldLaws.{events-after}
-use Rattle.share_model.specs.run.Laws.{Ran, turn_events, turn_outcomes, turn_writes}
+use Rattle.share_model.specs.run.Laws.{Ran, turn_events, turn_outcomes}
 use Rattle.share_model.specs.run.Laws.{Asked, asked_spent, asked_no_memory, asked_made}
 use Rattle.share_model.specs.run.Sound.{Sound}
 use Rattle.share_journal.specs.declared.entry.Entry.{Entry}
 use Rattle.share_journal.specs.declared.entry.Source.{Source}
-use Rattle.share_journal.specs.Entries.{JournalSeen, noted, events_of, replies_of, write_of, writes_of, turn_entries}
+use Rattle.share_journal.specs.Entries.{JournalSeen, noted, events_of, replies_of, turn_entries}
 use Rattle.share_journal.specs.Records.{IsRun, IsRunNow, IsRunOf, AcceptedNothing, entry_if}
 
 -- The run of no event
@@ -57,7 +57,7 @@ run-new told life rates live (e ∷ es) range nothing empty none = absurd (omega
 -- What holds of every run
 
 module _ {told : Option Told} {life : ℕ} {rates : List Rate} {live : Live} {es : List Event} {os : List Outcome}
-    {ks : List ℕ} (was : IsRunOf told life rates live es os ks) where
+    (was : IsRunOf told life rates live es os) where
   pub run-sound : Sound life rates live
   run-sound = subst (λ (l : Live). Sound life rates l) was.ends.live was.ends.sound.live
 
@@ -72,10 +72,9 @@ module _ {told : Option Told} {life : ℕ} {rates : List Rate} {live : Live} {es
 
 -- A run goes on
 
-module _ {W : Type 0} (told : W → Option Told) (old new : Seen W) (es fs : List Event) (os ps : List Outcome)
-    (ks js : List ℕ) where
-  run_on : IsRunOf (told old.writer) old.life old.rates old.live es os ks → Ran told old fs ps js new
-      → IsRunOf (told new.writer) old.life old.rates new.live (es ++ fs) (os ++ ps) (ks ++ js)
+module _ {W : Type 0} (told : W → Option Told) (old new : Seen W) (es fs : List Event) (os ps : List Outcome) where
+  run_on : IsRunOf (told old.writer) old.life old.rates old.live es os → Ran told old fs ps new
+      → IsRunOf (told new.writer) old.life old.rates new.live (es ++ fs) (os ++ ps)
   run_on was ran = record {
     range = was.range;
     may
@@ -88,41 +87,41 @@ module _ {W : Type 0} (told : W → Option Told) (old new : Seen W) (es fs : Lis
         = subst (λ (s : State). IsEndOf old.life old.rates s new.live)
         (sym (state_after-append old.rates empty_state es fs)) (ran.ends (run old.rates es) was.ends);
     tells
-        = subst (λ (s : State). IfSome (told new.writer) (TellsRun s (ks ++ js)))
-        (sym (state_after-append old.rates empty_state es fs)) (ran.tells (run old.rates es) ks was.ends was.tells);
+        = subst (λ ks. IfSome (told new.writer) (TellsRun (run old.rates (es ++ fs)) ks))
+        (sym (flat_map-append write_of es fs))
+        (subst (λ (s : State). IfSome (told new.writer) (TellsRun s (writes_in es ++ writes_in fs)))
+        (sym (state_after-append old.rates empty_state es fs))
+        (ran.tells (run old.rates es) (writes_in es) was.ends was.tells));
   }
 
-  run_more : IsRunOf (told old.writer) old.life old.rates old.live es os ks → Ran told old fs ps js new
-      → IsRunOf (told new.writer) new.life new.rates new.live (es ++ fs) (os ++ ps) (ks ++ js)
+  run_more : IsRunOf (told old.writer) old.life old.rates old.live es os → Ran told old fs ps new
+      → IsRunOf (told new.writer) new.life new.rates new.live (es ++ fs) (os ++ ps)
   run_more was ran =
-      subst (λ n. IsRunOf (told new.writer) n new.rates new.live (es ++ fs) (os ++ ps) (ks ++ js)) (sym ran.life)
-      (subst (λ r. IsRunOf (told new.writer) old.life r new.live (es ++ fs) (os ++ ps) (ks ++ js)) (sym ran.rates)
+      subst (λ n. IsRunOf (told new.writer) n new.rates new.live (es ++ fs) (os ++ ps)) (sym ran.life)
+      (subst (λ r. IsRunOf (told new.writer) old.life r new.live (es ++ fs) (os ++ ps)) (sym ran.rates)
       (run_on was ran))
 
 run_as : (told : Option Told) (life : ℕ) (rates : List Rate) (live : Live) (es es' : List Event) (os os' : List Outcome)
-    (ks ks' : List ℕ) → es ≡ es' → os ≡ os' → ks ≡ ks' → IsRunOf told life rates live es' os' ks'
-    → IsRunOf told life rates live es os ks
-run_as told life rates live es es' os os' ks ks' e o k ran = rw (e, o, k) ran
+    → es ≡ es' → os ≡ os' → IsRunOf told life rates live es' os' → IsRunOf told life rates live es os
+run_as told life rates live es es' os os' e o ran = rw (e, o) ran
 
 module _ {W : Type 0} (told : W → Option Told) (old new : Seen W) (entries : List Entry)
     (was : IsRun (told old.writer) old.life old.rates old.live entries) where
   -- by the entries of its events
-  pub run-more : (more : List Entry) → Ran told old (events_of more) (replies_of more) (writes_of more) new
+  pub run-more : (more : List Entry) → Ran told old (events_of more) (replies_of more) new
       → IsRun (told new.writer) new.life new.rates new.live (entries ++ more)
   run-more more ran =
-      run_as (told new.writer) new.life new.rates new.live _ _ _ _ _ _
+      run_as (told new.writer) new.life new.rates new.live _ _ _ _
       (map-append (λ (e : Entry). e.event) entries more) (map-append (λ (e : Entry). e.reply) entries more)
-      (flat_map-append _ entries more)
-      (run_more told old new (events_of entries) (events_of more) (replies_of entries) (replies_of more)
-      (writes_of entries) (writes_of more) was ran)
+      (run_more told old new (events_of entries) (events_of more) (replies_of entries) (replies_of more) was ran)
 
   -- where there is room for the entries of what an engine's call made
-  pub run-room : (more : List Entry) → Ran told old (events_of more) (replies_of more) (writes_of more) new
+  pub run-room : (more : List Entry) → Ran told old (events_of more) (replies_of more) new
       → length (entries ++ more) ≤ old.life
   run-room more ran =
       let few : length (events_of entries ++ events_of more) ≤ old.life =
-      run-few (run_on told old new (events_of entries) (events_of more) (replies_of entries) (replies_of more)
-      (writes_of entries) (writes_of more) was ran) in
+      run-few (run_on told old new (events_of entries) (events_of more) (replies_of entries) (replies_of more) was
+      ran) in
       let one = length-append entries more in
       let all = length-append (events_of entries) (events_of more) in
       omega (
@@ -149,13 +148,13 @@ kept_noted told old new journal after more life same noted_is run =
 -- what follows from what the engine's call made
 module _ {W : Type 0} (told : W → Option Told) (old new : Seen W) (journal : JournalSeen)
     (was : IsKept told old journal) where
-  ran_room : (more : List Entry) → Ran told old (events_of more) (replies_of more) (writes_of more) new
+  ran_room : (more : List Entry) → Ran told old (events_of more) (replies_of more) new
       → length (journal.entries ++ more) ≤ journal.life
   ran_room more ran =
       let few = run-room told old new journal.entries was.1 more ran in omega (arith, few, was.0)
 
   ran_kept : (after : JournalSeen) (more : List Entry)
-      → Ran told old (events_of more) (replies_of more) (writes_of more) new → after ≡ noted journal more
+      → Ran told old (events_of more) (replies_of more) new → after ≡ noted journal more
       → IsKept told new after
   ran_kept after more ran noted_is =
       kept_noted told old new journal after more was.0 ran.life noted_is
@@ -164,8 +163,8 @@ module _ {W : Type 0} (told : W → Option Told) (old new : Seen W) (journal : J
 -- Turns and faults
 
 turn_ran : {W : Type 0} (told : W → Option Told) (old new : Seen W) (turn : Turn)
-    → Ran told old (turn_events turn) (turn_outcomes turn) (turn_writes turn) new
-    → Ran told old (events_of (turn_entries turn)) (replies_of (turn_entries turn)) (writes_of (turn_entries turn)) new
+    → Ran told old (turn_events turn) (turn_outcomes turn) new
+    → Ran told old (events_of (turn_entries turn)) (replies_of (turn_entries turn)) new
 turn_ran told old new (Wrote flow seq k whole) ran = ran
 turn_ran told old new (Torn flow seq j) ran = ran
 turn_ran told old new Idle ran = ran
@@ -175,7 +174,7 @@ turn_ran told old new Spent ran = ran
 
 module _ {W : Type 0} (told : W → Option Told) (old new : Seen W) (journal : JournalSeen) (turn : Turn)
     (was : IsKept told old journal)
-    (ran : Ran told old (turn_events turn) (turn_outcomes turn) (turn_writes turn) new) where
+    (ran : Ran told old (turn_events turn) (turn_outcomes turn) new) where
   pub turn-room : length (journal.entries ++ turn_entries turn) ≤ journal.life
   turn-room = ran_room told old new journal was (turn_entries turn) (turn_ran told old new turn ran)
 
@@ -184,7 +183,7 @@ module _ {W : Type 0} (told : W → Option Told) (old new : Seen W) (journal : J
       ran_kept told old new journal was after (turn_entries turn) (turn_ran told old new turn ran) noted_is
 
 -- no event
-ran_nothing : {W : Type 0} (told : W → Option Told) (old : Seen W) → Ran told old [] [] [] old
+ran_nothing : {W : Type 0} (told : W → Option Told) (old : Seen W) → Ran told old [] [] old
 unfolding MayFollow state_after outcomes
 ran_nothing told old = record {
   life = refl;
@@ -209,34 +208,31 @@ count_of : {W : Type 0} (old new : Seen W) → new ≡ old → new.live.counts.e
 count_of old new same = ap (λ (s : Seen _). s.live.counts.events) same
 
 module _ {W : Type 0} (told : W → Option Told) (old new : Seen W) (journal : JournalSeen) (e : Event) (reply : Reply)
-    (source : Source) (silent : write_of e ≡ []) (was : IsKept told old journal) where
+    (source : Source) (was : IsKept told old journal) where
   asked_ran : Asked told old e reply new → old.live.counts.events < new.live.counts.events
-      → Ran told old (e ∷ []) (Replied reply ∷ []) [] new
+      → Ran told old (e ∷ []) (Replied reply ∷ []) new
   asked_ran (asked_spent spent is same) more = let count = count_of old new same in absurd (omega (arith, count, more))
   asked_ran (asked_no_memory living is same) more =
       let count = count_of old new same in absurd (omega (arith, count, more))
   asked_ran (asked_made living ran) more = ran
 
-  made_more : Ran told old (e ∷ []) (Replied reply ∷ []) [] new
+  made_more : Ran told old (e ∷ []) (Replied reply ∷ []) new
       → old.live.counts.events < new.live.counts.events
   made_more ran =
       let es = events_of journal.entries in
-      let now = run-count (run_on told old new es (e ∷ []) (replies_of journal.entries) (Replied reply ∷ [])
-      (writes_of journal.entries) [] was.1 ran) in
+      let now = run-count (run_on told old new es (e ∷ []) (replies_of journal.entries) (Replied reply ∷ []) was.1
+      ran) in
       let before = run-count was.1 in omega (arith, now, before, length-append es (e ∷ []))
 
-  none_ran : new ≡ old → Ran told old [] [] [] new
-  none_ran same = subst (λ (s : Seen W). Ran told old [] [] [] s) (sym same) (ran_nothing told old)
+  none_ran : new ≡ old → Ran told old [] [] new
+  none_ran same = subst (λ (s : Seen W). Ran told old [] [] s) (sym same) (ran_nothing told old)
 
   -- what the call made, by whether the count of events grew
   asked_by : (made : Bool) → nat_lt old.live.counts.events new.live.counts.events ≡ made
       → Asked told old e reply new
       → Ran told old (events_of (entry_if made (replied_entry e reply source)))
-      (replies_of (entry_if made (replied_entry e reply source)))
-      (writes_of (entry_if made (replied_entry e reply source))) new
-  asked_by true test asked =
-      subst (λ ks. Ran told old (e ∷ []) (Replied reply ∷ []) ks new) (sym (ap (λ ks. ks ++ []) silent))
-      (asked_ran asked (ltb-true old.live.counts.events new.live.counts.events test))
+      (replies_of (entry_if made (replied_entry e reply source))) new
+  asked_by true test asked = asked_ran asked (ltb-true old.live.counts.events new.live.counts.events test)
   asked_by false test (asked_spent spent is same) = none_ran same
   asked_by false test (asked_no_memory living is same) = none_ran same
   asked_by false test (asked_made living ran) =

@@ -1,5 +1,5 @@
 -- What a contract sees of a journal, and what is read of its entries.
-use Rattle.std.specs.Prelude.{ℕ, zero, suc, List, [], ◌∷◌, ◌++◌, map, flat_map, slice_get, Option, None}
+use Rattle.std.specs.Prelude.{ℕ, zero, suc, List, [], ◌∷◌, ◌++◌, map, slice_get, Option, None}
 use Rattle.share_base.specs.declared.command.Command.{Command}
 use Rattle.share_base.specs.declared.command.Event.{Event}
 use Rattle.share_base.specs.declared.command.Event.TheVariants.{Commanded, Arrived, Written, Faulted}
@@ -34,16 +34,6 @@ events_of entries = map (λ (e : Entry). e.event) entries
 -- the replies
 abbrev pub replies_of : List Entry → List Outcome
 replies_of entries = map (λ (e : Entry). e.reply) entries
-
-abbrev pub write_of : Event → List ℕ
-write_of (Commanded c) = []
-write_of (Arrived flow body) = []
-write_of (Written k) = k ∷ []
-write_of Faulted = []
-
--- how many bytes the writer accepted in each call in which it accepted some
-abbrev pub writes_of : List Entry → List ℕ
-writes_of entries = flat_map (λ (e : Entry). write_of e.event) entries
 
 -- The entry of a call
 

@@ -9,10 +9,10 @@ use Rattle.share_model.specs.link.Live.{Live}
 use Rattle.share_model.specs.link.Seen.{Seen}
 use Rattle.share_model.specs.link.Tariff.{AreInRange}
 use Rattle.share_model.specs.run.Ends.{IsEndOf, TellsRun}
-use Rattle.share_model.specs.run.Events.{MayFollow}
+use Rattle.share_model.specs.run.Events.{MayFollow, writes_in}
 use Rattle.share_model.specs.run.Fold.{empty_state, run, outcomes}
 use Rattle.share_journal.specs.declared.entry.Entry.{Entry}
-use Rattle.share_journal.specs.Entries.{JournalSeen, events_of, replies_of, writes_of}
+use Rattle.share_journal.specs.Entries.{JournalSeen, events_of, replies_of}
 
 -- the link, and the entries of its journal
 pub record Recorded (W : Type 0) : Type 0 where
@@ -22,17 +22,17 @@ pub record Recorded (W : Type 0) : Type 0 where
 -- the events are a run of a link, with these replies, and the link holds what the run left; and where the writer tells,
 -- it holds the bytes of the run, and these are the counts that it accepted, but those of 0
 pub record IsRunOf (told : Option Told) (life : ℕ) (rates : List Rate) (live : Live) (events : List Event)
-    (replies : List Outcome) (writes : List ℕ) : Type 0 where
+    (replies : List Outcome) : Type 0 where
   pub range : AreInRange rates
   pub may : MayFollow life rates empty_state events
   pub replies_are : outcomes rates empty_state events ≡ replies
   pub ends : IsEndOf life rates (run rates events) live
-  pub tells : IfSome told (TellsRun (run rates events) writes)
+  pub tells : IfSome told (TellsRun (run rates events) (writes_in events))
 
--- the same of the events, the replies and the writes of these entries
+-- the same of the events and the replies of these entries
 abbrev pub IsRun : Option Told → ℕ → List Rate → Live → List Entry → Type 0
 IsRun told life rates live entries =
-    IsRunOf told life rates live (events_of entries) (replies_of entries) (writes_of entries)
+    IsRunOf told life rates live (events_of entries) (replies_of entries)
 
 -- the same of a link and its journal as they are, where `told` says what a writer tells
 abbrev pub IsRunNow : {W : Type 0} → (W → Option Told) → Seen W → List Entry → Type 0

@@ -7,10 +7,11 @@ use Rattle.share_base.specs.declared.command.Reply.TheVariants.{Done}
 use Rattle.share_base.specs.declared.command.Turn.TheVariants.{Wrote, Torn, Idle, Again}
 use Rattle.share_model.specs.link.Live.{empty_link, life_is_spent}
 use Rattle.share_model.specs.link.Seen.{Seen}
+use Rattle.share_model.specs.run.Events.{writes_in}
 use Rattle.share_model.specs.run.Fold.{empty_state, state_after, run, outcomes}
 use Rattle.share_journal.specs.declared.entry.Entry.{Entry}
 use Rattle.share_journal.specs.declared.entry.Source.TheVariants.{Clerk}
-use Rattle.share_journal.specs.Entries.{entry_at, events_of, replies_of, writes_of, turn_entries}
+use Rattle.share_journal.specs.Entries.{entry_at, events_of, replies_of, turn_entries}
 use Rattle.share_journal.specs.Records.{are_new}
 
 -- a link and a journal that are new, of the lives 4 and 5, and both of the life 4
@@ -59,6 +60,6 @@ turns =
     turn_entries (Wrote 1 1 5 false) ++ turn_entries Again ++ turn_entries (Wrote 1 1 9 true) ++ turn_entries Idle
     ++ turn_entries (Torn 1 2 0)
 
-turns_write : writes_of turns ≡ 5 ∷ 9 ∷ []
+turns_write : writes_in (events_of turns) ≡ 5 ∷ 9 ∷ []
 unfolding turns
 turns_write = refl

@@ -1,7 +1,8 @@
 //! What holds of every recorder and its journal. A function here does nothing: its contract is a law, which is proved
 //! with it.
 ghost use Rattle.std.specs.Prelude.{◌≤◌, ℕ, Bool, List};
-ghost use Rattle.share_model.specs.text.Audit.{IsAmple};
+ghost use Rattle.share_model.specs.text.Audit.{IsAmple, audit};
+ghost use Rattle.share_model.specs.text.Talk.{start, talk, lines_of, FoundMemory};
 ghost use Rattle.share_model.specs.Headline.{Headline};
 ghost use Rattle.share_journal.specs.Entries.{events_of, replies_of};
 ghost use Rattle.share_journal.specs.Replays.{IsReplayOf};
@@ -24,9 +25,13 @@ pub fn recorders_are_one_fold<W: Telling, S: Rates>(recorder: &Recorder<W, S>)
 /// The audit of a recorder's journal makes its run again, whatever its writer accepted: as a script, on a new link with
 /// the same tariffs and a life that is not shorter, where no line finds that memory is lacking, it is answered by the
 /// journal's replies, one line each, and comes to the state of the run, so that the link then holds what the
-/// recorder's holds, and its tape the bytes that the recorder's writer tells.
+/// recorder's holds, and its tape the bytes that the recorder's writer tells. Whether a line lacked memory stands in
+/// the answers: where none of their lines is `no 1 NoMemory`, none did.
 pub fn audits_replay<W: Telling, S: Rates>(recorder: &Recorder<W, S>)
-    ensures { (life : ℕ) (lacks : List Bool) → recorder.now.link.life ≤ life → IsAmple lacks
+    ensures ample { (life : ℕ) (lacks : List Bool) → recorder.now.link.life ≤ life → IsAmple lacks
+        → IsReplayOf W.told recorder.now.link recorder.now.entries life lacks }
+    ensures answered { (life : ℕ) (lacks : List Bool) → recorder.now.link.life ≤ life
+        → FoundMemory (talk life recorder.now.link.rates start lacks (lines_of (audit (events_of recorder.now.entries))))
         → IsReplayOf W.told recorder.now.link recorder.now.entries life lacks }
 {
     // What `journal` answers is not used: its contract says that the entries are a run.

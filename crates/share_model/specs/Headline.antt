@@ -2,7 +2,8 @@
 -- turns, whatever each write accepts and up to the writer's first fault, the replies, accounts and bytes written are
 -- those of one plain fold, in which each next frame carries the head packet of the flow with the least pass, on tickets
 -- computed from scratch.
-use Rattle.std.specs.Prelude.{◌≡◌, ◌<◌, ◌≤◌, ℕ, List, [], ◌∷◌, ◌++◌, length, take, find, Option, None, Some, IfSome}
+use Rattle.std.specs.Prelude.{◌≡◌, ◌<◌, ◌≤◌, ℕ, List, [], ◌∷◌, ◌++◌, length, take, find, filter, nat_lt, Option, None}
+use Rattle.std.specs.Prelude.{Some, IfSome}
 use Rattle.share_base.specs.declared.command.Event.{Event}
 use Rattle.share_base.specs.declared.command.Event.TheVariants.{Written, Faulted}
 use Rattle.share_base.specs.declared.command.Outcome.{Outcome}
@@ -12,7 +13,7 @@ use Rattle.share_model.specs.declared.rates.Rate.{Rate}
 use Rattle.share_model.specs.io.Told.{Told}
 use Rattle.share_model.specs.link.Buffers.{head_of}
 use Rattle.share_model.specs.link.Live.{Live, Sending, wants, rest_of, is_book_of}
-use Rattle.share_model.specs.run.Events.{MayFollow}
+use Rattle.share_model.specs.run.Events.{MayFollow, writes_in}
 use Rattle.share_model.specs.run.Fold.{State, empty_state, outcomes, run, out}
 use Rattle.share_model.specs.run.History.{AreFramesOf, sent_packets, bill, past_bill}
 use Rattle.share_model.specs.stride.Level.{IsLevel}
@@ -70,6 +71,8 @@ pub record Headline (life : ℕ) (rates : List Rate) (events : List Event) (repl
   -- the bytes written are those of the fold: the frames of the packets written whole, and the beginning of one more
   pub bytes : IfSome told (λ t. t.bytes ≡ out (run rates events))
   pub frames : AreFramesOf (sent_packets (run rates events).done) (out (run rates events))
+  -- the counts that the writer accepted, but those of 0, are those of the writes, in order
+  pub counts : IfSome told (λ t. filter (nat_lt 0) t.counts ≡ writes_in events)
   -- each write takes the next bytes of the next frame
   pub writes : (before after : List Event) (k : ℕ) → events ≡ before ++ Written k ∷ after
       → Writes (run rates before) (run rates (before ++ Written k ∷ [])) k

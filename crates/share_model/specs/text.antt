@@ -6,6 +6,7 @@ pub mod Columns
 pub mod Events
 pub mod EventsLaws
 pub mod FeedLaws
+pub mod LackLaws
 pub mod Lines
 pub mod LinesLaws
 pub mod LinesRows

@@ -1,7 +1,7 @@
 //! What holds of every run of a link. Each function here does nothing: its contract is a law, which is proved with it.
 ghost use Rattle.std.specs.Prelude.{◌≡◌, ◌≢◌, ◌<◌, ◌≤◌, ◌+◌, ◌^◌, ℕ, Bool, true, List, []};
 ghost use Rattle.std.specs.Prelude.{◌∷◌, ◌++◌};
-ghost use Rattle.std.specs.Prelude.{length, find, filter, nat_eq, None, Some, is_some, codes};
+ghost use Rattle.std.specs.Prelude.{length, find, filter, nat_eq, nat_lt, None, Some, is_some, codes};
 ghost use Rattle.share_base.specs.declared.command.Event.{Event};
 ghost use Rattle.share_model.specs.declared.link.Book.{Book};
 ghost use Rattle.share_model.specs.declared.rates.Rate.{Rate};
@@ -18,7 +18,7 @@ ghost use Rattle.share_model.specs.link.Frame.{Packet};
 ghost use Rattle.share_model.specs.link.Buffers.{head_of};
 ghost use Rattle.share_model.specs.link.Live.{wants, levelled, is_book_of};
 ghost use Rattle.share_model.specs.run.Fold.{TornFrame, empty_state, run, outcomes, out};
-ghost use Rattle.share_model.specs.run.Events.{MayFollow, event_bytes};
+ghost use Rattle.share_model.specs.run.Events.{MayFollow, event_bytes, writes_in};
 ghost use Rattle.share_model.specs.run.Sound.{max_life, SoundState};
 ghost use Rattle.share_model.specs.lists.Rises.{Rises};
 ghost use Rattle.share_model.specs.run.History.{accepted, packets_of, held_packets, AreFramesOf, sent_packets};
@@ -28,7 +28,7 @@ ghost use Rattle.share_model.specs.funding.Graph.{flow_numbers};
 ghost use Rattle.share_model.specs.lists.Laws.{has_number};
 ghost use Rattle.share_model.specs.text.Events.{made_of, events_of, texts_of};
 ghost use Rattle.share_model.specs.text.Report.{report};
-ghost use Rattle.share_model.specs.text.Talk.{start, talk, after};
+ghost use Rattle.share_model.specs.text.Talk.{start, talk, after, FoundMemory};
 ghost use Rattle.share_model.specs.io.Told.{Told};
 ghost use Rattle.share_model.specs.Headline.{Headline};
 
@@ -176,16 +176,16 @@ pub fn shares_of_runs()
 {}
 
 /// The sentence that this project stands for, of every run: whoever answers as the fold does, holds what it comes to
-/// and tells its bytes keeps the whole of it. Links do, as the laws of recorders and of scripts say.
+/// and tells its bytes and the counts of its writes keeps the whole of it. Links do, as the laws of recorders and of scripts say.
 pub fn runs_are_one_fold()
     ensures { (life : ℕ) (rates : List Rate) (events : List Event) (told : Told)
         → life ≤ max_life → AreInRange rates → MayFollow life rates empty_state events
-        → told.bytes ≡ out (run rates events)
+        → told.bytes ≡ out (run rates events) → filter (nat_lt 0) told.counts ≡ writes_in events
         → Headline life rates events (outcomes rates empty_state events) (run rates events).live (Some told) }
 {}
 
 /// A script is a run of its events, of which a line makes one or none. They may follow one another;
-/// they leave the state that the script comes to; and each line is answered with the text of its
+/// they leave the state that the script comes to, and its writes are theirs; and each line is answered with the text of its
 /// event's outcome, or of its own where it made none. A line `report` makes none: wherever it stands,
 /// its text is the report of what the run of the events of the lines before it left. So every law of
 /// runs holds of every script, whatever its lines, and wherever memory was lacking.
@@ -196,6 +196,9 @@ pub fn scripts_are_runs()
     ensures state { (life : ℕ) (rates : List Rate) (lacks : List Bool) (lines : List (List ℕ))
         → (after life rates start lacks lines).state
         ≡ run rates (events_of life rates start lacks lines) }
+    ensures writes { (life : ℕ) (rates : List Rate) (lacks : List Bool) (lines : List (List ℕ))
+        → (after life rates start lacks lines).writes
+        ≡ writes_in (events_of life rates start lacks lines) }
     ensures texts { (life : ℕ) (rates : List Rate) (lacks : List Bool) (lines : List (List ℕ))
         → talk life rates start lacks lines
         ≡ texts_of (made_of life rates start lacks lines)
@@ -205,4 +208,15 @@ pub fn scripts_are_runs()
         × (talk life rates start lacks (lines ++ codes "report" ∷ rest)
         ≡ talk life rates start lacks lines
         ++ (report (run rates (events_of life rates start lacks lines)).live ++ more)) }
+{}
+
+/// A line that finds no memory says so: a script of whose answers no line is `no 1 NoMemory` is answered as one that
+/// finds memory for each of its lines, and comes to the same.
+pub fn answers_tell_lacks()
+    ensures text { (life : ℕ) (rates : List Rate) (lacks : List Bool) (lines : List (List ℕ))
+        → FoundMemory (talk life rates start lacks lines)
+        → talk life rates start lacks lines ≡ talk life rates start [] lines }
+    ensures state { (life : ℕ) (rates : List Rate) (lacks : List Bool) (lines : List (List ℕ))
+        → FoundMemory (talk life rates start lacks lines)
+        → after life rates start lacks lines ≡ after life rates start [] lines }
 {}

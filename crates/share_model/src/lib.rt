@@ -23,9 +23,10 @@ mod writer;
 pub use funding::{Holder, OpenFlow, Ticket};
 pub use ingress::{Ended, Offer, QueueView};
 pub use laws::{
-    accounts_are_bills, bounds_of_runs, bytes_tell_packets, events_add_bytes, events_are_counted,
-    events_keep_sound, numbers_rise, packets_are_kept, packets_are_sent_as_accepted,
-    runs_are_level, runs_are_one_fold, scripts_are_runs, shares_are_within_of_runs, shares_of_runs,
+    accounts_are_bills, answers_tell_lacks, bounds_of_runs, bytes_tell_packets, events_add_bytes,
+    events_are_counted, events_keep_sound, numbers_rise, packets_are_kept,
+    packets_are_sent_as_accepted, runs_are_level, runs_are_one_fold, scripts_are_runs,
+    shares_are_within_of_runs, shares_of_runs,
 };
 pub use line::{HolderKind, Line};
 pub use link::{Book, Counts, FlowLine, LinkState, Part, Row, Totals};

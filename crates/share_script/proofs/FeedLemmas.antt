@@ -171,7 +171,7 @@ module _ {W : Type 0} (told : W → Option Told) where
   says_same old first xs ys text new e says p h place =
       let said = says p h place in
       let same = answer_same old.life old.rates p said.lack xs ys e in
-      let P : Progress → Type 0 = λ t. Holds told new t.state in record {
+      let P : Progress → Type 0 = λ t. Holds told new t in record {
         lack = said.lack;
         text_is = said.text_is ∙ ap (λ (a : Progress × List ℕ). a.1) same;
         holds = subst P (ap (λ (a : Progress × List ℕ). a.0) same) said.holds;

@@ -5,22 +5,18 @@ use mathlib.Core.List.{append_assoc}
 use Rattle.std.specs.List.{slice_split}
 use Rattle.std.proofs.lemmas.List.{take_all, get_or-take}
 use Rattle.std.proofs.lemmas.List.Elements.{All-append, All-cons, All-from_get_or}
-use Rattle.std.proofs.lemmas.List.Splits.{slice_split_at, slice_split_none, length-slice_split}
+use Rattle.std.proofs.lemmas.List.Splits.{slice_split_none}
 use Rattle.std.proofs.lemmas.Bool.Decides.{nat_tests, leb_tells}
 use Rattle.share_base.specs.declared.command.Event.{Event}
 use Rattle.share_model.specs.declared.rates.Rate.{Rate}
 use Rattle.share_model.specs.text.Lines.{reading}
 use Rattle.share_model.specs.text.Talk.{Progress, is_first, read_event, answered, answer, first_flag, talk, after}
 use Rattle.share_model.specs.text.Talk.{is_feed, last_line, kept, lines_of}
-use Rattle.share_model.specs.text.FeedLaws.{kept-cons}
+use Rattle.share_model.specs.text.FeedLaws.{lines-feed}
 use Rattle.share_script.specs.Script.{NoFeed}
 use Rattle.share_script.proofs.ReadingLemmas.{too_long}
 
 -- Lines
-
-pub lines-feed : (bs rest : List ℕ) → NoFeed bs → lines_of (bs ++ 10 ∷ rest) ≡ bs ∷ lines_of rest
-lines-feed bs rest clean = ap kept (slice_split_at is_feed bs 10 rest clean refl)
-    ∙ kept-cons bs (slice_split is_feed rest) (omega (arith, length-slice_split is_feed rest))
 
 pub lines-end : (bs : List ℕ) → NoFeed bs → lines_of bs ≡ last_line bs
 lines-end bs clean = ap kept (slice_split_none is_feed bs clean)

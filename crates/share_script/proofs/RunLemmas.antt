@@ -2,7 +2,7 @@
 use Rattle.std.proofs.Common.{◌≡◌, ◌≢◌, ◌<◌, ◌≤◌, inl, inr, ℕ, Bool, true, List, [], ◌∷◌, ◌++◌, length, IfSome, Option}
 use Rattle.std.proofs.Common.{None, Some, arith, sym, ◌∙◌, ap, subst, refl}
 use mathlib.Core.List.{append_assoc}
-use Rattle.std.specs.Io.KnownBytes.{Appends, Consumes, Keeps}
+use Rattle.std.specs.Io.KnownBytes.{Appends, Consumes, Keeps, IsAtEnd}
 use Rattle.std.proofs.KnownBytes.{Consumes-trans, Consumes-nil}
 use Rattle.std.proofs.lemmas.List.{append-nil}
 use Rattle.share_model.specs.declared.rates.Rate.{Rate}
@@ -13,15 +13,15 @@ use Rattle.share_model.specs.run.FoldLaws.{state-empty}
 use Rattle.share_model.specs.run.HeadlineLaws.{headline}
 use Rattle.share_model.specs.run.Sound.{max_life}
 use Rattle.share_model.specs.text.Events.{events_of}
-use Rattle.share_model.specs.text.EventsLaws.{after-state, events-may_follow, talk-texts}
+use Rattle.share_model.specs.text.EventsLaws.{after-state, after-writes, events-may_follow, talk-texts}
 use Rattle.share_model.specs.text.Talk.{Progress, start, answer, talk, after, lines_of}
 use Rattle.share_model.specs.text.Says.{Holds}
 use Rattle.share_script.specs.Printing.{SpooledPart}
 use Rattle.share_script.specs.Session.{AtLine, Stands}
 use Rattle.share_model.specs.link.Seen.{Seen}
 use Rattle.share_script.specs.Script.{Printed, PrintedPart, IsOneFold, NoFeed, Went, Begins, Feeds, FeedsPart}
-use Rattle.share_script.specs.Script.{Ends, EndsPart, Running}
-use Rattle.share_script.proofs.FeedLemmas.{fed_none, fed_more, fed_then_part, part_longer, part_as, part_of}
+use Rattle.share_script.specs.Script.{FedWhole, FedPart, Ends, EndsPart, Running}
+use Rattle.share_script.proofs.FeedLemmas.{fed_none, fed_more, fed_then_part, part_of}
 use Rattle.share_script.proofs.WentLemmas.{went_as, begins_as, went_more, begins_more, went_line}
 use Rattle.share_script.proofs.LineLemmas.{lines-end, last-some}
 use Rattle.std.proofs.KnownBytes.{Appends-nil}
@@ -65,27 +65,40 @@ module _ {W : Type 0} (told : W → Option Told) where
     fed = so.fed;
   }
 
-  -- where the reader told its bytes, what was read is a beginning of them
+  -- where the reader told its bytes, no more was printed than a beginning of the answers to what was read
+
   pub running_part : (given left a b : Option (List ℕ)) (old mid : AtLine W) (line : List ℕ)
-      → Running told given left a b old mid line → IfSome given (λ script. FeedsPart told a [] b old [] script)
+      → Running told given left a b old mid line → IfSome given (λ script. FedPart told a b old script left)
   running_part None left a b old mid line so = tt
-  running_part (Some script) None a b old mid line so = absurd so.reads
-  running_part (Some script) (Some rest) a b old mid line so =
-      part_as told a b [] old [] (so.done ++ rest) script (sym so.reads)
-      (part_longer told a b [] old [] so.done rest (part_of told a b [] [] old mid [] line so.done so.fed))
+  running_part (Some script) left a b old mid line so = record {
+    read = so.done;
+    reads = so.reads;
+    fed = part_of told a b [] [] old mid [] line so.done so.fed;
+  }
 
   pub running_broke : (given left next a b c : Option (List ℕ)) (old mid : AtLine W) (line chunk : List ℕ)
       → Running told given left a b old mid line → Consumes left next chunk → FeedsPart told b [] c mid line chunk
-      → IfSome given (λ script. FeedsPart told a [] c old [] script)
+      → IfSome given (λ script. FedPart told a c old script next)
   running_broke None left next a b c old mid line chunk so read broke = tt
-  running_broke (Some script) None next a b c old mid line chunk so read broke = absurd so.reads
-  running_broke (Some script) (Some rest) None a b c old mid line chunk so read broke = absurd read
-  running_broke (Some script) (Some rest) (Some last) a b c old mid line chunk so read broke =
-      let e : (so.done ++ chunk) ++ last ≡ script = append_assoc so.done chunk last
-      ∙ ap (λ r. so.done ++ r) (sym read) ∙ sym so.reads in
-      part_as told a c [] old [] _ script e
-      (part_longer told a c [] old [] (so.done ++ chunk) last
-      (fed_then_part told a b c [] [] old mid [] line so.done chunk so.fed broke))
+  running_broke (Some script) left next a b c old mid line chunk so read broke = record {
+    read = so.done ++ chunk;
+    reads = Consumes-trans (Some script) left next so.done chunk so.reads read;
+    fed = fed_then_part told a b c [] [] old mid [] line so.done chunk so.fed broke;
+  }
+
+  -- at the end of what it told, that is the whole script
+  pub running_whole : (given left next a b : Option (List ℕ)) (old mid : AtLine W) (line : List ℕ)
+      → Running told given left a b old mid line → Consumes left next [] × IsAtEnd next
+      → IfSome given (λ script. FedWhole told a b old script next mid line)
+  running_whole None left next a b old mid line so ended = tt
+  running_whole (Some script) None next a b old mid line so ended = absurd so.reads
+  running_whole (Some script) (Some rest) None a b old mid line so ended = absurd ended.0
+  running_whole (Some script) (Some rest) (Some last) a b old mid line so ended =
+      let none : rest ≡ [] = ended.0 ∙ ended.1 in
+      let all : so.done ≡ script = sym (so.reads ∙ ap (λ r. so.done ++ r) none ∙ append-nil so.done) in record {
+        reads = sym (ap (λ r. script ++ r) ended.1 ∙ append-nil script);
+        fed = let P : List ℕ → Type 0 = λ r. Feeds told a [] b [] old [] r mid line in subst P all so.fed;
+      }
 
 -- The end of the script
 
@@ -119,23 +132,28 @@ no_lines script = ap lines_of (append-nil script)
 no_feed : NoFeed []
 no_feed k d z = absurd (omega arith)
 
-printed_by : (a c : Option (List ℕ)) (old new : AtLine Told) (script text : List ℕ) (q : Progress) → Appends a c text
-    → Holds Some new.link q.state → new.link.life ≡ old.link.life → new.link.rates ≡ old.link.rates
-    → Went old.link.life old.link.rates start (lines_of script) text q [] [] → Printed a c old.link script new.link
-printed_by a c old new script text q appends holds life rates w =
+printed_by : (a c : Option (List ℕ)) (old new : AtLine Told) (script : List ℕ) (left : Option (List ℕ)) (text : List ℕ)
+    (q : Progress) → Consumes (Some script) left script → Appends a c text
+    → Holds Some new.link q → new.link.life ≡ old.link.life → new.link.rates ≡ old.link.rates
+    → Went old.link.life old.link.rates start (lines_of script) text q [] [] → Printed a c old.link script left new.link
+printed_by a c old new script left text q reads appends holds life rates w =
     let e = went_none old.link.life old.link.rates start text q (lines_of script) w in
     let P : List ℕ → Type 0 = λ r. Appends a c r in record {
+      reads = reads;
       lacks = w.more;
       text = subst P (sym e.0) appends;
       live = sym holds.ends.live ∙ ap (λ (x : Progress). x.state.live) (sym e.1);
       bytes = holds.tells.bytes ∙ ap (λ (x : Progress). out x.state) (sym e.1);
+      counts = holds.tells.counts ∙ ap (λ (x : Progress). x.writes) (sym e.1);
       life = life;
       rates = rates;
     }
 
-printed_all : (a b c : Option (List ℕ)) (old mid new : AtLine Told) (script left : List ℕ) → HoldsNone old
-    → Feeds Some a [] b [] old [] script mid left → Ends Some b c mid left new → Printed a c old.link script new.link
-printed_all a b c old mid new script left h f (inl e) =
+printed_all : (a b c : Option (List ℕ)) (old mid new : AtLine Told) (script : List ℕ) (rest : Option (List ℕ))
+    (left : List ℕ) → HoldsNone old → Consumes (Some script) rest script
+    → Feeds Some a [] b [] old [] script mid left → Ends Some b c mid left new
+    → Printed a c old.link script rest new.link
+printed_all a b c old mid new script rest left h reads f (inl e) =
     let u = f.went start h no_feed in
     let P : List (List ℕ) → Type 0 = λ ls. Went old.link.life old.link.rates start ls f.text u.progress [] [] in
     let Q : List ℕ
@@ -143,12 +161,12 @@ printed_all a b c old mid new script left h f (inl e) =
     λ r. Went old.link.life old.link.rates start (lines_of ([] ++ (script ++ []))) f.text u.progress
     (lines_of (r ++ [])) [] in
     let R : Option (List ℕ) → Type 0 = λ r. Appends a r f.text in
-    let N : AtLine Told → Type 0 = λ n. Holds Some n.link u.progress.state in
-    printed_by a c old new script f.text u.progress (subst R (sym e.1) (spooled_whole a b f.text f.spooled))
+    let N : AtLine Told → Type 0 = λ n. Holds Some n.link u.progress in
+    printed_by a c old new script rest f.text u.progress reads (subst R (sym e.1) (spooled_whole a b f.text f.spooled))
     (subst N (sym e.2) u.stands.holds) (ap (λ (n : AtLine Told). n.link.life) e.2 ∙ u.life)
     (ap (λ (n : AtLine Told). n.link.rates) e.2 ∙ u.rates)
     (subst P (no_lines script) (subst Q e.0 (u.goes [] [])))
-printed_all a b c old mid new script left h f (inr e) =
+printed_all a b c old mid new script rest left h reads f (inr e) =
     let u = f.went start h no_feed in
     let said = e.1.says u.progress u.stands.holds u.stands.place in
     let q = (answer mid.link.life mid.link.rates u.progress said.lack left).0 in
@@ -160,15 +178,18 @@ printed_all a b c old mid new script left h f (inr e) =
     let last = subst V (sym (lines-last left u.clean (some_length left e.0))) also in
     let P : List (List ℕ) → Type 0 = λ ls. Went old.link.life old.link.rates start ls (f.text ++ e.1.text) q [] [] in
     let spooled = spooled_more a b c [] [] [] f.text e.1.text f.spooled e.1.spooled in
-    printed_by a c old new script (f.text ++ e.1.text) q (spooled_whole a c (f.text ++ e.1.text) spooled) said.holds
+    printed_by a c old new script rest (f.text ++ e.1.text) q reads (spooled_whole a c (f.text ++ e.1.text) spooled) said.holds
     (said.life ∙ u.life) (said.rates ∙ u.rates)
     (subst P (no_lines script)
     (went_more old.link.life old.link.rates start u.progress q _ _ _ f.text e.1.text [] last (u.goes [] last.more)))
 
--- a beginning of a text that was printed is a beginning of the talk
-part_by : (a c : Option (List ℕ)) (old : AtLine Told) (script text : List ℕ) → SpooledPart a [] c text
-    → Begins old.link.life old.link.rates start (lines_of script) text → PrintedPart a c old.link script
-part_by a c old script text s w = record {
+-- a beginning of a text that was printed is a beginning of the talk of what was read
+part_by : (a c : Option (List ℕ)) (old : AtLine Told) (script : List ℕ) (left : Option (List ℕ)) (read text : List ℕ)
+    → Consumes (Some script) left read → SpooledPart a [] c text
+    → Begins old.link.life old.link.rates start (lines_of read) text → PrintedPart a c old.link script left
+part_by a c old script left read text reads s w = record {
+  read = read;
+  reads = reads;
   lacks = w.lacks;
   text = s.out;
   rest = s.rest ++ w.tail;
@@ -176,101 +197,113 @@ part_by a c old script text s w = record {
   begins = w.texts ∙ ap (λ r. r ++ w.tail) s.same ∙ append_assoc s.out s.rest w.tail;
 }
 
-printed_part : (a b : Option (List ℕ)) (old : AtLine Told) (script : List ℕ) → HoldsNone old
-    → FeedsPart Some a [] b old [] script → PrintedPart a b old.link script
-printed_part a b old script h f =
-    let P : List (List ℕ) → Type 0 = λ ls. Begins old.link.life old.link.rates start ls f.text in
-    part_by a b old script f.text f.spooled (subst P (no_lines script) (f.broke start h no_feed []))
+printed_part : (a b : Option (List ℕ)) (old : AtLine Told) (script : List ℕ) (left : Option (List ℕ)) → HoldsNone old
+    → FedPart Some a b old script left → PrintedPart a b old.link script left
+printed_part a b old script left h f =
+    let P : List (List ℕ) → Type 0 = λ ls. Begins old.link.life old.link.rates start ls f.fed.text in
+    part_by a b old script left f.read f.fed.text f.reads f.fed.spooled
+    (subst P (no_lines f.read) (f.fed.broke start h no_feed []))
 
-printed_but_last : (a b c : Option (List ℕ)) (old mid : AtLine Told) (script left : List ℕ) → HoldsNone old
-    → Feeds Some a [] b [] old [] script mid left → EndsPart Some b c mid left → PrintedPart a c old.link script
-printed_but_last a b c old mid script left h f e =
-    let u = f.went start h no_feed in
-    let w = begins_as old.link.life mid.link.life old.link.rates mid.link.rates u.progress (left ∷ []) e.1.text u.life
+printed_but_last : (a b c : Option (List ℕ)) (old mid : AtLine Told) (script : List ℕ) (left : Option (List ℕ))
+    (line : List ℕ) → HoldsNone old → FedWhole Some a b old script left mid line → EndsPart Some b c mid line
+    → PrintedPart a c old.link script left
+printed_but_last a b c old mid script left line h f e =
+    let u = f.fed.went start h no_feed in
+    let w = begins_as old.link.life mid.link.life old.link.rates mid.link.rates u.progress (line ∷ []) e.1.text u.life
     u.rates (e.1.begins u.progress u.stands []) in
     let V : List (List ℕ) → Type 0 = λ ls. Begins old.link.life old.link.rates u.progress ls e.1.text in
-    let last = subst V (sym (lines-last left u.clean (some_length left e.0))) w in
-    let P : List (List ℕ) → Type 0 = λ ls. Begins old.link.life old.link.rates start ls (f.text ++ e.1.text) in
-    part_by a c old script (f.text ++ e.1.text) (spooled_then_part a b c [] [] f.text e.1.text f.spooled e.1.spooled)
+    let last = subst V (sym (lines-last line u.clean (some_length line e.0))) w in
+    let P : List (List ℕ) → Type 0 = λ ls. Begins old.link.life old.link.rates start ls (f.fed.text ++ e.1.text) in
+    part_by a c old script left script (f.fed.text ++ e.1.text) f.reads
+    (spooled_then_part a b c [] [] f.fed.text e.1.text f.fed.spooled e.1.spooled)
     (subst P (no_lines script)
-    (begins_more old.link.life old.link.rates start u.progress _ _ f.text e.1.text last (u.goes [] last.lacks)))
+    (begins_more old.link.life old.link.rates start u.progress _ _ f.fed.text e.1.text last (u.goes [] last.lacks)))
 
 -- What a run comes to, where the reader told its bytes
 
 -- nothing was read
 pub run_nothing : (given a : Option (List ℕ)) (engine : Seen Told)
-    → IfSome given (λ script. PrintedPart a a engine script)
+    → IfSome given (λ script. PrintedPart a a engine script given)
 run_nothing None a engine = tt
 run_nothing (Some script) a engine = record {
+  read = [];
+  reads = Consumes-nil (Some script);
   lacks = [];
   text = [];
-  rest = talk engine.life engine.rates start [] (lines_of script);
+  rest = talk engine.life engine.rates start [] (lines_of []);
   printed = Appends-nil a;
   begins = refl;
 }
 
-pub run_whole : (given a b c : Option (List ℕ)) (old mid new : AtLine Told) (left : List ℕ) → HoldsNone old
-    → IfSome given (λ script. Feeds Some a [] b [] old [] script mid left) → Ends Some b c mid left new
-    → IfSome given (λ script. Printed a c old.link script new.link)
-run_whole None a b c old mid new left h f e = tt
-run_whole (Some script) a b c old mid new left h f e = printed_all a b c old mid new script left h f e
+pub run_whole : (given left a b c : Option (List ℕ)) (old mid new : AtLine Told) (line : List ℕ) → HoldsNone old
+    → IfSome given (λ script. FedWhole Some a b old script left mid line) → Ends Some b c mid line new
+    → IfSome given (λ script. Printed a c old.link script left new.link)
+run_whole None left a b c old mid new line h f e = tt
+run_whole (Some script) left a b c old mid new line h f e = printed_all a b c old mid new script left line h f.reads f.fed e
 
-pub run_part : (given a b : Option (List ℕ)) (old : AtLine Told) → HoldsNone old
-    → IfSome given (λ script. FeedsPart Some a [] b old [] script)
-    → IfSome given (λ script. PrintedPart a b old.link script)
-run_part None a b old h f = tt
-run_part (Some script) a b old h f = printed_part a b old script h f
+pub run_part : (given left a b : Option (List ℕ)) (old : AtLine Told) → HoldsNone old
+    → IfSome given (λ script. FedPart Some a b old script left)
+    → IfSome given (λ script. PrintedPart a b old.link script left)
+run_part None left a b old h f = tt
+run_part (Some script) left a b old h f = printed_part a b old script left h f
 
-pub run_last : (given a b c : Option (List ℕ)) (old mid : AtLine Told) (left : List ℕ) → HoldsNone old
-    → IfSome given (λ script. Feeds Some a [] b [] old [] script mid left) → EndsPart Some b c mid left
-    → IfSome given (λ script. PrintedPart a c old.link script)
-run_last None a b c old mid left h f e = tt
-run_last (Some script) a b c old mid left h f e = printed_but_last a b c old mid script left h f e
+pub run_last : (given left a b c : Option (List ℕ)) (old mid : AtLine Told) (line : List ℕ) → HoldsNone old
+    → IfSome given (λ script. FedWhole Some a b old script left mid line) → EndsPart Some b c mid line
+    → IfSome given (λ script. PrintedPart a c old.link script left)
+run_last None left a b c old mid line h f e = tt
+run_last (Some script) left a b c old mid line h f e = printed_but_last a b c old mid script left line h f e
 
 -- A link of which no line was answered yet
 
 abbrev pub fresh : Seen Told → AtLine Told
 fresh link = record { link = link; first = true }
 
-pub stands_first : (engine : Seen Told) (old : AtLine Told) → old ≡ fresh engine → Holds Some engine start.state
+pub stands_first : (engine : Seen Told) (old : AtLine Told) → old ≡ fresh engine → Holds Some engine start
     → Stands Some old start
 stands_first engine old is h =
     let P : AtLine Told → Type 0 = λ x. Stands Some x start in subst P (sym is) (record { holds = h; place = refl })
 
-pub printed_first : (given a c : Option (List ℕ)) (engine last : Seen Told) (old new : AtLine Told)
-    → old ≡ fresh engine → last ≡ new.link → IfSome given (λ script. Printed a c old.link script new.link)
-    → IfSome given (λ script. Printed a c engine script last)
-printed_first given a c engine last old new is ends h =
-    let P : Seen Told → Seen Told → Type 0 = λ x y. IfSome given (λ script. Printed a c x script y) in
+pub printed_first : (given left a c : Option (List ℕ)) (engine last : Seen Told) (old new : AtLine Told)
+    → old ≡ fresh engine → last ≡ new.link → IfSome given (λ script. Printed a c old.link script left new.link)
+    → IfSome given (λ script. Printed a c engine script left last)
+printed_first given left a c engine last old new is ends h =
+    let P : Seen Told → Seen Told → Type 0 = λ x y. IfSome given (λ script. Printed a c x script left y) in
     subst (λ x. P x last) (ap (λ (x : AtLine Told). x.link) is) (subst (λ y. P old.link y) (sym ends) h)
 
-pub part_first : (given a c : Option (List ℕ)) (engine : Seen Told) (old : AtLine Told)
-    → old ≡ fresh engine → IfSome given (λ script. PrintedPart a c old.link script)
-    → IfSome given (λ script. PrintedPart a c engine script)
-part_first given a c engine old is h =
-    let P : Seen Told → Type 0 = λ x. IfSome given (λ script. PrintedPart a c x script) in
+pub part_first : (given left a c : Option (List ℕ)) (engine : Seen Told) (old : AtLine Told)
+    → old ≡ fresh engine → IfSome given (λ script. PrintedPart a c old.link script left)
+    → IfSome given (λ script. PrintedPart a c engine script left)
+part_first given left a c engine old is h =
+    let P : Seen Told → Type 0 = λ x. IfSome given (λ script. PrintedPart a c x script left) in
     subst P (ap (λ (x : AtLine Told). x.link) is) h
 
 -- What was printed and what the link came to are one fold
 
-fold_of : (a c : Option (List ℕ)) (engine last : Seen Told) (script : List ℕ) → engine.life ≤ max_life
-    → AreInRange engine.rates → Printed a c engine script last → IsOneFold a c engine script last
-fold_of a c engine last script few range p =
+fold_of : (a c : Option (List ℕ)) (engine last : Seen Told) (script : List ℕ) (left : Option (List ℕ))
+    → engine.life ≤ max_life → AreInRange engine.rates → Printed a c engine script left last
+    → IsOneFold a c engine script left last
+fold_of a c engine last script left few range p =
     let lines = lines_of script in
-    let state = after-state engine.life engine.rates start p.lacks lines in record {
+    let state = after-state engine.life engine.rates start p.lacks lines in
+    let writes = after-writes engine.life engine.rates start p.lacks lines in record {
+      reads = p.reads;
       lacks = p.lacks;
-      text = subst (Appends a c) (talk-texts engine.life engine.rates start p.lacks lines) p.text;
+      text = p.text;
+      texts = talk-texts engine.life engine.rates start p.lacks lines;
       keeps =
           headline engine.life engine.rates (events_of engine.life engine.rates start p.lacks lines) _ last.live
           (Some last.writer) few range
           (events-may_follow engine.life engine.rates start p.lacks lines range
           (state-empty engine.life engine.rates)) refl
           (p.live ∙ ap (λ (s : State). s.live) state)
-          (p.bytes ∙ ap out state);
+          (p.bytes ∙ ap out state)
+          (p.counts ∙ writes);
+      life = p.life;
+      rates = p.rates;
     }
 
-pub fold_first : (given a c : Option (List ℕ)) (engine last : Seen Told) → engine.life ≤ max_life
-    → AreInRange engine.rates → IfSome given (λ script. Printed a c engine script last)
-    → IfSome given (λ script. IsOneFold a c engine script last)
-fold_first None a c engine last few range h = tt
-fold_first (Some script) a c engine last few range h = fold_of a c engine last script few range h
+pub fold_first : (given left a c : Option (List ℕ)) (engine last : Seen Told) → engine.life ≤ max_life
+    → AreInRange engine.rates → IfSome given (λ script. Printed a c engine script left last)
+    → IfSome given (λ script. IsOneFold a c engine script left last)
+fold_first None left a c engine last few range h = tt
+fold_first (Some script) left a c engine last few range h = fold_of a c engine last script left few range h

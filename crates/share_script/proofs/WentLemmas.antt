@@ -6,7 +6,8 @@ use Rattle.share_model.specs.declared.rates.Rate.{Rate}
 use Rattle.share_model.specs.text.Lines.{reading}
 use Rattle.share_model.specs.text.Talk.{Progress, answer, talk, after, is_feed, lines_of}
 use Rattle.share_script.specs.Script.{NoFeed, Went, Begins}
-use Rattle.share_script.proofs.LineLemmas.{lines-feed, talk_same, after_same}
+use Rattle.share_model.specs.text.FeedLaws.{lines-feed}
+use Rattle.share_script.proofs.LineLemmas.{talk_same, after_same}
 
 pub went_as : (life life' : ℕ) (rates rates' : List Rate) (p : Progress) (ls : List (List ℕ)) (text : List ℕ)
     (q : Progress) (ms : List (List ℕ)) (lacks : List Bool) → life' ≡ life → rates' ≡ rates

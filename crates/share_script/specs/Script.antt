@@ -1,5 +1,5 @@
 -- What a run of a script comes to.
-use Rattle.std.specs.Prelude.{◌≡◌, ◌≢◌, ◌⊎◌, ℕ, Bool, true, false, List, [], ◌∷◌, ◌++◌, Option, Some}
+use Rattle.std.specs.Prelude.{◌≡◌, ◌≢◌, ◌⊎◌, ℕ, Bool, true, false, List, [], ◌∷◌, ◌++◌, filter, nat_lt, Option, Some}
 use Rattle.std.specs.List.{All}
 use Rattle.std.specs.Io.KnownBytes.{Appends, Consumes}
 use Rattle.share_base.specs.declared.command.Turn.{Turn}
@@ -22,36 +22,47 @@ use Rattle.share_script.specs.declared.script.ScriptFault.TheVariants.{Input, Ou
 
 -- The whole run
 
--- the whole text was printed; the link holds what it holds after the lines, and its tape the bytes of that state
-pub record Printed (before after_it : Option (List ℕ)) (old : Seen Told) (script : List ℕ) (new : Seen Told) : Type 0
-  where
-    -- which lines found no memory
-    pub lacks : List Bool
-    pub text : Appends before after_it (talk old.life old.rates start lacks (lines_of script))
-    pub live : new.live ≡ (after old.life old.rates start lacks (lines_of script)).state.live
-    pub bytes : new.writer.bytes ≡ out (after old.life old.rates start lacks (lines_of script)).state
-    pub life : new.life ≡ old.life
-    pub rates : new.rates ≡ old.rates
+-- the whole script was read, and the whole text printed; the link holds what it holds after the lines, and its tape
+-- their bytes and writes
+pub record Printed (before after_it : Option (List ℕ)) (old : Seen Told) (script : List ℕ) (left : Option (List ℕ))
+    (new : Seen Told) : Type 0 where
+  pub reads : Consumes (Some script) left script
+  -- which lines found no memory
+  pub lacks : List Bool
+  pub text : Appends before after_it (talk old.life old.rates start lacks (lines_of script))
+  pub live : new.live ≡ (after old.life old.rates start lacks (lines_of script)).state.live
+  pub bytes : new.writer.bytes ≡ out (after old.life old.rates start lacks (lines_of script)).state
+  pub counts : filter (nat_lt 0) new.writer.counts ≡ (after old.life old.rates start lacks (lines_of script)).writes
+  pub life : new.life ≡ old.life
+  pub rates : new.rates ≡ old.rates
 
--- what was printed are the texts of the outcomes of the events that the lines make, and each text without an event in
--- its place; and of these events the link and its tape keep the sentence of this project
-pub record IsOneFold (before after_it : Option (List ℕ)) (old : Seen Told) (script : List ℕ) (new : Seen Told) : Type 0
-  where
-    -- which lines found no memory
-    pub lacks : List Bool
-    pub text : Appends before after_it (texts_of (made_of old.life old.rates start lacks (lines_of script))
-        (outcomes old.rates empty_state (events_of old.life old.rates start lacks (lines_of script))))
-    pub keeps : Headline old.life old.rates (events_of old.life old.rates start lacks (lines_of script))
-        (outcomes old.rates empty_state (events_of old.life old.rates start lacks (lines_of script))) new.live
-        (Some new.writer)
+-- the whole script was read, and the answers to its lines were printed: the texts of the outcomes of the events that the lines make, and each text
+-- without an event in its place; and of these events the link and its tape keep the sentence of this project
+pub record IsOneFold (before after_it : Option (List ℕ)) (old : Seen Told) (script : List ℕ) (left : Option (List ℕ))
+    (new : Seen Told) : Type 0 where
+  pub reads : Consumes (Some script) left script
+  -- which lines found no memory
+  pub lacks : List Bool
+  pub text : Appends before after_it (talk old.life old.rates start lacks (lines_of script))
+  pub texts : talk old.life old.rates start lacks (lines_of script)
+      ≡ texts_of (made_of old.life old.rates start lacks (lines_of script))
+      (outcomes old.rates empty_state (events_of old.life old.rates start lacks (lines_of script)))
+  pub keeps : Headline old.life old.rates (events_of old.life old.rates start lacks (lines_of script))
+      (outcomes old.rates empty_state (events_of old.life old.rates start lacks (lines_of script))) new.live
+      (Some new.writer)
+  pub life : new.life ≡ old.life
+  pub rates : new.rates ≡ old.rates
 
--- a beginning of the text was printed
-pub record PrintedPart (before after_it : Option (List ℕ)) (old : Seen Told) (script : List ℕ) : Type 0 where
+-- some of the script was read, and of the answers to the lines of that a beginning was printed
+pub record PrintedPart (before after_it : Option (List ℕ)) (old : Seen Told) (script : List ℕ)
+    (left : Option (List ℕ)) : Type 0 where
+  pub read : List ℕ
+  pub reads : Consumes (Some script) left read
   pub lacks : List Bool
   pub text : List ℕ
   pub rest : List ℕ
   pub printed : Appends before after_it text
-  pub begins : talk old.life old.rates start lacks (lines_of script) ≡ text ++ rest
+  pub begins : talk old.life old.rates start lacks (lines_of read) ≡ text ++ rest
 
 -- Why a run ended before its time
 
@@ -174,6 +185,19 @@ Ends told a b old left new =
 
 abbrev pub EndsPart : {W : Type 0} → (W → Option Told) → Option (List ℕ) → Option (List ℕ) → AtLine W → List ℕ → Type 0
 EndsPart told a b old left = (left ≢ []) × SpokePart told a [] b old left
+
+-- the whole script was read and fed, and left an unfinished line
+pub record FedWhole {W : Type 0} (told : W → Option Told) (a b : Option (List ℕ)) (old : AtLine W) (script : List ℕ)
+    (left : Option (List ℕ)) (new : AtLine W) (line : List ℕ) : Type 0 where
+  pub reads : Consumes (Some script) left script
+  pub fed : Feeds told a [] b [] old [] script new line
+
+-- some of the script was read, and no more was printed than a beginning of the answers to that
+pub record FedPart {W : Type 0} (told : W → Option Told) (a b : Option (List ℕ)) (old : AtLine W) (script : List ℕ)
+    (left : Option (List ℕ)) : Type 0 where
+  pub read : List ℕ
+  pub reads : Consumes (Some script) left read
+  pub fed : FeedsPart told a [] b old [] read
 
 -- what was read so far was fed, and left an unfinished line
 pub record Running {W : Type 0} (told : W → Option Told) (given left a b : Option (List ℕ)) (old new : AtLine W)

@@ -17,7 +17,7 @@ pub record AtLine (W : Type 0) : Type 0 where
 
 -- the script came to what the link holds, at its first line or a later one
 pub record Stands {W : Type 0} (told : W → Option Told) (at : AtLine W) (p : Progress) : Type 0 where
-  pub holds : Holds told at.link p.state
+  pub holds : Holds told at.link p
   pub place : is_first p ≡ at.first
 
 -- the text of an answer of a link that holds this now

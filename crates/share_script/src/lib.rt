@@ -20,6 +20,6 @@ mod writing;
 pub use hex::print_bytes;
 pub use laws::written_lines_are_read;
 pub use reading::read_line;
-pub use script::{MAX_READS, ScriptFault, run_script};
+pub use script::{ScriptFault, run_script};
 pub use share_model::{NotWritten, Tape};
 pub use writing::{write_event, write_line, write_reply, write_turn};

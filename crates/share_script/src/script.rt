@@ -1,6 +1,5 @@
 //! Scripts, run from a reader to a writer.
-ghost use Rattle.std.specs.Prelude.{◌≡◌, ◌<◌, ◌++◌, [], length, IfOk, IfErr, IfSome, OnOk, MatchResult};
-ghost use Rattle.std.specs.Io.KnownBytes.{IsAtEnd};
+ghost use Rattle.std.specs.Prelude.{◌≡◌, ◌<◌, ◌^◌, ◌++◌, [], length, IfErr, IfSome, OnOk, MatchResult};
 ghost use Rattle.share_model.specs.io.Calls.{ReadsToEnd, Offers};
 ghost use Rattle.share_model.specs.io.Told.{TapeAnswers};
 ghost use Rattle.share_model.specs.link.Live.{empty_link};
@@ -8,7 +7,8 @@ ghost use Rattle.share_model.specs.io.Printing.{bytes_told};
 ghost use Rattle.share_model.specs.text.Says.{TakesAll};
 ghost use Rattle.share_model.specs.text.Talk.{start};
 ghost use Rattle.share_script.specs.Script.{IsOneFold};
-ghost use Rattle.share_script.specs.Script.{Printed, PrintedPart, Feeds, FeedsPart, Spoke, SpokePart, Ends, EndsPart};
+ghost use Rattle.share_script.specs.Script.{Printed, PrintedPart, Feeds, FeedsPart, FedWhole, FedPart, Spoke, SpokePart};
+ghost use Rattle.share_script.specs.Script.{Ends, EndsPart};
 ghost use Rattle.share_script.specs.Script.{Wrote, IsStop, IsEnd, IsFault};
 ghost use Rattle.share_script.specs.Session.{Stands};
 
@@ -26,7 +26,7 @@ use thiserror::Error;
 const CHUNK: usize = 65536;
 
 /// How many read calls a run makes, at most.
-pub const MAX_READS: u64 = 1 << 32;
+const MAX_READS: u64 = 1 << 32;
 
 /// Why a script was not run to its end.
 #[derive(Clone, Copy, Debug, PartialEq, Eq, Error)]
@@ -89,7 +89,7 @@ impl<T: Drop> From<AllocFailed<T>> for ScriptFault {
 /// Runs a script on a new link whose tape is empty: each line is answered by a line of output, but `report` by the
 /// report of the link, and `audit 1` as the first line by nothing. The answers to what one read gave are offered before
 /// the next read is made. It ends where the input ends, or at the first fault, which drops the link; what was printed
-/// is then a beginning of the script's text. An interrupted read is made again, 2^32 are made at most.
+/// is then a beginning of the answers to the lines of what was read. An interrupted read is made again, 2^32 are made at most.
 ///
 /// `Input` where a read failed or too many would be made, `Output` where an offer of an answer or a report was refused,
 /// `NoMemory` where no buffers were to be had, before anything is read, or the tape found no memory for a frame.
@@ -101,17 +101,14 @@ pub fn run_script<S: Rates + Drop, I: Source, O: Telling>(
 ) -> Result<Engine<Tape, S>, ScriptFault>
     requires fresh { engine.live ≡ empty_link }
     requires empty { engine.writer ≡ record { bytes = []; counts = [] } }
-    ensures printed { IfSome (I.left input.old) (λ script. MatchResult result
-        (λ done. Printed (bytes_told (O.told output.old)) (bytes_told (O.told output.new))
-        engine script done)
-        (λ _. PrintedPart (bytes_told (O.told output.old)) (bytes_told (O.told output.new))
-        engine script)) }
-    ensures fold { IfOk result (λ done. IfSome (I.left input.old) (λ script.
-        IsOneFold (bytes_told (O.told output.old)) (bytes_told (O.told output.new)) engine script done)) }
-    ensures ended { OnOk result (IsAtEnd (I.left input.new)) }
-    ensures read { OnOk result (ReadsToEnd I.gives MAX_READS input.old input.new) }
+    ensures fold { IfSome (I.left input.old) (λ script. MatchResult result
+        (λ done. IsOneFold (bytes_told (O.told output.old)) (bytes_told (O.told output.new)) engine script
+        (I.left input.new) done)
+        (λ _. PrintedPart (bytes_told (O.told output.old)) (bytes_told (O.told output.new)) engine script
+        (I.left input.new))) }
+    ensures read { OnOk result (ReadsToEnd I.gives (2 ^ 32) input.old input.new) }
     ensures offers { OnOk result (Offers O.answers output.old output.new) }
-    ensures fault { IfErr result (λ fault. IsFault I.gives MAX_READS input.old input.new
+    ensures fault { IfErr result (λ fault. IsFault I.gives (2 ^ 32) input.old input.new
         TapeAnswers engine.writer O.answers output.old output.new fault) }
 {
     let _events = engine.events();
@@ -134,12 +131,12 @@ fn run_lines<S: Rates + Drop, I: Source, O: Telling>(
     requires start { Stands Some session.old start }
     ensures printed { IfSome (I.left input.old) (λ script. MatchResult result
         (λ _. Printed (bytes_told (O.told output.old)) (bytes_told (O.told output.new))
-        session.old.link script session.new.link)
+        session.old.link script (I.left input.new) session.new.link)
         (λ _. PrintedPart (bytes_told (O.told output.old)) (bytes_told (O.told output.new))
-        session.old.link script)) }
-    ensures read { OnOk result (ReadsToEnd I.gives MAX_READS input.old input.new) }
+        session.old.link script (I.left input.new))) }
+    ensures read { OnOk result (ReadsToEnd I.gives (2 ^ 32) input.old input.new) }
     ensures offers { OnOk result (Offers O.answers output.old output.new) }
-    ensures fault { IfErr result (λ fault. IsFault I.gives MAX_READS input.old input.new
+    ensures fault { IfErr result (λ fault. IsFault I.gives (2 ^ 32) input.old input.new
         TapeAnswers session.old.link.writer O.answers output.old output.new fault) }
 {
     let mut chunk = zeros(alloc, CHUNK)?;
@@ -173,15 +170,15 @@ fn read_all<W: Telling + Drop, S: Rates + Drop, I: Source, O: Telling>(
     requires none { carry.old ≡ [] }
     requires nothing { spool.old ≡ [] }
     ensures fed { IfSome (I.left input.old) (λ script. MatchResult result
-        (λ _. Feeds W.told (bytes_told (O.told output.old)) [] (bytes_told (O.told output.new)) []
-        session.old [] script session.new carry.new)
-        (λ _. FeedsPart W.told (bytes_told (O.told output.old)) [] (bytes_told (O.told output.new))
-        session.old [] script)) }
+        (λ _. FedWhole W.told (bytes_told (O.told output.old)) (bytes_told (O.told output.new))
+        session.old script (I.left input.new) session.new carry.new)
+        (λ _. FedPart W.told (bytes_told (O.told output.old)) (bytes_told (O.told output.new))
+        session.old script (I.left input.new))) }
     ensures nothing { OnOk result (spool.new ≡ []) }
     ensures calls { MatchResult result
-        (λ _. ReadsToEnd I.gives MAX_READS input.old input.new
+        (λ _. ReadsToEnd I.gives (2 ^ 32) input.old input.new
         × Wrote W.answers O.answers session.old.link.writer session.new.link.writer output.old output.new)
-        (λ fault. IsEnd I.gives MAX_READS input.old input.new
+        (λ fault. IsEnd I.gives (2 ^ 32) input.old input.new
         W.answers session.old.link.writer session.new.link.writer O.answers output.old output.new fault) }
 {
     for reads in 0..MAX_READS {

@@ -1,13 +1,14 @@
 -- A run of the program, put together from a run of its script and the line of the bytes that were written.
 use Rattle.std.proofs.Common.{◌≡◌, ℕ, List, [], ◌++◌, take, drop, Option, None, Some, IfSome, refl, sym, ap, ◌∙◌, subst}
 use mathlib.Core.List.{append_assoc}
-use Rattle.std.specs.Io.KnownBytes.{Appends}
+use Rattle.std.specs.Io.KnownBytes.{Appends, Consumes}
 use Rattle.std.proofs.lemmas.List.{take-append-drop}
 use Rattle.share_model.specs.declared.rates.Rate.{Rate}
 use Rattle.share_model.specs.link.Live.{Live}
 use Rattle.share_model.specs.run.Fold.{out}
 use Rattle.share_model.specs.link.Seen.{Seen}
 use Rattle.share_model.specs.io.Told.{Told}
+use Rattle.share_model.specs.text.EventsLaws.{after-state}
 use Rattle.share_model.specs.text.Talk.{start, talk, after, lines_of}
 use Rattle.share_model.specs.io.Printing.{AppendsPart}
 use Rattle.share_script.specs.Printing.{out_line}
@@ -16,20 +17,21 @@ use Rattle.share_model.specs.declared.writer.Answer.{Answer}
 use Rattle.share_model.specs.io.Calls.{HasRead, OfferRefused}
 use Rattle.share_script.specs.declared.script.ScriptFault.{ScriptFault}
 use Rattle.share_script.specs.declared.script.ScriptFault.TheVariants.{Output}
-use Rattle.share_script.specs.Script.{Printed, PrintedPart, IsFault}
+use Rattle.share_script.specs.Script.{IsOneFold, PrintedPart, IsFault}
 use Rattle.stridelink.specs.Program.{printout, Ran, RanPart}
-use Rattle.std.proofs.KnownBytes.{Appends-nil}
-use Rattle.std.proofs.KnownBytes.{Appends-trans}
+use Rattle.std.proofs.KnownBytes.{Appends-nil, Appends-trans, Consumes-nil}
 
 -- nothing was printed
 pub ran_nothing : (known a : Option (List ℕ)) (life : ℕ) (rates : List Rate)
-    → IfSome known (λ script. RanPart a a life rates script)
+    → IfSome known (λ script. RanPart a a life rates script known)
 ran_nothing None a life rates = tt
 ran_nothing (Some script) a life rates =
     record {
+      read = [];
+      reads = Consumes-nil (Some script);
       lacks = [];
       text = [];
-      rest = printout life rates [] script;
+      rest = printout life rates [] [];
       printed = Appends-nil a;
       begins =
           refl;
@@ -46,11 +48,13 @@ over_new life rates live writer e is =
     record { life_is = ap (λ (s : Seen Told). s.life) is; rates_are = ap (λ (s : Seen Told). s.rates) is }
 
 -- the script was not run to its end
-part_of : (a b : Option (List ℕ)) (e : Seen Told) (script : List ℕ) → PrintedPart a b e script
-    → RanPart a b e.life e.rates script
-part_of a b e script part =
-    let line = out_line (out (after e.life e.rates start part.lacks (lines_of script)).state) in
+part_of : (a b : Option (List ℕ)) (e : Seen Told) (script : List ℕ) (left : Option (List ℕ))
+    → PrintedPart a b e script left → RanPart a b e.life e.rates script left
+part_of a b e script left part =
+    let line = out_line (out (after e.life e.rates start part.lacks (lines_of part.read)).state) in
     record {
+      read = part.read;
+      reads = part.reads;
       lacks = part.lacks;
       text = part.text;
       rest = part.rest
@@ -60,56 +64,69 @@ part_of a b e script part =
           ∙ append_assoc part.text part.rest line;
     }
 
-pub ran_part : (known a b : Option (List ℕ)) (life : ℕ) (rates : List Rate) (e : Seen Told) → IsOver life rates e
-    → IfSome known (λ script. PrintedPart a b e script) → IfSome known (λ script. RanPart a b life rates script)
-ran_part None a b life rates e over part = tt
-ran_part (Some script) a b life rates e over part =
-    subst (λ l. RanPart a b l rates script) over.life_is
-    (subst (λ rs. RanPart a b e.life rs script) over.rates_are (part_of a b e script part))
+pub ran_part : (known left a b : Option (List ℕ)) (life : ℕ) (rates : List Rate) (e : Seen Told) → IsOver life rates e
+    → IfSome known (λ script. PrintedPart a b e script left)
+    → IfSome known (λ script. RanPart a b life rates script left)
+ran_part None left a b life rates e over part = tt
+ran_part (Some script) left a b life rates e over part =
+    subst (λ l. RanPart a b l rates script left) over.life_is
+    (subst (λ rs. RanPart a b e.life rs script left) over.rates_are (part_of a b e script left part))
+
+-- the tape holds the bytes of what the script came to
+bytes_of : (a b : Option (List ℕ)) (e new : Seen Told) (script : List ℕ) (left : Option (List ℕ))
+    (whole : IsOneFold a b e script left new)
+    → new.writer.bytes ≡ out (after e.life e.rates start whole.lacks (lines_of script)).state
+bytes_of a b e new script left whole =
+    whole.keeps.bytes ∙ ap out (sym (after-state e.life e.rates start whole.lacks (lines_of script)))
 
 -- the script was, and the line of the bytes was not printed whole
-most_of : (a b c : Option (List ℕ)) (e new : Seen Told) (script : List ℕ) → Printed a b e script new
-    → AppendsPart b c (out_line new.writer.bytes) → RanPart a c e.life e.rates script
-most_of a b c e new script whole part =
+most_of : (a b c : Option (List ℕ)) (e new : Seen Told) (script : List ℕ) (left : Option (List ℕ))
+    → IsOneFold a b e script left new → AppendsPart b c (out_line new.writer.bytes)
+    → RanPart a c e.life e.rates script left
+most_of a b c e new script left whole part =
     let answers = talk e.life e.rates start whole.lacks (lines_of script) in
     let line = out_line new.writer.bytes in
     record {
+      read = script;
+      reads = whole.reads;
       lacks = whole.lacks;
       text = answers ++ take part.0 line;
       rest = drop part.0 line;
       printed = Appends-trans a b c answers (take part.0 line) whole.text part.1;
-      begins = ap (λ bs. answers ++ out_line bs) (sym whole.bytes)
+      begins = ap (λ bs. answers ++ out_line bs) (sym (bytes_of a b e new script left whole))
           ∙ ap (λ l. answers ++ l) (sym (take-append-drop part.0 line))
           ∙ sym (append_assoc answers (take part.0 line) (drop part.0 line));
     }
 
-pub ran_most : (known a b c : Option (List ℕ)) (life : ℕ) (rates : List Rate) (e new : Seen Told) (bytes : List ℕ)
-    → IsOver life rates e → bytes ≡ new.writer.bytes → IfSome known (λ script. Printed a b e script new)
-    → AppendsPart b c (out_line bytes) → IfSome known (λ script. RanPart a c life rates script)
-ran_most None a b c life rates e new bytes over is whole part = tt
-ran_most (Some script) a b c life rates e new bytes over is whole part =
-    let here = most_of a b c e new script whole (subst (λ bs. AppendsPart b c (out_line bs)) is part) in
-    subst (λ l. RanPart a c l rates script) over.life_is
-    (subst (λ rs. RanPart a c e.life rs script) over.rates_are here)
+pub ran_most : (known left a b c : Option (List ℕ)) (life : ℕ) (rates : List Rate) (e new : Seen Told)
+    (bytes : List ℕ) → IsOver life rates e → bytes ≡ new.writer.bytes
+    → IfSome known (λ script. IsOneFold a b e script left new)
+    → AppendsPart b c (out_line bytes) → IfSome known (λ script. RanPart a c life rates script left)
+ran_most None left a b c life rates e new bytes over is whole part = tt
+ran_most (Some script) left a b c life rates e new bytes over is whole part =
+    let here = most_of a b c e new script left whole (subst (λ bs. AppendsPart b c (out_line bs)) is part) in
+    subst (λ l. RanPart a c l rates script left) over.life_is
+    (subst (λ rs. RanPart a c e.life rs script left) over.rates_are here)
 
 -- the whole text was printed
-whole_of : (a b c : Option (List ℕ)) (e new : Seen Told) (script : List ℕ) → Printed a b e script new
-    → Appends b c (out_line new.writer.bytes) → Ran a c e.life e.rates script
-whole_of a b c e new script whole line =
+whole_of : (a b c : Option (List ℕ)) (e new : Seen Told) (script : List ℕ) (left : Option (List ℕ))
+    → IsOneFold a b e script left new → Appends b c (out_line new.writer.bytes) → Ran a c e.life e.rates script
+whole_of a b c e new script left whole line =
     let answers = talk e.life e.rates start whole.lacks (lines_of script) in
     record {
       lacks = whole.lacks;
       printed =
-          subst (λ bs. Appends a c (answers ++ out_line bs)) whole.bytes
+          subst (λ bs. Appends a c (answers ++ out_line bs)) (bytes_of a b e new script left whole)
           (Appends-trans a b c answers (out_line new.writer.bytes) whole.text line);
     }
 
-pub ran_whole : (known a b c : Option (List ℕ)) (life : ℕ) (rates : List Rate) (e new : Seen Told) (bytes : List ℕ)
-    → IsOver life rates e → bytes ≡ new.writer.bytes → IfSome known (λ script. Printed a b e script new)
+pub ran_whole : (known left a b c : Option (List ℕ)) (life : ℕ) (rates : List Rate) (e new : Seen Told)
+    (bytes : List ℕ) → IsOver life rates e → bytes ≡ new.writer.bytes
+    → IfSome known (λ script. IsOneFold a b e script left new)
     → Appends b c (out_line bytes) → IfSome known (λ script. Ran a c life rates script)
-ran_whole None a b c life rates e new bytes over is whole line = tt
-ran_whole (Some script) a b c life rates e new bytes over is whole line =
-    let here = whole_of a b c e new script whole (subst (λ bs. Appends b c (out_line bs)) is line) in
+ran_whole None left a b c life rates e new bytes over is whole line = tt
+ran_whole (Some script) left a b c life rates e new bytes over is whole line =
+    let here = whole_of a b c e new script left whole (subst (λ bs. Appends b c (out_line bs)) is line) in
     subst (λ l. Ran a c l rates script) over.life_is (subst (λ rs. Ran a c e.life rs script) over.rates_are here)
 
 -- the line of the bytes was refused

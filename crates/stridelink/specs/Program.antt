@@ -1,6 +1,6 @@
 -- What the program prints: the answers to the lines of its script, and the line of the bytes that were written.
-use Rattle.std.specs.Prelude.{◌≡◌, ℕ, Bool, List, [], ◌∷◌, ◌++◌, Option}
-use Rattle.std.specs.Io.KnownBytes.{Appends}
+use Rattle.std.specs.Prelude.{◌≡◌, ℕ, Bool, List, [], ◌∷◌, ◌++◌, Option, Some}
+use Rattle.std.specs.Io.KnownBytes.{Appends, Consumes}
 use Rattle.share_model.specs.declared.rates.Rate.{Rate}
 use Rattle.share_model.specs.run.Fold.{out}
 use Rattle.share_model.specs.text.Talk.{start, talk, after, lines_of}
@@ -26,10 +26,13 @@ pub record Ran (before after_it : Option (List ℕ)) (life : ℕ) (rates : List 
   pub lacks : List Bool
   pub printed : Appends before after_it (printout life rates lacks script)
 
--- a beginning of the text was printed
-pub record RanPart (before after_it : Option (List ℕ)) (life : ℕ) (rates : List Rate) (script : List ℕ) : Type 0 where
+-- some of the script was read, and of the text of that a beginning was printed
+pub record RanPart (before after_it : Option (List ℕ)) (life : ℕ) (rates : List Rate) (script : List ℕ)
+    (left : Option (List ℕ)) : Type 0 where
+  pub read : List ℕ
+  pub reads : Consumes (Some script) left read
   pub lacks : List Bool
   pub text : List ℕ
   pub rest : List ℕ
   pub printed : Appends before after_it text
-  pub begins : printout life rates lacks script ≡ text ++ rest
+  pub begins : printout life rates lacks read ≡ text ++ rest

@@ -1,11 +1,10 @@
 //! A link that shares its bandwidth among packet flows by tickets, driven by a script of lines.
 #![tactic(auto)]
 
-ghost use Rattle.std.specs.Prelude.{◌≡◌, ◌≢◌, ◌⊎◌, ℕ, [], None, IfOk, IfErr, IfSome, OnOk, MatchResult, IsOkAnd};
+ghost use Rattle.std.specs.Prelude.{◌≡◌, ◌≢◌, ◌⊎◌, ◌^◌, ℕ, [], None, IfOk, IfErr, IfSome, OnOk, MatchResult, IsOkAnd};
 ghost use Rattle.std.specs.Process.{exit_status};
 ghost use Rattle.clap.specs.Values.{kind_of};
 ghost use Rattle.share_script.specs.declared.script.ScriptFault.TheVariants.{Output, NoMemory};
-ghost use Rattle.std.specs.Io.KnownBytes.{IsAtEnd};
 ghost use Rattle.share_model.specs.io.Calls.{ReadsToEnd, Offers};
 ghost use Rattle.share_model.specs.io.Told.{TapeAnswers};
 ghost use Rattle.share_model.specs.io.Printing.{bytes_told};
@@ -29,7 +28,7 @@ use clap::error::ErrorKind;
 use clap::{Arg, ArgAction, ArgMatches, Command, value_parser};
 use share_core::{Engine, MAX_LIFE};
 use share_model::{PlainReader, PlainWriter, Rates, Source, Tape, Telling};
-use share_script::{MAX_READS, ScriptFault, print_bytes, run_script};
+use share_script::{ScriptFault, print_bytes, run_script};
 use std::alloc::{AllocError, Global};
 use std::process::ExitCode;
 use std::{env, io};
@@ -59,7 +58,7 @@ enum Asked {
 }
 
 // Runs a script on a new link over this shelf, and prints the bytes of the link in hexadecimal. On a fault a beginning
-// of that text was printed.
+// of that text was printed, for what was read of the script.
 fn run<S: Rates + Drop, I: Source, O: Telling>(
     alloc: Global,
     shelf: S,
@@ -72,11 +71,10 @@ fn run<S: Rates + Drop, I: Source, O: Telling>(
         (λ _. Ran (bytes_told (O.told output.old)) (bytes_told (O.told output.new))
         life (S.rates shelf) script)
         (λ _. RanPart (bytes_told (O.told output.old)) (bytes_told (O.told output.new))
-        life (S.rates shelf) script)) }
-    ensures ended { OnOk result (IsAtEnd (I.left input.new)) }
-    ensures read { OnOk result (ReadsToEnd I.gives MAX_READS input.old input.new) }
+        life (S.rates shelf) script (I.left input.new))) }
+    ensures read { OnOk result (ReadsToEnd I.gives (2 ^ 32) input.old input.new) }
     ensures offers { OnOk result (Offers O.answers output.old output.new) }
-    ensures fault { IfErr result (λ fault. IsFault I.gives MAX_READS input.old input.new
+    ensures fault { IfErr result (λ fault. IsFault I.gives (2 ^ 32) input.old input.new
         TapeAnswers (record { bytes = []; counts = [] }) O.answers output.old output.new fault) }
 {
     let Ok(engine) = Engine::new(alloc, shelf, life, Tape::new(alloc)) else {

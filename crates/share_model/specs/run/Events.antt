@@ -1,6 +1,6 @@
 -- Which events a link makes: none after its life; commands and arrivals whose fields a line can spell; and those of the
 -- writer only while the link is whole and has a frame to send, of which the writer accepts at least one byte.
-use Rattle.std.specs.Prelude.{◌≡◌, ◌<◌, ◌≤◌, ℕ, false, List, [], ◌∷◌, length, take, Option, None, Some}
+use Rattle.std.specs.Prelude.{◌≡◌, ◌<◌, ◌≤◌, ℕ, false, List, [], ◌∷◌, length, take, flat_map, Option, None, Some}
 use Rattle.share_base.specs.declared.command.Event.{Event}
 use Rattle.share_base.specs.declared.command.Event.TheVariants.{Commanded, Arrived, Written, Faulted}
 use Rattle.share_model.specs.declared.rates.Rate.{Rate}
@@ -34,6 +34,17 @@ event_bytes l (Commanded c) = []
 event_bytes l (Arrived flow body) = []
 event_bytes l (Written k) = bytes_by k (sending l)
 event_bytes l Faulted = []
+
+-- the count of an event's write, where it is one
+abbrev pub write_of : Event → List ℕ
+write_of (Commanded c) = []
+write_of (Arrived flow body) = []
+write_of (Written k) = k ∷ []
+write_of Faulted = []
+
+-- how many bytes the writer accepted in each write, in order
+abbrev pub writes_in : List Event → List ℕ
+writes_in events = flat_map write_of events
 
 -- an event that a link may make
 abbrev pub MayCome : Live → Event → Type 0

@@ -1,6 +1,6 @@
 -- The sentence holds of every run of a link.
 use Rattle.std.specs.Prelude.{◌≡◌, ◌≤◌, ℕ, true, false, List, [], ◌∷◌, ◌++◌, Option, None, Some, IfSome}
-use Rattle.std.specs.Prelude.{find, option_map, option_and_then}
+use Rattle.std.specs.Prelude.{find, filter, nat_lt, option_map, option_and_then}
 use Rattle.std.proofs.Common.{refl, ap, sym, ◌∙◌, subst, arith}
 use Rattle.std.proofs.lemmas.Option.{same_Some}
 use Rattle.share_base.specs.declared.command.Event.{Event}
@@ -18,7 +18,7 @@ use Rattle.share_model.specs.run.BillLaws.{run-billed, run-past}
 use Rattle.share_model.specs.run.BoundLaws.{run-level}
 use Rattle.share_model.specs.run.BytesLaws.{keeps-arrived, keeps-commanded, out-arrived, out-commanded, out-failed}
 use Rattle.share_model.specs.run.BytesLaws.{step-failed}
-use Rattle.share_model.specs.run.Events.{MayFollow, IsWrite, bytes_by}
+use Rattle.share_model.specs.run.Events.{MayFollow, IsWrite, bytes_by, writes_in}
 use Rattle.share_model.specs.run.Fold.{State, empty_state, step, state_after, outcomes, run, out}
 use Rattle.share_model.specs.run.FoldLaws.{may_follow-append, may_follow-back, may_follow-front, may_follow-head}
 use Rattle.share_model.specs.run.FoldLaws.{may_follow-one, run-bytes, run-sound, state-step, state_after-append}
@@ -177,8 +177,10 @@ run-tickets life rates events before after range may parts =
 pub headline : (life : ℕ) (rates : List Rate) (events : List Event) (replies : List Outcome) (l : Live)
     (told : Option Told) → life ≤ max_life → AreInRange rates → MayFollow life rates empty_state events
     → replies ≡ outcomes rates empty_state events → l ≡ (run rates events).live
-    → IfSome told (λ t. t.bytes ≡ out (run rates events)) → Headline life rates events replies l told
-headline life rates events replies l told few range may replies_are holds bytes = record {
+    → IfSome told (λ t. t.bytes ≡ out (run rates events))
+    → IfSome told (λ t. filter (nat_lt 0) t.counts ≡ writes_in events)
+    → Headline life rates events replies l told
+headline life rates events replies l told few range may replies_are holds bytes counts = record {
   follow = may;
   replies_are = replies_are;
   holds = holds;
@@ -187,6 +189,7 @@ headline life rates events replies l told few range may replies_are holds bytes 
       (ap (λ (l : Live). find (is_book_of flow) l.books) (sym holds) ∙ found);
   past = ap (λ (l : Live). l.counts.past) holds ∙ run-past life rates events range may;
   bytes = bytes;
+  counts = counts;
   frames = run-frames life rates events (omega (arith, few)) range may;
   writes = λ before after k parts. run-writes life rates events before after k range may parts;
   fault = λ before after parts. run-fails life rates events before after range may parts;

@@ -23,7 +23,7 @@ use Rattle.share_model.specs.link.Live.{Live, Sending, rest_of, is_whole, whole,
 use Rattle.share_model.specs.link.Live.{live_step, arrive_step, command_step}
 pub use Rattle.share_model.specs.run.Ends.{IsEndOf, TellsRun}
 use Rattle.share_model.specs.run.Fold.{State, step, state_after, outcomes, out}
-use Rattle.share_model.specs.run.Events.{Sends, MayCome, MayFollow}
+use Rattle.share_model.specs.run.Events.{Sends, MayCome, MayFollow, writes_in}
 use Rattle.share_model.specs.run.FoldLaws.{state-step, may_follow-one}
 use Rattle.share_model.specs.run.BytesLaws.{out-commanded, out-arrived, out-written, out-failed}
 use Rattle.share_model.specs.link.Seen.{Seen}
@@ -52,19 +52,10 @@ turn_outcomes Again = []
 turn_outcomes Broken = []
 turn_outcomes Spent = []
 
--- the count that the writer accepted
-abbrev pub turn_writes : Turn → List ℕ
-turn_writes (Wrote flow seq k whole) = k ∷ []
-turn_writes (Torn flow seq j) = []
-turn_writes Idle = []
-turn_writes Again = []
-turn_writes Broken = []
-turn_writes Spent = []
-
 -- whatever run left what the link held, these events with these outcomes follow it, and leave what the link holds now;
--- and where the writer told the bytes of that run, it tells those of this one
+-- and where the writer told the bytes of that run and the counts of its writes, it tells those of this one
 pub record Ran {W : Type 0} (told : W → Option Told) (old : Seen W) (events : List Event) (made : List Outcome)
-    (writes : List ℕ) (new : Seen W) : Type 0 where
+    (new : Seen W) : Type 0 where
   pub life : new.life ≡ old.life
   pub rates : new.rates ≡ old.rates
   pub may : (s : State) → IsEndOf old.life old.rates s old.live → MayFollow old.life old.rates s events
@@ -73,10 +64,10 @@ pub record Ran {W : Type 0} (told : W → Option Told) (old : Seen W) (events : 
   pub outcomes_are : (s : State) → IsEndOf old.life old.rates s old.live → outcomes old.rates s events ≡ made
   pub tells : (s : State) (before : List ℕ) → IsEndOf old.life old.rates s old.live
       → IfSome (told old.writer) (TellsRun s before)
-      → IfSome (told new.writer) (TellsRun (state_after old.rates s events) (before ++ writes))
+      → IfSome (told new.writer) (TellsRun (state_after old.rates s events) (before ++ writes_in events))
 
 ran_none : {W : Type 0} (told : W → Option Told) (old new : Seen W) → new.live ≡ old.live → new.life ≡ old.life
-    → new.rates ≡ old.rates → told new.writer ≡ told old.writer → Ran told old [] [] [] new
+    → new.rates ≡ old.rates → told new.writer ≡ told old.writer → Ran told old [] [] new
 unfolding MayFollow state_after outcomes
 ran_none told old new live life rates tells = record {
   life = life;
@@ -98,14 +89,14 @@ pub record MadeOne {W : Type 0} (old : Seen W) (e : Event) (o : Outcome) (new : 
   pub life : new.life ≡ old.life
   pub rates : new.rates ≡ old.rates
 
-ran_one : {W : Type 0} (told : W → Option Told) (old new : Seen W) (e : Event) (o : Outcome) (writes : List ℕ)
+ran_one : {W : Type 0} (told : W → Option Told) (old new : Seen W) (e : Event) (o : Outcome)
     → AreInRange old.rates → MadeOne old e o new
     → ((s : State) (before : List ℕ) → IsEndOf old.life old.rates s old.live
     → IfSome (told old.writer) (TellsRun s before)
-    → IfSome (told new.writer) (TellsRun (step old.rates s e) (before ++ writes)))
-    → Ran told old (e ∷ []) (o ∷ []) writes new
+    → IfSome (told new.writer) (TellsRun (step old.rates s e) (before ++ writes_in (e ∷ []))))
+    → Ran told old (e ∷ []) (o ∷ []) new
 unfolding state_after outcomes
-ran_one told old new e o writes range made tells = record {
+ran_one told old new e o range made tells = record {
   life = made.life;
   rates = made.rates;
   may =
@@ -124,8 +115,8 @@ ran_one told old new e o writes range made tells = record {
 }
 
 ran_as : {W : Type 0} (told : W → Option Told) (old new : Seen W) (es es' : List Event) (os os' : List Outcome)
-    (ks ks' : List ℕ) → es ≡ es' → os ≡ os' → ks ≡ ks' → Ran told old es' os' ks' new → Ran told old es os ks new
-ran_as told old new es es' os os' ks ks' e o k ran = rw (e, o, k) ran
+    → es ≡ es' → os ≡ os' → Ran told old es' os' new → Ran told old es os new
+ran_as told old new es es' os os' e o ran = rw (e, o) ran
 
 -- What the writer tells
 
@@ -192,14 +183,13 @@ sends_at l l' s same sends = subst (λ l. Sends l s) (sym same) sends
 record IsWrote (turn : Turn) (k : ℕ) : Type 0 where
   events : turn_events turn ≡ Written k ∷ []
   outcomes : turn_outcomes turn ≡ Turned turn ∷ []
-  writes : turn_writes turn ≡ k ∷ []
 
 wrote_answer : (rates : List Rate) (l : Live) (s : Sending) (k : ℕ) → IsWrote (write_step rates l s k).1 k
 wrote_answer rates l s k =
     cond_both (is_whole s k) (whole rates l s k, Wrote s.head.flow s.head.seq k true)
     (in_part l s k, Wrote s.head.flow s.head.seq k false) (λ (d : Live × Turn). IsWrote d.1 k)
-    (λ _. record { events = refl; outcomes = refl; writes = refl })
-    (λ _. record { events = refl; outcomes = refl; writes = refl })
+    (λ _. record { events = refl; outcomes = refl })
+    (λ _. record { events = refl; outcomes = refl })
 
 same_turn : (t u : Turn) → Turned t ≡ Turned u → t ≡ u
 same_turn t u same = cc
@@ -220,26 +210,26 @@ torn_turn old s turn new made =
 
 module _ {W : Type 0} (told : W → Option Told) (old : Seen W) (new : Seen W) (range : AreInRange old.rates) where
   stays_ran : (turn : Turn) → StaysAs old turn → new.live ≡ old.live → new.life ≡ old.life → new.rates ≡ old.rates
-      → told new.writer ≡ told old.writer → Ran told old (turn_events turn) (turn_outcomes turn) (turn_writes turn) new
+      → told new.writer ≡ told old.writer → Ran told old (turn_events turn) (turn_outcomes turn) new
   stays_ran turn (as_spent spent is) live life rates tells =
-      ran_as told old new _ _ _ _ _ _ (ap turn_events is) (ap turn_outcomes is) (ap turn_writes is)
+      ran_as told old new _ _ _ _ (ap turn_events is) (ap turn_outcomes is)
       (ran_none told old new live life rates tells)
   stays_ran turn (as_broken living broken is) live life rates tells =
-      ran_as told old new _ _ _ _ _ _ (ap turn_events is) (ap turn_outcomes is) (ap turn_writes is)
+      ran_as told old new _ _ _ _ (ap turn_events is) (ap turn_outcomes is)
       (ran_none told old new live life rates tells)
   stays_ran turn (as_idle living unbroken none is) live life rates tells =
-      ran_as told old new _ _ _ _ _ _ (ap turn_events is) (ap turn_outcomes is) (ap turn_writes is)
+      ran_as told old new _ _ _ _ (ap turn_events is) (ap turn_outcomes is)
       (ran_none told old new live life rates tells)
   stays_ran turn (as_again living s sends is) live life rates tells =
-      ran_as told old new _ _ _ _ _ _ (ap turn_events is) (ap turn_outcomes is) (ap turn_writes is)
+      ran_as told old new _ _ _ _ (ap turn_events is) (ap turn_outcomes is)
       (ran_none told old new live life rates tells)
 
   wrote_ran : (most : ℕ) (turn : Turn) → WroteSome told old most turn new
-      → Ran told old (turn_events turn) (turn_outcomes turn) (turn_writes turn) new
+      → Ran told old (turn_events turn) (turn_outcomes turn) new
   wrote_ran most turn did =
       let is : IsWrote turn did.count = wrote_turn old did.count did.frame turn new did.made in
-      ran_as told old new _ _ _ _ _ _ is.events is.outcomes is.writes
-      (ran_one told old new (Written did.count) (Turned turn) (did.count ∷ []) range
+      ran_as told old new _ _ _ _ is.events is.outcomes
+      (ran_one told old new (Written did.count) (Turned turn) range
       (made_event old (Written did.count) did.frame turn new did.made
       (record { frame = did.frame; sends = did.made.sends; some = did.some; fits = did.fits }))
       (λ s before end was. tells_more (told old.writer) (told new.writer) s
@@ -249,12 +239,11 @@ module _ {W : Type 0} (told : W → Option Told) (old : Seen W) (new : Seen W) (
 
   fault_ran : (frame : Sending) (turn : Turn) → MadeEvent old Faulted frame turn new
       → (told new.writer ≡ told old.writer) ⊎ (told new.writer ≡ option_map with_nothing (told old.writer))
-      → Ran told old (turn_events turn) (turn_outcomes turn) (turn_writes turn) new
+      → Ran told old (turn_events turn) (turn_outcomes turn) new
   fault_ran frame turn made tells =
       let is : turn ≡ Torn frame.head.flow frame.head.seq frame.out = torn_turn old frame turn new made in
-      ran_as told old new _ _ _ _ _ _ (ap turn_events is) (ap turn_outcomes is ∙ ap (λ t. Turned t ∷ []) (sym is))
-      (ap turn_writes is)
-      (ran_one told old new Faulted (Turned turn) [] range
+      ran_as told old new _ _ _ _ (ap turn_events is) (ap turn_outcomes is ∙ ap (λ t. Turned t ∷ []) (sym is))
+      (ran_one told old new Faulted (Turned turn) range
       (made_event old Faulted frame turn new made (record { frame = frame; sends = made.sends }))
       (λ s before end was. fault_tells (told old.writer) (told new.writer) s (step old.rates s Faulted) before tells
       (out-failed end.sound (sends_at old.live s.live frame end.live made.sends).unbroken
@@ -262,14 +251,14 @@ module _ {W : Type 0} (told : W → Option Told) (old : Seen W) (new : Seen W) (
 
   -- a turn goes on with the run by its event, if it is one
   pub turn-ran : (most : ℕ) (turn : Turn) → TurnWent told old most turn new
-      → Ran told old (turn_events turn) (turn_outcomes turn) (turn_writes turn) new
+      → Ran told old (turn_events turn) (turn_outcomes turn) new
   turn-ran most turn (turn_stayed did) = stays_ran turn did.why did.live did.life did.rates did.tells
   turn-ran most turn (turn_wrote did) = wrote_ran most turn did
   turn-ran most turn (turn_failed did) = fault_ran did.frame turn did.made did.tells
 
   -- so does a declared fault
   pub tear-ran : (turn : Turn) → TearWent old turn new
-      → Ran told old (turn_events turn) (turn_outcomes turn) (turn_writes turn) new
+      → Ran told old (turn_events turn) (turn_outcomes turn) new
   tear-ran turn (tear_stayed why same) =
       stays_ran turn why (ap (λ (s : Seen W). s.live) same) (ap (λ (s : Seen W). s.life) same)
       (ap (λ (s : Seen W). s.rates) same) (ap (λ (s : Seen W). told s.writer) same)
@@ -282,15 +271,15 @@ pub data Asked {W : Type 0} (told : W → Option Told) (old : Seen W) (event : E
     (new : Seen W) : Type 0 where
   asked_spent : is_spent old ≡ true → reply ≡ Refused SpentRefusal → new ≡ old → Asked told old event reply new
   asked_no_memory : is_spent old ≡ false → reply ≡ Refused NoMemory → new ≡ old → Asked told old event reply new
-  asked_made : is_spent old ≡ false → Ran told old (event ∷ []) (Replied reply ∷ []) [] new
+  asked_made : is_spent old ≡ false → Ran told old (event ∷ []) (Replied reply ∷ []) new
       → Asked told old event reply new
 
 module _ {W : Type 0} (told : W → Option Told) (old : Seen W) (reply : Reply) (new : Seen W)
     (range : AreInRange old.rates) (sound : Sound old.life old.rates old.live) where
   command_ran : (c : Command) → HasCommandFields c → is_spent old ≡ false
       → Stepped (command_step old.rates old.live c) old reply new
-      → Ran told old (Commanded c ∷ []) (Replied reply ∷ []) [] new
-  command_ran c fields living did = ran_one told old new (Commanded c) (Replied reply) [] range
+      → Ran told old (Commanded c ∷ []) (Replied reply ∷ []) new
+  command_ran c fields living did = ran_one told old new (Commanded c) (Replied reply) range
       (record {
         below = events-below old sound living;
         may = fields;
@@ -317,8 +306,8 @@ module _ {W : Type 0} (told : W → Option Told) (old : Seen W) (reply : Reply) 
 
   arrive_ran : (name : NameBytes) (body : List ℕ) → IsName name × IsBody body → is_spent old ≡ false
       → Stepped (arrive_step old.live name body) old reply new
-      → Ran told old (Arrived name body ∷ []) (Replied reply ∷ []) [] new
-  arrive_ran name body fields living did = ran_one told old new (Arrived name body) (Replied reply) [] range
+      → Ran told old (Arrived name body ∷ []) (Replied reply ∷ []) new
+  arrive_ran name body fields living did = ran_one told old new (Arrived name body) (Replied reply) range
       (record {
         below = events-below old sound living;
         may = fields;

@@ -31,7 +31,7 @@ use Rattle.share_model.specs.text.EventsLaws.{after-state, talk-texts}
 use Rattle.share_model.specs.text.FeedLaws.{lines-all}
 use Rattle.share_model.specs.text.Lines.{hex, spelled, line_by, reading, is_in_range, IsName, IsNumber, HasFields}
 use Rattle.share_model.specs.text.LinesLaws.{reading-line}
-use Rattle.share_model.specs.text.Talk.{Progress, start, onward, line_event, read_event, answered, answer, first_flag}
+use Rattle.share_model.specs.text.Talk.{Progress, start, onward, stepped, line_event, read_event, answered, answer, first_flag}
 use Rattle.share_model.specs.text.Talk.{talk, after, lines_of}
 use Rattle.share_model.specs.text.Texts.{line_text}
 use Rattle.share_model.specs.text.WordLaws.{length-hex}
@@ -148,7 +148,7 @@ run_made life most rates longer range [] p lacks ample sound may = refl
 run_made life most rates longer range (e ∷ es) p lacks ample sound may =
     let lines = map spelled (map event_line es) in
     let first = event_read most rates p longer sound e may.0 may.1 (first_flag lacks) (first_found lacks ample) in
-    let next : Progress = onward p (step rates p.state e) in
+    let next : Progress = stepped rates p e in
     let later = run_made life most rates longer range es next (drop 1 lacks) (later_found lacks ample)
     (state-step range sound may.0 e may.1) may.2 in
     ap (λ r. r ∷ made_of most rates (answered rates p r).0 (drop 1 lacks) lines) first ∙ ap (λ rs. Ok e ∷ rs) later
@@ -165,7 +165,7 @@ audit_made life most rates longer range es lacks ample may =
     let lines = map spelled (map event_line es) in
     let first : read_event most rates start (first_flag lacks) (reading (spelled Audit)) ≡ Err [] =
     ap (read_event most rates start (first_flag lacks)) audit_read in
-    let later = run_made life most rates longer range es (onward start empty_state) (drop 1 lacks)
+    let later = run_made life most rates longer range es (onward start) (drop 1 lacks)
     (later_found lacks ample) (state-empty life rates) may in
     ap (λ r. r ∷ made_of most rates (answered rates start r).0 (drop 1 lacks) lines) first
     ∙ ap (λ rs. Err [] ∷ rs) later

@@ -4,6 +4,8 @@ use Rattle.std.specs.Prelude.{◌≡◌, ◌<◌, ◌≤◌, ◌==◌, ℕ, Bool
 use Rattle.std.specs.Prelude.{nat_le, Option, None, Some, Result, Ok, Err, IfOk, refl}
 use Rattle.std.proofs.Common.{ap, sym, ◌∙◌, append_assoc, subst, arith, cond}
 use Rattle.std.proofs.lemmas.Bool.Decides.{nat_tests}
+use Rattle.std.proofs.lemmas.List.{append-nil}
+use Rattle.std.proofs.lemmas.List.Concat.{flat_map-append}
 use Rattle.std.proofs.lemmas.Bool.{leb-true}
 use Rattle.share_base.specs.declared.refusal.Refusal.{Refusal}
 use Rattle.share_base.specs.declared.command.Event.{Event}
@@ -16,7 +18,7 @@ use Rattle.share_model.specs.link.Tariff.{AreInRange}
 use Rattle.share_model.specs.link.Live.{life_is_spent, Sending, sending}
 use Rattle.share_model.specs.run.Fold.{State, outcome, state_after, outcomes}
 use Rattle.share_model.specs.run.FoldLaws.{state_after-append, may_follow-append, state-after}
-use Rattle.share_model.specs.run.Events.{MayCome, MayFollow}
+use Rattle.share_model.specs.run.Events.{MayCome, MayFollow, write_of, writes_in}
 use Rattle.share_model.specs.run.Sound.{SoundState}
 use Rattle.share_model.specs.text.Lines.{line_by, reading, IsReading}
 use Rattle.share_model.specs.text.LinesLaws.{reading-spelled}
@@ -55,6 +57,33 @@ after-state life rates p lacks (l ∷ ls) =
     after-state life rates next (drop 1 lacks) ls
     ∙ ap (λ s. state_after rates s rest) (answer-state life rates p (first_flag lacks) l)
     ∙ sym (state_after-append rates p.state first rest)
+
+-- The counts of its writes
+
+pub answered-writes : (rates : List Rate) (p : Progress) (r : Result Event (List ℕ))
+    → (answered rates p r).0.writes ≡ p.writes ++ writes_in (events_by r)
+answered-writes rates p (Ok e) = ap (λ ks. p.writes ++ ks) (sym (append-nil (write_of e)))
+answered-writes rates p (Err text) = sym (append-nil p.writes)
+
+answer-writes : (life : ℕ) (rates : List Rate) (p : Progress) (lack : Bool) (l : List ℕ)
+    → (answer life rates p lack l).0.writes
+    ≡ p.writes ++ writes_in (events_by (read_event life rates p lack (reading l)))
+unfolding answer
+answer-writes life rates p lack l = answered-writes rates p (read_event life rates p lack (reading l))
+
+-- a script's writes are those of its events
+pub after-writes : (life : ℕ) (rates : List Rate) (p : Progress) (lacks : List Bool) (ls : List (List ℕ))
+    → (after life rates p lacks ls).writes ≡ p.writes ++ writes_in (events_of life rates p lacks ls)
+unfolding after made_of
+after-writes life rates p lacks [] = sym (append-nil p.writes)
+after-writes life rates p lacks (l ∷ ls) =
+    let next : Progress = (answer life rates p (first_flag lacks) l).0 in
+    let first : List Event = events_by (read_event life rates p (first_flag lacks) (reading l)) in
+    let rest : List Event = events_of life rates next (drop 1 lacks) ls in
+    after-writes life rates next (drop 1 lacks) ls
+    ∙ ap (λ ks. ks ++ writes_in rest) (answer-writes life rates p (first_flag lacks) l)
+    ∙ append_assoc p.writes (writes_in first) (writes_in rest)
+    ∙ ap (λ ks. p.writes ++ ks) (sym (flat_map-append write_of first rest))
 
 -- Its events may follow one another
 
@@ -206,7 +235,7 @@ report_by : (life : ℕ) (rates : List Rate) (p : Progress) (lacks : List Bool) 
     ≡ talk life rates p lacks ls ++ (report (after life rates p lacks ls).state.live ++ more))
 unfolding talk after answer reading line_by
 report_by life rates p lacks [] rest =
-    (talk life rates (onward p p.state) (drop 1 lacks) rest, refl)
+    (talk life rates (onward p) (drop 1 lacks) rest, refl)
 report_by life rates p lacks (l ∷ ls) rest =
     let first : Progress × List ℕ = answer life rates p (first_flag lacks) l in
     let later = report_by life rates first.0 (drop 1 lacks) ls rest in

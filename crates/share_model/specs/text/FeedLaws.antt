@@ -1,7 +1,7 @@
 -- What is spelled of a line holds no line feed, so that lines which are written one after the other are these lines.
 use Rattle.std.specs.Prelude.{◌≡◌, ◌<◌, ◌≤◌, ◌/◌, ◌%◌, ℕ, Bool, true, false, List, [], ◌∷◌, ◌++◌}
 use Rattle.std.specs.Prelude.{length, map, flat_map, nat_lt, codes, decimal, refl}
-use Rattle.std.specs.List.{slice_split, list_all, AllByRecursion}
+use Rattle.std.specs.List.{slice_split, list_all, All, AllByRecursion}
 use Rattle.std.specs.Str.Parse.{AllDigits}
 use Rattle.std.proofs.Common.{ap, ◌∙◌, arith, append_assoc}
 use Rattle.std.proofs.lemmas.Fmt.{decimal_is_IsNumeral}
@@ -105,14 +105,18 @@ pub kept-cons : (l : List ℕ) (ls : List (List ℕ)) → 0 < length ls → kept
 kept-cons l [] h = absurd (omega arith)
 kept-cons l (m ∷ ms) h = refl
 
+-- a text without a line feed is a line of its own where one follows, whatever comes behind it
+pub lines-feed : (bs rest : List ℕ) → All (λ b. is_feed b ≡ false) bs → lines_of (bs ++ 10 ∷ rest) ≡ bs ∷ lines_of rest
+lines-feed bs rest clean =
+    ap kept (slice_split_at is_feed bs 10 rest clean refl)
+    ∙ kept-cons bs (slice_split is_feed rest) (omega (arith, length-slice_split is_feed rest))
+
 -- a line that is written is a line of its own, whatever follows
 pub lines-written : (l : Line) (rest : List ℕ) → HasFields l
     → lines_of (written_line l ++ rest) ≡ spelled l ∷ lines_of rest
 lines-written l rest h =
     let clean = All-from_recursion _ (spelled l) (no_feeds (spelled l) (seen-spelled l h)) in
-    ap lines_of (append_assoc (spelled l) (codes "\n") rest)
-    ∙ ap kept (slice_split_at is_feed (spelled l) 10 rest clean refl)
-    ∙ kept-cons (spelled l) (slice_split is_feed rest) (omega (arith, length-slice_split is_feed rest))
+    ap lines_of (append_assoc (spelled l) (codes "\n") rest) ∙ lines-feed (spelled l) rest clean
 
 -- lines that are written one after the other are these lines
 pub lines-all : (ls : List Line) → Each HasFields ls → lines_of (flat_map written_line ls) ≡ map spelled ls

@@ -5,16 +5,14 @@ use Rattle.share_model.specs.declared.writer.Answer.{Answer}
 use Rattle.share_model.specs.declared.writer.Answer.TheVariants.{Accepted, Interrupted, Failed}
 use Rattle.share_model.specs.link.Tariff.{AreInRange}
 use Rattle.share_model.specs.link.Seen.{Seen}
-use Rattle.share_model.specs.run.Fold.{State}
 use Rattle.share_model.specs.run.Ends.{IsEndOf, TellsRun}
 use Rattle.share_model.specs.io.Told.{Told}
 use Rattle.share_model.specs.text.Talk.{Progress, is_first, line_answer, answer}
 
--- the link holds this state; and where its writer tells its bytes, they are that state's
-pub record Holds {W : Type 0} (told : W → Option Told) (link : Seen W) (s : State) : Type 0 where
-  pub ends : IsEndOf link.life link.rates s link.live
-  pub writes : List ℕ
-  pub tells : IfSome (told link.writer) (TellsRun s writes)
+-- the link holds what the script came to; and where its writer tells its bytes and counts, they are the script's
+pub record Holds {W : Type 0} (told : W → Option Told) (link : Seen W) (p : Progress) : Type 0 where
+  pub ends : IsEndOf link.life link.rates p.state link.live
+  pub tells : IfSome (told link.writer) (TellsRun p.state p.writes)
   pub range : AreInRange link.rates
 
 -- the text is that of this answer, for some flag, and the link then holds what the script came to
@@ -22,7 +20,7 @@ pub record Said {W : Type 0} (told : W → Option Told) (next : Bool → Progres
     (old : Seen W) (text : List ℕ) (new : Seen W) : Type 0 where
   pub lack : Bool
   pub text_is : text ≡ (next lack).1
-  pub holds : Holds told new (next lack).0.state
+  pub holds : Holds told new (next lack).0
   pub life : new.life ≡ old.life
   pub rates : new.rates ≡ old.rates
 
@@ -30,13 +28,13 @@ pub record Said {W : Type 0} (told : W → Option Told) (next : Bool → Progres
 -- later one
 abbrev pub SaysLine : {W : Type 0} → (W → Option Told) → Seen W → Bool → Line → List ℕ → Seen W → Type 0
 SaysLine told old first l text new =
-    (p : Progress) → Holds told old p.state → is_first p ≡ first
+    (p : Progress) → Holds told old p → is_first p ≡ first
     → Said told (λ lack. line_answer old.life old.rates p lack l) old text new
 
 -- and these bytes
 abbrev pub Says : {W : Type 0} → (W → Option Told) → Seen W → Bool → List ℕ → List ℕ → Seen W → Type 0
 Says told old first bytes text new =
-    (p : Progress) → Holds told old p.state → is_first p ≡ first
+    (p : Progress) → Holds told old p → is_first p ≡ first
     → Said told (λ lack. answer old.life old.rates p lack bytes) old text new
 
 -- a writer over memory takes a whole piece, or fails

@@ -1,7 +1,7 @@
 -- A whole script: its lines, the text that each is answered with, and what its link comes to. Every write is taken to
 -- accept all that it was offered.
-use Rattle.std.specs.Prelude.{ℕ, ◌+◌, ◌==◌, Bool, true, false, ◌&&◌, List, [], ◌∷◌, ◌++◌, drop, length, min, Option}
-use Rattle.std.specs.Prelude.{None, Some, Result, Ok, Err, is_none, if◌then◌else◌}
+use Rattle.std.specs.Prelude.{◌≢◌, ℕ, ◌+◌, ◌==◌, Bool, true, false, ◌&&◌, List, [], ◌∷◌, ◌++◌, codes, drop, length, min}
+use Rattle.std.specs.Prelude.{Option, None, Some, Result, Ok, Err, is_none, if◌then◌else◌}
 use Rattle.std.specs.List.{slice_split}
 use Rattle.share_base.specs.declared.refusal.Refusal.{Refusal}
 use Rattle.share_base.specs.declared.refusal.Refusal.TheVariants.{NoMemory, Spent as SpentRefusal, Syntax}
@@ -16,23 +16,30 @@ use Rattle.share_model.specs.declared.line.Line.{Line}
 use Rattle.share_model.specs.declared.line.Line.TheVariants.{Change, Send, Turn as TurnLine, Torn, Report, Audit}
 use Rattle.share_model.specs.declared.rates.Rate.{Rate}
 use Rattle.share_model.specs.link.Live.{life_is_spent, takes_memory, Sending, sending, rest_of, command_refusal}
+use Rattle.share_model.specs.run.Events.{write_of}
 use Rattle.share_model.specs.run.Fold.{State, empty_state, step, outcome}
+use Rattle.share_model.specs.lists.Each.{Each}
 use Rattle.share_model.specs.text.Lines.{reading}
 use Rattle.share_model.specs.text.Report.{report}
 use Rattle.share_model.specs.text.Texts.{line_text}
 
--- A script in progress: what its link came to, and how many of its lines were answered
+-- A script in progress: what its link came to, how many of its lines were answered, and the count of each write
 
 pub record Progress : Type 0 where
   pub state : State
   pub lines : ℕ
+  pub writes : List ℕ
 
 abbrev pub start : Progress
-start = record { state = empty_state; lines = 0 }
+start = record { state = empty_state; lines = 0; writes = [] }
 
--- one more line was answered, and the link came to this state
-abbrev pub onward : Progress → State → Progress
-onward p s = record { state = s; lines = p.lines + 1 }
+-- one more line was answered, without an event
+abbrev pub onward : Progress → Progress
+onward p = record { state = p.state; lines = p.lines + 1; writes = p.writes }
+
+-- one more line was answered, with this event
+abbrev pub stepped : List Rate → Progress → Event → Progress
+stepped rates p e = record { state = step rates p.state e; lines = p.lines + 1; writes = p.writes ++ write_of e }
 
 -- What a line makes: an event, or a text without one
 
@@ -113,8 +120,8 @@ read_event life rates p lack (Err e) = unread_event life p.state e
 
 -- an event is one step, and is answered with its outcome; a text without an event leaves the state
 abbrev pub answered : List Rate → Progress → Result Event (List ℕ) → Progress × List ℕ
-answered rates p (Ok e) = (onward p (step rates p.state e), line_text (outcome rates p.state e))
-answered rates p (Err text) = (onward p p.state, text)
+answered rates p (Ok e) = (stepped rates p e, line_text (outcome rates p.state e))
+answered rates p (Err text) = (onward p, text)
 
 abbrev pub line_answer : ℕ → List Rate → Progress → Bool → Line → Progress × List ℕ
 line_answer life rates p lack l = answered rates p (line_event life rates p lack l)
@@ -157,3 +164,7 @@ kept (l ∷ m ∷ ls) = l ∷ kept (m ∷ ls)
 
 abbrev pub lines_of : List ℕ → List (List ℕ)
 lines_of bytes = kept (slice_split is_feed bytes)
+
+-- none of a text's lines says that memory was lacking
+abbrev pub FoundMemory : List ℕ → Type 0
+FoundMemory text = Each (λ line. line ≢ codes "no 1 NoMemory") (lines_of text)

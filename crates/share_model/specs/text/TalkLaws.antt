@@ -27,11 +27,13 @@ use Rattle.share_model.specs.run.Ends.{IsEndOf, TellsRun}
 use Rattle.share_model.specs.run.Laws.{Ran, Asked, asked_spent, asked_no_memory, asked_made}
 use Rattle.share_model.specs.run.Laws.{command-asked, arrive-asked}
 use Rattle.share_model.specs.run.Sound.{Sound}
+use Rattle.share_model.specs.run.Events.{writes_in}
+use Rattle.share_model.specs.text.EventsLaws.{answered-writes}
 use Rattle.share_model.specs.text.Lines.{reading}
 use Rattle.share_model.specs.text.Report.{report}
 use Rattle.share_model.specs.text.Says.{Holds, Said, SaysLine, Says}
 use Rattle.share_model.specs.text.Talk.{Progress, refused, is_syntax, change_event, send_event, report_event}
-use Rattle.share_model.specs.text.Talk.{audit_event, is_first, read_event, answered, answer}
+use Rattle.share_model.specs.text.Talk.{audit_event, is_first, read_event, answered, answer, start, onward}
 use Rattle.share_model.specs.text.Texts.{line_text}
 
 -- Outcomes
@@ -56,36 +58,41 @@ no_step old new next reply more living same false e did =
     absurd (omega arith)
 
 module _ {W : Type 0} (told : W → Option Told) where
-  pub sound_of : (link : Seen W) (s : State) → Holds told link s → Sound link.life link.rates link.live
-  sound_of link s h = subst (λ (l : Live). Sound link.life link.rates l) h.ends.live h.ends.sound.live
+  pub sound_of : (link : Seen W) (p : Progress) → Holds told link p → Sound link.life link.rates link.live
+  sound_of link p h = subst (λ (l : Live). Sound link.life link.rates l) h.ends.live h.ends.sound.live
 
   -- The two ways on
 
+  held_on : (old : Seen W) (p : Progress) → Holds told old p → Holds told old (onward p)
+  held_on old p h = record { ends = h.ends; tells = h.tells; range = h.range }
+
   -- the line was answered without an event
   pub stayed : (event : Bool → Result Event (List ℕ)) (old new : Seen W) (p : Progress) (text : List ℕ) (lack : Bool)
-      → Holds told old p.state → new ≡ old → event lack ≡ Err text
+      → Holds told old p → new ≡ old → event lack ≡ Err text
       → Said told (λ lack. answered old.rates p (event lack)) old text new
   stayed event old new p text lack h same e = record {
     lack = lack;
     text_is = ap (λ r. (answered old.rates p r).1) (sym e);
     holds =
-        let P : Seen W → Type 0 = λ n. Holds told n (answered old.rates p (event lack)).0.state in
-        let Q : Result Event (List ℕ) → Type 0 = λ r. Holds told old (answered old.rates p r).0.state in
-        subst P (sym same) (subst Q (sym e) h);
+        let P : Seen W → Type 0 = λ n. Holds told n (answered old.rates p (event lack)).0 in
+        let Q : Result Event (List ℕ) → Type 0 = λ r. Holds told old (answered old.rates p r).0 in
+        subst P (sym same) (subst Q (sym e) (held_on old p h));
     life = ap (λ (n : Seen W). n.life) same;
     rates = ap (λ (n : Seen W). n.rates) same;
   }
 
   -- the line made an event
   pub went_on : (event : Bool → Result Event (List ℕ)) (old new : Seen W) (p : Progress) (e : Event) (o : Outcome)
-      (writes : List ℕ) (lack : Bool)
-      → Holds told old p.state → Ran told old (e ∷ []) (o ∷ []) writes new → event lack ≡ Ok e
+      (lack : Bool)
+      → Holds told old p → Ran told old (e ∷ []) (o ∷ []) new → event lack ≡ Ok e
       → Said told (λ lack. answered old.rates p (event lack)) old (line_text o) new
-  went_on event old new p e o writes lack h ran is =
+  went_on event old new p e o lack h ran is =
       let next : State = (answered old.rates p (event lack)).0.state in
+      let counts = sym (answered-writes old.rates p (Ok e)) ∙ ap (λ r. (answered old.rates p r).0.writes) (sym is) in
       let state = state_after-one old.rates p.state e ∙ ap (λ r. (answered old.rates p r).0.state) (sym is) in
       let P : State → Type 0 = λ t. IsEndOf old.life old.rates t new.live in
-      let Q : State → Type 0 = λ t. IfSome (told new.writer) (TellsRun t (h.writes ++ writes)) in
+      let Q : State → Type 0 = λ t. IfSome (told new.writer) (TellsRun t (p.writes ++ writes_in (e ∷ []))) in
+      let R : List ℕ → Type 0 = λ ks. IfSome (told new.writer) (TellsRun next ks) in
       let E : ℕ → Type 0 = λ n. IsEndOf n old.rates next new.live in
       let F : List Rate → Type 0 = λ r. IsEndOf new.life r next new.live in record {
         lack = lack;
@@ -94,62 +101,61 @@ module _ {W : Type 0} (told : W → Option Told) where
             ∙ ap (λ r. (answered old.rates p r).1) (sym is);
         holds = record {
           ends = subst F (sym ran.rates) (subst E (sym ran.life) (subst P state (ran.ends p.state h.ends)));
-          writes = h.writes ++ writes;
-          tells = subst Q state (ran.tells p.state h.writes h.ends h.tells);
+          tells = subst R counts (subst Q state (ran.tells p.state p.writes h.ends h.tells));
           range = subst AreInRange (sym ran.rates) h.range;
         };
         life = ran.life;
         rates = ran.rates;
       }
 
-  pub spent_is : (old : Seen W) (s : State) (b : Bool) → Holds told old s → is_spent old ≡ b
-      → life_is_spent old.life s.live ≡ b
-  spent_is old s b h e = ap (life_is_spent old.life) h.ends.live ∙ e
+  pub spent_is : (old : Seen W) (p : Progress) (b : Bool) → Holds told old p → is_spent old ≡ b
+      → life_is_spent old.life p.state.live ≡ b
+  spent_is old p b h e = ap (life_is_spent old.life) h.ends.live ∙ e
 
   -- Commands
 
-  change_by : (old new : Seen W) (c : Command) (reply : Reply) (p : Progress) → Holds told old p.state
+  change_by : (old new : Seen W) (c : Command) (reply : Reply) (p : Progress) → Holds told old p
       → Steps (λ rates l. command_step rates l c) old reply new → Asked told old (Commanded c) reply new
       → Said told (λ lack. answered old.rates p (change_event old.life old.rates p.state lack c)) old
       (line_text (Replied reply)) new
   change_by old new c reply p h did (asked_spent spent is same) =
-      let over : life_is_spent old.life p.state.live ≡ true = spent_is old p.state true h spent in
+      let over : life_is_spent old.life p.state.live ≡ true = spent_is old p true h spent in
       stayed (λ lack. change_event old.life old.rates p.state lack c) old new p (line_text (Replied reply)) false h same
       (rw (over, is) refl)
   change_by old new c reply p h did (asked_no_memory living is same) =
       absurd (no_step old new _ reply (events-commanded old.rates old.live c) living same (is_spent old) refl did)
   change_by old new c reply p h did (asked_made living ran) =
-      let over : life_is_spent old.life p.state.live ≡ false = spent_is old p.state false h living in
-      went_on (λ lack. change_event old.life old.rates p.state lack c) old new p (Commanded c) (Replied reply) [] false
+      let over : life_is_spent old.life p.state.live ≡ false = spent_is old p false h living in
+      went_on (λ lack. change_event old.life old.rates p.state lack c) old new p (Commanded c) (Replied reply) false
       h ran (rw over refl)
 
   pub change-says : (old new : Seen W) (first : Bool) (c : Command) (reply : Reply) → HasCommandFields c
       → CommandDid old c reply new → SaysLine told old first (Change c) (line_text (Replied reply)) new
   change-says old new first c reply fields (inl did) p h place =
-      let living : life_is_spent old.life p.state.live ≡ false = spent_is old p.state false h did.living in
+      let living : life_is_spent old.life p.state.live ≡ false = spent_is old p false h did.living in
       let none = ap (λ (l : Live). command_refusal old.rates l c) h.ends.live ∙ did.allowed in
       stayed (λ lack. change_event old.life old.rates p.state lack c) old new p (line_text (Replied reply)) true h
       did.unchanged (rw (living, did.takes, none, did.reply_is) refl)
   change-says old new first c reply fields (inr did) p h place =
       change_by old new c reply p h did
-      (command-asked told old reply new h.range (sound_of old p.state h) c fields (inr did))
+      (command-asked told old reply new h.range (sound_of old p h) c fields (inr did))
 
   -- Packets
 
   send_by : (old new : Seen W) (flow body : List ℕ) (reply : Reply) (p : Progress)
-      → Holds told old p.state
+      → Holds told old p
       → Steps (λ rates l. arrive_step l flow body) old reply new → Asked told old (Arrived flow body) reply new
       → Said told (λ lack. answered old.rates p (send_event old.life p.state lack flow body)) old
       (line_text (Replied reply)) new
   send_by old new flow body reply p h did (asked_spent spent is same) =
-      let over : life_is_spent old.life p.state.live ≡ true = spent_is old p.state true h spent in
+      let over : life_is_spent old.life p.state.live ≡ true = spent_is old p true h spent in
       stayed (λ lack. send_event old.life p.state lack flow body) old new p (line_text (Replied reply)) false h
       same (rw (over, is) refl)
   send_by old new flow body reply p h did (asked_no_memory living is same) =
       absurd (no_step old new _ reply (events-arrived old.live flow body) living same (is_spent old) refl did)
   send_by old new flow body reply p h did (asked_made living ran) =
-      let over : life_is_spent old.life p.state.live ≡ false = spent_is old p.state false h living in
-      went_on (λ lack. send_event old.life p.state lack flow body) old new p (Arrived flow body) (Replied reply) []
+      let over : life_is_spent old.life p.state.live ≡ false = spent_is old p false h living in
+      went_on (λ lack. send_event old.life p.state lack flow body) old new p (Arrived flow body) (Replied reply)
       false h ran (rw over refl)
 
   pub send-says : (old new : Seen W) (first : Bool) (flow body : List ℕ) (reply : Reply) → IsName flow × IsBody body
@@ -157,7 +163,7 @@ module _ {W : Type 0} (told : W → Option Told) where
       → SaysLine told old first (Send flow body) (line_text (Replied reply)) new
   send-says old new first flow body reply fields did p h place =
       send_by old new flow body reply p h did
-      (arrive-asked told old reply new h.range (sound_of old p.state h) flow body fields did)
+      (arrive-asked told old reply new h.range (sound_of old p h) flow body fields did)
 
   -- Reports and audits
 
@@ -185,7 +191,7 @@ module _ {W : Type 0} (told : W → Option Told) where
 
   -- a line that is answered before the link is asked changes nothing
   unasked_says : (old : Seen W) (bytes : List ℕ) (p : Progress) (text : List ℕ) (lack : Bool)
-      → Holds told old p.state → read_event old.life old.rates p lack (reading bytes) ≡ Err text
+      → Holds told old p → read_event old.life old.rates p lack (reading bytes) ≡ Err text
       → Said told (λ lack. answer old.life old.rates p lack bytes) old text old
   unfolding answer
   unasked_says old bytes p text lack h is =
@@ -198,7 +204,7 @@ module _ {W : Type 0} (told : W → Option Told) where
   unread-says old first bytes e r is given p h place =
       unasked_says old bytes p (line_text (Replied (Refused r))) false h
       (ap (read_event old.life old.rates p false) is
-      ∙ unread_by (is_syntax e) (is_spent old) (spent_is old p.state _ h refl) given)
+      ∙ unread_by (is_syntax e) (is_spent old) (spent_is old p _ h refl) given)
     where
       unread_by : (t u : Bool) → life_is_spent old.life p.state.live ≡ u → r ≡ cond t Syntax (cond u SpentRefusal e)
           → cond t (refused Syntax) (cond (life_is_spent old.life p.state.live) (refused SpentRefusal) (refused e))
@@ -214,7 +220,7 @@ module _ {W : Type 0} (told : W → Option Told) where
   no_memory-says old first bytes flow body r is given p h place =
       unasked_says old bytes p (line_text (Replied (Refused r))) true h
       (ap (read_event old.life old.rates p true) is
-      ∙ none_by (is_spent old) (spent_is old p.state _ h refl) given)
+      ∙ none_by (is_spent old) (spent_is old p _ h refl) given)
     where
       none_by : (u : Bool) → life_is_spent old.life p.state.live ≡ u → r ≡ cond u SpentRefusal NoMemory
           → send_event old.life p.state true flow body ≡ refused r
@@ -224,11 +230,10 @@ module _ {W : Type 0} (told : W → Option Told) where
 -- The first state
 
 pub holds-empty : (link : Seen Told) → AreInRange link.rates → link.live ≡ empty_link
-    → link.writer ≡ record { bytes = []; counts = [] } → Holds Some link empty_state
+    → link.writer ≡ record { bytes = []; counts = [] } → Holds Some link start
 unfolding out sending
 holds-empty link range new empty = record {
   ends = record { live = sym new; sound = state-empty link.life link.rates };
-  writes = [];
   tells =
       let P : Told → Type 0 = λ t. TellsRun empty_state [] t in
       subst P (sym empty) (record { bytes = refl; counts = refl });

@@ -17,8 +17,7 @@ use Rattle.share_model.specs.link.Seen.{Seen}
 use Rattle.share_model.specs.link.Did.{is_spent, TurnDid, Tears, TearDid}
 use Rattle.share_model.specs.link.TurnLaws.{turn-went, tear-went}
 use Rattle.share_model.specs.io.Told.{Told, WasTold}
-use Rattle.share_model.specs.run.Fold.{State}
-use Rattle.share_model.specs.run.Laws.{Ran, turn_events, turn_outcomes, turn_writes, turn-ran, tear-ran}
+use Rattle.share_model.specs.run.Laws.{Ran, turn_events, turn_outcomes, turn-ran, tear-ran}
 use Rattle.share_model.specs.run.Sound.{Sound}
 use Rattle.share_model.specs.text.OfferLaws.{TurnTook, was_spent, was_broken, was_idle, wrote_all, was_torn, turn-took}
 use Rattle.share_model.specs.text.Says.{Holds, Said, SaysLine, TakesAll}
@@ -41,42 +40,43 @@ third_of_three false true x y z e h = cc
 third_of_three false false x y z e h = refl
 
 module _ {W : Type 0} (told : W → Option Told) where
-  sending_is : (old : Seen W) (s : State) (o : Option Sending)
-      → Holds told old s → sending old.live ≡ o → sending s.live ≡ o
-  sending_is old s o h e = ap sending h.ends.live ∙ e
+  sending_is : (old : Seen W) (p : Progress) (o : Option Sending)
+      → Holds told old p → sending old.live ≡ o → sending p.state.live ≡ o
+  sending_is old p o h e = ap sending h.ends.live ∙ e
 
-  broken_is : (old : Seen W) (s : State) (b : Bool) → Holds told old s → old.live.broken ≡ b → s.live.broken ≡ b
-  broken_is old s b h e = ap (λ (l : Live). l.broken) h.ends.live ∙ e
+  broken_is : (old : Seen W) (p : Progress) (b : Bool) → Holds told old p → old.live.broken ≡ b
+      → p.state.live.broken ≡ b
+  broken_is old p b h e = ap (λ (l : Live). l.broken) h.ends.live ∙ e
 
   -- the turn made this event, or was answered so without one, unless the life was over or the link broken
   abbrev SaidTurn : Seen W → Progress → Result Event (List ℕ) → Turn → Seen W → Type 0
   SaidTurn old p event turn new =
       Said told (λ lack. answered old.rates p (unless_over old.life p.state event)) old (line_text (Turned turn)) new
 
-  turn_over : (old new : Seen W) (p : Progress) (event : Result Event (List ℕ)) (turn : Turn) → Holds told old p.state
+  turn_over : (old new : Seen W) (p : Progress) (event : Result Event (List ℕ)) (turn : Turn) → Holds told old p
       → is_spent old ≡ true → turn ≡ Spent → new ≡ old → SaidTurn old p event turn new
   turn_over old new p event turn h spent is same =
       stayed told (λ lack. unless_over old.life p.state event) old new p (line_text (Turned turn)) false h same
       (first_of_three (life_is_spent old.life p.state.live) p.state.live.broken (no_event Spent) (no_event Broken) event
-      (spent_is told old p.state true h spent)
+      (spent_is told old p true h spent)
       ∙ ap no_event (sym is))
 
-  turn_broken : (old new : Seen W) (p : Progress) (event : Result Event (List ℕ)) (turn : Turn) → Holds told old p.state
+  turn_broken : (old new : Seen W) (p : Progress) (event : Result Event (List ℕ)) (turn : Turn) → Holds told old p
       → is_spent old ≡ false → old.live.broken ≡ true → turn ≡ Broken → new ≡ old → SaidTurn old p event turn new
   turn_broken old new p event turn h living broken is same =
       stayed told (λ lack. unless_over old.life p.state event) old new p (line_text (Turned turn)) false h same
       (second_of_three (life_is_spent old.life p.state.live) p.state.live.broken (no_event Spent) (no_event Broken)
-      event (spent_is told old p.state false h living) (broken_is old p.state true h broken)
+      event (spent_is told old p false h living) (broken_is old p true h broken)
       ∙ ap no_event (sym is))
 
-  event_is : (old : Seen W) (p : Progress) (event is : Result Event (List ℕ)) → Holds told old p.state
+  event_is : (old : Seen W) (p : Progress) (event is : Result Event (List ℕ)) → Holds told old p
       → is_spent old ≡ false → old.live.broken ≡ false → event ≡ is → unless_over old.life p.state event ≡ is
   event_is old p event is h living unbroken e =
       third_of_three (life_is_spent old.life p.state.live) p.state.live.broken (no_event Spent) (no_event Broken) event
-      (spent_is told old p.state false h living) (broken_is old p.state false h unbroken)
+      (spent_is told old p false h living) (broken_is old p false h unbroken)
       ∙ e
 
-  turn_idle : (old new : Seen W) (p : Progress) (event : Result Event (List ℕ)) (turn : Turn) → Holds told old p.state
+  turn_idle : (old new : Seen W) (p : Progress) (event : Result Event (List ℕ)) (turn : Turn) → Holds told old p
       → is_spent old ≡ false → old.live.broken ≡ false → event ≡ no_event Idle → turn ≡ Idle → new ≡ old
       → SaidTurn old p event turn new
   turn_idle old new p event turn h living unbroken none is same =
@@ -84,32 +84,32 @@ module _ {W : Type 0} (told : W → Option Told) where
       (event_is old p event _ h living unbroken (none ∙ ap no_event (sym is)))
 
   turn_made : (old new : Seen W) (p : Progress) (event : Result Event (List ℕ)) (turn : Turn) (e : Event)
-      → Holds told old p.state
+      → Holds told old p
       → is_spent old ≡ false → old.live.broken ≡ false → event ≡ Ok e
       → turn_events turn ≡ e ∷ [] → turn_outcomes turn ≡ Turned turn ∷ []
-      → Ran told old (turn_events turn) (turn_outcomes turn) (turn_writes turn) new → SaidTurn old p event turn new
+      → Ran told old (turn_events turn) (turn_outcomes turn) new → SaidTurn old p event turn new
   turn_made old new p event turn e h living unbroken made events outcomes ran =
-      let P : List Event → Type 0 = λ es. Ran told old es (turn_outcomes turn) (turn_writes turn) new in
-      let Q : List Outcome → Type 0 = λ os. Ran told old (e ∷ []) os (turn_writes turn) new in
-      went_on told (λ lack. unless_over old.life p.state event) old new p e (Turned turn) (turn_writes turn) false h
+      let P : List Event → Type 0 = λ es. Ran told old es (turn_outcomes turn) new in
+      let Q : List Outcome → Type 0 = λ os. Ran told old (e ∷ []) os new in
+      went_on told (λ lack. unless_over old.life p.state event) old new p e (Turned turn) false h
       (subst Q outcomes (subst P events ran)) (event_is old p event (Ok e) h living unbroken made)
 
-  torn_sending : (old new : Seen W) (turn : Turn) (p : Progress) → Holds told old p.state
-      → Ran told old (turn_events turn) (turn_outcomes turn) (turn_writes turn) new
+  torn_sending : (old new : Seen W) (turn : Turn) (p : Progress) → Holds told old p
+      → Ran told old (turn_events turn) (turn_outcomes turn) new
       → is_spent old ≡ false → old.live.broken ≡ false
       → (o : Option Sending) → sending old.live ≡ o → Tears old o turn new
       → SaidTurn old p (fault_event (sending p.state.live)) turn new
   torn_sending old new turn p h ran living unbroken None none did =
       turn_idle old new p (fault_event (sending p.state.live)) turn h living unbroken
-      (ap fault_event (sending_is old p.state None h none)) did.0 did.1
+      (ap fault_event (sending_is old p None h none)) did.0 did.1
   torn_sending old new turn p h ran living unbroken (Some x) is did =
       let same : turn ≡ Torn x.head.flow x.head.seq x.out = did.answer_is in
       turn_made old new p (fault_event (sending p.state.live)) turn Faulted h living unbroken
-      (ap fault_event (sending_is old p.state (Some x) h is)) (ap turn_events same)
+      (ap fault_event (sending_is old p (Some x) h is)) (ap turn_events same)
       (ap turn_outcomes same ∙ ap (λ t. Turned t ∷ []) (sym same)) ran
 
-  torn_unspent : (old new : Seen W) (turn : Turn) (p : Progress) → Holds told old p.state
-      → Ran told old (turn_events turn) (turn_outcomes turn) (turn_writes turn) new
+  torn_unspent : (old new : Seen W) (turn : Turn) (p : Progress) → Holds told old p
+      → Ran told old (turn_events turn) (turn_outcomes turn) new
       → is_spent old ≡ false → (b : Bool) → old.live.broken ≡ b
       → MatchBool b ((turn ≡ Broken) × (new ≡ old)) (Tears old (sending old.live) turn new)
       → SaidTurn old p (fault_event (sending p.state.live)) turn new
@@ -118,8 +118,8 @@ module _ {W : Type 0} (told : W → Option Told) where
   torn_unspent old new turn p h ran living false unbroken did =
       torn_sending old new turn p h ran living unbroken _ refl did
 
-  torn_by : (old new : Seen W) (turn : Turn) (p : Progress) → Holds told old p.state
-      → Ran told old (turn_events turn) (turn_outcomes turn) (turn_writes turn) new
+  torn_by : (old new : Seen W) (turn : Turn) (p : Progress) → Holds told old p
+      → Ran told old (turn_events turn) (turn_outcomes turn) new
       → (b : Bool) → is_spent old ≡ b
       → MatchBool b ((turn ≡ Spent) × (new ≡ old))
       (MatchBool old.live.broken ((turn ≡ Broken) × (new ≡ old)) (Tears old (sending old.live) turn new))
@@ -131,15 +131,15 @@ module _ {W : Type 0} (told : W → Option Told) where
   pub torn-says : (old new : Seen W) (first : Bool) (turn : Turn)
       → TearDid old turn new → SaysLine told old first TornLine (line_text (Turned turn)) new
   torn-says old new first turn did p h place =
-      let went = tear-went old turn new (sound_of told old p.state h) did in
+      let went = tear-went old turn new (sound_of told old p h) did in
       torn_by old new turn p h (tear-ran told old new h.range turn went) (is_spent old) refl did
 
 module _ {W : Type 0} (told : W → Option Told) (answers : W → List ℕ → Answer → W → Type 0)
     (law : (before : W) (piece : List ℕ) (answer : Answer) (after : W)
     → answers before piece answer after → WasTold (told before) piece answer (told after))
     (all : TakesAll answers) where
-  turn_by : (old new : Seen W) (most : ℕ) (turn : Turn) (p : Progress) → Holds told old p.state
-      → Ran told old (turn_events turn) (turn_outcomes turn) (turn_writes turn) new
+  turn_by : (old new : Seen W) (most : ℕ) (turn : Turn) (p : Progress) → Holds told old p
+      → Ran told old (turn_events turn) (turn_outcomes turn) new
       → ((flow seq j : ℕ) → turn ≢ Torn flow seq j) → TurnTook answers old most turn new
       → SaidTurn told old p (write_event most (sending p.state.live)) turn new
   turn_by old new most turn p h ran whole (was_spent spent is same) =
@@ -148,10 +148,10 @@ module _ {W : Type 0} (told : W → Option Told) (answers : W → List ℕ → A
       turn_broken told old new p (write_event most (sending p.state.live)) turn h living broken is same
   turn_by old new most turn p h ran whole (was_idle living unbroken none is same) =
       turn_idle told old new p (write_event most (sending p.state.live)) turn h living unbroken
-      (ap (write_event most) (sending_is told old p.state None h none)) is same
+      (ap (write_event most) (sending_is told old p None h none)) is same
   turn_by old new most turn p h ran whole (wrote_all living unbroken x is events outcomes) =
       turn_made told old new p (write_event most (sending p.state.live)) turn _ h living unbroken
-      (ap (write_event most) (sending_is told old p.state (Some x) h is)) events outcomes ran
+      (ap (write_event most) (sending_is told old p (Some x) h is)) events outcomes ran
   turn_by old new most turn p h ran whole (was_torn flow seq j is piece failed) = absurd (whole flow seq j is)
 
   -- a turn that is not torn wrote all that was offered
@@ -159,7 +159,7 @@ module _ {W : Type 0} (told : W → Option Told) (answers : W → List ℕ → A
       → TurnDid answers old most turn new → ((flow seq j : ℕ) → turn ≢ Torn flow seq j)
       → SaysLine told old first (TurnLine most) (line_text (Turned turn)) new
   turn-says old new first most turn some did whole p h place =
-      let sound = sound_of told old p.state h in
+      let sound = sound_of told old p h in
       turn_by old new most turn p h
       (turn-ran told old new h.range most turn (turn-went told answers law old most turn new sound did))
       whole (turn-took answers all old new most turn sound some did)

@@ -12,16 +12,16 @@ returns-in_default-clause-printed g c = ran_nothing _ _ _ _
 pub returns-in_err-engine-clause-printed : goal.returns-in_err-engine-clause-printed
 returns-in_err-engine-clause-printed g c =
     let p = err_from_is_err_and c.from_residual.result c.from_residual.ensures.1 in
-    rw p.1 (ran_part _ _ _ _ _ c.in-Ok.engine (over_new _ _ _ _ c.in-Ok.engine c.in-Ok.ensures.ok.0)
-    c.in_err-engine.ensures.printed)
+    rw p.1 (ran_part _ _ _ _ _ _ c.in-Ok.engine (over_new _ _ _ _ c.in-Ok.engine c.in-Ok.ensures.ok.0)
+    c.in_err-engine.ensures.fold)
 
 pub returns-in_err-printed-clause-printed : goal.returns-in_err-printed-clause-printed
 returns-in_err-printed-clause-printed g c =
     let p = err_from_is_err_and c.from_residual-in_err-printed.result
     c.from_residual-in_err-printed.ensures.1 in
     rw p.1
-    (ran_most _ _ _ _ _ _ c.in-Ok.engine c.in_ok-engine.engine _ (over_new _ _ _ _ c.in-Ok.engine c.in-Ok.ensures.ok.0)
-    (c.bytes.ensures ∙ ap (λ (t : Told). t.bytes) c.writer.ensures) c.in_ok-engine.ensures.printed
+    (ran_most _ _ _ _ _ _ _ c.in-Ok.engine c.in_ok-engine.engine _ (over_new _ _ _ _ c.in-Ok.engine c.in-Ok.ensures.ok.0)
+    (c.bytes.ensures ∙ ap (λ (t : Told). t.bytes) c.writer.ensures) c.in_ok-engine.ensures.fold
     c.in_err-printed.ensures.bytes)
 
 pub returns-in_err-printed-clause-fault : goal.returns-in_err-printed-clause-fault
@@ -34,8 +34,8 @@ returns-in_err-printed-clause-fault g c =
 
 pub returns-clause-printed : goal.returns-clause-printed
 returns-clause-printed g c =
-    ran_whole _ _ _ _ _ _ c.in-Ok.engine c.in_ok-engine.engine _ (over_new _ _ _ _ c.in-Ok.engine c.in-Ok.ensures.ok.0)
-    (c.bytes.ensures ∙ ap (λ (t : Told). t.bytes) c.writer.ensures) c.in_ok-engine.ensures.printed
+    ran_whole _ _ _ _ _ _ _ c.in-Ok.engine c.in_ok-engine.engine _ (over_new _ _ _ _ c.in-Ok.engine c.in-Ok.ensures.ok.0)
+    (c.bytes.ensures ∙ ap (λ (t : Told). t.bytes) c.writer.ensures) c.in_ok-engine.ensures.fold
     c.in_ok-printed.ensures.bytes
 
 pub returns-clause-offers : goal.returns-clause-offers

@@ -3,7 +3,7 @@ use Rattle.std.proofs.Common.{ap, refl, subst, sym}
 use Rattle.share_model.specs.link.Seen.{Seen}
 use Rattle.share_model.specs.run.HeadlineLaws.{headline}
 use Rattle.share_model.specs.run.Sound.{max_life}
-use Rattle.share_journal.proofs.AuditLemmas.{told_bytes}
+use Rattle.share_journal.proofs.AuditLemmas.{told_bytes, told_counts}
 use Rattle.share_journal.proofs.laws.recorders_are_one_fold.Goals as goal
 
 pub returns : goal.returns
@@ -13,4 +13,4 @@ returns g c =
     c.events.ensures.life in
     let was = c.journal.ensures.run in
     headline _ _ _ _ _ _ few was.range was.may (sym was.replies_are) (sym was.ends.live)
-    (told_bytes _ _ _ _ refl was.tells)
+    (told_bytes _ _ _ _ refl was.tells) (told_counts _ _ _ was.tells)

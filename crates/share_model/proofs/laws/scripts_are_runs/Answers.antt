@@ -1,5 +1,5 @@
 use Rattle.share_model.specs.run.FoldLaws.{state-empty}
-use Rattle.share_model.specs.text.EventsLaws.{after-state, events-may_follow, talk-texts, report-after}
+use Rattle.share_model.specs.text.EventsLaws.{after-state, after-writes, events-may_follow, talk-texts, report-after}
 use Rattle.share_model.specs.text.Talk.{start}
 use Rattle.share_model.proofs.laws.scripts_are_runs.Goals as goal
 
@@ -15,3 +15,6 @@ returns-clause-texts c = λ life rates. talk-texts life rates start
 
 pub returns-clause-reports : goal.returns-clause-reports
 returns-clause-reports c = λ life rates. report-after life rates start
+
+pub returns-clause-writes : goal.returns-clause-writes
+returns-clause-writes c = λ life rates. after-writes life rates start

@@ -1,8 +1,8 @@
 use Rattle.std.proofs.lemmas.Result.{err_from_is_err_and}
-use Rattle.std.proofs.Common.{◌≡◌, ℕ, arith, subst}
+use Rattle.std.proofs.Common.{◌≡◌, ◌^◌, ℕ, arith, subst}
 use Rattle.share_model.specs.io.Calls.{Reads, no_reads, one_read, read_failed, too_many_reads, reading}
-use Rattle.share_script.specs.declared.script.TheConstants.{MAX_READS}
-use Rattle.share_script.proofs.RunLemmas.{running_none, running_more, running_kept, running_part, running_broke}
+use Rattle.share_script.proofs.RunLemmas.{running_none, running_more, running_kept, running_part}
+use Rattle.share_script.proofs.RunLemmas.{running_broke, running_whole}
 use Rattle.share_script.proofs.StopLemmas.{wrote_none, wrote_more, stopped}
 use Rattle.share_script.proofs.script.read_all.Goals as goal
 use Rattle.share_script.proofs.script.read_all.Goals.{in-Bytes+in_ok-answer_chunk-in-Bytes, in-Interrupted}
@@ -26,7 +26,15 @@ returns-in_err-answer_chunk-in-Bytes-clause-calls g c =
     c.loop-reads.invariant.2 c.in_err-answer_chunk-in-Bytes.ensures.calls)
 
 pub returns-in-Failed-clause-fed : goal.returns-in-Failed-clause-fed
-returns-in-Failed-clause-fed g c = running_part _ _ _ _ _ c.args.session.now _ _ c.loop-reads.invariant.0
+returns-in-Failed-clause-fed g c =
+    let given = g.met.I.Source.tells _ _ _ _ c.in-Failed.ensures in
+    running_part _ _ _ _ _ c.args.session.now _ _
+    (running_kept _ _ _ _ _ _ c.args.session.now _ _ c.loop-reads.invariant.0 given)
+
+pub returns-in-End-clause-fed : goal.returns-in-End-clause-fed
+returns-in-End-clause-fed g c =
+    let given = g.met.I.Source.tells _ _ _ _ c.in-End.ensures in
+    running_whole _ _ _ _ _ _ c.args.session.now _ _ c.loop-reads.invariant.0 given
 
 pub returns-in-Failed-clause-calls : goal.returns-in-Failed-clause-calls
 returns-in-Failed-clause-calls g c =
@@ -37,7 +45,7 @@ returns-clause-fed g c = running_part _ _ _ _ _ c.args.session.now _ _ c.loop-re
 
 pub returns-clause-calls : goal.returns-clause-calls
 returns-clause-calls g c =
-    let all : c.loop-reads.reads ≡ MAX_READS = omega arith in
+    let all : c.loop-reads.reads ≡ 2 ^ 32 = omega arith in
     let P : ℕ → Type 0 = λ n. Reads g.I.Source.gives c.args.input.now n c.loop-reads.input in
     (too_many_reads (subst P all c.loop-reads.invariant.1), c.loop-reads.invariant.2.offers)
 

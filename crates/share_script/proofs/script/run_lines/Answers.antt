@@ -25,7 +25,7 @@ returns-in_err-spool-clause-printed g c =
 pub returns-in_err-read_all-clause-printed : goal.returns-in_err-read_all-clause-printed
 returns-in_err-read_all-clause-printed g c =
     let p = err_from_is_err_and c.from_residual-in_err-read_all.result c.from_residual-in_err-read_all.ensures.1 in
-    rw p.1 (run_part _ _ _ c.args.session.now c.requires.start c.in_err-read_all.ensures.fed)
+    rw p.1 (run_part _ _ _ _ c.args.session.now c.requires.start c.in_err-read_all.ensures.fed)
 
 pub returns-in_err-read_all-clause-fault : goal.returns-in_err-read_all-clause-fault
 returns-in_err-read_all-clause-fault g c =
@@ -37,7 +37,7 @@ pub returns-in_err-finish-clause-printed : goal.returns-in_err-finish-clause-pri
 returns-in_err-finish-clause-printed g c =
     let p = err_from_is_err_and c.from_residual-in_err-finish.result c.from_residual-in_err-finish.ensures.1 in
     rw p.1
-    (run_last _ _ _ _ c.args.session.now c.read_all.new.session c.read_all.new.carry c.requires.start
+    (run_last _ _ _ _ _ c.args.session.now c.read_all.new.session c.read_all.new.carry c.requires.start
     c.in_ok-read_all.ensures.fed c.in_err-finish.ensures.ends)
 
 pub returns-in_err-finish-clause-fault : goal.returns-in_err-finish-clause-fault
@@ -50,7 +50,7 @@ returns-in_err-finish-clause-fault g c =
 
 pub returns-clause-printed : goal.returns-clause-printed
 returns-clause-printed g c =
-    run_whole _ _ _ _ c.args.session.now c.read_all.new.session c.finish.new.session c.read_all.new.carry
+    run_whole _ _ _ _ _ c.args.session.now c.read_all.new.session c.finish.new.session c.read_all.new.carry
     c.requires.start
     c.in_ok-read_all.ensures.fed c.in_ok-finish.ensures.ends
 

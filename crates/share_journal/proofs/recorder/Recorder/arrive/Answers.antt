@@ -1,4 +1,4 @@
-use Rattle.std.proofs.Common.{◌∙◌, ap, sym, refl}
+use Rattle.std.proofs.Common.{◌∙◌, ap, sym}
 use Rattle.share_base.specs.declared.command.Event.{Event}
 use Rattle.share_base.specs.declared.command.Event.TheVariants.{Arrived}
 use Rattle.share_model.specs.run.Laws.{arrive-asked}
@@ -10,7 +10,7 @@ pub note_if-requires : goal.note_if-requires
 note_if-requires g c =
     asked-room g.W.Telling.told c.self.inside.engine c.arrive-reply.new.self c.self.inside.journal
     (Arrived c.args.flow c.split-sending.result.0)
-    c.arrive-reply.result (Worker c.args.worker) refl c.self.invariant
+    c.arrive-reply.result (Worker c.args.worker) c.self.invariant
     (arrive-asked g.W.Telling.told c.self.inside.engine c.arrive-reply.result c.arrive-reply.new.self
     c.self.invariant.1.range (run-sound c.self.invariant.1) c.args.flow c.split-sending.result.0
     c.arrive-reply.ensures.fields c.arrive-reply.ensures.did)
@@ -23,7 +23,7 @@ pub invariant_of-self : goal.invariant_of-self
 invariant_of-self g c =
     asked-kept g.W.Telling.told c.self.inside.engine c.arrive-reply.new.self c.self.inside.journal
     (Arrived c.args.flow c.split-sending.result.0)
-    c.arrive-reply.result (Worker c.args.worker) refl c.self.invariant
+    c.arrive-reply.result (Worker c.args.worker) c.self.invariant
     (arrive-asked g.W.Telling.told c.self.inside.engine c.arrive-reply.result c.arrive-reply.new.self
     c.self.invariant.1.range (run-sound c.self.invariant.1) c.args.flow c.split-sending.result.0
     c.arrive-reply.ensures.fields c.arrive-reply.ensures.did)

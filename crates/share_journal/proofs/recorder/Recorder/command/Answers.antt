@@ -1,4 +1,4 @@
-use Rattle.std.proofs.Common.{◌∙◌, ap, refl}
+use Rattle.std.proofs.Common.{◌∙◌, ap}
 use Rattle.share_base.specs.declared.command.Event.{Event}
 use Rattle.share_base.specs.declared.command.Event.TheVariants.{Commanded}
 use Rattle.share_model.specs.run.Laws.{command-asked}
@@ -10,7 +10,7 @@ pub note_if-requires : goal.note_if-requires
 note_if-requires g c =
     asked-room g.W.Telling.told c.self.inside.engine c.command-reply.new.self c.self.inside.journal
     (Commanded c.args.command)
-    c.command-reply.result (Clerk c.args.clerk) refl c.self.invariant
+    c.command-reply.result (Clerk c.args.clerk) c.self.invariant
     (command-asked g.W.Telling.told c.self.inside.engine c.command-reply.result c.command-reply.new.self
     c.self.invariant.1.range (run-sound c.self.invariant.1) c.args.command c.command-reply.ensures.fields
     c.command-reply.ensures.did)
@@ -22,7 +22,7 @@ pub invariant_of-self : goal.invariant_of-self
 invariant_of-self g c =
     asked-kept g.W.Telling.told c.self.inside.engine c.command-reply.new.self c.self.inside.journal
     (Commanded c.args.command)
-    c.command-reply.result (Clerk c.args.clerk) refl c.self.invariant
+    c.command-reply.result (Clerk c.args.clerk) c.self.invariant
     (command-asked g.W.Telling.told c.self.inside.engine c.command-reply.result c.command-reply.new.self
     c.self.invariant.1.range (run-sound c.self.invariant.1) c.args.command c.command-reply.ensures.fields
     c.command-reply.ensures.did)

@@ -1,33 +1,131 @@
-//! How often the plain writer and the plain reader call what they wrap, and with what: no contract counts calls.
+//! What the plain writer and the plain reader make of each answer of what they wrap, how often they call it, and with
+//! how many bytes. std's traits tell nothing of an error's kind, and no contract counts calls. So bodies like these meet
+//! every clause, and a test here sees each of them: an interruption told as a failure, and a failure, also of one kind
+//! alone, as an interruption; an end, or 0 accepted bytes, told as a failure or as an interruption; no call where there
+//! are more than 4096 or 40000 bytes, or none; half of the bytes handed on; a second call after one that was
+//! interrupted, failed or accepted nothing; a flush.
+ghost use Rattle.std.specs.Prelude.{◌≤◌, IfOk};
 
 use crate::{Answer, Got, PlainReader, PlainWriter, Source, Telling};
-use std::alloc::Global;
 use std::io;
 use std::io::{ErrorKind, Read, Write};
 use std::process::Abort;
+use std::test::Fail;
 
-/// The longest frame, in bytes.
-const LONGEST: usize = 1502;
+/// The longest piece and the longest buffer, in bytes.
+const LONGEST: usize = 65536;
 
-/// Accepts the first half of a piece, or fails as it is told to. It keeps the piece of its last call, and counts the
-/// flushes.
-#[derive(Drop)]
-struct CountingWriter {
-    fault: Option<ErrorKind>,
-    calls: usize,
-    flushes: usize,
-    piece: Vec<u8>,
+/// What a call of std's answers: how many of the bytes that it was called with, or an error.
+#[derive(Clone, Copy, Debug)]
+enum StdAnswer {
+    All,
+    Half,
+    Nothing,
+    Error(ErrorKind),
 }
 
-impl Write for CountingWriter {
-    fn write(&mut self, buf: &[u8]) -> io::Result<usize> {
+/// What is answered for each length, in turn.
+const ANSWERS: [StdAnswer; 7] = [
+    StdAnswer::All,
+    StdAnswer::Error(ErrorKind::Interrupted),
+    StdAnswer::Half,
+    StdAnswer::Nothing,
+    StdAnswer::Error(ErrorKind::WouldBlock),
+    StdAnswer::Error(ErrorKind::BrokenPipe),
+    StdAnswer::Error(ErrorKind::TimedOut),
+];
+
+/// Each kind of error but `Interrupted`.
+const FAILURES: [ErrorKind; 41] = [
+    ErrorKind::NotFound,
+    ErrorKind::PermissionDenied,
+    ErrorKind::ConnectionRefused,
+    ErrorKind::ConnectionReset,
+    ErrorKind::HostUnreachable,
+    ErrorKind::NetworkUnreachable,
+    ErrorKind::ConnectionAborted,
+    ErrorKind::NotConnected,
+    ErrorKind::AddrInUse,
+    ErrorKind::AddrNotAvailable,
+    ErrorKind::NetworkDown,
+    ErrorKind::BrokenPipe,
+    ErrorKind::AlreadyExists,
+    ErrorKind::WouldBlock,
+    ErrorKind::NotADirectory,
+    ErrorKind::IsADirectory,
+    ErrorKind::DirectoryNotEmpty,
+    ErrorKind::ReadOnlyFilesystem,
+    ErrorKind::FilesystemLoop,
+    ErrorKind::StaleNetworkFileHandle,
+    ErrorKind::InvalidInput,
+    ErrorKind::InvalidData,
+    ErrorKind::TimedOut,
+    ErrorKind::WriteZero,
+    ErrorKind::StorageFull,
+    ErrorKind::NotSeekable,
+    ErrorKind::QuotaExceeded,
+    ErrorKind::FileTooLarge,
+    ErrorKind::ResourceBusy,
+    ErrorKind::ExecutableFileBusy,
+    ErrorKind::Deadlock,
+    ErrorKind::CrossesDevices,
+    ErrorKind::TooManyLinks,
+    ErrorKind::InvalidFilename,
+    ErrorKind::ArgumentListTooLong,
+    ErrorKind::Unsupported,
+    ErrorKind::UnexpectedEof,
+    ErrorKind::OutOfMemory,
+    ErrorKind::InProgress,
+    ErrorKind::Other,
+    ErrorKind::Uncategorized,
+];
+
+/// Answers as it is told to. It counts its calls, and keeps the length of the bytes of the last one.
+#[derive(Drop)]
+struct Counting {
+    answer: StdAnswer,
+    calls: usize,
+    flushes: usize,
+    length: usize,
+}
+
+const UNCALLED: Counting = Counting {
+    answer: StdAnswer::All,
+    calls: 0,
+    flushes: 0,
+    length: 0,
+};
+
+impl Counting {
+    // A call with so many bytes.
+    fn answer(&mut self, length: usize) -> io::Result<usize>
+        ensures { IfOk result (λ count. count ≤ length) }
+    {
         self.calls = self.calls.saturating_add(1);
-        self.piece.clear();
-        self.piece.extend_from_slice(buf)?;
-        match self.fault {
-            Some(kind) => Err(kind.into()),
-            None => Ok(buf.len() / 2),
+        self.length = length;
+        match self.answer {
+            StdAnswer::All => Ok(length),
+            StdAnswer::Half => Ok(length / 2),
+            StdAnswer::Nothing => Ok(0),
+            StdAnswer::Error(kind) => Err(kind.into()),
         }
+    }
+
+    // From here on it answers so, and counts from 0.
+    fn begin(&mut self, answer: StdAnswer) {
+        self.answer = answer;
+        self.calls = 0;
+    }
+
+    // It was called once since then, with so many bytes.
+    fn was_called_once(&self, length: usize) -> bool {
+        self.calls == 1 && self.length == length && self.flushes == 0
+    }
+}
+
+impl Write for Counting {
+    fn write(&mut self, buf: &[u8]) -> io::Result<usize> {
+        self.answer(buf.len())
     }
 
     fn flush(&mut self) -> io::Result<()> {
@@ -36,138 +134,91 @@ impl Write for CountingWriter {
     }
 }
 
-fn counting_writer(alloc: Global, fault: Option<ErrorKind>) -> PlainWriter<CountingWriter> {
-    PlainWriter(CountingWriter {
-        fault,
-        calls: 0,
-        flushes: 0,
-        piece: Vec::new(alloc),
-    })
-}
-
-// The answer to a piece of this length.
-fn accepted(length: usize, fault: Option<Answer>) -> Answer {
-    match fault {
-        Some(answer) => answer,
-        None => Answer::Accepted(length / 2),
-    }
-}
-
-// The writer, which has been offered each shorter piece before, is called once, with the whole piece.
-fn is_offered(
-    writer: &mut PlainWriter<CountingWriter>,
-    bytes: &[u8],
-    length: usize,
-    fault: Option<Answer>,
-) -> bool {
-    match bytes.get(..length) {
-        None => false,
-        Some(piece) => {
-            writer.offer(piece) == accepted(length, fault)
-                && writer.0.calls == length.saturating_add(1)
-                && writer.0.piece.as_slice() == piece
-        }
-    }
-}
-
-fn is_called_once(
-    rt: &impl Abort,
-    writer: &mut PlainWriter<CountingWriter>,
-    fault: Option<Answer>,
-) {
-    let bytes = [b'x'; LONGEST];
-    for length in 0..=LONGEST {
-        let offered = is_offered(writer, &bytes, length, fault);
-        assert!(rt; offered, "a piece of {length} bytes");
-    }
-    assert!(rt; writer.0.flushes == 0, "flushes");
-}
-
-#[test]
-fn a_writer_is_called_once_with_the_whole_piece(rt: HostRuntime) {
-    let mut writer = counting_writer(rt.alloc(), None);
-    is_called_once(&rt, &mut writer, None);
-    drop(writer);
-}
-
-#[test]
-fn a_writer_that_answers_an_error_is_called_once(rt: HostRuntime) {
-    let faults = [
-        (ErrorKind::Interrupted, Answer::Interrupted),
-        (ErrorKind::WouldBlock, Answer::Failed),
-        (ErrorKind::BrokenPipe, Answer::Failed),
-    ];
-    for (kind, answer) in faults {
-        let mut writer = counting_writer(rt.alloc(), Some(kind));
-        is_called_once(&rt, &mut writer, Some(answer));
-        drop(writer);
-    }
-}
-
-/// Fills the buffer, or fails as it is told to. It keeps the length of the buffer of its last call.
-#[derive(Drop)]
-struct CountingReader {
-    fault: Option<ErrorKind>,
-    calls: usize,
-    room: usize,
-}
-
-impl Read for CountingReader {
+impl Read for Counting {
     fn read(&mut self, buf: &mut [u8]) -> io::Result<usize> {
-        self.calls = self.calls.saturating_add(1);
-        self.room = buf.len();
-        match self.fault {
-            Some(kind) => Err(kind.into()),
-            None => {
-                buf.fill(b'x');
-                Ok(buf.len())
-            }
-        }
+        self.answer(buf.len())
     }
 }
 
-fn counting_reader(fault: Option<ErrorKind>) -> PlainReader<CountingReader> {
-    PlainReader(CountingReader {
-        fault,
-        calls: 0,
-        room: 0,
-    })
+// What an offer of so many bytes answers, where std's call answers this.
+fn offered(answer: StdAnswer, length: usize) -> Answer {
+    match answer {
+        StdAnswer::All => Answer::Accepted(length),
+        StdAnswer::Half => Answer::Accepted(length / 2),
+        StdAnswer::Nothing => Answer::Accepted(0),
+        StdAnswer::Error(ErrorKind::Interrupted) => Answer::Interrupted,
+        StdAnswer::Error(_) => Answer::Failed,
+    }
 }
 
-// The reader, which has been asked for each shorter room before, is called once, with the whole room.
-fn is_asked(reader: &mut PlainReader<CountingReader>, room: &mut [u8], got: Got) -> bool {
-    let length = room.len();
-    if length == 0 {
+// What is taken into so many bytes, where std's call answers this.
+fn taken(answer: StdAnswer, length: usize) -> Got {
+    match (answer, length) {
+        (StdAnswer::All, _) => Got::Bytes(length),
+        (StdAnswer::Half, 0 | 1) => Got::End,
+        (StdAnswer::Half, _) => Got::Bytes(length / 2),
+        (StdAnswer::Nothing, _) => Got::End,
+        (StdAnswer::Error(ErrorKind::Interrupted), _) => Got::Interrupted,
+        (StdAnswer::Error(_), _) => Got::Failed,
+    }
+}
+
+fn is_offered(writer: &mut PlainWriter<Counting>, piece: &[u8], answer: StdAnswer) -> bool {
+    writer.0.begin(answer);
+    writer.offer(piece) == offered(answer, piece.len()) && writer.0.was_called_once(piece.len())
+}
+
+fn is_taken(reader: &mut PlainReader<Counting>, buffer: &mut [u8], answer: StdAnswer) -> bool {
+    if buffer.is_empty() {
         return false;
     }
-    reader.take_bytes(room) == got && reader.0.calls == length && reader.0.room == length
+    reader.0.begin(answer);
+    reader.take_bytes(buffer) == taken(answer, buffer.len())
+        && reader.0.was_called_once(buffer.len())
 }
 
 #[test]
-fn a_reader_is_called_once_with_the_whole_buffer(rt: HostRuntime) {
-    let mut reader = counting_reader(None);
-    let full = [b'x'; LONGEST];
-    for length in 1..=LONGEST {
-        let mut buffer = [b'.'; LONGEST];
-        let filled = is_asked(&mut reader, &mut buffer[..length], Got::Bytes(length))
-            && buffer[..length] == full[..length];
-        assert!(rt; filled, "a buffer of {length} bytes");
-    }
-}
-
-#[test]
-fn a_reader_that_answers_an_error_is_called_once(rt: HostRuntime) {
-    let faults = [
-        (ErrorKind::Interrupted, Got::Interrupted),
-        (ErrorKind::WouldBlock, Got::Failed),
-        (ErrorKind::ConnectionReset, Got::Failed),
-    ];
-    let mut buffer = [b'.'; LONGEST];
-    for (kind, got) in faults {
-        let mut reader = counting_reader(Some(kind));
-        for length in 1..=LONGEST {
-            let asked = is_asked(&mut reader, &mut buffer[..length], got);
-            assert!(rt; asked, "a buffer of {length} bytes");
+fn an_offer_is_one_call_with_the_whole_piece(rt: HostRuntime) -> Result<(), Fail> {
+    let bytes = Vec::from_elem(rt.alloc(), b'x', LONGEST)?;
+    let mut writer = PlainWriter(UNCALLED);
+    for length in 0..=LONGEST {
+        for answer in ANSWERS {
+            let piece = &bytes[..length.min(bytes.len())];
+            assert!(rt;
+                is_offered(&mut writer, piece, answer),
+                "{answer:?} to {length} bytes"
+            );
         }
+    }
+    Ok(())
+}
+
+#[test]
+fn taking_bytes_is_one_call_with_the_whole_buffer(rt: HostRuntime) -> Result<(), Fail> {
+    let mut bytes = Vec::from_elem(rt.alloc(), b'.', LONGEST)?;
+    let mut reader = PlainReader(UNCALLED);
+    for length in 1..=LONGEST {
+        for answer in ANSWERS {
+            let held = bytes.len();
+            let buffer = &mut bytes[..length.min(held)];
+            assert!(rt;
+                is_taken(&mut reader, buffer, answer),
+                "{answer:?} to {length} bytes"
+            );
+        }
+    }
+    Ok(())
+}
+
+#[test]
+fn every_error_but_an_interruption_is_a_failure(rt: HostRuntime) {
+    let mut bytes = [b'.'; 1502];
+    let mut writer = PlainWriter(UNCALLED);
+    let mut reader = PlainReader(UNCALLED);
+    for kind in FAILURES {
+        let answer = StdAnswer::Error(kind);
+        let failed = is_offered(&mut writer, &bytes, answer)
+            && is_taken(&mut reader, &mut bytes, answer);
+        assert!(rt; failed, "{kind:?}");
     }
 }

@@ -3,6 +3,7 @@
 //! that tell what they gave and took.
 #![tactic(auto)]
 
+pub mod allocator;
 mod counts;
 mod funding;
 mod ingress;

@@ -43,6 +43,15 @@ impl Tape {
         self.bytes.as_slice()
     }
 
+    /// The bytes that it held.
+    pub fn into_bytes(self) -> Vec<u8>
+        ensures { result.items ≡ self.bytes }
+    {
+        let Tape { bytes, counts } = self;
+        drop(counts);
+        bytes
+    }
+
     /// The count of each call that it accepted, or an error where memory is refused.
     pub fn counts(&self, alloc: Global) -> Result<Vec<usize>, AllocError>
         ensures { IfOk result (λ counts. counts.items ≡ self.now.counts) }

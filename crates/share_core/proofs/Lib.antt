@@ -3,6 +3,7 @@ pub mod Arrivals
 pub mod Closings
 pub mod Frames
 pub mod Fundings
+pub mod Idles
 pub mod Levellings
 pub mod Living
 pub mod Openings

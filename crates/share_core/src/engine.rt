@@ -1,6 +1,6 @@
 //! The engine of a link: a link and the writer of its frames.
 ghost use Rattle.std.specs.Prelude.{◌≡◌, ◌<◌, ◌≤◌, ◌^◌, find, length, take, drop, vec_capacity, IfOk, IfErr, IfSome};
-ghost use Rattle.std.specs.Prelude.{None, option_map, false};
+ghost use Rattle.std.specs.Prelude.{None, option_map, is_some, false};
 ghost use Rattle.share_base.specs.Refusal.{IsRefused};
 ghost use Rattle.std.specs.FinMap.{get};
 ghost use Rattle.share_model.specs.stride.Moves.{global_part};
@@ -108,6 +108,20 @@ impl<W, S: Rates> Engine<W, S> {
         ensures { result ≡ is_spent self.now }
     {
         self.link.spent()
+    }
+
+    /// Whether a fault broke the link.
+    pub fn broken(&self) -> bool
+        ensures { result ≡ self.now.live.broken }
+    {
+        self.link.broken()
+    }
+
+    /// Whether there is a frame to send: the test by which a turn of a link that is neither spent nor broken is `Idle`.
+    pub fn sends(&self) -> bool
+        ensures { result ≡ is_some (sending self.now.live) }
+    {
+        self.link.sending().is_some()
     }
 
     /// The account of an open flow, below 2^52: the price of its tariff for each unit that its frames were charged.

@@ -5,12 +5,14 @@ mod books;
 mod engine;
 mod fields;
 mod frame;
+mod laws;
 mod link;
 mod place;
 #[cfg(test)]
 mod tests;
 
 pub use engine::Engine;
+pub use laws::idle_links_are_done;
 
 /// The most flows that are open at once.
 pub const MAX_FLOWS: usize = 64;

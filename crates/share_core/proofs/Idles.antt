@@ -1,0 +1,68 @@
+-- A link with nothing to send has no frame in part, and no flow of it competes.
+use Rattle.std.proofs.Common.{◌≡◌, ℕ, ◌<◌, Bool, true, false, List, [], ◌∷◌, Option, None, Some, option_map, option_and_then}
+use Rattle.std.proofs.Common.{unwrap_or, refl, sym, ap, ◌∙◌, subst, arith}
+use Rattle.share_model.specs.declared.link.Part.{Part}
+use Rattle.share_model.specs.declared.rates.Rate.{Rate}
+use Rattle.share_model.specs.declared.stride.Client.{Client}
+use Rattle.share_model.specs.funding.Graph.{tickets, is_active_flow}
+use Rattle.share_model.proofs.FundingHeld.{idle-none}
+use Rattle.share_model.specs.link.Buffers.{Buffer, head_in, head_of_buffer, head_of, buffer_of, is_some_packet}
+use Rattle.share_model.specs.link.Buffers.{holds_packet, is_busy}
+use Rattle.share_model.specs.link.Frame.{Packet}
+use Rattle.share_model.specs.link.Live.{Live, sending_at, sending}
+use Rattle.share_model.specs.stride.Moves.{next, new_client, IsNext, IsNextFlow, client}
+use Rattle.share_model.specs.stride.NextLaws.{IsNext-next}
+use Rattle.share_model.specs.run.KeptClientLaws.{competes-stands}
+use Rattle.share_model.specs.run.QueueLaws.{level-flow}
+use Rattle.share_model.specs.run.Sound.{Sound, PartIsSound}
+use Rattle.share_model.specs.run.SoundLaws.{flow-active}
+use Rattle.share_core.proofs.Sendings.{sending-part, sending-next, sending-none}
+
+-- a buffer that holds a packet has a head
+has_head : (b : Buffer) (ps : List (List ℕ)) → is_some_packet ps ≡ true → head_in b ps ≡ None → ⊥
+has_head b [] some none = cc
+has_head b (p ∷ ps) some none = cc
+
+headed : (o : Option Buffer) → holds_packet o ≡ true → option_and_then head_of_buffer o ≡ None → ⊥
+headed None busy none = cc
+headed (Some b) busy none = has_head b b.packets busy none
+
+no_head : (out : ℕ) (o : Option Packet) → option_map (sending_at out) o ≡ None → o ≡ None
+no_head out None none = refl
+no_head out (Some h) none = cc
+
+busy_or_none : (t : Bool) (n : ℕ) → (t ≡ false → n ≡ 0) → 0 < n → t ≡ true
+busy_or_none true n idle some = refl
+busy_or_none false n idle some = absurd (omega (arith, idle refl))
+
+-- the next flow has a head packet
+next_headed : {life : ℕ} {rates : List Rate} {l : Live} → Sound life rates l → (f : ℕ)
+    → IsNextFlow l.queue.clients f → head_of l.buffers f ≡ None → ⊥
+next_headed {l = l} sound f first none =
+    let competes : (client l.queue f).competes ≡ true =
+    ap (λ (o : Option Client). (unwrap_or o new_client).competes) first.competes.found ∙ first.competes.competing in
+    let has = level-flow l.queue l.graph f sound.level (competes-stands sound f competes) in
+    let active : is_active_flow l.graph f ≡ true =
+    busy_or_none (is_active_flow l.graph f) (tickets l.graph f) (idle-none l.graph f) (has.competes.0 competes) in
+    headed (buffer_of l.buffers f) (sym (flow-active sound f) ∙ active) none
+
+no_part : {life : ℕ} {rates : List Rate} {l : Live} → Sound life rates l → (o : Option Part) → l.part ≡ o
+    → sending l ≡ None → o ≡ None
+no_part sound None is none = refl
+no_part {l = l} sound (Some p) is none =
+    let part = subst (PartIsSound l.buffers) is sound.part in
+    let head = no_head p.out (head_of l.buffers p.flow) (sym (sending-part l p is) ∙ none) in
+    let both : Some part.head ≡ None = sym part.found ∙ head in
+    cc
+
+no_next : {life : ℕ} {rates : List Rate} {l : Live} → Sound life rates l → l.part ≡ None → (o : Option ℕ)
+    → next l.queue.clients ≡ o → IsNext l.queue.clients o → sending l ≡ None → o ≡ None
+no_next sound unparted None is first none = refl
+no_next {l = l} sound unparted (Some f) is first none =
+    absurd (next_headed sound f first (no_head 0 (head_of l.buffers f) (sym (sending-next l f unparted is) ∙ none)))
+
+pub idle_is_done : {life : ℕ} {rates : List Rate} {l : Live} → Sound life rates l → sending l ≡ None
+    → (l.part ≡ None) × (next l.queue.clients ≡ None)
+idle_is_done {l = l} sound none =
+    let unparted = no_part sound l.part refl none in
+    (unparted, no_next sound unparted (next l.queue.clients) refl (IsNext-next l.queue.clients) none)

@@ -1,14 +1,15 @@
 -- Joining passes, and splitting them again, keeps the rule of the queue.
-use Rattle.std.proofs.Common.{◌≡◌, ◌≢◌, ℕ, true}
-use Rattle.std.proofs.Common.{List, ◌++◌, length, set, refl, sym, ap, ◌∙◌, subst, ⊎_elim}
+use Rattle.std.proofs.Common.{◌≡◌, ◌≢◌, ℕ, Bool, true, ◌||◌, nat_eq}
+use Rattle.std.proofs.Common.{List, [], ◌∷◌, ◌++◌, length, set, refl, sym, ap, ◌∙◌, subst, ⊎_elim}
+use Rattle.std.proofs.lemmas.List.{append_cancel_left, append-nil}
 use mathlib.Core.Option.{some}
 use lib.ListN.{get_elem?}
 use Rattle.crossbeam_queue.specs.Fifo.{Forks, Merges, Learns}
 use Rattle.share_model.specs.declared.ingress.Offer.{Offer}
 use Rattle.share_model.specs.declared.ingress.QueueView.{QueueView}
 use Rattle.share_model.specs.ingress.Queue.{of_worker, Begins, an_end, an_intake, a_host, spent, IsEnd}
-use Rattle.share_model.specs.ingress.Queue.{IsIntake, KeepsOrder, Behind}
-use Rattle.share_ingress.proofs.Offers.{views_set}
+use Rattle.share_model.specs.ingress.Queue.{IsIntake, IsWorker, KeepsOrder, Behind}
+use Rattle.share_ingress.proofs.Offers.{same_or_not, other_test, views_set}
 use Rattle.share_ingress.proofs.Offers.{views_snoc, length_set}
 use Rattle.crossbeam_queue.proofs.Lists.{at_set}
 use Rattle.share_ingress.proofs.Moves.{not_true, moved, moved_here, moved_else}
@@ -63,6 +64,53 @@ module _ (pass made : ℕ) (popped ahead : List Offer) (closed : List ℕ) (othe
               popped = was.popped;
               made_is = was.made_is;
               closed = was.closed;
+              ahead = was.ahead;
+            })
+            (λ j v apart e s. absurd (apart ((h.intake j v e s).alone ∙ sym was.alone))) j v e);
+      }
+
+  -- An end of which all was popped is joined to the intake
+
+  closes_end : pushed ≡ of_worker w popped → Merges KeepsOrder pass (an_intake made popped ahead closed) other
+      (an_end w pushed) (an_intake made popped ahead (w ∷ closed)) spent
+  closes_end whole items views h at two at' =
+      let was = h.intake pass (an_intake made popped ahead closed) at refl in
+      let now = an_intake made popped ahead (w ∷ closed) in
+      let theirs = h.ends other (an_end w pushed) (end_was views now two at') refl in
+      let none : of_worker w items ≡ [] = append_cancel_left (of_worker w h.got) (of_worker w items) []
+      (sym theirs.pushed ∙ whole ∙ ap (λ t. of_worker w t) was.popped ∙ sym (append-nil (of_worker w h.got))) in
+      let shut : ℕ → Bool = λ u. nat_eq w u || h.shut u in
+      record {
+        reader = h.reader;
+        seat = h.seat;
+        got = h.got;
+        made = h.made;
+        shut = shut;
+        known = h.known;
+        numbered = h.numbered;
+        emptied = λ u s. ⊎_elim
+            (λ (e : w ≡ u). subst (λ x. IsWorker h.made x × (of_worker x items ≡ [])) e (theirs.known, none))
+            (λ (e : w ≢ u). h.emptied u (ap (λ b. b || h.shut u) (sym (other_test w u e)) ∙ s)) (same_or_not w u);
+        ends = views_set (λ j v. v.sends ≡ true → IsEnd h.seat h.got items h.made shut j v)
+            (set views pass now) other spent (λ s. absurd (not_true s))
+            (λ j v apart e. views_set
+            (λ j v. j ≢ other → v.sends ≡ true → IsEnd h.seat h.got items h.made shut j v)
+            views pass now (λ _ s. absurd (not_true s)) (λ j v _ e apart s. let old = h.ends j v e s in
+            record {
+              alone = old.alone;
+              known = old.known;
+              still = ap (λ b. b || h.shut v.worker) (other_test w v.worker
+                  (λ f. apart (old.alone ∙ ap h.seat (sym f) ∙ sym theirs.alone))) ∙ old.still;
+              pushed = old.pushed;
+            }) j v e apart);
+        intake = views_set (λ j v. v.gets ≡ true → IsIntake h.reader h.got items h.made shut j v)
+            (set views pass now) other spent (λ s. absurd (not_true s))
+            (λ j v apart e. views_set (λ j v. v.gets ≡ true → IsIntake h.reader h.got items h.made shut j v) views
+            pass now (λ s. record {
+              alone = was.alone;
+              popped = was.popped;
+              made_is = was.made_is;
+              closed = λ u. ap (λ b. nat_eq w u || b) (was.closed u);
               ahead = was.ahead;
             })
             (λ j v apart e s. absurd (apart ((h.intake j v e s).alone ∙ sym was.alone))) j v e);
@@ -126,6 +174,15 @@ module _ (pass : ℕ) (v i e : QueueView) (made : ℕ) (popped ahead : List Offe
   lays other =
       subst (λ (y : QueueView × QueueView). Merges KeepsOrder pass y.0 other y.1 (a_host y.0 y.1) spent)
       (λ k. (sym intake k, sym end k)) (lays_end pass made popped ahead closed other w pushed)
+
+  pub closes : (other : ℕ) → e.pushed ≡ of_worker w i.popped
+      → Merges KeepsOrder pass i other e (an_intake i.made i.popped i.ahead (e.worker ∷ i.closed)) spent
+  closes other whole =
+      let all : pushed ≡ of_worker w popped = subst (λ (y : QueueView × QueueView). y.1.pushed ≡ of_worker w y.0.popped)
+      (λ k. (intake k, end k)) whole in
+      subst (λ (y : QueueView × QueueView). Merges KeepsOrder pass y.0 other y.1
+      (an_intake y.0.made y.0.popped y.0.ahead (y.1.worker ∷ y.0.closed)) spent)
+      (λ k. (sym intake k, sym end k)) (closes_end pass made popped ahead closed other w pushed all)
 
   hosted : v ≡ a_host i e → v ≡ host pass made popped ahead closed w pushed
   hosted is = is ∙ λ k. a_host (intake k) (end k)

@@ -3,6 +3,7 @@ pub mod ReaderSteps
 pub mod Offers
 pub mod Moves
 pub mod Joins
+pub mod Gathering
 pub mod GateSteps
 pub mod WorkerSteps
 pub mod ThreadSteps

@@ -11,7 +11,7 @@ use Rattle.share_model.specs.declared.ingress.QueueView.{QueueView}
 use Rattle.share_model.specs.ingress.Queue.{of_worker, Numbered, an_end, an_intake, IsEnd}
 use Rattle.share_model.specs.ingress.Queue.{IsIntake, IsWorker, KeepsOrder, Put, OwnLast, Taken, Seen}
 use Rattle.share_ingress.proofs.Offers.{same_or_not, same_test, other_test, of_append, of_snoc_same, of_snoc_other}
-use Rattle.share_ingress.proofs.Offers.{of_same, of_moved, of_rest_none, of_first_some, of_above, numbered_snoc}
+use Rattle.share_ingress.proofs.Offers.{of_same, of_moved, of_rest_none, of_first_some, of_stranger, numbered_snoc}
 use Rattle.share_ingress.proofs.Offers.{numbered_at}
 use Rattle.share_ingress.proofs.Offers.{each_snoc, each_at, each_more, begins_snoc, begins_all, Views, views_set}
 use Rattle.share_ingress.proofs.Offers.{views_snoc, length_set}
@@ -192,7 +192,7 @@ module _ (pass made : ℕ) (popped ahead : List Offer) (closed : List ℕ) where
       let was = h.intake pass (an_intake made popped ahead closed) at refl in
       let now = an_intake (suc made) popped ahead closed in
       let none : [] ≡ of_worker (suc made) h.got ++ of_worker (suc made) items =
-      rw was.made_is (sym (sym (of_append (suc h.made) h.got items) ∙ of_above h.made (h.got ++ items) h.known)) in
+      rw was.made_is (sym (sym (of_append (suc h.made) h.got items) ∙ of_stranger h.made (suc h.made) (h.got ++ items) h.known (λ w. omega (arith, w.1)))) in
       record {
         reader = h.reader;
         seat = moved h.seat (suc h.made) (length views);

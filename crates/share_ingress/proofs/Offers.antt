@@ -32,7 +32,7 @@ other_test m n h = grind (arith, nat_tests)
 pub of_same : (w : ℕ) (o : Offer) (os : List Offer) → o.worker ≡ w → of_worker w (o ∷ os) ≡ o ∷ of_worker w os
 of_same w o os e = rw (same_test o.worker w e) refl
 
-of_other : (w : ℕ) (o : Offer) (os : List Offer) → o.worker ≢ w → of_worker w (o ∷ os) ≡ of_worker w os
+pub of_other : (w : ℕ) (o : Offer) (os : List Offer) → o.worker ≢ w → of_worker w (o ∷ os) ≡ of_worker w os
 of_other w o os h = rw (other_test o.worker w h) refl
 
 keep_append : (b : Bool) (o : Offer) (os rest : List Offer) → keep b o (os ++ rest) ≡ keep b o os ++ rest
@@ -71,9 +71,12 @@ of_rest_none w o os e = keep_none (nat_eq o.worker w) o (of_worker w os) e
 pub of_first_some : (o : Offer) (os : List Offer) → of_worker o.worker (o ∷ os) ≢ []
 of_first_some o os e = let p : o ∷ of_worker o.worker os ≡ [] = sym (of_same o.worker o os refl) ∙ e in cc
 
-pub of_above : (m : ℕ) (os : List Offer) → Each (λ o. IsWorker m o.worker) os → of_worker (suc m) os ≡ []
-of_above m [] h = refl
-of_above m (o ∷ os) h = of_other (suc m) o os (λ e. omega (arith, e, h.0.1)) ∙ of_above m os h.1
+-- a worker that there is not has none
+pub of_stranger : (m w : ℕ) (os : List Offer) → Each (λ o. IsWorker m o.worker) os → (IsWorker m w → ⊥)
+    → of_worker w os ≡ []
+of_stranger m w [] h apart = refl
+of_stranger m w (o ∷ os) h apart =
+    of_other w o os (λ e. apart (subst (λ u. IsWorker m u) e h.0)) ∙ of_stranger m w os h.1 apart
 
 -- Numbers of offers
 

@@ -1,8 +1,15 @@
 -- Jobs that are begun from the last to the first, and joined from the first to the last.
-use Rattle.std.proofs.Common.{◌≡◌, List, [], ◌∷◌, ◌++◌, length, reverse, Result, Ok, Err, MatchResult, arith}
+use Rattle.std.proofs.Common.{◌≡◌, ℕ, inl, inr, List, [], ◌∷◌, ◌++◌, length, reverse, Option, Result, Ok, Err}
+use Rattle.std.proofs.Common.{MatchResult, arith}
 use Rattle.std.proofs.Common.{refl, sym, ap, ◌∙◌, subst}
 use Rattle.std.proofs.lemmas.List.{append_assoc, append-nil, reverse-append}
-use Rattle.share_ingress.specs.Threads.{Matches}
+use Rattle.share_model.specs.declared.reader.Got.{Got}
+use Rattle.share_model.specs.lists.Each.{Each}
+use Rattle.share_ingress.specs.Ends.{EndView}
+use Rattle.share_ingress.specs.GateCalls.{GateCall}
+use Rattle.share_ingress.specs.Threads.{IsJobDone, Matches}
+use Rattle.share_ingress.specs.declared.threads.Job.{Job}
+use Rattle.share_ingress.specs.declared.workers.Done.{Done}
 
 -- all after these jobs were begun, the last one first
 pub record Begun {A B : Type 0} (all jobs : List A) (slots : List B) (P : A → B → Type 0) : Type 0 where
@@ -95,3 +102,26 @@ pub finished : {A H D : Type 0} (y : Result H D) (r : D) (Q : A → D → Type 0
     → Q x r
 finished (Ok h) r Q job_of f x g = subst (λ a. Q a r) g f
 finished (Err d) r Q job_of f x g = subst (λ e. Q x e) (sym f) g
+
+-- The ends of jobs
+
+pub matches_more : {A C : Type 0} (P Q : A → C → Type 0) → ((x : A) (z : C) → P x z → Q x z) → (xs : List A)
+    (zs : List C) → Matches P xs zs → Matches Q xs zs
+matches_more P Q f [] [] h = tt
+matches_more P Q f [] (z ∷ zs) h = absurd h
+matches_more P Q f (x ∷ xs) [] h = absurd h
+matches_more P Q f (x ∷ xs) (z ∷ zs) h = (f x z h.0, matches_more P Q f xs zs h.1)
+
+pub each_matched : {A C : Type 0} (P : A → C → Type 0) (Q : A → Type 0) (S : C → Type 0)
+    → ((x : A) (z : C) → P x z → Q x → S z) → (xs : List A) (zs : List C) → Matches P xs zs → Each Q xs → Each S zs
+each_matched P Q S f [] [] h all = tt
+each_matched P Q S f [] (z ∷ zs) h all = absurd h
+each_matched P Q S f (x ∷ xs) [] h all = absurd h
+each_matched P Q S f (x ∷ xs) (z ∷ zs) h all = (f x z h.0 all.0, each_matched P Q S f xs zs h.1 all.1)
+
+-- the end that a job leaves is of its queue
+pub same_link : {R G : Type 0} (gives : R → List ℕ → Got → R → Type 0) (left : R → Option (List ℕ))
+    (told : G → GateCall → G → Type 0) (job : Job R G) (done : Done G) → IsJobDone gives left told job done
+    → done.end.link ≡ job.end.link
+same_link gives left told job done (inl work) = ap (λ (e : EndView). e.link) work.worked.queued
+same_link gives left told job done (inr none) = ap (λ (d : Done _). d.end.link) none

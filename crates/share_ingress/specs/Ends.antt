@@ -1,6 +1,6 @@
 -- What a contract sees of the two sides of the queue, and what their calls do.
 use Rattle.std.specs.Prelude.{◌≡◌, ◌⊎◌, ◌^◌, ℕ, suc, zero, Bool, false, not, ◌&&◌, ◌||◌, nat_le, List, [], ◌∷◌}
-use Rattle.std.specs.Prelude.{◌++◌, ◌+◌, ◌-◌, length, min, Option}
+use Rattle.std.specs.Prelude.{◌++◌, ◌+◌, ◌-◌, ◌<◌, length, min, slice_index, Option}
 use Rattle.crossbeam_queue.specs.Fifo.{Held}
 use Rattle.share_base.specs.declared.refusal.Refusal.{Refusal}
 use Rattle.share_base.specs.declared.refusal.Refusal.TheVariants.{Range}
@@ -30,6 +30,11 @@ pub record IntakeView : Type 0 where
   pub ahead : List Offer
   pub closed : List ℕ
   pub missed : ℕ
+
+-- how many of these offers are of each of eight workers
+abbrev pub Counts : List ℕ → List Offer → Type 0
+Counts counts os =
+    (length counts ≡ 8) × ((w : ℕ) → w < 8 → slice_index counts w ≡ length (of_worker (suc w) os))
 
 -- a count, once more: it stays where a word has no greater number
 abbrev pub raised : ℕ → ℕ

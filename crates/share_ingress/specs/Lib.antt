@@ -2,6 +2,7 @@ pub mod Ends
 pub mod Found
 pub mod GateCalls
 pub mod Gates
+pub mod Gathers
 pub mod Names
 pub mod Reader
 pub mod Streams

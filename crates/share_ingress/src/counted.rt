@@ -3,8 +3,8 @@
 //!
 //! All pops and pushes go through this module. Its functions are generic in the rule and in what a call learns, so that
 //! none of them can make up what it tells of the queue, and no other module can raise the count. No contract refuses a
-//! further function here that raises it without a call: so the module holds `new`, `pop`, `push` and `beside`, and
-//! nothing else.
+//! further function here that raises it without a call: so the module holds `new`, `pop`, `push`, `beside` and
+//! `absorb`, and nothing else.
 ghost use Rattle.std.specs.Prelude.{◌≡◌, List, MatchOption, MatchResult};
 ghost use Rattle.crossbeam_queue.specs.Fifo.{Pushes, Pops, Forks, Merges, Learns, Held};
 ghost use Rattle.crossbeam_queue.specs.Passes.{view, IsSamePass, IsPassOf, ruled_capacity};
@@ -107,5 +107,21 @@ impl<T, V> Counted<T, V> {
         queue.learn_as::<J>(&mut self.pass);
         let pass = queue.another::<J>(&mut self.pass);
         Counted { pass, count }
+    }
+
+    /// Takes in another pass, which is spent. The count of this one stays.
+    pub(crate) fn absorb<P: Protocol<T, V>, J: Join<V>>(
+        &mut self,
+        queue: &RuledArrayQueue<T, V, P, Global>,
+        other: Counted<T, V>,
+    )
+        requires queue { IsPassOf queue.now self.old.pass × IsPassOf queue.now other.pass }
+        requires joins { Merges P.holds self.old.pass.id (view self.old.pass) other.pass.id (view other.pass)
+            (J.both (view self.old.pass) (view other.pass)) J.spent }
+        ensures queue { IsSamePass self.old.pass self.new.pass }
+        ensures both { view self.new.pass ≡ J.both (view self.old.pass) (view other.pass) }
+        ensures count { self.new.count ≡ self.old.count }
+    {
+        queue.absorb::<J>(&mut self.pass, other.pass);
     }
 }

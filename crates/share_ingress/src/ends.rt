@@ -9,8 +9,11 @@ ghost use Rattle.share_ingress.specs.Ends.{queue_refusal, new_end, new_ends, new
 ghost use Rattle.share_ingress.specs.Ends.{with_miss};
 ghost use Rattle.share_ingress.specs.Ends.{is_out_of_range};
 
+mod gather;
+
 use crate::counted::Counted;
 use crate::held::{Beside, Ends, InOrder, Line, Puts, Takes, Token};
+pub use gather::{Ungathered, WhyNot};
 use share_base::{Name, Parcel, Refusal};
 use share_model::{Offer, QueueView};
 use std::alloc::{AllocError, Global};
@@ -78,14 +81,17 @@ pub struct Intake {
     queue: Arc<Line, Global>,
     token: Counted<Offer, QueueView>,
     workers: u64,
+    // How many offers were popped of each worker.
+    counts: [u64; 8],
 }
 
 impl Model for Intake {
-    ghost use Rattle.std.specs.Prelude.{◌≡◌};
+    ghost use Rattle.std.specs.Prelude.{◌≡◌, ◌≤◌};
     ghost use Rattle.std.specs.Arc.{arc_value};
     ghost use Rattle.crossbeam_queue.specs.Passes.{view as known, IsPassOf, ruled_capacity};
-    ghost use Rattle.share_model.specs.ingress.Queue.{an_intake};
-    ghost use Rattle.share_ingress.specs.Ends.{IntakeView};
+    ghost use Rattle.share_model.specs.ingress.Queue.{an_intake, IsWorker};
+    ghost use Rattle.share_model.specs.lists.Each.{Each};
+    ghost use Rattle.share_ingress.specs.Ends.{IntakeView, Counts};
 
     ghost Value = { IntakeView };
 
@@ -103,7 +109,10 @@ impl Model for Intake {
         IsPassOf (arc_value i.queue) i.token.pass
         × (known i.token.pass
         ≡ an_intake i.workers (known i.token.pass).popped (known i.token.pass).ahead
-        (known i.token.pass).closed) };
+        (known i.token.pass).closed)
+        × (i.workers ≤ 8)
+        × Each (λ o. IsWorker i.workers o.worker) (known i.token.pass).popped
+        × Counts i.counts (known i.token.pass).popped };
 }
 
 /// A new queue of so many places, 1 to 1024, with an end for each of so many workers, 1 or 2, in their order. Refusals:
@@ -133,6 +142,7 @@ pub fn queue(
         queue,
         token: Counted::new(token),
         workers: workers as u64,
+        counts: [0; 8],
     };
     Ok((intake, ends))
 }
@@ -218,7 +228,9 @@ impl Intake {
         ensures some { IfSome result (λ offer. IsTake self.old offer self.new) }
         ensures none { IfNone result ((self.new ≡ with_miss self.old) × (self.old.ahead ≡ [])) }
     {
-        self.token.pop::<InOrder, Takes, R>(&self.queue, rt)
+        let offer = self.token.pop::<InOrder, Takes, R>(&self.queue, rt)?;
+        self.counts[(offer.worker - 1) as usize] = offer.n;
+        Some(offer)
     }
 
     /// Lays an end of this queue beside the intake and gives it back: what was popped of its worker is, in order, the

@@ -1,5 +1,5 @@
 //! The rule of the queue, and the steps on it.
-ghost use Rattle.std.specs.Prelude.{suc, []};
+ghost use Rattle.std.specs.Prelude.{suc, [], ◌∷◌};
 ghost use Rattle.share_model.specs.ingress.Queue.{Put, OwnLast, Taken, Seen, Behind, an_end, an_intake, a_host, spent};
 
 use crossbeam_queue::protocol::{Join, Lesson, Outcome, Protocol, Split};
@@ -72,4 +72,13 @@ impl Split<QueueView> for Beside {
     ghost left = { λ v. an_intake v.made v.popped v.ahead v.closed };
 
     ghost right = { λ v. an_end v.worker v.pushed };
+}
+
+/// An end is joined to the intake, which marks its worker as closed.
+pub(crate) struct Closes;
+
+impl Join<QueueView> for Closes {
+    ghost both = { λ v u. an_intake v.made v.popped v.ahead (u.worker ∷ v.closed) };
+
+    ghost spent = { spent };
 }

@@ -12,7 +12,7 @@ mod tests;
 mod threads;
 mod workers;
 
-pub use ends::{IngressEnd, Intake, Offered, queue};
+pub use ends::{IngressEnd, Intake, Offered, Ungathered, WhyNot, queue};
 pub use laws::streams_have_one_reading;
 pub use reader::{IngressReader, Next};
 pub use share_model::{Ended, Offer};

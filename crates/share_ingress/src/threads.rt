@@ -1,5 +1,7 @@
 //! Workers in threads of their own.
 ghost use Rattle.std.specs.Prelude.{◌≡◌, ◌<◌, ◌≤◌, ◌+◌, ◌++◌, ◌∷◌, [], IfOk, IfErr, MatchResult, vec_len, vec_capacity};
+ghost use Rattle.share_model.specs.lists.Each.{Each};
+ghost use Rattle.share_ingress.specs.Names.{LinkName};
 ghost use Rattle.share_ingress.specs.Threads.{IsJobDone, IsNotStarted, Matches};
 
 use crate::ends::IngressEnd;
@@ -34,9 +36,9 @@ impl<R: Source, G: Gate> Promise<Done<G>> for WorkOf<R, G> {
 // A worker at work, or one that was not started.
 type Begun<R, G> = Result<PromisedHandle<Done<G>, WorkOf<R, G>>, Done<G>>;
 
-/// Runs each job in a thread of its own, joins all, and answers what they leave, in the order of the jobs. A job whose
-/// thread was not to be had is not started: its reader is dropped. The jobs come back where no room for their results
-/// was to be had, before any was started.
+/// Runs each job in a thread of its own, joins all, and answers what they leave, in the order of the jobs: each end is of
+/// its job's queue. A job whose thread was not to be had is not started: its reader is dropped. The jobs come back where
+/// no room for their results was to be had, before any was started.
 pub fn run_workers<T, R, G>(
     rt: &T,
     alloc: Global,
@@ -47,6 +49,9 @@ where
     R: Source + Send + Drop + 'static,
     G: Gate + Send + Drop + 'static,
     ensures each { IfOk result (λ all. Matches (IsJobDone R.gives R.left G.told) jobs.items all.items) }
+    ensures linked { IfOk result (λ all. Matches (λ job done. done.end.link ≡ job.end.link) jobs.items all.items) }
+    ensures one_queue { (link : LinkName) → Each (λ job. job.end.link ≡ link) jobs.items
+        → IfOk result (λ all. Each (λ done. done.end.link ≡ link) all.items) }
     ensures back { IfErr result (λ back. back ≡ jobs) }
 {
     let mut jobs = jobs;

@@ -1,6 +1,6 @@
-use Rattle.std.proofs.Common.{◌≡◌, length, arith}
+use Rattle.std.proofs.Common.{◌≡◌, ◌∙◌, length, arith}
 use Rattle.share_ingress.proofs.ThreadSteps.{begun_none, begun_more, joined_none, joined_more, joined_all, finished}
-use Rattle.share_ingress.proofs.ThreadSteps.{nil_of}
+use Rattle.share_ingress.proofs.ThreadSteps.{nil_of, matches_more, each_matched, same_link}
 use Rattle.share_ingress.proofs.threads.run_workers.Goals as goal
 
 pub loop-job-init : goal.loop-job-init
@@ -52,3 +52,12 @@ returns-clause-each g c =
     let none : length c.loop-one.begun.items ≡ 0 =
     omega (arith, c.loop-one.begun.ok.0, c.in_default-pop-2.ensures.cases.0) in
     joined_all _ _ _ _ _ c.loop-one.invariant.joined (nil_of _ none)
+
+pub returns-clause-linked : goal.returns-clause-linked
+returns-clause-linked g c =
+    matches_more _ _ (same_link g.R.Source.gives g.R.Source.left g.G.Gate.told) _ _ (returns-clause-each g c)
+
+pub returns-clause-one_queue : goal.returns-clause-one_queue
+returns-clause-one_queue g c link all =
+    each_matched _ _ _ (λ job done h is. same_link g.R.Source.gives g.R.Source.left g.G.Gate.told job done h ∙ is) _ _
+    (returns-clause-each g c) all

@@ -11,6 +11,7 @@ use crate::ends::{IngressEnd, Offered};
 use crate::reader::{IngressReader, Next};
 use share_base::{Name, Parcel};
 use share_model::{Ended, Source};
+use std::snapshot::Snapshot;
 use std::sync::Wait;
 
 /// What a worker tells of its work, and who may stop it where the queue is full. Items are counted from 1 in each run
@@ -68,7 +69,8 @@ pub fn run_worker<T: Wait, R: Source + Drop, G: Gate>(
     let mut reader = reader;
     let mut end = end;
     let mut gate = gate;
-    let (why, tally) = work(rt, &mut reader, &mut end, &mut gate);
+    let (why, tally, left) = work(rt, &mut reader, &mut end, &mut gate);
+    let_go(reader, left);
     Done {
         end,
         gate,
@@ -77,31 +79,46 @@ pub fn run_worker<T: Wait, R: Source + Drop, G: Gate>(
     }
 }
 
-// Works until the reader ends or the gate stops it: why, and how many items were queued.
+// Works until the reader ends or the gate stops it: why, how many items were queued, and how the reader was left.
 fn work<T: Wait, R: Source, G: Gate>(
     rt: &T,
     reader: &mut IngressReader<R>,
     end: &mut IngressEnd,
     gate: &mut G,
-) -> (Why, u64)
+) -> (Why, u64, Snapshot<IngressReader<R>>)
     ensures worked { Worked (left_of R.left reader.old) end.old end.new result.1 result.0 }
     ensures ran { Ran R.gives G.told reader.old end.old gate.old result.1 result.0 end.new gate.new reader.new }
+    ensures left { result.2.value ≡ reader.new }
 {
     let first = end.queued();
     for _ in rt.forever() {
         match reader.next() {
-            Next::Ended(ended) => return (Why::Ended(ended), end.queued() - first),
+            Next::Ended(ended) => {
+                return (
+                    Why::Ended(ended),
+                    end.queued() - first,
+                    Snapshot::of(reader),
+                );
+            }
             Next::Item { name, parcel } => {
                 let n = end.queued() - first + 1;
                 gate.before(n);
                 if let Err(why) = put(rt, reader, end, gate, name, parcel) {
-                    return (why, n - 1);
+                    return (why, n - 1, Snapshot::of(reader));
                 }
                 gate.offered(n);
             }
         }
     }
     unreachable!()
+}
+
+// Drops a reader as it was left. Nothing of it can be called here, since this is said of every type.
+fn let_go<A: Drop>(reader: A, left: Snapshot<A>)
+    requires { reader ≡ left.value }
+{
+    drop(left);
+    drop(reader);
 }
 
 // Offers an item until it is queued, the gate stops the worker, or no turn is left.

@@ -29,6 +29,7 @@ test:
 	examples/compare.sh
 	examples/faults.sh
 	examples/answers.sh
+	examples/slow-reader.py
 
 edits:
 	.ci/edits

@@ -27,7 +27,7 @@ mod tests;
 use clap::error::ErrorKind;
 use clap::{Arg, ArgAction, ArgMatches, Command, value_parser};
 use share_core::{Engine, MAX_LIFE};
-use share_model::{PlainReader, PlainWriter, Rates, Source, Tape, Telling};
+use share_model::{PatientWriter, PlainReader, PlainWriter, Rates, Source, Tape, Telling};
 use share_script::{ScriptFault, print_bytes, run_script};
 use std::alloc::{AllocError, Global};
 use std::process::ExitCode;
@@ -99,7 +99,7 @@ fn run_on_tariffs<S: Rates + Drop>(
     requires life { life_refusal life ≡ None }
 {
     let mut input = PlainReader(rt.reader());
-    let mut output = PlainWriter(io::writer(rt));
+    let mut output = PatientWriter(PlainWriter(io::writer(rt)));
     run(alloc, shelf, life, &mut input, &mut output)
 }
 

@@ -24,6 +24,7 @@ test:
 	@echo 'the gate: every proof from nothing, the edits that must fail, the tests and the program; more than an hour' >&2
 	.ci/layers
 	RT_JOBS=$$(.ci/jobs) rt ci
+	.ci/memory
 	mkdir -p bin
 	cp crates/stridelink/out/stridelink bin/stridelink
 	examples/compare.sh

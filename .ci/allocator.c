@@ -1,7 +1,7 @@
-/* A heap that the program above it steers, for tests (.ci/memory): it refuses requests for memory in turn, and tells
+/* An allocator that the program above it steers, for tests (.ci/memory): it refuses requests in turn, and tells
    whether blocks were kept. A program speaks with it by requests of sizes that nothing else asks for. Such a question
    is itself no request; it is answered yes by a refusal, and no by a block. The same words stand in
-   crates/share_model/src/heap.rt. At the end it writes what it was asked and did on standard error. No header is
+   crates/share_model/src/allocator.rt. At the end it writes what it was asked and did on standard error. No header is
    included, so that the toolchain's clang is all that it takes. */
 
 typedef unsigned long size;

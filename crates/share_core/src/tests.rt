@@ -2,6 +2,7 @@
 
 mod currencies;
 mod cuts;
+mod memory;
 mod plain;
 mod random;
 mod refusals;
@@ -25,8 +26,11 @@ const TURN: Call = Call::Turn(65535);
 #[derive(Clone, Copy, Debug)]
 enum Call {
     Open(&'static str, u64, u64),
+    Close(&'static str),
     MakeCurrency(&'static str),
+    RemoveCurrency(&'static str),
     MakeTicket(u64, &'static str),
+    RemoveTicket(u64),
     Back(u64, &'static str),
     Fund(u64, &'static str),
     Unfund(u64),
@@ -51,6 +55,7 @@ enum Wanted {
     Whole(u32),
     Torn(u32),
     Is(Turn),
+    Replied(Reply),
     Number(u64),
     Nothing,
 }
@@ -81,6 +86,7 @@ impl Wanted {
                 j,
             }),
             Wanted::Is(turn) => turned(turn),
+            Wanted::Replied(reply) => replied(reply),
             Wanted::Number(number) => Seen::Read(Some(number)),
             Wanted::Nothing => Seen::Read(None),
         }
@@ -116,11 +122,14 @@ fn command_of(rt: &impl Abort, call: Call) -> Option<Command> {
             limit,
             tariff,
         },
+        Call::Close(flow) => Command::CloseFlow(name(rt, flow)),
         Call::MakeCurrency(currency) => Command::MakeCurrency(name(rt, currency)),
+        Call::RemoveCurrency(currency) => Command::RemoveCurrency(name(rt, currency)),
         Call::MakeTicket(amount, currency) => Command::MakeTicket {
             amount,
             currency: name(rt, currency),
         },
+        Call::RemoveTicket(ticket) => Command::RemoveTicket(ticket),
         Call::Back(ticket, currency) => Command::FundCurrency {
             ticket,
             currency: name(rt, currency),

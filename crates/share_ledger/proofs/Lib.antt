@@ -1,6 +1,7 @@
 pub mod FlowShares
 pub mod Lays
-pub mod LevelChains
+pub mod RankChains
+pub mod RankSteps
 pub mod LinkChains
 pub mod LinkPlaces
 pub mod LinkSteps

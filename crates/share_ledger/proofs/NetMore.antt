@@ -13,7 +13,8 @@ use Rattle.share_ledger.specs.declared.routes.Route.{Route}
 use Rattle.share_ledger.specs.declared.seats.Seat.{Seat}
 use Rattle.share_ledger.specs.Nets.{GrowsBy}
 use Rattle.share_ledger.specs.Routes.{IsRouteWithin, gathered}
-use Rattle.share_ledger.specs.Seats.{AreSeated, AreOrdered, IsSeatWithin, seat_of, seats_at, AreCounted, backs_of}
+use Rattle.share_ledger.specs.Seats.{AreSeated, IsSeatWithin, seat_of, seats_at, AreCounted, backs_of}
+use Rattle.share_ledger.specs.Ranks.{AreRanks, AreListed, AreOrdered}
 use Rattle.share_ledger.specs.Seats.{funds_of}
 use Rattle.share_ledger.proofs.RouteLists.{gathered-bound}
 use Rattle.share_ledger.proofs.RoutesDone.{done-within, done-few}
@@ -34,11 +35,15 @@ seated-more rs more r ss next s within grows joined long = record {
   places = long;
 }
 
-pub ordered-more : (ss next : List (List Seat)) (r : Route) → AreOrdered ss → r.from < r.to
+pub ranked-more : (ss next : List (List Seat)) (r : Route) (rank : ℕ → ℕ) → AreRanks ss rank → rank r.from < rank r.to
     → ((k : ℕ) → seats_at next k ≡ cond (nat_eq r.to k) (seats_at ss k ++ seat_of r ∷ []) (seats_at ss k))
-    → AreOrdered next
-ordered-more ss next r ordered before joined p lt =
-    each-joined ss next r joined (λ p (s : Seat). s.from < p) p (ordered p lt) (λ e. subst (λ k. r.from < k) e before)
+    → AreRanks next rank
+ranked-more ss next r rank ranked before joined = record {
+  low = ranked.low;
+  high = ranked.high;
+  above = λ p up lt. each-joined ss next r joined (λ p (s : Seat). rank s.from < rank p) p (ranked.above p up lt)
+      (λ e. subst (λ k. rank r.from < rank k) e before);
+}
 
 -- Seats that go
 fails-zero : {X : Type 0} (test : X → Bool) (xs : List X) → Each (λ x. test x ≡ true) xs
@@ -128,10 +133,32 @@ module _ (rs less : List Route) (r : Route) (ss next : List (List Seat)) (s : Ar
           let two = and_parts (nat_lt o.from 65) (nat_le o.amount (2 ^ 20)) e in
           record { from_place = ltb-true o.from 65 two.0; small = leb-true o.amount (2 ^ 20) two.1 }
 
-  pub ordered-less : AreOrdered ss → AreOrdered next
-  ordered-less ordered p lt =
-      left-at (λ q (o : Seat). o.from < q) (λ q (o : Seat). nat_lt o.from q) p
-      (λ o l. lt-ltb o.from p l) (λ o e. ltb-true o.from p e) (ordered p lt)
+  pub ranked-less : (rank : ℕ → ℕ) → AreRanks ss rank → AreRanks next rank
+  ranked-less rank ranked = record {
+    low = ranked.low;
+    high = ranked.high;
+    above = λ p up lt. left-at (λ q (o : Seat). rank o.from < rank q) (λ q (o : Seat). nat_lt (rank o.from) (rank q)) p
+        (λ o l. lt-ltb (rank o.from) (rank p) l) (λ o e. ltb-true (rank o.from) (rank p) e) (ranked.above p up lt);
+  }
+
+-- the order of the ranks is one of the seats
+pub in-order : (ss : List (List Seat)) (rank order : ℕ → ℕ) → ((p : ℕ) → p < 65 → Each IsSeatWithin (seats_at ss p))
+    → AreRanks ss rank → AreListed rank order → AreOrdered ss order
+in-order ss rank order within ranked listed = record {
+  spot = listed.spot;
+  first = listed.first;
+  there = listed.there;
+  back = listed.back;
+  before = λ p up lt. all p lt (seats_at ss p) (within p lt) (ranked.above p up lt);
+}
+  where
+    all : (p : ℕ) → p < 65 → (xs : List Seat) → Each IsSeatWithin xs → Each (λ (s : Seat). rank s.from < rank p) xs
+        → Each (λ (s : Seat). (s.from < 65) × (listed.spot s.from < listed.spot p)) xs
+    all p lt [] inside each = tt
+    all p lt (x ∷ xs) inside each = (
+      (inside.0.from_place, listed.sorted x.from p inside.0.from_place lt each.0),
+      all p lt xs inside.1 each.1,
+    )
 
 -- the same seats for other routes of the same sums
 pub seated-same : (rs more : List Route) (r : Route) (ss : List (List Seat)) → AreSeated rs ss → GrowsBy false rs more r

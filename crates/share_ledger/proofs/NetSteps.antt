@@ -1,7 +1,7 @@
 -- What one holder that wakes or rests does to the weights.
 use Rattle.std.proofs.Common.{◌≡◌, ◌≤◌, ◌<◌, ◌+◌, ◌*◌, ◌^◌, ℕ, ◌/◌, zero, suc, Bool, true, false, cond, ◌&&◌, List}
 use Rattle.std.proofs.Common.{[], ◌∷◌}
-use Rattle.std.proofs.Common.{nat_eq, set, get_or, sum_by, length, refl, sym, ap, ◌∙◌, arith}
+use Rattle.std.proofs.Common.{nat_eq, set, get_or, sum_by, length, refl, sym, ap, subst, ◌∙◌, arith}
 use Rattle.std.proofs.lemmas.Bool.Decides.{nat_tests}
 use Rattle.std.proofs.lemmas.List.{get_or-set_other}
 use Rattle.std.proofs.lemmas.Grind.{get_or-set_at}
@@ -14,7 +14,8 @@ use Rattle.share_ledger.specs.declared.routes.Route.{Route}
 use Rattle.share_ledger.specs.declared.seats.Seat.{Seat}
 use Rattle.share_ledger.specs.Routes.{gathered}
 use Rattle.share_model.specs.lists.SumLaws.{sum_by-same_of}
-use Rattle.share_ledger.specs.Seats.{seat_of, taken, AreSeated, AreOrdered, AreCounted, seats_at, backs_of, funds_of}
+use Rattle.share_ledger.specs.Ranks.{AreOrdered}
+use Rattle.share_ledger.specs.Seats.{seat_of, taken, AreSeated, AreCounted, seats_at, backs_of, funds_of}
 use Rattle.share_ledger.specs.Seats.{seat_worth, weighed}
 use Rattle.share_ledger.proofs.RouteLists.{gathered-bound}
 use Rattle.share_ledger.proofs.RoutesDone.{done-within, done-few}
@@ -107,16 +108,25 @@ counted-bound g awake active whole ok counted p lt =
     let sum = counted p lt in
     omega arith
 
--- seats that come from before a place count for none of the later places
-pub taken-none : (p x : ℕ) (ss : List Seat) → p ≤ x → Each (λ (s : Seat). s.from < p) ss → taken ss x ≡ 0
-taken-none p x [] le before = refl
-taken-none p x (s ∷ ss) le before =
-    let rest = taken-none p x ss le before.1 in
-    let here = ap {B = ℕ} (λ b. cond b s.amount 0) (apart x s.from (let lt = before.0 in omega arith)) in
+-- seats that come from before a place in some order count for none of those that are not before it
+pub taken-none : (spot : ℕ → ℕ) (n x : ℕ) (ss : List Seat) → n ≤ spot x
+    → Each (λ (s : Seat). (s.from < 65) × (spot s.from < n)) ss → taken ss x ≡ 0
+taken-none spot n x [] le before = refl
+taken-none spot n x (s ∷ ss) le before =
+    let rest = taken-none spot n x ss le before.1 in
+    let here = ap {B = ℕ} (λ b. cond b s.amount 0) (apart x s.from (λ e.
+    let same = ap spot e in let lt = before.0.1 in omega arith)) in
     sum_by-cons (λ (s : Seat). cond (nat_eq x s.from) s.amount 0) s ss ∙ omega arith
   where
-    apart : (a b : ℕ) → b < a → nat_eq a b ≡ false
-    apart a b lt = grind (arith, nat_tests)
+    same_number : (a b : ℕ) → nat_eq a b ≡ true → b ≡ a
+    same_number a b e = grind (arith, nat_tests)
+
+    apart : (a b : ℕ) → (b ≡ a → ⊥) → nat_eq a b ≡ false
+    apart a b differs = by (nat_eq a b) refl
+      where
+        by : (x : Bool) → nat_eq a b ≡ x → nat_eq a b ≡ false
+        by true e = absurd (differs (same_number a b e))
+        by false e = e
 
 -- what is read at a place that is there does not depend on what is read beyond
 pub at-default : {X : Type 0} (xs : List X) (p : ℕ) (y d : X) → p < length xs → y ≡ get_or xs p y → y ≡ get_or xs p d
@@ -213,41 +223,82 @@ module _ (backs funds : List Route) (fs : List (List Seat)) (seated : AreSeated 
       gone k = rest p ∙ ap (λ b. cond b false (on p)) self
 
 -- what seats are worth depends on the places that they come from alone
-pub worth-before : (v w whole : ℕ → ℕ) (p : ℕ) (ss : List Seat) → Each (λ (s : Seat). s.from < p) ss
-    → ((k : ℕ) → k < p → v k ≡ w k) → sum_by (seat_worth v whole) ss ≡ sum_by (seat_worth w whole) ss
-worth-before v w whole p ss before same =
-    sum_by-same_of (λ (s : Seat). s.from < p) (seat_worth v whole) (seat_worth w whole) ss before
-    (λ s lt. ap (λ n. cond (nat_eq s.from 0) s.amount (n * s.amount / whole s.from)) (same s.from lt))
-
-pub weighed-before : (bs : List (List Seat)) (awake : ℕ → Bool) (v w whole : ℕ → ℕ) (p : ℕ)
-    → Each (λ (s : Seat). s.from < p) (seats_at bs p) → ((k : ℕ) → k < p → v k ≡ w k)
+pub weighed-before : (bs : List (List Seat)) (awake : ℕ → Bool) (v w whole : ℕ → ℕ) (p : ℕ) (P : Seat → Type 0)
+    → Each P (seats_at bs p) → ((s : Seat) → P s → v s.from ≡ w s.from)
     → weighed bs awake v whole p ≡ weighed bs awake w whole p
-weighed-before bs awake v w whole p before same =
-    ap (λ n. cond (awake p) n 0) (worth-before v w whole p (seats_at bs p) before same)
+weighed-before bs awake v w whole p P before same =
+    ap (λ n. cond (awake p) n 0)
+    (sum_by-same_of P (seat_worth v whole) (seat_worth w whole) (seats_at bs p) before
+    (λ s at. ap (λ n. cond (nat_eq s.from 0) s.amount (n * s.amount / whole s.from)) (same s at)))
 
--- one value more
-pub valued-more : (bs : List (List Seat)) (awake : ℕ → Bool) (v next whole : ℕ → ℕ) (p n : ℕ) → AreOrdered bs → p < 65
-    → ((k : ℕ) → next k ≡ cond (nat_eq p k) n (v k)) → n ≡ weighed bs awake v whole p
-    → ((k : ℕ) → 0 < k → k < p → v k ≡ weighed bs awake v whole k)
-    → (k : ℕ) → 0 < k → k < p + 1 → next k ≡ weighed bs awake next whole k
-valued-more bs awake v next whole p n ordered lt set_one here before k above below = by (nat_eq p k) refl
-  where
-    apart : (a b : ℕ) → b < a → nat_eq a b ≡ false
-    apart a b e = grind (arith, nat_tests)
+-- The place that is next in an order
+module _ (bs : List (List Seat)) (order : ℕ → ℕ) (o : AreOrdered bs order) (i : ℕ) (up : 0 < i) (lt : i < 65) where
+  pub next-spot : o.spot (order i) ≡ i
+  next-spot = (o.back i lt).1
 
-    differ : (a b : ℕ) → nat_eq a b ≡ false → b < a + 1 → b < a
-    differ a b e l = grind (arith, nat_tests)
+  pub next-within : order i < 65
+  next-within = (o.back i lt).0
 
-    left : (j : ℕ) → j < p → v j ≡ next j
-    left j l = sym (set_one j ∙ ap (λ b. cond b n (v j)) (apart p j l))
+  pub next-above : 0 < order i
+  next-above = by (order i) next-spot
+    where
+      by : (p : ℕ) → o.spot p ≡ i → 0 < p
+      by zero e = let first = o.first in absurd (omega arith)
+      by (suc p) e = omega arith
 
-    by : (b : Bool) → nat_eq p k ≡ b → next k ≡ weighed bs awake next whole k
-    by true e =
-        set_one k ∙ ap (λ b. cond b n (v k)) e ∙ here
-        ∙ weighed-before bs awake v next whole p (ordered p lt) left
-        ∙ ap (weighed bs awake next whole) (eqb-true p k e)
-    by false e =
-        let under = differ p k e below in
-        set_one k ∙ ap (λ b. cond b n (v k)) e ∙ before k above under
-        ∙ weighed-before bs awake v next whole k (ordered k (omega arith))
-        (λ j l. left j (omega arith))
+  -- no other place is at its spot
+  pub not-next : (k : ℕ) → k < 65 → nat_eq (order i) k ≡ false → o.spot k < i + 1 → o.spot k < i
+  not-next k below e under = by (nat_eq (o.spot k) i) refl
+    where
+      same : (a b : ℕ) → nat_eq a b ≡ true → a ≡ b
+      same a b e = eqb-true a b e
+
+      less : (a b : ℕ) → nat_eq a b ≡ false → a < b + 1 → a < b
+      less a b e l = grind (arith, nat_tests)
+
+      clash : (a b : ℕ) → nat_eq a b ≡ false → a ≡ b → ⊥
+      clash a b e is = grind (arith, nat_tests)
+
+      by : (b : Bool) → nat_eq (o.spot k) i ≡ b → o.spot k < i
+      by true f = absurd (clash (order i) k e (ap order (sym (same (o.spot k) i f)) ∙ (o.there k below).1))
+      by false f = less (o.spot k) i f under
+
+  -- one that is before it is another one
+  pub before-next : (k : ℕ) → o.spot k < i → nat_eq (order i) k ≡ false
+  before-next k under = by (nat_eq (order i) k) refl
+    where
+      by : (b : Bool) → nat_eq (order i) k ≡ b → nat_eq (order i) k ≡ false
+      by true e =
+          let is = ap o.spot (eqb-true (order i) k e) in
+          let own = next-spot in
+          absurd (omega arith)
+      by false e = e
+
+  -- its seats come from before it
+  pub next-before : Each (λ (s : Seat). (s.from < 65) × (o.spot s.from < i)) (seats_at bs (order i))
+  next-before =
+      subst (λ n. Each (λ (s : Seat). (s.from < 65) × (o.spot s.from < n)) (seats_at bs (order i))) next-spot
+      (o.before (order i) next-above next-within)
+
+  -- one value more
+  pub valued-more : (awake : ℕ → Bool) (v next whole : ℕ → ℕ) (n : ℕ)
+      → ((k : ℕ) → next k ≡ cond (nat_eq (order i) k) n (v k)) → n ≡ weighed bs awake v whole (order i)
+      → ((k : ℕ) → 0 < k → k < 65 → o.spot k < i → v k ≡ weighed bs awake v whole k)
+      → (k : ℕ) → 0 < k → k < 65 → o.spot k < i + 1 → next k ≡ weighed bs awake next whole k
+  valued-more awake v next whole n set_one here before k above below under = by (nat_eq (order i) k) refl
+    where
+      left : (j : ℕ) → o.spot j < i → v j ≡ next j
+      left j l = sym (set_one j ∙ ap (λ b. cond b n (v j)) (before-next j l))
+
+      by : (b : Bool) → nat_eq (order i) k ≡ b → next k ≡ weighed bs awake next whole k
+      by true e =
+          set_one k ∙ ap (λ b. cond b n (v k)) e ∙ here
+          ∙ weighed-before bs awake v next whole (order i) (λ (s : Seat). (s.from < 65) × (o.spot s.from < i)) next-before
+          (λ s at. left s.from at.1)
+          ∙ ap (weighed bs awake next whole) (eqb-true (order i) k e)
+      by false e =
+          let earlier = not-next k below e under in
+          set_one k ∙ ap (λ b. cond b n (v k)) e ∙ before k above below earlier
+          ∙ weighed-before bs awake v next whole k (λ (s : Seat). (s.from < 65) × (o.spot s.from < o.spot k))
+          (o.before k above below)
+          (λ s at. left s.from (let lt_s = at.1 in omega arith))

@@ -21,7 +21,7 @@ use Rattle.share_ledger.specs.declared.routes.Route.{Route}
 use Rattle.share_ledger.specs.declared.seats.Seat.{Seat}
 use Rattle.share_ledger.specs.Places.{place}
 use Rattle.share_ledger.specs.Routes.{holder_place, is_kind, route_of, routes_of}
-use Rattle.share_ledger.specs.Seats.{seats_at, seat_of, AreSeated, AreOrdered, backs_of, funds_of}
+use Rattle.share_ledger.specs.Seats.{seats_at, seat_of, AreSeated, backs_of, funds_of}
 use Rattle.share_ledger.proofs.LinkPlaces.{IsPlaced, placed}
 use Rattle.share_ledger.proofs.RouteLists.{routes-cons, route-within}
 use Rattle.share_ledger.proofs.RouteWorths.{sum-routes}
@@ -145,19 +145,19 @@ module _ (g : Graph) (ok : IsKept g) (c : NameBytes) (unused : remove_currency_r
       by false e = refl
 
   module _ (bs fs : List (List Seat)) (backs : AreSeated (backs_of g) bs) (funds : AreSeated (funds_of g) fs)
-      (ordered : AreOrdered bs) (before : AreBefore bs fs (place (names_of g) c)) where
+      (before : AreBefore bs fs (place (names_of g) c)) where
     abbrev is_early : ℕ → Seat → Bool
     is_early p s = nat_lt p (place (names_of g) c) && nat_lt s.from (place (names_of g) c)
 
     back-seats : (p : ℕ) → p < 65 → Each (λ s. is_early p s ≡ true) (seats_at bs p)
     back-seats p lt = by (nat_lt p (place (names_of g) c)) refl
       where
-        all : p < place (names_of g) c → (xs : List Seat) → Each (λ (s : Seat). s.from < p) xs
+        all : nat_lt p (place (names_of g) c) ≡ true → (xs : List Seat)
+            → Each (λ (s : Seat). nat_lt s.from (place (names_of g) c) ≡ true) xs
             → Each (λ s. is_early p s ≡ true) xs
         all under [] each = tt
         all under (x ∷ xs) each = (
-          ap (λ k. k && nat_lt x.from (place (names_of g) c)) (lt-ltb p (place (names_of g) c) under)
-              ∙ lt-ltb x.from (place (names_of g) c) (omega (arith, each.0)),
+          ap (λ k. k && nat_lt x.from (place (names_of g) c)) under ∙ each.0,
           all under xs each.1,
         )
 
@@ -169,7 +169,9 @@ module _ (g : Graph) (ok : IsKept g) (c : NameBytes) (unused : remove_currency_r
         past m n e = grind (arith, nat_tests)
 
         by : (b : Bool) → nat_lt p (place (names_of g) c) ≡ b → Each (λ s. is_early p s ≡ true) (seats_at bs p)
-        by true e = all (ltb-true p (place (names_of g) c) e) (seats_at bs p) (ordered p lt)
+        by true e =
+            all e (seats_at bs p)
+            (all-each (λ (s : Seat). nat_lt s.from (place (names_of g) c)) (seats_at bs p) (before.backed p lt))
         by false e = none (seats_at bs p) (before.empty p (past p (place (names_of g) c) e) lt)
 
     fund-seats : (p : ℕ) → p < 65 → Each (λ s. nat_lt s.from (place (names_of g) c) ≡ true) (seats_at fs p)

@@ -14,10 +14,12 @@ use Rattle.share_ledger.specs.declared.routes.Route.{Route}
 use Rattle.share_ledger.specs.declared.seats.Seat.{Seat}
 use Rattle.share_ledger.specs.Nets.{IsBegun, IsReady}
 use Rattle.share_ledger.specs.Rounds.{flags_of, numbers_of}
-use Rattle.share_ledger.specs.Seats.{IsSeatWithin, seat_worth, seats_at, weighed, AreOrdered, AreAwake, AreShared}
-use Rattle.share_ledger.specs.Stale.{is_stale, WereValued, AreFresh, AreMoved, WasSettled, IsLeft}
+use Rattle.share_ledger.specs.Seats.{IsSeatWithin, seat_worth, seats_at, weighed, AreAwake, AreShared}
+use Rattle.share_ledger.specs.Ranks.{AreOrdered}
+use Rattle.share_ledger.specs.Stale.{is_stale, WereValued, AreMoved, WasSettled, IsLeft}
 use Rattle.share_ledger.proofs.NetQuiet.{weighed-quiet}
-use Rattle.share_ledger.proofs.NetSteps.{array-set}
+use Rattle.share_ledger.proofs.NetSteps.{array-set, next-spot, next-within, next-above, not-next, next-before}
+use Rattle.share_ledger.proofs.NetSteps.{valued-more, weighed-before}
 
 -- seats from places that did not move are worth what they were
 module _ (moved : ℕ → Bool) (v w s u : ℕ → ℕ) where
@@ -26,24 +28,24 @@ module _ (moved : ℕ → Bool) (v w s u : ℕ → ℕ) where
   each-both P [] p q = tt
   each-both P (x ∷ xs) p q = ((p.0, q.0), each-both P xs p.1 q.1)
 
-  pub weighed-still : (ss : List (List Seat)) (on other : ℕ → Bool) (n p : ℕ) → on p ≡ other p
-      → Each (λ (x : Seat). x.from < n) (seats_at ss p)
-      → ((k : ℕ) → 0 < k → k < n → moved k ≡ false → (w k ≡ v k) × (u k ≡ s k))
+  pub weighed-still : (ss : List (List Seat)) (on other : ℕ → Bool) (P : ℕ → Type 0) (p : ℕ) → on p ≡ other p
+      → Each (λ (x : Seat). P x.from) (seats_at ss p)
+      → ((k : ℕ) → 0 < k → P k → moved k ≡ false → (w k ≡ v k) × (u k ≡ s k))
       → list_any (λ (x : Seat). moved x.from) (seats_at ss p) ≡ false
       → weighed ss on v s p ≡ weighed ss other w u p
-  weighed-still ss on other n p lit before still none =
+  weighed-still ss on other P p lit before still none =
       ap (λ b. cond b (sum_by (seat_worth v s) (seats_at ss p)) 0) lit
       ∙ ap (λ k. cond (other p) k 0)
-      (sum_by-same_of (λ (x : Seat). (x.from < n) × (moved x.from ≡ false)) (seat_worth v s) (seat_worth w u)
+      (sum_by-same_of (λ (x : Seat). P x.from × (moved x.from ≡ false)) (seat_worth v s) (seat_worth w u)
       (seats_at ss p)
-      (each-both (λ (x : Seat). x.from < n) (seats_at ss p) before
+      (each-both (λ (x : Seat). P x.from) (seats_at ss p) before
       (any_none (λ (x : Seat). moved x.from) (seats_at ss p) none))
       (λ x at. by (nat_eq x.from 0) x refl at))
     where
       above : (n : ℕ) → nat_eq n 0 ≡ false → 0 < n
       above n e = grind (arith, nat_tests)
 
-      by : (b : Bool) (x : Seat) → nat_eq x.from 0 ≡ b → (x.from < n) × (moved x.from ≡ false)
+      by : (b : Bool) (x : Seat) → nat_eq x.from 0 ≡ b → P x.from × (moved x.from ≡ false)
           → cond b x.amount (v x.from * x.amount / s x.from) ≡ cond b x.amount (w x.from * x.amount / u x.from)
       by true x e at = refl
       by false x e at =
@@ -51,10 +53,13 @@ module _ (moved : ℕ → Bool) (v w s u : ℕ → ℕ) where
           ap (λ n. n * x.amount / s x.from) (sym same.0) ∙ ap (λ n. w x.from * x.amount / n) (sym same.1)
 
   -- one place more that is not stale
-  module _ (ss : List (List Seat)) (awake : ℕ → Bool) (changed p : ℕ) (ordered : AreOrdered ss)
-      (lit : AreAwake awake u) (were : WereValued ss v s changed) (up : 0 < p) (lt : p < 65)
-      (fresh : is_stale ss moved u s changed p ≡ false) (left : (k : ℕ) → p ≤ k → w k ≡ v k)
-      (same : (k : ℕ) → 0 < k → k < p → moved k ≡ false → (w k ≡ v k) × (u k ≡ s k)) where
+  module _ (ss : List (List Seat)) (order : ℕ → ℕ) (o : AreOrdered ss order) (i : ℕ) (up : 0 < i) (lt : i < 65)
+      (awake : ℕ → Bool) (changed : ℕ) (lit : AreAwake awake u) (were : WereValued ss v s changed)
+      (fresh : is_stale ss moved u s changed (order i) ≡ false) (left : (k : ℕ) → k < 65 → i ≤ o.spot k → w k ≡ v k)
+      (same : (k : ℕ) → 0 < k → k < 65 → o.spot k < i → moved k ≡ false → (w k ≡ v k) × (u k ≡ s k)) where
+    p : ℕ
+    p = order i
+
     parts : (a b c : Bool) → (a || b || c) ≡ false → (a ≡ false) × ((b ≡ false) × (c ≡ false))
     parts false false false e = (refl, (refl, refl))
     parts false false true e = absurd (cc)
@@ -63,6 +68,7 @@ module _ (moved : ℕ → Bool) (v w s u : ℕ → ℕ) where
 
     all : (nat_eq changed p ≡ false) × ((not (nat_eq (u p) (s p)) ≡ false)
         × (list_any (λ (x : Seat). moved x.from) (seats_at ss p) ≡ false))
+    unfolding p
     all =
         parts (nat_eq changed p) (not (nat_eq (u p) (s p)))
         (list_any (λ (x : Seat). moved x.from) (seats_at ss p)) fresh
@@ -73,102 +79,76 @@ module _ (moved : ℕ → Bool) (v w s u : ℕ → ℕ) where
         by : (a b : ℕ) → not (nat_eq a b) ≡ false → a ≡ b
         by a b e = grind (arith, nat_tests)
 
-    pub fresh-same : (k : ℕ) → 0 < k → k < p + 1 → moved k ≡ false → (w k ≡ v k) × (u k ≡ s k)
-    fresh-same k above under still = by (nat_eq k p) refl
-      where
-        less : (a b : ℕ) → nat_eq a b ≡ false → a < b + 1 → a < b
-        less a b e l = grind (arith, nat_tests)
+    here-left : w p ≡ v p
+    unfolding p
+    here-left =
+        left p (next-within ss order o i up lt) (let own = next-spot ss order o i up lt in omega arith)
 
-        by : (b : Bool) → nat_eq k p ≡ b → (w k ≡ v k) × (u k ≡ s k)
+    pub fresh-same : (k : ℕ) → 0 < k → k < 65 → o.spot k < i + 1 → moved k ≡ false → (w k ≡ v k) × (u k ≡ s k)
+    unfolding p
+    fresh-same k above below under still = by (nat_eq p k) refl
+      where
+        by : (b : Bool) → nat_eq p k ≡ b → (w k ≡ v k) × (u k ≡ s k)
         by true e =
-            let at = eqb-true k p e in
-            (left k (omega arith), ap u at ∙ weight ∙ ap s (sym at))
-        by false e = same k above (less k p e under) still
+            let at = sym (eqb-true p k e) in
+            (ap w at ∙ here-left ∙ ap v (sym at), ap u at ∙ weight ∙ ap s (sym at))
+        by false e = same k above below (not-next ss order o i up lt k below e under) still
 
-    pub fresh-valued : ((k : ℕ) → 0 < k → k < p → w k ≡ weighed ss awake w u k)
-        → (k : ℕ) → 0 < k → k < p + 1 → w k ≡ weighed ss awake w u k
-    fresh-valued before k above under = by (nat_eq k p) refl
+    pub fresh-valued : ((k : ℕ) → 0 < k → k < 65 → o.spot k < i → w k ≡ weighed ss awake w u k)
+        → (k : ℕ) → 0 < k → k < 65 → o.spot k < i + 1 → w k ≡ weighed ss awake w u k
+    unfolding p
+    fresh-valued before k above below under = by (nat_eq p k) refl
       where
-        is : (a b : ℕ) → nat_eq a b ≡ true → p ≡ p → a ≡ b
-        is a b e _ = grind (arith, nat_tests)
-
-        less : (a b : ℕ) → nat_eq a b ≡ false → a < b + 1 → a < b
-        less a b e l = grind (arith, nat_tests)
-
         here : w p ≡ weighed ss awake w u p
         here =
-            left p (omega arith) ∙ were p up lt all.0
-            ∙ weighed-still ss (λ k. nat_lt 0 (s k)) awake p p (sym (lit p up lt ∙ ap (nat_lt 0) weight)) (ordered p lt)
-            same all.1.1
+            let within = next-within ss order o i up lt in
+            let made = next-above ss order o i up lt in
+            here-left ∙ were p made within all.0
+            ∙ weighed-still ss (λ k. nat_lt 0 (s k)) awake (λ k. (k < 65) × (o.spot k < i)) p
+            (sym (lit p made within ∙ ap (nat_lt 0) weight))
+            (next-before ss order o i up lt)
+            (λ k above at still. same k above at.0 at.1 still) all.1.1
 
-        by : (b : Bool) → nat_eq k p ≡ b → w k ≡ weighed ss awake w u k
-        by true e = let at = is k p e refl in ap w at ∙ here ∙ ap (weighed ss awake w u) (sym at)
-        by false e = before k above (less k p e under)
+        by : (b : Bool) → nat_eq p k ≡ b → w k ≡ weighed ss awake w u k
+        by true e = let at = sym (eqb-true p k e) in ap w at ∙ here ∙ ap (weighed ss awake w u) (sym at)
+        by false e = before k above below (not-next ss order o i up lt k below e under)
 
-  -- a stretch of places that are not
-  module _ (ss : List (List Seat)) (awake : ℕ → Bool) (changed : ℕ) (ordered : AreOrdered ss) (lit : AreAwake awake u)
-      (were : WereValued ss v s changed) where
-    same-after : (n p : ℕ) → 0 < p → p + n ≤ 65 → AreFresh ss moved u s changed p (p + n)
-        → ((k : ℕ) → p ≤ k → w k ≡ v k)
-        → ((k : ℕ) → 0 < k → k < p → moved k ≡ false → (w k ≡ v k) × (u k ≡ s k))
-        → (k : ℕ) → 0 < k → k < p + n → moved k ≡ false → (w k ≡ v k) × (u k ≡ s k)
-    same-after zero p up end fresh left same k above under = same k above (omega (arith, under))
-    same-after (suc n) p up end fresh left same k above under =
-        same-after n (p + 1) (omega arith) (omega (arith, end))
-        (λ q past before. fresh q (omega (arith, past)) (omega (arith, before)))
-        (λ q past. left q (omega (arith, past)))
-        (fresh-same ss awake changed p ordered lit were up (omega (arith, end))
-        (fresh p (omega arith) (omega arith)) left same)
-        k above (omega (arith, under))
-
-    valued-after : (n p : ℕ) → 0 < p → p + n ≤ 65 → AreFresh ss moved u s changed p (p + n)
-        → ((k : ℕ) → p ≤ k → w k ≡ v k)
-        → ((k : ℕ) → 0 < k → k < p → moved k ≡ false → (w k ≡ v k) × (u k ≡ s k))
-        → ((k : ℕ) → 0 < k → k < p → w k ≡ weighed ss awake w u k)
-        → (k : ℕ) → 0 < k → k < p + n → w k ≡ weighed ss awake w u k
-    valued-after zero p up end fresh left same valued k above under = valued k above (omega (arith, under))
-    valued-after (suc n) p up end fresh left same valued k above under =
-        let first = fresh p (omega arith) (omega arith) in
-        valued-after n (p + 1) (omega arith) (omega (arith, end))
-        (λ q past before. fresh q (omega (arith, past)) (omega (arith, before)))
-        (λ q past. left q (omega (arith, past)))
-        (fresh-same ss awake changed p ordered lit were up (omega (arith, end)) first left same)
-        (fresh-valued ss awake changed p ordered lit were up (omega (arith, end)) first left same valued)
-        k above (omega (arith, under))
-
-    module _ (p to : ℕ) (up : 0 < p) (past : p ≤ to) (end : to ≤ 65) (fresh : AreFresh ss moved u s changed p to)
-        (left : (k : ℕ) → p ≤ k → w k ≡ v k)
-        (same : (k : ℕ) → 0 < k → k < p → moved k ≡ false → (w k ≡ v k) × (u k ≡ s k)) where
-      pub stretch-same : (k : ℕ) → 0 < k → k < to → moved k ≡ false → (w k ≡ v k) × (u k ≡ s k)
-      stretch-same k above under =
-          same-after (to - p) p up (omega (arith, past, end))
-          (λ q from before. fresh q from (omega (arith, past, before))) left same k above (omega (arith, past, under))
-
-      pub stretch-valued : ((k : ℕ) → 0 < k → k < p → w k ≡ weighed ss awake w u k)
-          → (k : ℕ) → 0 < k → k < to → w k ≡ weighed ss awake w u k
-      stretch-valued valued k above under =
-          valued-after (to - p) p up (omega (arith, past, end))
-          (λ q from before. fresh q from (omega (arith, past, before))) left same valued k above
-          (omega (arith, past, under))
+-- only `base` is at the first spot
+pub order-above : (ss : List (List Seat)) (order : ℕ → ℕ) (o : AreOrdered ss order) (k : ℕ) → 0 < k → k < 65
+    → 0 < o.spot k
+order-above ss order o k up lt = by (o.spot k) refl
+  where
+    by : (n : ℕ) → o.spot k ≡ n → 0 < n
+    by zero e =
+        let here = (o.there k lt).1 in
+        let base = (o.there 0 (omega arith)).1 in
+        let same = ap order (e ∙ sym o.first) in
+        absurd (omega arith)
+    by (suc n) e = omega arith
 
 -- one place more that is computed anew
-module _ (moved next : ℕ → Bool) (v w x s u : ℕ → ℕ) (p n : ℕ)
-    (wrote : (k : ℕ) → x k ≡ cond (nat_eq p k) n (w k))
-    (flagged : (k : ℕ) → next k ≡ cond (nat_eq p k) (not (nat_eq (u p) (s p)) || not (nat_eq (x p) (w p))) (moved k))
-    (left : (k : ℕ) → p ≤ k → w k ≡ v k)
-    (same : (k : ℕ) → 0 < k → k < p → moved k ≡ false → (w k ≡ v k) × (u k ≡ s k)) where
-  apart : (a b : ℕ) → a < b → nat_eq a b ≡ false
-  apart a b lt = grind (arith, nat_tests)
-
-  pub stale-left : (k : ℕ) → p + 1 ≤ k → x k ≡ v k
-  stale-left k past = wrote k ∙ ap (λ b. cond b n (w k)) (apart p k (omega arith)) ∙ left k (omega arith)
-
-  pub stale-same : (k : ℕ) → 0 < k → k < p + 1 → next k ≡ false → (x k ≡ v k) × (u k ≡ s k)
-  stale-same k up under still = by (nat_eq p k) refl
+module _ (ss : List (List Seat)) (order : ℕ → ℕ) (o : AreOrdered ss order) (i : ℕ) (up : 0 < i) (lt : i < 65)
+    (moved next : ℕ → Bool) (v w x s u : ℕ → ℕ) (n : ℕ)
+    (wrote : (k : ℕ) → x k ≡ cond (nat_eq (order i) k) n (w k))
+    (flagged : (k : ℕ) → next k
+    ≡ cond (nat_eq (order i) k) (not (nat_eq (u (order i)) (s (order i))) || not (nat_eq (x (order i)) (w (order i))))
+    (moved k))
+    (left : (k : ℕ) → k < 65 → i ≤ o.spot k → w k ≡ v k)
+    (same : (k : ℕ) → 0 < k → k < 65 → o.spot k < i → moved k ≡ false → (w k ≡ v k) × (u k ≡ s k)) where
+  pub stale-left : (k : ℕ) → k < 65 → i + 1 ≤ o.spot k → x k ≡ v k
+  stale-left k below past =
+      wrote k ∙ ap (λ b. cond b n (w k)) (apart (nat_eq (order i) k) refl) ∙ left k below (omega arith)
     where
-      less : (a b : ℕ) → nat_eq a b ≡ false → b < a + 1 → b < a
-      less a b e l = grind (arith, nat_tests)
+      apart : (b : Bool) → nat_eq (order i) k ≡ b → nat_eq (order i) k ≡ false
+      apart true e =
+          let is = ap o.spot (eqb-true (order i) k e) in
+          let own = next-spot ss order o i up lt in
+          absurd (omega arith)
+      apart false e = e
 
+  pub stale-same : (k : ℕ) → 0 < k → k < 65 → o.spot k < i + 1 → next k ≡ false → (x k ≡ v k) × (u k ≡ s k)
+  stale-same k above below under still = by (nat_eq (order i) k) refl
+    where
       neither : (a b c d : ℕ) → (not (nat_eq a b) || not (nat_eq c d)) ≡ false → (a ≡ b) × (c ≡ d)
       neither a b c d e = both (nat_eq a b) (nat_eq c d) refl refl e
         where
@@ -177,20 +157,79 @@ module _ (moved next : ℕ → Bool) (v w x s u : ℕ → ℕ) (p n : ℕ)
           both true false i j e = absurd (cc)
           both false g i j e = absurd (cc)
 
-      by : (b : Bool) → nat_eq p k ≡ b → (x k ≡ v k) × (u k ≡ s k)
+      by : (b : Bool) → nat_eq (order i) k ≡ b → (x k ≡ v k) × (u k ≡ s k)
       by true e =
-          let at = eqb-true p k e in
+          let at = eqb-true (order i) k e in
           let two =
-          neither (u p) (s p) (x p) (w p)
-          (sym (flagged k ∙ ap (λ b. cond b (not (nat_eq (u p) (s p)) || not (nat_eq (x p) (w p))) (moved k)) e)
+          neither (u (order i)) (s (order i)) (x (order i)) (w (order i))
+          (sym (flagged k
+          ∙ ap (λ b. cond b (not (nat_eq (u (order i)) (s (order i))) || not (nat_eq (x (order i)) (w (order i))))
+          (moved k)) e)
           ∙ still) in
-          (ap x (sym at) ∙ two.1 ∙ left p (omega arith) ∙ ap v at, ap u (sym at) ∙ two.0 ∙ ap s at)
+          let own = next-spot ss order o i up lt in (
+            ap x (sym at) ∙ two.1 ∙ left (order i) (next-within ss order o i up lt) (omega arith) ∙ ap v at,
+            ap u (sym at) ∙ two.0 ∙ ap s at,
+          )
       by false e =
           let old =
-          same k up (less p k e under)
-          (sym (flagged k ∙ ap (λ b. cond b (not (nat_eq (u p) (s p)) || not (nat_eq (x p) (w p))) (moved k)) e)
+          same k above below (not-next ss order o i up lt k below e under)
+          (sym (flagged k
+          ∙ ap (λ b. cond b (not (nat_eq (u (order i)) (s (order i))) || not (nat_eq (x (order i)) (w (order i))))
+          (moved k)) e)
           ∙ still) in
           (wrote k ∙ ap (λ b. cond b n (w k)) e ∙ old.0, old.1)
+
+-- the next place, whether or not it is stale
+module _ (ss : List (List Seat)) (order : ℕ → ℕ) (o : AreOrdered ss order) (i : ℕ) (up : 0 < i) (lt : i < 65)
+    (awake : ℕ → Bool) (changed : ℕ) (moved next : ℕ → Bool) (v w x s u : ℕ → ℕ) (lit : AreAwake awake u)
+    (were : WereValued ss v s changed)
+    (fresh : is_stale ss moved u s changed (order i) ≡ false
+    → ((k : ℕ) → next k ≡ moved k) × ((k : ℕ) → x k ≡ w k))
+    (wrote : is_stale ss moved u s changed (order i) ≡ true
+    → (k : ℕ) → x k ≡ cond (nat_eq (order i) k) (weighed ss awake w u (order i)) (w k))
+    (flagged : is_stale ss moved u s changed (order i) ≡ true → (k : ℕ) → next k
+    ≡ cond (nat_eq (order i) k) (not (nat_eq (u (order i)) (s (order i))) || not (nat_eq (x (order i)) (w (order i))))
+    (moved k))
+    (left : (k : ℕ) → k < 65 → i ≤ o.spot k → w k ≡ v k)
+    (same : (k : ℕ) → 0 < k → k < 65 → o.spot k < i → moved k ≡ false → (w k ≡ v k) × (u k ≡ s k)) where
+  pub next-left : (k : ℕ) → k < 65 → i + 1 ≤ o.spot k → x k ≡ v k
+  next-left k below past = by (is_stale ss moved u s changed (order i)) refl
+    where
+      by : (b : Bool) → is_stale ss moved u s changed (order i) ≡ b → x k ≡ v k
+      by true e =
+          stale-left ss order o i up lt moved next v w x s u (weighed ss awake w u (order i)) (wrote e) (flagged e) left
+          same k below past
+      by false e = (fresh e).1 k ∙ left k below (omega arith)
+
+  pub next-same : (k : ℕ) → 0 < k → k < 65 → o.spot k < i + 1 → next k ≡ false → (x k ≡ v k) × (u k ≡ s k)
+  next-same k above below under still = by (is_stale ss moved u s changed (order i)) refl
+    where
+      by : (b : Bool) → is_stale ss moved u s changed (order i) ≡ b → (x k ≡ v k) × (u k ≡ s k)
+      by true e =
+          stale-same ss order o i up lt moved next v w x s u (weighed ss awake w u (order i)) (wrote e) (flagged e) left
+          same k above below under still
+      by false e =
+          let own =
+          fresh-same moved v w s u ss order o i up lt awake changed lit were e left same k above below under
+          (sym ((fresh e).0 k) ∙ still) in
+          ((fresh e).1 k ∙ own.0, own.1)
+
+  pub next-valued : ((k : ℕ) → 0 < k → k < 65 → o.spot k < i → w k ≡ weighed ss awake w u k)
+      → (k : ℕ) → 0 < k → k < 65 → o.spot k < i + 1 → x k ≡ weighed ss awake x u k
+  next-valued valued k above below under = by (is_stale ss moved u s changed (order i)) refl
+    where
+      anything : (xs : List Seat) → Each (λ (y : Seat). Unit {0}) xs
+      anything [] = tt
+      anything (x ∷ xs) = (tt, anything xs)
+
+      by : (b : Bool) → is_stale ss moved u s changed (order i) ≡ b → x k ≡ weighed ss awake x u k
+      by true e =
+          valued-more ss order o i up lt awake w x u (weighed ss awake w u (order i)) (wrote e) refl valued k above below
+          under
+      by false e =
+          (fresh e).1 k
+          ∙ fresh-valued moved v w s u ss order o i up lt awake changed lit were e left same valued k above below under
+          ∙ weighed-before ss awake w x u k (λ (y : Seat). Unit {0}) (anything (seats_at ss k)) (λ s _. sym ((fresh e).1 s.from))
 
 -- the tickets of flows that were computed anew, or did not have to be
 pub shared-still : (moved : ℕ → Bool) (v w s u : ℕ → ℕ) (fs : List (List Seat)) (on : ℕ → Bool) (old next : ℕ → ℕ)
@@ -213,7 +252,7 @@ shared-still moved v w s u fs on old next f within still wrote were p lt =
     by false true true e lit n = refl
     by false true false e lit n =
         were p lt e
-        ∙ ap (λ k. min k (2 ^ 20)) (weighed-still moved v w s u fs on on 65 p refl places
+        ∙ ap (λ k. min k (2 ^ 20)) (weighed-still moved v w s u fs on on (λ k. k < 65) p refl places
         (λ k up under no. still k up under no) n)
     by false false b e lit n =
         were p lt e

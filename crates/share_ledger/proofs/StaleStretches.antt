@@ -11,7 +11,7 @@ use Rattle.std.proofs.lemmas.List.{get_or_default}
 use Rattle.share_model.specs.lists.Each.{Each}
 use Rattle.share_ledger.specs.declared.seats.Seat.{Seat}
 use Rattle.share_ledger.specs.Seats.{ComesFrom, IsSeatWithin, seats_at}
-use Rattle.share_ledger.specs.Stale.{is_touched, AreFresh, AreUntouched}
+use Rattle.share_ledger.specs.Stale.{is_touched, AreUntouched}
 use Rattle.share_ledger.proofs.SeatSources.{bits-left, bits-right, none-touched}
 
 less : (a b : ℕ) → nat_eq a b ≡ false → a < b + 1 → a < b
@@ -36,15 +36,6 @@ sources-more ss from i a b own before at inside all k under = by (nat_eq k i) re
         (subst (Each (ComesFrom b)) (at ∙ get_or_default ss (from + i) own [] inside) all))
     by false e = bits-left a b (seats_at ss (from + k)) (before k (less k i e under))
 
--- one weight more
-pub weights-more : (whole seen : ℕ → ℕ) (from i : ℕ) → ((k : ℕ) → k < i → whole (from + k) ≡ seen (from + k))
-    → whole (from + i) ≡ seen (from + i) → (k : ℕ) → k < i + 1 → whole (from + k) ≡ seen (from + k)
-weights-more whole seen from i before own k under = by (nat_eq k i) refl
-  where
-    by : (same : Bool) → nat_eq k i ≡ same → whole (from + k) ≡ seen (from + k)
-    by true e = subst (λ n. whole (from + n) ≡ seen (from + n)) (sym (eqb-true k i e)) own
-    by false e = before k (less k i e under)
-
 module _ (ss : List (List Seat)) (flag : ℕ → Bool) (sources bits changed from : ℕ)
     (within : (p : ℕ) → p < 65 → Each IsSeatWithin (seats_at ss p))
     (have : (p : ℕ) → p < 65 → flag p ≡ true → bit_at bits (p % 64) ≡ 1)
@@ -56,15 +47,6 @@ module _ (ss : List (List Seat)) (flag : ℕ → Bool) (sources bits changed fro
       none-touched sources bits flag (seats_at ss p) apart have (within p (omega (arith, under, end)))
       (subst (λ n. Each (ComesFrom sources) (seats_at ss n)) (omega (arith, past))
       (all (p - from) (omega (arith, past, under))))
-
-  pub fresh-stretch : (whole seen : ℕ → ℕ) → ((k : ℕ) → k < 8 → whole (from + k) ≡ seen (from + k))
-      → AreFresh ss flag whole seen changed from (from + 8)
-  fresh-stretch whole seen same p past under =
-      or_from (nat_eq changed p || not (nat_eq (whole p) (seen p))) _
-      (or_from (nat_eq changed p) _ (outside changed from (from + 8) p outer past under)
-      (ap not (eq-eqb (whole p) (seen p)
-      (subst (λ n. whole n ≡ seen n) (omega (arith, past)) (same (p - from) (omega (arith, past, under)))))))
-      (none p past under)
 
   pub untouched-stretch : (active : ℕ → Bool) → AreUntouched ss active flag changed from (from + 8)
   untouched-stretch active p past under =

@@ -4,7 +4,8 @@ use Rattle.std.specs.List.{list_all}
 use Rattle.share_ledger.specs.declared.seats.Seat.{Seat}
 use Rattle.share_ledger.specs.Seats.{seats_at}
 
--- no currency from the place on has a seat, and no flow has one from there
+-- no currency from the place on has a seat, and no holder has one from there
 pub record AreBefore (backing funding : List (List Seat)) (place : ℕ) : Type 0 where
   pub empty : (p : ℕ) → place ≤ p → p < 65 → length (seats_at backing p) ≡ 0
+  pub backed : (p : ℕ) → p < 65 → list_all (λ (s : Seat). nat_lt s.from place) (seats_at backing p) ≡ true
   pub before : (p : ℕ) → p < 65 → list_all (λ (s : Seat). nat_lt s.from place) (seats_at funding p) ≡ true

@@ -1,8 +1,8 @@
 pub mod Bounds
-pub mod Levels
 pub mod Nets
 pub mod Numbers
 pub mod Places
+pub mod Ranks
 pub mod Rounds
 pub mod Routes
 pub mod Seats

@@ -5,7 +5,8 @@ use Rattle.share_model.specs.funding.Graph.{NameBytes, Graph}
 use Rattle.share_ledger.specs.declared.net.Net.{Net}
 use Rattle.share_ledger.specs.declared.routes.Route.{Route}
 use Rattle.share_ledger.specs.Rounds.{flags_of, numbers_of}
-use Rattle.share_ledger.specs.Seats.{backs_of, funds_of, AreSeated, AreOrdered, AreCounted, AreAwake, AreValued}
+use Rattle.share_ledger.specs.Ranks.{AreRanks, AreListed}
+use Rattle.share_ledger.specs.Seats.{backs_of, funds_of, AreSeated, AreCounted, AreAwake, AreValued}
 use Rattle.share_ledger.specs.Seats.{AreShared, AreSmall}
 
 -- whether the flow at a place is active
@@ -16,7 +17,8 @@ activity_of g k = slice_index_or (map (λ (e : NameBytes × OpenFlow). e.1.activ
 pub record IsBegun (n : Net) (backs funds : List Route) (lit : ℕ → Bool) : Type 0 where
   pub backing : AreSeated backs n.backing.items
   pub funding : AreSeated funds n.funding.items
-  pub ordered : AreOrdered n.backing.items
+  pub ranked : AreRanks n.backing.items (numbers_of n.ranks.value)
+  pub listed : AreListed (numbers_of n.ranks.value) (numbers_of n.order.value)
   pub active_is : (k : ℕ) → flags_of n.active.value k ≡ lit k
   pub counted : AreCounted backs funds (flags_of n.awake.value) (flags_of n.active.value) (numbers_of n.weights.value)
   pub small : AreSmall (numbers_of n.values.value)

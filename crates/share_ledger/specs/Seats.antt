@@ -43,10 +43,6 @@ pub record AreSeated (rs : List Route) (ss : List (List Seat)) : Type 0 where
   pub within : (p : ℕ) → p < 65 → Each IsSeatWithin (seats_at ss p)
   pub places : length ss ≡ 65
 
--- each seat of a currency comes from a place before that of the currency
-abbrev pub AreOrdered : List (List Seat) → Type 0
-AreOrdered ss = (p : ℕ) → p < 65 → Each (λ (s : Seat). s.from < p) (seats_at ss p)
-
 -- the weight of each place is the sum of the amounts of the routes from it to what is awake or active
 abbrev pub AreCounted : List Route → List Route → (ℕ → Bool) → (ℕ → Bool) → (ℕ → ℕ) → Type 0
 AreCounted backs funds awake active whole = (p : ℕ) → p < 65

@@ -14,11 +14,6 @@ abbrev pub is_stale : List (List Seat) → (ℕ → Bool) → (ℕ → ℕ) → 
 is_stale ss moved whole seen changed p =
     nat_eq changed p || not (nat_eq (whole p) (seen p)) || list_any (λ (s : Seat). moved s.from) (seats_at ss p)
 
--- no currency of a stretch of places is
-abbrev pub AreFresh : List (List Seat) → (ℕ → Bool) → (ℕ → ℕ) → (ℕ → ℕ) → ℕ → ℕ → ℕ → Type 0
-AreFresh ss moved whole seen changed from to =
-    (p : ℕ) → from ≤ p → p < to → is_stale ss moved whole seen changed p ≡ false
-
 -- the tickets of a flow may be others: it is the one that changed, or it is active and the place of a seat moved
 abbrev pub is_touched : List (List Seat) → (ℕ → Bool) → (ℕ → Bool) → ℕ → ℕ → Bool
 is_touched ss active moved changed p =

@@ -12,7 +12,7 @@ fn come_before(seats: &[Seat], place: usize) -> bool
     seats.iter().all(|seat| (seat.from as usize) < place)
 }
 
-/// Whether no currency from a place on has a seat, and no flow a seat from there.
+/// Whether no currency from a place on has a seat, and no holder a seat from there.
 pub(crate) fn are_before(backing: &[Seats], funding: &[Seats], place: usize) -> bool
     requires backing { length backing.now ≡ 65 }
     requires funding { length funding.now ≡ 65 }
@@ -21,7 +21,8 @@ pub(crate) fn are_before(backing: &[Seats], funding: &[Seats], place: usize) -> 
     for holder in 0..PLACES {
         let currency = &backing[holder];
         let flow = &funding[holder];
-        if holder >= place && currency.count() > 0 || !come_before(flow.seats(), place) {
+        let empty = holder < place || currency.count() == 0;
+        if !empty || !come_before(currency.seats(), place) || !come_before(flow.seats(), place) {
             return false;
         }
     }

@@ -1,18 +1,42 @@
 //! What commands do to the net: a ticket that comes to fund or ceases to.
-ghost use Rattle.std.specs.Prelude.{◌≡◌, length, true, false, not};
+ghost use Rattle.std.specs.Prelude.{◌≡◌, ◌<◌, ℕ, length, true, false, not};
 ghost use Rattle.std.specs.Prelude.{take, if◌then◌else◌};
+ghost use Rattle.share_model.specs.lists.Each.{Each};
+ghost use Rattle.share_ledger.specs.Ranks.{AreRanks, IsBelow};
+ghost use Rattle.share_ledger.specs.Rounds.{numbers_of};
 ghost use Rattle.share_ledger.specs.Routes.{IsRouteWithin};
-ghost use Rattle.share_ledger.specs.Seats.{backs_of, funds_of};
+ghost use Rattle.share_ledger.specs.Seats.{IsSeatWithin, seats_at, backs_of, funds_of};
 ghost use Rattle.share_ledger.specs.Nets.{activity_of, ComesToFund, CeasesToFund, IsBegun};
 ghost use Rattle.share_ledger.specs.Stale.{IsLeft};
 
 use crate::net::{self, Net};
+use crate::ranks;
+use crate::rounds::PLACES;
 use crate::routes::Route;
 use crate::tables::Tables;
 use crate::turns::{counted, seat, unseat};
 
 impl Net {
-    // One more ticket backs a currency. Not so where it would not come from before it.
+    /// Whether all currencies have ranks with one more seat, from a place at another one. Where they have, the seat makes no
+    /// chain too long, and none that leads back.
+    pub(crate) fn has_ranks(&self, from: usize, to: usize) -> bool
+        requires within { (p : ℕ) → p < 65 → Each IsSeatWithin (seats_at self.now.backing.items p) }
+        requires places { length self.now.backing.items ≡ 65 }
+        requires ranked { AreRanks self.now.backing.items (numbers_of self.now.ranks.value) }
+        requires from_place { from < 65 }
+        requires made { 0 < to }
+        requires to_place { to < 65 }
+        ensures { result ≡ true → IsBelow self.now.backing.items from to }
+    {
+        if self.ranks[from] < self.ranks[to] {
+            return true;
+        }
+        let mut ranks = [0; PLACES];
+        let mut order = [0; PLACES];
+        ranks::list(&self.backing, from, to, &mut ranks, &mut order)
+    }
+
+    // One more ticket backs a currency. Not so where its holder has no room.
     fn add_backing(&mut self, tables: &Tables, route: &Route) -> bool
         requires within { IsRouteWithin route.now }
         requires begun { ComesToFund self.old tables.now route.now true }
@@ -22,7 +46,16 @@ impl Net {
         ensures left { result ≡ true → IsLeft self.old self.new route.now.to 64 }
     {
         tables.is_kept();
-        if !seat(route, &mut self.backing, true) {
+        if !seat(route, &mut self.backing) {
+            return false;
+        }
+        if !ranks::renew(
+            &self.backing,
+            route.from,
+            route.to,
+            &mut self.ranks,
+            &mut self.order,
+        ) {
             return false;
         }
         let amount = counted(self.awake[route.to], route.amount);
@@ -40,7 +73,7 @@ impl Net {
         ensures left { result ≡ true → IsLeft self.old self.new 0 route.now.to }
     {
         tables.is_kept();
-        if !seat(route, &mut self.funding, false) {
+        if !seat(route, &mut self.funding) {
             return false;
         }
         let amount = counted(self.active[route.to], route.amount);
@@ -84,7 +117,7 @@ impl Net {
         true
     }
 
-    /// A ticket backs one currency more or funds one flow more. Not so where it would not come from before its holder.
+    /// A ticket backs one currency more or funds one flow more. Not so where its holder has no room.
     pub(crate) fn give(&mut self, tables: &Tables, route: &Route, backing: bool) -> bool
         requires within { IsRouteWithin route.now }
         requires begun { ComesToFund self.old tables.now route.now backing }

@@ -93,12 +93,12 @@ impl Kept {
         })
     }
 
-    /// The seats of the currencies by their places, where they are ready.
-    pub(crate) fn backing(&self) -> Option<&[Seats]>
-        ensures { IfSome result (λ ss. (self.now.ready ≡ true) × (ss.now ≡ self.now.net.backing.items)) }
+    /// The net, where it is ready.
+    pub(crate) fn net(&self) -> Option<&Net>
+        ensures { IfSome result (λ net. (self.now.ready ≡ true) × (net.now ≡ self.now.net)) }
     {
         if self.ready {
-            return Some(&self.net.backing);
+            return Some(&self.net);
         }
         None
     }

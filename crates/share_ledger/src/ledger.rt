@@ -124,7 +124,7 @@ impl Ledger {
     {
         self.tables.is_kept();
         self.tables
-            .fund_currency(ticket, currency, self.kept.backing())?;
+            .fund_currency(ticket, currency, self.kept.net())?;
         match self.tables.route_of(ticket) {
             Some((route, backing)) => self.kept.give(&self.tables, &route, backing),
             None => self.kept.renew(&self.tables),

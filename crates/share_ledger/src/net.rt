@@ -1,12 +1,13 @@
 //! What the funding of each currency and of each flow comes to. Amounts go upwards, from a holder to what its seats are
-//! denominated in, and values downwards. Each seat of a currency comes from a place before that of the currency, so one
-//! pass over the places settles either.
+//! denominated in, and values downwards. Each seat of a currency comes from a place of a lower rank, so one pass over the
+//! places rank by rank settles either.
 ghost use Rattle.std.specs.Prelude.{◌≡◌, ℕ, ◌+◌, ◌-◌, ◌*◌, ◌^◌, ◌<◌, ◌≤◌, min, length, sum_by, true, false, not};
 ghost use Rattle.std.specs.Prelude.{nat_eq, nat_lt, if◌then◌else◌};
 ghost use Rattle.std.specs.List.{list_all};
 ghost use Rattle.share_model.specs.lists.Each.{Each};
 ghost use Rattle.share_ledger.specs.Rounds.{flags_of, numbers_of};
-ghost use Rattle.share_ledger.specs.Seats.{IsSeatWithin, taken, seat_worth, seats_at, AreSeated, AreOrdered};
+ghost use Rattle.share_ledger.specs.Ranks.{AreOrdered};
+ghost use Rattle.share_ledger.specs.Seats.{IsSeatWithin, taken, seat_worth, seats_at, AreSeated};
 ghost use Rattle.share_ledger.specs.Seats.{AreCounted, AreAwake, AreValued, AreSmall, AreShared, weighed};
 ghost use Rattle.share_ledger.specs.Seats.{backs_of, funds_of};
 
@@ -19,7 +20,8 @@ use crate::tables::{MAX_AMOUNT, MAX_FLOWS, Tables};
 pub(crate) const MAX_VALUE: u64 = 9 << 30;
 
 /// The seats of the currencies and of the flows by their places, which flows are active and which currencies awake,
-/// what weighs on each place and weighed on it when all was settled last, and the value of each currency.
+/// what weighs on each place and weighed on it when all was settled last, the value of each currency, and its rank, with
+/// the places listed rank by rank.
 #[derive(Drop)]
 pub(crate) struct Net {
     pub(crate) backing: Vec<Seats>,
@@ -29,6 +31,8 @@ pub(crate) struct Net {
     pub(crate) weights: Box<[u32; PLACES]>,
     pub(crate) seen: Box<[u32; PLACES]>,
     pub(crate) values: Box<[u64; PLACES]>,
+    pub(crate) ranks: Box<[u8; PLACES]>,
+    pub(crate) order: Box<[u8; PLACES]>,
 }
 
 /// Adds the amounts of seats to the weights of the places that they come from.
@@ -174,7 +178,6 @@ fn flip(
     weights: &mut [u32; PLACES],
 )
     requires seated { AreSeated (backs_of tables.now) backing.now }
-    requires ordered { AreOrdered backing.now }
     requires place { place < 65 }
     requires counted { AreCounted (backs_of tables.now) (funds_of tables.now) (flags_of awake.old)
         (flags_of active.now) (numbers_of weights.old) }
@@ -182,7 +185,7 @@ fn flip(
         (flags_of active.now) (numbers_of weights.new) }
     ensures turned { (k : ℕ) → flags_of awake.new k
         ≡ (if nat_eq place k then not (flags_of awake.old place) else flags_of awake.old k) }
-    ensures left { (k : ℕ) → place ≤ k → k < 65
+    ensures left { (k : ℕ) → k < 65 → taken (seats_at backing.now place) k ≡ 0
         → numbers_of weights.new k ≡ numbers_of weights.old k }
 {
     tables.is_kept();
@@ -206,15 +209,15 @@ fn settle_place(
     weights: &mut [u32; PLACES],
 )
     requires seated { AreSeated (backs_of tables.now) backing.now }
-    requires ordered { AreOrdered backing.now }
     requires place { place < 65 }
     requires counted { AreCounted (backs_of tables.now) (funds_of tables.now) (flags_of awake.old)
         (flags_of active.now) (numbers_of weights.old) }
     ensures counted { AreCounted (backs_of tables.now) (funds_of tables.now) (flags_of awake.new)
         (flags_of active.now) (numbers_of weights.new) }
-    ensures settled { flags_of awake.new place ≡ nat_lt 0 (numbers_of weights.new place) }
-    ensures others { (k : ℕ) → place < k → flags_of awake.new k ≡ flags_of awake.old k }
-    ensures left { (k : ℕ) → place ≤ k → k < 65
+    ensures settled { taken (seats_at backing.now place) place ≡ 0
+        → flags_of awake.new place ≡ nat_lt 0 (numbers_of weights.new place) }
+    ensures others { (k : ℕ) → nat_eq place k ≡ false → flags_of awake.new k ≡ flags_of awake.old k }
+    ensures left { (k : ℕ) → k < 65 → taken (seats_at backing.now place) k ≡ 0
         → numbers_of weights.new k ≡ numbers_of weights.old k }
 {
     if awake[place] != (weights[place] > 0) {
@@ -244,16 +247,17 @@ pub(crate) fn are_same(weights: &[u32; PLACES], seen: &[u32; PLACES]) -> bool
     same
 }
 
-/// Wakes and rests the currencies, from the last place to the first.
+/// Wakes and rests the currencies, from the greatest rank to the least.
 pub(crate) fn spread(
     tables: &Tables,
     backing: &[Seats],
     active: &[bool; PLACES],
+    order: &[u8; PLACES],
     awake: &mut [bool; PLACES],
     weights: &mut [u32; PLACES],
 )
     requires seated { AreSeated (backs_of tables.now) backing.now }
-    requires ordered { AreOrdered backing.now }
+    requires ordered { AreOrdered backing.now (numbers_of order.now) }
     requires counted { AreCounted (backs_of tables.now) (funds_of tables.now) (flags_of awake.old)
         (flags_of active.now) (numbers_of weights.old) }
     ensures counted { AreCounted (backs_of tables.now) (funds_of tables.now) (flags_of awake.new)
@@ -264,7 +268,14 @@ pub(crate) fn spread(
         return;
     }
     for i in 0..64_usize {
-        settle_place(tables, backing, active, 64 - i, awake, weights);
+        settle_place(
+            tables,
+            backing,
+            active,
+            order[64 - i] as usize,
+            awake,
+            weights,
+        );
     }
 }
 
@@ -289,23 +300,25 @@ pub(crate) fn value_at(
     weigh(seats.seats(), values, weights)
 }
 
-/// Computes the values of the currencies, from the first place to the last. Gives up where one would be too great,
+/// Computes the values of the currencies, from the least rank to the greatest. Gives up where one would be too great,
 /// which none ever is.
 pub(crate) fn revalue(
     backing: &[Seats],
     awake: &[bool; PLACES],
     weights: &[u32; PLACES],
+    order: &[u8; PLACES],
     values: &mut [u64; PLACES],
 ) -> bool
     requires within { (p : ℕ) → p < 65 → Each IsSeatWithin (seats_at backing.now p) }
     requires places { length backing.now ≡ 65 }
-    requires ordered { AreOrdered backing.now }
+    requires ordered { AreOrdered backing.now (numbers_of order.now) }
     requires small { AreSmall (numbers_of values.old) }
     ensures small { AreSmall (numbers_of values.new) }
     ensures valued { result ≡ true → AreValued backing.now (flags_of awake.now)
         (numbers_of values.new) (numbers_of weights.now) }
 {
-    for place in 1..PLACES {
+    for i in 1..PLACES {
+        let place = order[i] as usize;
         let value = value_at(backing, awake, weights, values, place);
         if value > MAX_VALUE {
             return false;

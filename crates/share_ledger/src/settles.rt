@@ -22,10 +22,17 @@ impl Net {
             tables,
             &self.backing,
             &self.active,
+            &self.order,
             &mut self.awake,
             &mut self.weights,
         );
-        if !net::revalue(&self.backing, &self.awake, &self.weights, &mut self.values) {
+        if !net::revalue(
+            &self.backing,
+            &self.awake,
+            &self.weights,
+            &self.order,
+            &mut self.values,
+        ) {
             return false;
         }
         net::reshare(
@@ -72,6 +79,7 @@ impl Net {
             tables,
             &self.backing,
             &self.active,
+            &self.order,
             &mut self.awake,
             &mut self.weights,
         );
@@ -80,6 +88,7 @@ impl Net {
             &self.awake,
             &self.weights,
             &self.seen,
+            &self.order,
             currency,
             &mut self.values,
         );

@@ -1,11 +1,12 @@
 //! What follows where a few weights have changed: only the values and the tickets that rest on them are computed anew.
-ghost use Rattle.std.specs.Prelude.{◌≡◌, ◌<◌, ◌≤◌, ◌+◌, ◌^◌, ◌&&◌, ◌||◌, ℕ, Bool, None, length, min, nat_eq, not, true};
+ghost use Rattle.std.specs.Prelude.{◌≡◌, ◌<◌, ◌≤◌, ◌+◌, ◌^◌, ◌&&◌, ◌||◌, ℕ, Bool, None, length, min, nat_eq, not, true, false};
 ghost use Rattle.std.specs.Prelude.{IfSome, if◌then◌else◌};
 ghost use Rattle.std.specs.List.{list_any};
 ghost use Rattle.share_model.specs.lists.Each.{Each};
 ghost use Rattle.share_ledger.specs.Rounds.{flags_of, numbers_of};
-ghost use Rattle.share_ledger.specs.Seats.{IsSeatWithin, seats_at, weighed, AreOrdered, AreSmall, AreAwake, AreValued};
-ghost use Rattle.share_ledger.specs.Stale.{is_stale, is_touched, WereValued, HaveBits, AreMoved, AreFresh};
+ghost use Rattle.share_ledger.specs.Ranks.{AreOrdered};
+ghost use Rattle.share_ledger.specs.Seats.{IsSeatWithin, seats_at, weighed, AreSmall, AreAwake, AreValued};
+ghost use Rattle.share_ledger.specs.Stale.{is_stale, is_touched, WereValued, HaveBits, AreMoved};
 ghost use Rattle.share_ledger.specs.Stale.{AreUntouched};
 
 use crate::net::{self, MAX_VALUE};
@@ -86,69 +87,6 @@ fn is_stale(
     changed == place || weights[place] != seen[place] || touches(holder, moved)
 }
 
-/// How many places are looked at together.
-const STEP: usize = 8;
-
-// Whether no currency of a stretch of places is stale. All of them are looked at, without a branch for each.
-fn are_fresh(
-    backing: &[Seats],
-    weights: &[u32; PLACES],
-    seen: &[u32; PLACES],
-    moved: &Moved,
-    changed: usize,
-    from: usize,
-) -> bool
-    requires within { (p : ℕ) → p < 65 → Each IsSeatWithin (seats_at backing.now p) }
-    requires bits { HaveBits moved.now }
-    requires places { length backing.now ≡ 65 }
-    requires stretch { from + 8 ≤ 65 }
-    ensures { result ≡ true → AreFresh backing.now (flags_of moved.now.flags) (numbers_of weights.now)
-        (numbers_of seen.now) changed from (from + 8) }
-{
-    let mut same = changed < from || from + STEP <= changed;
-    let mut sources = 0;
-    for i in 0..STEP {
-        let holder = &backing[from + i];
-        same &= weights[from + i] == seen[from + i];
-        sources |= holder.sources();
-    }
-    same && sources & moved.bits == 0
-}
-
-// The first stale currency from a place on. Whole stretches are passed where none is.
-fn next_stale(
-    backing: &[Seats],
-    weights: &[u32; PLACES],
-    seen: &[u32; PLACES],
-    moved: &Moved,
-    changed: usize,
-    from: usize,
-) -> Option<usize>
-    requires within { (p : ℕ) → p < 65 → Each IsSeatWithin (seats_at backing.now p) }
-    requires bits { HaveBits moved.now }
-    requires places { length backing.now ≡ 65 }
-    ensures some { IfSome result (λ stale. (from ≤ stale) × (stale < 65)
-        × AreFresh backing.now (flags_of moved.now.flags) (numbers_of weights.now) (numbers_of seen.now) changed
-        from stale
-        × (is_stale backing.now (flags_of moved.now.flags) (numbers_of weights.now) (numbers_of seen.now) changed
-        stale ≡ true)) }
-    ensures none { result ≡ None → AreFresh backing.now (flags_of moved.now.flags) (numbers_of weights.now)
-        (numbers_of seen.now) changed from 65 }
-{
-    let mut place = from;
-    while place < PLACES {
-        let whole = place % STEP == 1 && PLACES - place >= STEP;
-        if whole && are_fresh(backing, weights, seen, moved, changed, place) {
-            place += STEP;
-        } else if !is_stale(backing, weights, seen, moved, changed, place) {
-            place += 1;
-        } else {
-            return Some(place);
-        }
-    }
-    None
-}
-
 // Computes the value of a currency, and flags its place where the value is another one or the weight is.
 fn revalue_at(
     backing: &[Seats],
@@ -186,19 +124,55 @@ fn revalue_at(
     true
 }
 
-/// Computes the values of the currencies that may be others, from the first place to the last, and flags the places
+// The same, where that may be another one.
+fn renew_at(
+    backing: &[Seats],
+    awake: &[bool; PLACES],
+    weights: &[u32; PLACES],
+    seen: &[u32; PLACES],
+    changed: usize,
+    place: usize,
+    moved: &mut Moved,
+    values: &mut [u64; PLACES],
+) -> bool
+    requires within { (p : ℕ) → p < 65 → Each IsSeatWithin (seats_at backing.now p) }
+    requires places { length backing.now ≡ 65 }
+    requires place { place < 65 }
+    requires small { AreSmall (numbers_of values.old) }
+    requires bits { HaveBits moved.old }
+    ensures small { AreSmall (numbers_of values.new) }
+    ensures bits { HaveBits moved.new }
+    ensures fresh { is_stale backing.now (flags_of moved.old.flags) (numbers_of weights.now) (numbers_of seen.now) changed
+        place ≡ false → (moved.new ≡ moved.old) × (values.new ≡ values.old) }
+    ensures values { result ≡ true → is_stale backing.now (flags_of moved.old.flags) (numbers_of weights.now)
+        (numbers_of seen.now) changed place ≡ true → (k : ℕ) → numbers_of values.new k
+        ≡ (if nat_eq place k then weighed backing.now (flags_of awake.now) (numbers_of values.old)
+        (numbers_of weights.now) place else numbers_of values.old k) }
+    ensures moved { result ≡ true → is_stale backing.now (flags_of moved.old.flags) (numbers_of weights.now)
+        (numbers_of seen.now) changed place ≡ true → (k : ℕ) → flags_of moved.new.flags k
+        ≡ (if nat_eq place k then not (nat_eq (numbers_of weights.now place) (numbers_of seen.now place))
+        || not (nat_eq (numbers_of values.new place) (numbers_of values.old place)) else flags_of moved.old.flags k) }
+{
+    if !is_stale(backing, weights, seen, moved, changed, place) {
+        return true;
+    }
+    revalue_at(backing, awake, weights, seen, place, moved, values)
+}
+
+/// Computes the values of the currencies that may be others, from the least rank to the greatest, and flags the places
 /// whose value or weight is another one. Gives up where a value would be too great, which none ever is.
 pub(crate) fn revalue(
     backing: &[Seats],
     awake: &[bool; PLACES],
     weights: &[u32; PLACES],
     seen: &[u32; PLACES],
+    order: &[u8; PLACES],
     changed: usize,
     values: &mut [u64; PLACES],
 ) -> Option<Moved>
     requires within { (p : ℕ) → p < 65 → Each IsSeatWithin (seats_at backing.now p) }
     requires places { length backing.now ≡ 65 }
-    requires ordered { AreOrdered backing.now }
+    requires ordered { AreOrdered backing.now (numbers_of order.now) }
     requires small { AreSmall (numbers_of values.old) }
     requires awake { AreAwake (flags_of awake.now) (numbers_of weights.now) }
     requires were { WereValued backing.now (numbers_of values.old) (numbers_of seen.now) changed }
@@ -209,15 +183,19 @@ pub(crate) fn revalue(
         (numbers_of values.new) (numbers_of seen.now) (numbers_of weights.now)) }
 {
     let mut moved = none_moved();
-    let mut place = 1;
-    while let Some(stale) = next_stale(backing, weights, seen, &moved, changed, place) {
-        if !revalue_at(backing, awake, weights, seen, stale, &mut moved, values) {
+    for i in 1..PLACES {
+        let place = order[i] as usize;
+        if !renew_at(
+            backing, awake, weights, seen, changed, place, &mut moved, values,
+        ) {
             return None;
         }
-        place = stale + 1;
     }
     Some(moved)
 }
+
+/// How many places are looked at together.
+const STEP: usize = 8;
 
 // Whether none of the flows of a stretch of places has a seat from a flagged place, nor is the one that changed.
 fn are_untouched(funding: &[Seats], moved: &Moved, changed: usize, from: usize) -> bool

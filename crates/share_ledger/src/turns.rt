@@ -6,11 +6,12 @@ ghost use Rattle.std.specs.List.{list_all};
 ghost use Rattle.share_model.specs.lists.Each.{Each};
 ghost use Rattle.share_ledger.specs.Rounds.{flags_of, numbers_of};
 ghost use Rattle.share_ledger.specs.Routes.{IsRouteWithin};
-ghost use Rattle.share_ledger.specs.Seats.{seats_at, seat_of, AreSeated, AreOrdered, AreCounted, backs_of, funds_of};
+ghost use Rattle.share_ledger.specs.Seats.{seats_at, seat_of, AreSeated, AreCounted, backs_of, funds_of};
 ghost use Rattle.share_ledger.specs.Seats.{IsSeatWithin, AreSmall, weighed};
 ghost use Rattle.share_ledger.specs.Nets.{activity_of, IsBegun};
 
 use crate::net::{self, Net};
+use crate::ranks;
 use crate::rounds::PLACES;
 use crate::routes::Route;
 use crate::seats::{Seat, Seats};
@@ -39,20 +40,15 @@ fn clear(holders: &mut Vec<Seats>)
     }
 }
 
-// The holder of a route gets its seat. Not so where it has no room, or where seats have to come from before their
-// holder and this one does not.
-pub(crate) fn seat(route: &Route, holders: &mut Vec<Seats>, ordered: bool) -> bool
+// The holder of a route gets its seat. Not so where it has no room.
+pub(crate) fn seat(route: &Route, holders: &mut Vec<Seats>) -> bool
     requires within { IsRouteWithin route.now }
     requires places { length holders.old.items ≡ 65 }
     ensures places { length holders.new.items ≡ 65 }
     ensures seated { result ≡ true → (k : ℕ) → seats_at holders.new.items k
         ≡ (if nat_eq route.now.to k then seats_at holders.old.items k ++ seat_of route.now ∷ []
         else seats_at holders.old.items k) }
-    ensures before { result ≡ true → ordered ≡ true → route.now.from < route.now.to }
 {
-    if ordered && route.from >= route.to {
-        return false;
-    }
     let holder = &mut holders[route.to];
     if holder.count() >= MAX_FUNDING {
         return false;
@@ -93,16 +89,15 @@ pub(crate) fn counted(holds: bool, amount: u32) -> u32
 }
 
 // The holders get the seats of these routes and no others, unless one cannot be given.
-fn fill(routes: &[Route], holders: &mut Vec<Seats>, ordered: bool) -> bool
+fn fill(routes: &[Route], holders: &mut Vec<Seats>) -> bool
     requires within { Each IsRouteWithin routes.now }
     requires places { length holders.old.items ≡ 65 }
     ensures places { length holders.new.items ≡ 65 }
     ensures seated { result ≡ true → AreSeated routes.now holders.new.items }
-    ensures ordered { result ≡ true → ordered ≡ true → AreOrdered holders.new.items }
 {
     clear(holders);
     for route in routes {
-        if !seat(route, holders, ordered) {
+        if !seat(route, holders) {
             return false;
         }
     }
@@ -184,6 +179,8 @@ impl Net {
             weights: Box::new(alloc, [0; PLACES])?,
             seen: Box::new(alloc, [0; PLACES])?,
             values: Box::new(alloc, [0; PLACES])?,
+            ranks: Box::new(alloc, [0; PLACES])?,
+            order: Box::new(alloc, [0; PLACES])?,
         })
     }
 
@@ -253,7 +250,7 @@ impl Net {
         );
     }
 
-    /// All seats and the activity anew. Not so where some seat would not come from before its holder.
+    /// All seats, the ranks and the activity anew. Not so where a holder has no room for a seat, or a currency no rank.
     pub(crate) fn begin(&mut self, tables: &Tables, backs: &[Route], funds: &[Route]) -> bool
         requires backs { backs.now ≡ backs_of tables.now }
         requires funds { funds.now ≡ funds_of tables.now }
@@ -263,7 +260,10 @@ impl Net {
         ensures places { (length self.new.backing.items ≡ 65) × (length self.new.funding.items ≡ 65) }
     {
         tables.is_kept();
-        if !fill(backs, &mut self.backing, true) || !fill(funds, &mut self.funding, false) {
+        if !fill(backs, &mut self.backing) || !fill(funds, &mut self.funding) {
+            return false;
+        }
+        if !ranks::list(&self.backing, 0, 0, &mut self.ranks, &mut self.order) {
             return false;
         }
         rouse(

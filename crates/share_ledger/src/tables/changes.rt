@@ -9,11 +9,12 @@ ghost use Rattle.share_model.specs.funding.Changes.{unfund_refusal, unfund, add_
 ghost use Rattle.share_model.specs.funding.Changes.{remove_flow, set_active};
 ghost use Rattle.share_model.specs.declared.funding.OpenFlow.{OpenFlow};
 ghost use Rattle.share_model.specs.funding.Kept.{IsKept};
-ghost use Rattle.share_ledger.specs.Levels.{AreBacking};
+ghost use Rattle.share_ledger.specs.Ranks.{AreBacking};
 ghost use Rattle.share_ledger.specs.Seats.{AreSeated, funds_of};
 
 use super::Tables;
 use crate::holders;
+use crate::net::Net;
 use crate::seats::Seats;
 use share_base::{FlowNo, Name, Refusal, TicketNo};
 use share_model::{Holder, OpenFlow, Ticket};
@@ -99,14 +100,14 @@ impl Tables {
         }
     }
 
-    /// `seats` are those of the currencies, where they are kept.
+    /// `net` has the seats and the ranks of the currencies, where they are kept.
     pub(crate) fn fund_currency(
         &mut self,
         ticket: u64,
         currency: Name,
-        seats: Option<&[Seats]>,
+        net: Option<&Net>,
     ) -> Result<(), Refusal>
-        requires { IfSome seats (λ ss. AreBacking self.old ss.now) }
+        requires { IfSome net (λ n. AreBacking self.old n.now) }
         ensures done { IfOk result
             (λ _. (fund_currency_refusal self.old ticket currency ≡ None)
             × (self.new ≡ fund_currency self.old ticket currency)) }
@@ -114,7 +115,7 @@ impl Tables {
             (λ e. (fund_currency_refusal self.old ticket currency ≡ Some e) × (self.new ≡ self.old)) }
     {
         self.is_kept();
-        if let Some(refusal) = self.fund_currency_refusal(ticket, currency, seats) {
+        if let Some(refusal) = self.fund_currency_refusal(ticket, currency, net) {
             return Err(refusal);
         }
         self.give(ticket, &Holder::Currency(currency));

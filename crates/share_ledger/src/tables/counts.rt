@@ -1,28 +1,30 @@
 //! How many tickets fund a holder, and how the currencies stand above one another: by the seats where they are kept,
 //! and else by a scan of the tickets, or not at all.
-ghost use Rattle.std.specs.Prelude.{◌≡◌, length, IfSome, true, false};
+ghost use Rattle.std.specs.Prelude.{◌≡◌, length, IfSome, true, false, bytes_eq};
 ghost use Rattle.share_model.specs.declared.funding.Holder.TheVariants.{Currency};
-ghost use Rattle.share_model.specs.funding.Graph.{backing, funding, chain_within, is_deep};
+ghost use Rattle.share_model.specs.funding.Graph.{base, backing, funding, chain_within, is_deep};
 ghost use Rattle.share_model.specs.funding.Changes.{is_currency, ticket_of, found_denomination, with_holder};
-ghost use Rattle.share_ledger.specs.Levels.{AreBacking};
+ghost use Rattle.share_ledger.specs.Ranks.{AreBacking};
 ghost use Rattle.share_ledger.specs.Seats.{AreSeated, funds_of};
 
 use super::Tables;
+use crate::holders;
+use crate::net::Net;
 use crate::seats::Seats;
-use crate::{holders, levels};
 use share_base::{FlowNo, Name};
 
 impl Tables {
     /// How many tickets fund a currency.
-    pub(super) fn count_backing(&self, name: Name, seats: Option<&[Seats]>) -> usize
+    pub(super) fn count_backing(&self, name: Name, net: Option<&Net>) -> usize
         requires known { is_currency self.now name ≡ true }
-        requires seated { IfSome seats (λ ss. AreBacking self.now ss.now) }
+        requires seated { IfSome net (λ n. AreBacking self.now n.now) }
         ensures { result ≡ length (backing self.now.tickets name) }
     {
         self.is_kept();
-        let Some(seats) = seats else {
+        let Some(net) = net else {
             return self.scan_backing(name);
         };
+        let seats: &[Seats] = &net.backing;
         let holder = &seats[self.place_of(name)];
         holder.count()
     }
@@ -61,22 +63,23 @@ impl Tables {
             .count()
     }
 
-    /// Whether levels of the currencies show that no chain would lead back or be too long if a ticket funded one.
-    pub(super) fn is_above(&self, number: u64, currency: Name, seats: Option<&[Seats]>) -> bool
+    /// Whether ranks of the currencies show that no chain would lead back or be too long if a ticket funded one.
+    pub(super) fn is_above(&self, number: u64, currency: Name, net: Option<&Net>) -> bool
         requires known { is_currency self.now currency ≡ true }
-        requires seated { IfSome seats (λ ss. AreBacking self.now ss.now) }
+        requires made { bytes_eq currency base ≡ false }
+        requires seated { IfSome net (λ n. AreBacking self.now n.now) }
         ensures { result ≡ true
             → (chain_within self.now.tickets 8 currency (found_denomination (ticket_of self.now number)) ≡ false)
             × (is_deep (with_holder number (Currency currency) self.now.tickets) ≡ false) }
     {
         self.is_kept();
-        let Some(seats) = seats else {
+        let Some(net) = net else {
             return false;
         };
         let Some(ticket) = self.ticket(number) else {
             return false;
         };
         let from = self.place_of(ticket.denomination);
-        levels::are_levels(seats, from, self.place_of(currency))
+        net.has_ranks(from, self.place_of(currency))
     }
 }

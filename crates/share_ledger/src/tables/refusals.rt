@@ -5,11 +5,12 @@ ghost use Rattle.share_model.specs.funding.Changes.{remove_currency_refusal, mak
 ghost use Rattle.share_model.specs.funding.Changes.{remove_ticket_refusal, fund_currency_refusal, fund_flow_refusal};
 ghost use Rattle.share_model.specs.funding.Changes.{unfund_refusal, add_flow_refusal};
 ghost use Rattle.std.specs.List.{list_any};
-ghost use Rattle.share_ledger.specs.Levels.{AreBacking};
+ghost use Rattle.share_ledger.specs.Ranks.{AreBacking};
 ghost use Rattle.share_ledger.specs.Seats.{AreSeated, funds_of};
 
 use super::{MAX_AMOUNT, MAX_CURRENCIES, MAX_FLOWS, MAX_FUNDING, MAX_TICKETS, Tables, is_base};
 use crate::holders;
+use crate::net::Net;
 use crate::seats::Seats;
 use share_base::{Name, Refusal};
 use share_model::Ticket;
@@ -78,14 +79,14 @@ impl Tables {
         }
     }
 
-    /// `seats` are those of the currencies, where they are kept.
+    /// `net` has the seats and the ranks of the currencies, where they are kept.
     pub(crate) fn fund_currency_refusal(
         &self,
         number: u64,
         currency: Name,
-        seats: Option<&[Seats]>,
+        net: Option<&Net>,
     ) -> Option<Refusal>
-        requires { IfSome seats (λ ss. AreBacking self.now ss.now) }
+        requires { IfSome net (λ n. AreBacking self.now n.now) }
         ensures { result ≡ fund_currency_refusal self.now number currency }
     {
         let Some(ticket) = self.ticket(number) else {
@@ -100,10 +101,10 @@ impl Tables {
         if holders::is_held(&ticket.holder) {
             return Some(Refusal::Funding);
         }
-        if self.count_backing(currency, seats) >= MAX_FUNDING {
+        if self.count_backing(currency, net) >= MAX_FUNDING {
             return Some(Refusal::Crowded);
         }
-        if self.is_above(number, currency, seats) {
+        if self.is_above(number, currency, net) {
             return None;
         }
         self.chain_refusal(number, currency)

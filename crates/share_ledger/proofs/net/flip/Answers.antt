@@ -1,7 +1,7 @@
 use Rattle.std.proofs.Common.{◌≡◌, ◌+◌, ℕ, true, false, [], set, ap, ◌∙◌, arith}
 use Rattle.share_ledger.specs.Rounds.{flags_of, numbers_of}
 use Rattle.share_ledger.specs.Seats.{taken, seats_at, backs_of, funds_of}
-use Rattle.share_ledger.proofs.NetSteps.{array-set, at-default, woken, rested-held, rested, counted-bound, taken-none}
+use Rattle.share_ledger.proofs.NetSteps.{array-set, at-default, woken, rested-held, rested, counted-bound}
 use Rattle.share_ledger.proofs.net.flip.Goals as goal
 
 pub lower-requires-clause-held : goal.lower-requires-clause-held
@@ -38,14 +38,12 @@ left_more : (n m t : ℕ) → t ≡ 0 → n ≡ m + t → n ≡ m
 left_more n m t e s = omega arith
 
 pub returns-then-awake-place-clause-left : goal.returns-then-awake-place-clause-left
-returns-then-awake-place-clause-left c = λ k le lt.
+returns-then-awake-place-clause-left c = λ k lt none.
     let same = c.seats.ensures.value
     ∙ at-default c.args.backing.now c.args.place c.index-backing-place.result []
     (let long = c.requires.seated.places in let lt = c.requires.place in omega arith) c.index-backing-place.is in
     left_alone _ _ _
-    (ap (λ s. taken s k) same
-    ∙ taken-none c.args.place k (seats_at c.args.backing.now c.args.place) le
-    (c.requires.ordered c.args.place c.requires.place))
+    (ap (λ s. taken s k) same ∙ none)
     (c.lower.ensures k lt)
 
 pub raise-requires-clause-small : goal.raise-requires-clause-small
@@ -68,12 +66,10 @@ returns-clause-counted c =
     c.raise.ensures
 
 pub returns-clause-left : goal.returns-clause-left
-returns-clause-left c = λ k le lt.
+returns-clause-left c = λ k lt none.
     let same = c.seats-2.ensures.value
     ∙ at-default c.args.backing.now c.args.place c.index-backing-place.result []
     (let long = c.requires.seated.places in let lt = c.requires.place in omega arith) c.index-backing-place.is in
     left_more _ _ _
-    (ap (λ s. taken s k) same
-    ∙ taken-none c.args.place k (seats_at c.args.backing.now c.args.place) le
-    (c.requires.ordered c.args.place c.requires.place))
+    (ap (λ s. taken s k) same ∙ none)
     (c.raise.ensures k lt)

@@ -1,47 +1,69 @@
-use Rattle.std.proofs.Common.{◌≡◌, ◌≤◌, ℕ, arith, refl}
+use Rattle.std.proofs.Common.{rules, ◌≡◌, ◌≤◌, ◌<◌, ◌+◌, ◌∙◌, ◌||◌, ℕ, Bool, List, true, false, not, cond, nat_eq, refl, ap, arith}
 use Rattle.share_ledger.specs.Rounds.{flags_of, numbers_of}
 use Rattle.share_ledger.specs.Seats.{weighed}
-use Rattle.share_ledger.proofs.NetSteps.{valued-more}
-use Rattle.share_ledger.proofs.StaleSteps.{stretch-same, stretch-valued, stale-left, stale-same}
+use Rattle.share_ledger.specs.Stale.{is_stale}
+use Rattle.share_ledger.specs.declared.stale.Moved.{Moved}
+use Rattle.share_ledger.proofs.StaleSteps.{next-left, next-same, next-valued, order-above}
 use Rattle.share_ledger.proofs.stale.revalue.Goals as goal
 
-pub loop-stale-preserved : goal.loop-stale-preserved
-loop-stale-preserved c =
-    let from = c.loop-stale.place in
-    let p = c.in-Some.stale in
-    let inv = c.loop-stale.invariant in
-    let found = c.in-Some.ensures.some in
+pub loop-i-init : goal.loop-i-init
+loop-i-init c = record {
+  bits = search rules;
+  small = c.requires.small;
+  left = λ o k lt past. refl;
+  same = λ o k up lt under. absurd (let spot = order-above c.args.backing.now (numbers_of c.args.order.now) o k up lt in
+      omega arith);
+  valued = λ o k up lt under. absurd (let spot = order-above c.args.backing.now (numbers_of c.args.order.now) o k up lt
+      in omega arith);
+}
+
+pub loop-i-preserved : goal.loop-i-preserved
+loop-i-preserved c =
+    let order = numbers_of c.args.order.now in
+    let ss = c.args.backing.now in
+    let on = flags_of c.args.awake.now in
+    let moved = flags_of c.loop-i.moved.flags in
+    let next = flags_of c.renew_at.new.moved.flags in
     let v = numbers_of c.args.values.now in
-    let w = numbers_of c.loop-stale.values in
+    let w = numbers_of c.loop-i.values in
+    let x = numbers_of c.renew_at.new.values in
     let s = numbers_of c.args.seen.now in
     let u = numbers_of c.args.weights.now in
-    let on = flags_of c.args.awake.now in
-    let moved = flags_of c.loop-stale.moved.flags in
-    let ss = c.args.backing.now in
-    let same = stretch-same moved v w s u ss on c.args.changed c.requires.ordered c.requires.awake c.requires.were from
-    p inv.up found.0 (omega (arith, found.1)) found.2 inv.left inv.same in
-    let valued = stretch-valued moved v w s u ss on c.args.changed c.requires.ordered c.requires.awake c.requires.were
-    from p inv.up found.0 (omega (arith, found.1)) found.2 inv.left inv.same inv.valued in
-    let x = numbers_of c.revalue_at.new.values in
-    let wrote = c.revalue_at.ensures.values c.if-not-revalue_at.false in
-    let flagged = c.revalue_at.ensures.moved c.if-not-revalue_at.false in
-    let n = weighed ss on w u p in
-    let next = flags_of c.revalue_at.new.moved.flags in
-    let left : (k : ℕ) → p ≤ k → w k ≡ v k = λ k past. inv.left k (omega (arith, found.0, past)) in
+    let i = c.loop-i.i in
+    let up : 0 < i = omega arith in
+    let lt = c.loop-i-test.true in
+    let stale = is_stale ss moved u s c.args.changed (order i) in
+    let fresh : stale ≡ false → ((k : ℕ) → next k ≡ moved k) × ((k : ℕ) → x k ≡ w k) =
+    λ e.
+    let two = c.renew_at.ensures.fresh e in (
+      λ k. ap (λ (m : Moved). flags_of m.flags k) two.0,
+      λ k. ap (λ (xs : List ℕ). numbers_of xs k) two.1,
+    ) in
+    let wrote = c.renew_at.ensures.values c.if-not-renew_at.false in
+    let flagged = c.renew_at.ensures.moved c.if-not-renew_at.false in
+    let inv = c.loop-i.invariant in
     record {
-      up = omega arith;
-      end = omega (arith, found.1);
-      bits = c.revalue_at.ensures.bits;
-      small = c.revalue_at.ensures.small;
-      left = stale-left moved next v w x s u p n wrote flagged left same;
-      same = stale-same moved next v w x s u p n wrote flagged left same;
-      valued = valued-more ss on w x u p n c.requires.ordered found.1 wrote refl valued;
+      bits = c.renew_at.ensures.bits;
+      small = c.renew_at.ensures.small;
+      left = λ o. next-left ss order o i up lt on c.args.changed moved next v w x s u c.requires.awake c.requires.were
+          fresh wrote flagged (inv.left o) (inv.same o);
+      same = λ o. next-same ss order o i up lt on c.args.changed moved next v w x s u c.requires.awake c.requires.were
+          fresh wrote flagged (inv.left o) (inv.same o);
+      valued = λ o. next-valued ss order o i up lt on c.args.changed moved next v w x s u c.requires.awake
+          c.requires.were fresh wrote flagged (inv.left o) (inv.same o) (inv.valued o);
     }
 
 pub returns-clause-valued : goal.returns-clause-valued
-returns-clause-valued c =
-    let inv = c.loop-stale.invariant in
-    stretch-valued (flags_of c.loop-stale.moved.flags) (numbers_of c.args.values.now) (numbers_of c.loop-stale.values)
-    (numbers_of c.args.seen.now) (numbers_of c.args.weights.now) c.args.backing.now (flags_of c.args.awake.now)
-    c.args.changed c.requires.ordered c.requires.awake c.requires.were c.loop-stale.place 65 inv.up inv.end
-    (omega arith) (c.in_default.ensures.none refl) inv.left inv.same inv.valued
+returns-clause-valued c = λ p up lt.
+    let o = c.requires.ordered in
+    c.loop-i.invariant.valued o p up lt
+    (let there = (o.there p lt).0 in let done = c.loop-i-test.false in omega arith)
+
+pub returns-clause-moved : goal.returns-clause-moved
+returns-clause-moved c = (
+  c.loop-i.invariant.bits,
+  λ p up lt still.
+      let o = c.requires.ordered in
+      c.loop-i.invariant.same o p up lt
+      (let there = (o.there p lt).0 in let done = c.loop-i-test.false in omega arith) still,
+)

@@ -13,7 +13,6 @@ loop-route-init c = record {
   places = c.clear.ensures.places ∙ c.requires.places;
   seated = λ F p lt. ap (sum_by F) (c.clear.ensures.none p);
   within = λ p lt. subst (Each IsSeatWithin) (sym (c.clear.ensures.none p)) tt;
-  ordered = λ e p lt. subst (Each (λ (s : Seat). s.from < p)) (sym (c.clear.ensures.none p)) tt;
 }
 
 pub loop-route-preserved : goal.loop-route-preserved
@@ -31,7 +30,4 @@ loop-route-preserved c =
           gave (c.loop-route.invariant.seated F p lt);
       within = λ p lt. each-joined before after r gave (λ _ s. IsSeatWithin s) p (c.loop-route.invariant.within p lt)
           (λ e. record { from_place = w.from_place; small = w.small });
-      ordered = λ on p lt. each-joined before after r gave (λ q (s : Seat). s.from < q) p
-          (c.loop-route.invariant.ordered on p lt)
-          (λ e. subst (λ k. r.from < k) e (c.seat.ensures.before c.if-not-seat.false on));
     }

@@ -2,7 +2,7 @@ use Rattle.std.proofs.Common.{◌≡◌, ◌<◌, ℕ, true, nat_eq, take, sum_b
 use Rattle.share_model.specs.lists.Each.{Each}
 use Rattle.share_ledger.specs.declared.routes.Route.{Route}
 use Rattle.share_ledger.specs.declared.seats.Seat.{Seat}
-use Rattle.share_ledger.specs.Seats.{seats_at, seat_of, IsSeatWithin, AreOrdered}
+use Rattle.share_ledger.specs.Seats.{seats_at, seat_of, IsSeatWithin}
 use Rattle.share_ledger.proofs.turns.fill.Given as goal
 
 abbrev pub invariant-loop-route : goal.invariant-loop-route
@@ -12,5 +12,4 @@ invariant-loop-route l = record {
       → sum_by F (seats_at l.holders.items p)
       ≡ sum_by (λ (r : Route). if nat_eq p r.to then F (seat_of r) else 0) (take l.route-index l.routes);
   within : (p : ℕ) → p < 65 → Each IsSeatWithin (seats_at l.holders.items p);
-  ordered : l.ordered ≡ true → AreOrdered l.holders.items;
 }

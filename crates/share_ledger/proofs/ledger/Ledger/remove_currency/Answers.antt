@@ -21,6 +21,6 @@ invariant_of-self-then-is_before c =
     subst (AreKept kept.net kept.ready kept.shares.value) (sym done.1)
     (kept-left kept.net kept.ready kept.shares.value g (remove_currency g c.args.name)
     (routes-remove_currency g c.is_kept.ensures c.args.name done.0 kept.net.backing.items kept.net.funding.items
-    begun.backing begun.funding begun.ordered
+    begun.backing begun.funding
     (subst (AreBefore kept.net.backing.items kept.net.funding.items) at told.1))
     refl (λ f. sym ((leaves-tickets g).remove_currency c.args.name f)) c.self.invariant)

@@ -1,7 +1,10 @@
-use Rattle.std.proofs.Common.{◌≡◌, ◌≤◌, ◌+◌, ◌^◌, ℕ, true, false, cond, nat_eq, List, refl, ap, ◌∙◌, arith}
+use Rattle.std.proofs.Common.{◌≡◌, ◌≤◌, ◌+◌, ◌^◌, ◌<◌, ℕ, true, false, cond, nat_eq, List, refl, sym, ap, subst, ◌∙◌, arith}
 use Rattle.share_ledger.specs.Rounds.{flags_of, numbers_of}
-use Rattle.share_ledger.specs.Seats.{backs_of, funds_of}
-use Rattle.share_ledger.proofs.NetMore.{counted-given, less-bound, seated-more, seated-same, ordered-more, sum-bound}
+use Rattle.share_model.specs.lists.Each.{Each}
+use Rattle.share_ledger.specs.declared.seats.Seat.{Seat}
+use Rattle.share_ledger.specs.Ranks.{AreRanks, AreListed}
+use Rattle.share_ledger.specs.Seats.{IsSeatWithin, seats_at, backs_of, funds_of}
+use Rattle.share_ledger.proofs.NetMore.{counted-given, less-bound, seated-more, seated-same, ranked-more, sum-bound}
 use Rattle.share_ledger.proofs.net.Net.add_backing.Goals as goal
 
 pub grow-requires-clause-small : goal.grow-requires-clause-small
@@ -13,9 +16,34 @@ grow-requires-clause-small c = λ p lt.
     less-bound b.0 b.1.0 (backs_of g) (funds_of g) c.args.route.now true false (flags_of old.awake.value)
     (flags_of old.active.value) b.1.1.1 b.1.1.2 (numbers_of old.weights.value) b.1.1.0.counted p (2 ^ 31) lt
     (sum-bound g (flags_of old.awake.value) (flags_of old.active.value) c.is_kept.ensures p) in
-    let same : numbers_of c.deref_mut.result.now p ≡ numbers_of old.weights.value p =
-    ap (λ (ws : List ℕ). numbers_of ws p) c.deref_mut.ensures.value in
+    let same : numbers_of c.deref_mut-3.result.now p ≡ numbers_of old.weights.value p =
+    ap (λ (ws : List ℕ). numbers_of ws p) c.deref_mut-3.ensures.value in
     omega (arith, bound, same)
+
+pub renew-requires-clause-within : goal.renew-requires-clause-within
+renew-requires-clause-within c =
+    let b = c.requires.begun in
+    subst (λ (ss : List (List Seat)). (p : ℕ) → p < 65 → Each IsSeatWithin (seats_at ss p)) (sym c.deref.ensures.value)
+    (seated-more b.0 (backs_of c.args.tables.now) c.args.route.now c.args.self.now.backing.items c.seat.new.holders.items
+    b.1.1.0.backing c.requires.within b.1.1.1 (c.seat.ensures.seated c.if-not-seat.false) c.seat.ensures.places).within
+
+pub renew-requires-clause-ranked : goal.renew-requires-clause-ranked
+renew-requires-clause-ranked c =
+    let b = c.requires.begun in
+    let r = c.args.route.now in
+    subst (λ (ranks : List ℕ). numbers_of ranks r.from < numbers_of ranks r.to
+    → AreRanks c.deref.result.now (numbers_of ranks)) (sym c.deref_mut.ensures.value)
+    (λ below. subst (λ (ss : List (List Seat)). AreRanks ss (numbers_of c.args.self.now.ranks.value))
+    (sym c.deref.ensures.value)
+    (ranked-more c.args.self.now.backing.items c.seat.new.holders.items c.args.route.now
+    (numbers_of c.args.self.now.ranks.value) b.1.1.0.ranked below (c.seat.ensures.seated c.if-not-seat.false)))
+
+pub renew-requires-clause-listed : goal.renew-requires-clause-listed
+renew-requires-clause-listed c =
+    subst (λ (ranks : List ℕ). AreListed (numbers_of ranks) (numbers_of c.deref_mut-2.result.now))
+    (sym c.deref_mut.ensures.value)
+    (subst (λ (order : List ℕ). AreListed (numbers_of c.args.self.now.ranks.value) (numbers_of order))
+    (sym c.deref_mut-2.ensures.value) c.requires.begun.1.1.0.listed)
 
 either_more : (w n : ℕ) → w + n ≡ w + (n + 0)
 either_more w n = omega arith
@@ -37,9 +65,9 @@ returns-clause-begun c = λ e.
           c.requires.within gb
           joined c.seat.ensures.places;
       funding = seated-same funds (funds_of g) r old.funding.items was.funding gf;
-      ordered = ordered-more old.backing.items c.seat.new.holders.items r was.ordered
-          (c.seat.ensures.before c.if-not-seat.false refl)
-          joined;
+      ranked = subst (λ (ss : List (List Seat)). AreRanks ss (numbers_of c.renew.new.ranks)) c.deref.ensures.value
+          (c.renew.ensures.ranked c.if-not-renew.false);
+      listed = c.renew.ensures.listed c.if-not-renew.false;
       active_is = was.active_is;
       counted = counted-given backs funds (backs_of g) (funds_of g) r true false (flags_of old.awake.value)
           (flags_of old.active.value) gb gf (numbers_of old.weights.value) (numbers_of c.grow.new.weights) was.counted

@@ -37,7 +37,8 @@ returns-clause-begun c = λ e.
       funding = seated-more funds (funds_of g) r old.funding.items c.seat.new.holders.items was.funding
           c.requires.within gf
           joined c.seat.ensures.places;
-      ordered = was.ordered;
+      ranked = was.ranked;
+      listed = was.listed;
       active_is = was.active_is;
       counted = counted-given backs funds (backs_of g) (funds_of g) r false true (flags_of old.awake.value)
           (flags_of old.active.value) gb gf (numbers_of old.weights.value) (numbers_of c.grow.new.weights) was.counted

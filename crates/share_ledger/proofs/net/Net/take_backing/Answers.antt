@@ -2,7 +2,7 @@ use Rattle.std.proofs.Common.{◌≡◌, ◌+◌, ℕ, true, false, cond, nat_eq
 use Rattle.std.proofs.lemmas.Bool.Decides.{nat_tests}
 use Rattle.share_ledger.specs.Rounds.{flags_of, numbers_of}
 use Rattle.share_ledger.specs.Seats.{backs_of, funds_of}
-use Rattle.share_ledger.proofs.NetMore.{gain-held, counted-taken, seated-less, seated-back, ordered-less}
+use Rattle.share_ledger.proofs.NetMore.{gain-held, counted-taken, seated-less, seated-back, ranked-less}
 use Rattle.share_ledger.proofs.net.Net.take_backing.Goals as goal
 
 self_from : (n : ℕ) → nat_eq n n ≡ true
@@ -44,8 +44,9 @@ returns-clause-begun c = λ e.
           c.unseat.ensures.others
           out c.unseat.ensures.places;
       funding = seated-back funds (funds_of g) r old.funding.items was.funding gf;
-      ordered = ordered-less backs (backs_of g) r old.backing.items c.unseat.new.holders.items was.backing gb
-          c.unseat.ensures.others out was.ordered;
+      ranked = ranked-less backs (backs_of g) r old.backing.items c.unseat.new.holders.items was.backing gb
+          c.unseat.ensures.others out (numbers_of old.ranks.value) was.ranked;
+      listed = was.listed;
       active_is = was.active_is;
       counted = counted-taken (backs_of g) (funds_of g) backs funds r true false (flags_of old.awake.value)
           (flags_of old.active.value) gb gf (numbers_of old.weights.value) (numbers_of c.shrink.new.weights) was.counted

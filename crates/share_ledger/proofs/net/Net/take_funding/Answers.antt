@@ -44,7 +44,8 @@ returns-clause-begun c = λ e.
       funding = seated-less funds (funds_of g) r old.funding.items c.unseat.new.holders.items was.funding gf
           c.unseat.ensures.others
           out c.unseat.ensures.places;
-      ordered = was.ordered;
+      ranked = was.ranked;
+      listed = was.listed;
       active_is = was.active_is;
       counted = counted-taken (backs_of g) (funds_of g) backs funds r false true (flags_of old.awake.value)
           (flags_of old.active.value) gb gf (numbers_of old.weights.value) (numbers_of c.shrink.new.weights) was.counted

@@ -1,4 +1,4 @@
--- Levels of the places, and what they say of chains.
+-- Ranks of the places, and what they say of chains.
 use Rattle.std.proofs.Common.{◌≡◌, ◌<◌, ◌≤◌, ◌+◌, ℕ, zero, suc, Bool, true, false, cond, ◌&&◌, ◌||◌, not, List, [], ◌∷◌}
 use Rattle.std.proofs.Common.{length, set, get_or, sum_by, find, bytes_eq, nat_eq, nat_lt, Some, refl, sym, ap}
 use Rattle.std.proofs.Common.{subst, ◌∙◌, arith}
@@ -21,181 +21,123 @@ use Rattle.share_model.specs.lists.Laws.{each_map, each-change_first}
 use Rattle.share_model.specs.lists.SumLaws.{same_name, name_sym}
 use Rattle.share_ledger.specs.declared.routes.Route.{Route}
 use Rattle.share_ledger.specs.declared.seats.Seat.{Seat}
-use Rattle.share_ledger.specs.Levels.{AreLevels}
+use Rattle.share_ledger.specs.Ranks.{AreRanks}
 use Rattle.share_ledger.specs.Places.{place}
 use Rattle.share_ledger.specs.Routes.{is_kind, holder_place, route_of}
-use Rattle.share_ledger.specs.Seats.{seats_at, seat_of, AreSeated, AreOrdered, backs_of}
+use Rattle.share_ledger.specs.Seats.{seats_at, seat_of, AreSeated, backs_of}
 use Rattle.share_ledger.proofs.LinkPlaces.{place-base, IsPlaced, placed}
-use Rattle.share_ledger.proofs.NetSteps.{array-set}
 use Rattle.share_ledger.proofs.RouteWorths.{sum-routes, below}
 use Rattle.share_ledger.proofs.Walks.{no-term}
 
--- one level more
-module _ (ss : List (List Seat)) (ordered : AreOrdered ss) (levels : List ℕ) (p n : ℕ) (long : length levels ≡ 65)
-    (within : p < 65) where
-  wrote : (k : ℕ) → get_or (set levels p n) k 0 ≡ cond (nat_eq p k) n (get_or levels k 0)
-  wrote k = array-set levels p k n 0 (omega arith)
-
-  apart : (a b : ℕ) → b < a → nat_eq a b ≡ false
-  apart a b e = grind (arith, nat_tests)
-
-  differ : (a b : ℕ) → nat_eq a b ≡ false → b < a + 1 → b < a
-  differ a b e l = grind (arith, nat_tests)
-
-  left : (k : ℕ) → k < p → get_or levels k 0 ≡ get_or (set levels p n) k 0
-  left k lt = sym (wrote k ∙ ap (λ b. cond b n (get_or levels k 0)) (apart p k lt))
-
-  pub low-more : n ≤ 8 → ((k : ℕ) → get_or levels k 0 ≤ 8) → (k : ℕ) → get_or (set levels p n) k 0 ≤ 8
-  low-more few low k = subst (λ m. m ≤ 8) (sym (wrote k)) (by (nat_eq p k))
-    where
-      by : (b : Bool) → cond b n (get_or levels k 0) ≤ 8
-      by true = few
-      by false = low k
-
-  pub high-more : 1 ≤ n → ((k : ℕ) → 0 < k → k < p → 1 ≤ get_or levels k 0)
-      → (k : ℕ) → 0 < k → k < p + 1 → 1 ≤ get_or (set levels p n) k 0
-  high-more some high k up lt = subst (λ m. 1 ≤ m) (sym (wrote k)) (by (nat_eq p k) refl)
-    where
-      by : (b : Bool) → nat_eq p k ≡ b → 1 ≤ cond b n (get_or levels k 0)
-      by true e = some
-      by false e = high k up (differ p k e lt)
-
-  moved : (k m : ℕ) → k ≤ p → m ≡ get_or (set levels p n) k 0 → (xs : List Seat) → Each (λ (s : Seat). s.from < k) xs
-      → Each (λ (s : Seat). get_or levels s.from 0 < m) xs
-      → Each (λ (s : Seat). get_or (set levels p n) s.from 0 < get_or (set levels p n) k 0) xs
-  moved k m lt e [] before each = tt
-  moved k m lt e (x ∷ xs) before each =
-      let here = left x.from (omega (arith, before.0)) in
-      let less = each.0 in
-      (omega arith, moved k m lt e xs before.1 each.1)
-
-  pub above-more : Each (λ (s : Seat). get_or levels s.from 0 < n) (seats_at ss p)
-      → ((k : ℕ) → 0 < k → k < p → Each (λ (s : Seat). get_or levels s.from 0 < get_or levels k 0) (seats_at ss k))
-      → (k : ℕ) → 0 < k → k < p + 1
-      → Each (λ (s : Seat). get_or (set levels p n) s.from 0 < get_or (set levels p n) k 0) (seats_at ss k)
-  above-more one above k up lt = by (nat_eq p k) refl
-    where
-      by : (b : Bool) → nat_eq p k ≡ b
-          → Each (λ (s : Seat). get_or (set levels p n) s.from 0 < get_or (set levels p n) k 0) (seats_at ss k)
-      by true e =
-          let is = eqb-true p k e in
-          moved k n (omega arith) (sym (wrote k ∙ ap (λ b. cond b n (get_or levels k 0)) e)) (seats_at ss k)
-          (ordered k (omega arith))
-          (subst (λ q. Each (λ (s : Seat). get_or levels s.from 0 < n) (seats_at ss q)) is one)
-      by false e =
-          let under = differ p k e lt in
-          moved k (get_or levels k 0) (omega arith) (left k under) (seats_at ss k) (ordered k (omega arith))
-          (above k up under)
-
--- The levels of the names of a graph rise along its chains
+-- The ranks of the names of a graph rise along its chains
 abbrev Rises : Graph → (ℕ → ℕ) → ℕ → Holder → Type 0
-Rises g level n Nobody = Unit {0}
-Rises g level n (Flow f) = Unit {0}
-Rises g level n (Currency c) = n < level (place (names_of g) c)
+Rises g rank n Nobody = Unit {0}
+Rises g rank n (Flow f) = Unit {0}
+Rises g rank n (Currency c) = n < rank (place (names_of g) c)
 
-abbrev rank : Graph → (ℕ → ℕ) → NameBytes → ℕ
-rank g level a = level (place (names_of g) a)
+abbrev rank_of : Graph → (ℕ → ℕ) → NameBytes → ℕ
+rank_of g rank a = rank (place (names_of g) a)
 
 abbrev RisesBy : Graph → (ℕ → ℕ) → Ticket → Type 0
-RisesBy g level t = Rises g level (rank g level t.denomination) t.holder
+RisesBy g rank t = Rises g rank (rank_of g rank t.denomination) t.holder
 
-module _ (g : Graph) (level : ℕ → ℕ) where
-  -- each step of a chain goes to a higher level
-  chain-none : (ts : List Ticket) → Each (RisesBy g level) ts → (n : ℕ) (a b : NameBytes)
-      → rank g level b < rank g level a + n → chain ts n a b ≡ false
+module _ (g : Graph) (rank : ℕ → ℕ) where
+  -- each step of a chain goes to a higher rank
+  chain-none : (ts : List Ticket) → Each (RisesBy g rank) ts → (n : ℕ) (a b : NameBytes)
+      → rank_of g rank b < rank_of g rank a + n → chain ts n a b ≡ false
   unfolding chain issued
   chain-none ts each zero a b less = by (bytes_eq a b) refl
     where
       by : (x : Bool) → bytes_eq a b ≡ x → bytes_eq a b ≡ false
-      by true e = let here = ap (rank g level) (same_name a b e) in absurd (omega arith)
+      by true e = let here = ap (rank_of g rank) (same_name a b e) in absurd (omega arith)
       by false e = e
   chain-none ts each (suc n) a b less =
       any-filter (λ (t : Ticket). bytes_eq a t.denomination)
       (λ (t : Ticket). leads_on (λ c. chain ts n c b) t.holder) ts
       ∙ none_any (λ (t : Ticket). bytes_eq a t.denomination && leads_on (λ c. chain ts n c b) t.holder) ts
-      (each_map (RisesBy g level) _
+      (each_map (RisesBy g rank) _
       (λ t up. by (λ c. chain-none ts each n c b) (bytes_eq a t.denomination) t refl up) ts each)
     where
-      on : ((c : NameBytes) → rank g level b < rank g level c + n → chain ts n c b ≡ false) → (h : Holder)
-          → Rises g level (rank g level a) h → leads_on (λ c. chain ts n c b) h ≡ false
+      on : ((c : NameBytes) → rank_of g rank b < rank_of g rank c + n → chain ts n c b ≡ false) → (h : Holder)
+          → Rises g rank (rank_of g rank a) h → leads_on (λ c. chain ts n c b) h ≡ false
       on rest Nobody up = refl
       on rest (Flow f) up = refl
       on rest (Currency c) up = rest c (omega arith)
 
-      by : ((c : NameBytes) → rank g level b < rank g level c + n → chain ts n c b ≡ false) → (x : Bool) (t : Ticket)
-          → bytes_eq a t.denomination ≡ x → RisesBy g level t
+      by : ((c : NameBytes) → rank_of g rank b < rank_of g rank c + n → chain ts n c b ≡ false) → (x : Bool) (t : Ticket)
+          → bytes_eq a t.denomination ≡ x → RisesBy g rank t
           → (bytes_eq a t.denomination && leads_on (λ c. chain ts n c b) t.holder) ≡ false
       by rest true t e up =
           ap (λ x. x && leads_on (λ c. chain ts n c b) t.holder) e
           ∙ on rest t.holder
-          (subst (λ d. Rises g level (rank g level d) t.holder) (sym (same_name a t.denomination e)) up)
+          (subst (λ d. Rises g rank (rank_of g rank d) t.holder) (sym (same_name a t.denomination e)) up)
       by rest false t e up = ap (λ x. x && leads_on (λ c. chain ts n c b) t.holder) e
 
-  pub within-none : (ts : List Ticket) → Each (RisesBy g level) ts → (n : ℕ) (a b : NameBytes)
-      → rank g level b < rank g level a → chain_within ts n a b ≡ false
+  pub within-none : (ts : List Ticket) → Each (RisesBy g rank) ts → (n : ℕ) (a b : NameBytes)
+      → rank_of g rank b < rank_of g rank a → chain_within ts n a b ≡ false
   unfolding chain_within
   within-none ts each zero a b less = chain-none ts each 0 a b (omega arith)
   within-none ts each (suc n) a b less =
       ap (λ x. x || chain ts (suc n) a b) (within-none ts each n a b less)
       ∙ chain-none ts each (suc n) a b (omega arith)
 
-  -- and levels are at most eight
-  runs-none : (ts : List Ticket) → Each (RisesBy g level) ts → ((p : ℕ) → level p ≤ 8) → (n : ℕ) (a : NameBytes)
-      → 8 < rank g level a + n → runs ts n a ≡ false
+  -- and ranks are at most eight
+  runs-none : (ts : List Ticket) → Each (RisesBy g rank) ts → ((p : ℕ) → rank p ≤ 8) → (n : ℕ) (a : NameBytes)
+      → 8 < rank_of g rank a + n → runs ts n a ≡ false
   unfolding runs issued
   runs-none ts each low zero a far = let here = low (place (names_of g) a) in absurd (omega arith)
   runs-none ts each low (suc n) a far =
       any-filter (λ (t : Ticket). bytes_eq a t.denomination) (λ (t : Ticket). leads_on (runs ts n) t.holder) ts
       ∙ none_any (λ (t : Ticket). bytes_eq a t.denomination && leads_on (runs ts n) t.holder) ts
-      (each_map (RisesBy g level) _
+      (each_map (RisesBy g rank) _
       (λ t up. by (λ c. runs-none ts each low n c) (bytes_eq a t.denomination) t refl up) ts each)
     where
-      on : ((c : NameBytes) → 8 < rank g level c + n → runs ts n c ≡ false) → (h : Holder)
-          → Rises g level (rank g level a) h → leads_on (runs ts n) h ≡ false
+      on : ((c : NameBytes) → 8 < rank_of g rank c + n → runs ts n c ≡ false) → (h : Holder)
+          → Rises g rank (rank_of g rank a) h → leads_on (runs ts n) h ≡ false
       on rest Nobody up = refl
       on rest (Flow f) up = refl
       on rest (Currency c) up = rest c (omega arith)
 
-      by : ((c : NameBytes) → 8 < rank g level c + n → runs ts n c ≡ false) → (x : Bool) (t : Ticket)
-          → bytes_eq a t.denomination ≡ x → RisesBy g level t
+      by : ((c : NameBytes) → 8 < rank_of g rank c + n → runs ts n c ≡ false) → (x : Bool) (t : Ticket)
+          → bytes_eq a t.denomination ≡ x → RisesBy g rank t
           → (bytes_eq a t.denomination && leads_on (runs ts n) t.holder) ≡ false
       by rest true t e up =
           ap (λ x. x && leads_on (runs ts n) t.holder) e
           ∙ on rest t.holder
-          (subst (λ d. Rises g level (rank g level d) t.holder) (sym (same_name a t.denomination e)) up)
+          (subst (λ d. Rises g rank (rank_of g rank d) t.holder) (sym (same_name a t.denomination e)) up)
       by rest false t e up = ap (λ x. x && leads_on (runs ts n) t.holder) e
 
-  pub deep-none : (ts : List Ticket) → Each (RisesBy g level) ts → ((p : ℕ) → level p ≤ 8)
-      → Each (λ (t : Ticket). bytes_eq t.denomination base ≡ false → 1 ≤ rank g level t.denomination) ts
+  pub deep-none : (ts : List Ticket) → Each (RisesBy g rank) ts → ((p : ℕ) → rank p ≤ 8)
+      → Each (λ (t : Ticket). bytes_eq t.denomination base ≡ false → 1 ≤ rank_of g rank t.denomination) ts
       → is_deep ts ≡ false
   unfolding is_deep
   deep-none ts each low high =
       none_any (λ (t : Ticket). not (bytes_eq t.denomination base) && runs ts 8 t.denomination) ts
-      (each_map (λ (t : Ticket). bytes_eq t.denomination base ≡ false → 1 ≤ rank g level t.denomination) _
+      (each_map (λ (t : Ticket). bytes_eq t.denomination base ≡ false → 1 ≤ rank_of g rank t.denomination) _
       (λ t up. by (bytes_eq t.denomination base) t refl up) ts high)
     where
       by : (x : Bool) (t : Ticket) → bytes_eq t.denomination base ≡ x
-          → (bytes_eq t.denomination base ≡ false → 1 ≤ rank g level t.denomination)
+          → (bytes_eq t.denomination base ≡ false → 1 ≤ rank_of g rank t.denomination)
           → (not (bytes_eq t.denomination base) && runs ts 8 t.denomination) ≡ false
       by true t e up = ap (λ x. not x && runs ts 8 t.denomination) e
       by false t e up =
           let some = up e in
           ap (λ x. not x && runs ts 8 t.denomination) e ∙ runs-none ts each low 8 t.denomination (omega arith)
 
-  -- the first ticket of a number gets a holder at a higher level
+  -- the first ticket of a number gets a holder at a higher rank
   rises-written : (n : ℕ) (c : NameBytes) (ts : List Ticket) (t : Ticket) → find (is_numbered n) ts ≡ Some t
-      → rank g level t.denomination < rank g level c → Each (RisesBy g level) ts
-      → Each (RisesBy g level) (with_holder n (Currency c) ts)
+      → rank_of g rank t.denomination < rank_of g rank c → Each (RisesBy g rank) ts
+      → Each (RisesBy g rank) (with_holder n (Currency c) ts)
   unfolding change_first
   rises-written n c [] t found less each = tt
   rises-written n c (x ∷ ts) t found less each = by (is_numbered n x) found (rises-written n c ts t)
     where
       by : (b : Bool) → cond b (Some x) (find (is_numbered n) ts) ≡ Some t
-          → (find (is_numbered n) ts ≡ Some t → rank g level t.denomination < rank g level c
-          → Each (RisesBy g level) ts → Each (RisesBy g level) (with_holder n (Currency c) ts))
-          → Each (RisesBy g level) (cond b (held_by (Currency c) x ∷ ts) (x ∷ with_holder n (Currency c) ts))
+          → (find (is_numbered n) ts ≡ Some t → rank_of g rank t.denomination < rank_of g rank c
+          → Each (RisesBy g rank) ts → Each (RisesBy g rank) (with_holder n (Currency c) ts))
+          → Each (RisesBy g rank) (cond b (held_by (Currency c) x ∷ ts) (x ∷ with_holder n (Currency c) ts))
       by true e rest =
-          (subst (λ (y : Ticket). rank g level y.denomination < rank g level c) (sym (same_Some x t e)) less, each.1)
+          (subst (λ (y : Ticket). rank_of g rank y.denomination < rank_of g rank c) (sym (same_Some x t e)) less, each.1)
       by false e rest = (each.0, rest e less each.1)
 
   high-written : (n : ℕ) (c : NameBytes) (P : NameBytes → Type 0) (ts : List Ticket)
@@ -205,18 +147,18 @@ module _ (g : Graph) (level : ℕ → ℕ) where
       each-change_first (λ (t : Ticket). P t.denomination) (λ (t : Ticket). P t.denomination) (is_numbered n)
       (held_by (Currency c)) (λ t e. e) (λ t e. e) ts each
 
--- The seats of a graph that have levels
-module _ (g : Graph) (ok : IsKept g) (ss : List (List Seat)) (seated : AreSeated (backs_of g) ss) (level : ℕ → ℕ)
-    (levels : AreLevels ss level) where
+-- The seats of a graph that have ranks
+module _ (g : Graph) (ok : IsKept g) (ss : List (List Seat)) (seated : AreSeated (backs_of g) ss) (rank : ℕ → ℕ)
+    (ranks : AreRanks ss rank) where
   -- what counts against a seat at a place
   abbrev fault : ℕ → Seat → ℕ
-  fault p s = cond (nat_lt (level s.from) (level p)) 0 1
+  fault p s = cond (nat_lt (rank s.from) (rank p)) 0 1
 
-  no-faults : (p : ℕ) (xs : List Seat) → Each (λ (s : Seat). level s.from < level p) xs → sum_by (fault p) xs ≡ 0
+  no-faults : (p : ℕ) (xs : List Seat) → Each (λ (s : Seat). rank s.from < rank p) xs → sum_by (fault p) xs ≡ 0
   no-faults p [] each = refl
   no-faults p (x ∷ xs) each =
       let rest = no-faults p xs each.1 in
-      let less = lt-ltb (level x.from) (level p) each.0 in
+      let less = lt-ltb (rank x.from) (rank p) each.0 in
       let here = ap {B = ℕ} (λ b. cond b 0 1) less in
       sum_by-cons (fault p) x xs ∙ omega arith
 
@@ -227,7 +169,7 @@ module _ (g : Graph) (ok : IsKept g) (ss : List (List Seat)) (seated : AreSeated
   no-ticket_faults : (p : ℕ) → 0 < p → p < 65 → sum_by (ticket-part p) g.tickets ≡ 0
   no-ticket_faults p up lt =
       sym
-      (sym (no-faults p (seats_at ss p) (levels.above p up lt)) ∙ seated.seated (fault p) p lt
+      (sym (no-faults p (seats_at ss p) (ranks.above p up lt)) ∙ seated.seated (fault p) p lt
       ∙ sum-routes g (λ (r : Route). cond (nat_eq p r.to) (fault p (seat_of r)) 0) true)
 
   at-place : (p : ℕ) → 0 < p → p < 65 → Each (λ t. ticket-part p t ≡ 0) g.tickets
@@ -248,13 +190,13 @@ module _ (g : Graph) (ok : IsKept g) (ss : List (List Seat)) (seated : AreSeated
   rises-at : (n : ℕ) (h : Holder) → IsHolderKnown g h → is_held_by_currency base h ≡ false
       → ((p : ℕ) → 0 < p → p < 65
       → ◌≡◌ {A = ℕ}
-      (cond (is_kind true h) (cond (nat_eq p (holder_place g h)) (cond (nat_lt (level n) (level p)) 0 1) 0) 0) 0)
-      → Rises g level (level n) h
+      (cond (is_kind true h) (cond (nat_eq p (holder_place g h)) (cond (nat_lt (rank n) (rank p)) 0 1) 0) 0) 0)
+      → Rises g rank (rank n) h
   rises-at n Nobody known unbacked none = tt
   rises-at n (Flow f) known unbacked none = tt
   rises-at n (Currency c) known unbacked none =
       let p = place (names_of g) c in
-      by (level n) (level p) p (nat_lt (level n) (level p)) refl
+      by (rank n) (rank p) p (nat_lt (rank n) (rank p)) refl
       (none p (past-base c (name_sym c base ∙ unbacked)) (below g ok c known))
     where
       itself : (p : ℕ) → nat_eq p p ≡ true
@@ -269,27 +211,27 @@ module _ (g : Graph) (ok : IsKept g) (ss : List (List Seat)) (seated : AreSeated
 
   rises-each : (ts : List Ticket) → Each (IsPlaced g) ts
       → Each (λ (t : Ticket). is_held_by_currency base t.holder ≡ false) ts
-      → Each (λ t. (p : ℕ) → 0 < p → p < 65 → ticket-part p t ≡ 0) ts → Each (RisesBy g level) ts
+      → Each (λ t. (p : ℕ) → 0 < p → p < 65 → ticket-part p t ≡ 0) ts → Each (RisesBy g rank) ts
   rises-each [] known unbacked none = tt
   rises-each (t ∷ ts) known unbacked none = (
     rises-at (place (names_of g) t.denomination) t.holder known.0.holder_known unbacked.0 none.0,
     rises-each ts known.1 unbacked.1 none.1,
   )
 
-  -- a ticket that would lead to a higher level makes no chain too long, and none that leads back
-  pub levels-stand : (n : ℕ) (c : NameBytes) (t : Ticket) → ticket_of g n ≡ Some t
-      → level (place (names_of g) t.denomination) < level (place (names_of g) c)
+  -- a ticket that would lead to a higher rank makes no chain too long, and none that leads back
+  pub ranks-stand : (n : ℕ) (c : NameBytes) (t : Ticket) → ticket_of g n ≡ Some t
+      → rank (place (names_of g) t.denomination) < rank (place (names_of g) c)
       → (chain_within g.tickets 8 c t.denomination ≡ false) × (is_deep (with_holder n (Currency c) g.tickets) ≡ false)
-  levels-stand n c t found less =
+  ranks-stand n c t found less =
       let rises =
       rises-each g.tickets (placed g ok) ok.shallow.unbacked
       (each-swap (λ p t. ticket-part p t ≡ 0) g.tickets at-place) in
       let high =
-      each_map (IsPlaced g) (λ (t : Ticket). bytes_eq t.denomination base ≡ false → 1 ≤ rank g level t.denomination)
-      (λ t known apart. levels.high (place (names_of g) t.denomination) (past-base t.denomination apart)
+      each_map (IsPlaced g) (λ (t : Ticket). bytes_eq t.denomination base ≡ false → 1 ≤ rank_of g rank t.denomination)
+      (λ t known apart. ranks.high (place (names_of g) t.denomination) (past-base t.denomination apart)
       (below g ok t.denomination known.denomination_known)) g.tickets (placed g ok) in (
-        within-none g level g.tickets rises 8 c t.denomination less,
-        deep-none g level (with_holder n (Currency c) g.tickets)
-            (rises-written g level n c g.tickets t found less rises) levels.low
-            (high-written g level n c (λ d. bytes_eq d base ≡ false → 1 ≤ rank g level d) g.tickets high),
+        within-none g rank g.tickets rises 8 c t.denomination less,
+        deep-none g rank (with_holder n (Currency c) g.tickets)
+            (rises-written g rank n c g.tickets t found less rises) ranks.low
+            (high-written g rank n c (λ d. bytes_eq d base ≡ false → 1 ≤ rank_of g rank d) g.tickets high),
       )

@@ -1,5 +1,5 @@
 -- Jobs that are begun from the last to the first, and joined from the first to the last.
-use Rattle.std.proofs.Common.{◌≡◌, ℕ, inl, inr, List, [], ◌∷◌, ◌++◌, length, reverse, Option, Result, Ok, Err}
+use Rattle.std.proofs.Common.{◌≡◌, ◌⊎◌, ℕ, inl, inr, List, [], ◌∷◌, ◌++◌, length, reverse, Option, Result, Ok, Err}
 use Rattle.std.proofs.Common.{MatchResult, arith}
 use Rattle.std.proofs.Common.{refl, sym, ap, ◌∙◌, subst}
 use Rattle.std.proofs.lemmas.List.{append_assoc, append-nil, reverse-append}
@@ -96,12 +96,12 @@ joined_all all slots dones P Q f e =
     f.split ∙ ap (λ t. f.front ++ t) (matches_none P f.rest none) ∙ append-nil f.front in
     subst (λ t. Matches Q t dones) (sym is) f.joined
 
--- what one joined leaves is that of its job
-pub finished : {A H D : Type 0} (y : Result H D) (r : D) (Q : A → D → Type 0) (job_of : H → A)
-    → MatchResult y (λ h. Q (job_of h) r) (λ d. r ≡ d) → (x : A) → MatchResult y (λ h. job_of h ≡ x) (λ d. Q x d)
-    → Q x r
-finished (Ok h) r Q job_of f x g = subst (λ a. Q a r) g f
-finished (Err d) r Q job_of f x g = subst (λ e. Q x e) (sym f) g
+-- what one joined leaves is that of its job, which was done or not started
+pub finished : {A H D : Type 0} (y : Result H D) (r : D) (P Q : A → D → Type 0) (job_of : H → A)
+    → MatchResult y (λ h. P (job_of h) r) (λ d. r ≡ d) → (x : A) → MatchResult y (λ h. job_of h ≡ x) (Q x)
+    → P x r ⊎ Q x r
+finished (Ok h) r P Q job_of f x g = inl (subst (λ a. P a r) g f)
+finished (Err d) r P Q job_of f x g = inr (subst (λ e. Q x e) (sym f) g)
 
 -- The ends of jobs
 

@@ -20,6 +20,17 @@ pub record IsWorkDone {R G : Type 0} (gives : R → List ℕ → Got → R → T
   pub worked : Worked (left_of left job.reader) job.end done.end done.tally done.why
   pub ran : RanOut gives told job.reader job.end job.gate done.tally done.why done.end done.gate
 
+-- a job was done, which is one of these
+pub record IsDoneOfOne {R G : Type 0} (is : Job R G → Type 0) (gives : R → List ℕ → Got → R → Type 0)
+    (left : R → Option (List ℕ)) (told : G → GateCall → G → Type 0) (done : Done G) : Type 0 where
+  pub job : Job R G
+  pub one : is job
+  pub work : IsWorkDone gives left told job done
+
+-- of x alone that holds
+abbrev pub IsOnly : {X : Type 0} → (X → Type 0) → X → Type 0
+IsOnly {X} is x = is x × ((y : X) → is y → y ≡ x)
+
 abbrev pub IsJobDone : {R G : Type 0} → (R → List ℕ → Got → R → Type 0) → (R → Option (List ℕ))
     → (G → GateCall → G → Type 0) → Job R G → Done G → Type 0
 IsJobDone gives left told job done = IsWorkDone gives left told job done ⊎ IsNotStarted job done

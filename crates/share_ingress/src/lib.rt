@@ -3,6 +3,7 @@
 
 mod counted;
 mod ends;
+mod handing;
 mod held;
 mod laws;
 mod reader;

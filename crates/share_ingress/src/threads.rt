@@ -2,16 +2,18 @@
 ghost use Rattle.std.specs.Prelude.{◌≡◌, ◌<◌, ◌≤◌, ◌+◌, ◌++◌, ◌∷◌, [], IfOk, IfErr, MatchResult, vec_len, vec_capacity};
 ghost use Rattle.share_model.specs.lists.Each.{Each};
 ghost use Rattle.share_ingress.specs.Names.{LinkName};
-ghost use Rattle.share_ingress.specs.Threads.{IsJobDone, IsNotStarted, Matches};
+ghost use Rattle.share_ingress.specs.Threads.{IsDoneOfOne, IsJobDone, IsNotStarted, IsOnly, IsWorkDone, Matches};
 
 use crate::ends::IngressEnd;
+use crate::handing;
+use crate::handing::{Inbox, Known};
 use crate::reader::IngressReader;
 use crate::workers::{Done, Gate, Why, run_worker};
 use share_model::Source;
 use std::alloc::Global;
+use std::marker::Brand;
 use std::snapshot::Snapshot;
-use std::sync::atomic::{AtomicU64, Ordering};
-use std::sync::{Arc, Wait};
+use std::sync::{Arc, Mutex, Wait};
 use std::thread;
 use std::thread::{Promise, PromisedHandle, Threads};
 
@@ -28,9 +30,9 @@ pub struct Job<R: Source, G> {
 struct WorkOf<R: Source, G>(Snapshot<Job<R, G>>);
 
 impl<R: Source, G: Gate> Promise<Done<G>> for WorkOf<R, G> {
-    ghost use Rattle.share_ingress.specs.Threads.{IsJobDone};
+    ghost use Rattle.share_ingress.specs.Threads.{IsWorkDone};
 
-    ghost kept_by = { λ p done. IsJobDone R.gives R.left G.told p.0.value done };
+    ghost kept_by = { λ p done. IsWorkDone R.gives R.left G.told p.0.value done };
 }
 
 // A worker at work, or one that was not started.
@@ -81,47 +83,59 @@ fn put_last<A: Drop>(list: &mut Vec<A>, item: A)
     };
 }
 
-// Starts a job in a thread of its own. Where there is none, the thread's function is called here, and finds by its word
-// that it is not to start the job.
+// Starts a job in a thread of its own. It is handed over once the thread is there: where none was to be had, it is still
+// here.
 fn start<T, R, G>(rt: &T, alloc: Global, job: Job<R, G>) -> Begun<R, G>
 where
     T: Threads + Wait + Copy + Send + 'static,
     R: Source + Send + Drop + 'static,
     G: Gate + Send + Drop + 'static,
-    ensures { MatchResult result (λ handle. handle.promise.0.value ≡ job)
-        (λ done. IsJobDone R.gives R.left G.told job done) }
+    ensures { MatchResult result (λ handle. handle.promise.0.value ≡ job) (IsNotStarted job) }
 {
-    let Ok(word) = Arc::new(alloc, AtomicU64::new(0)) else {
+    start_as::<T, R, G, Brand>(rt, alloc, job)
+}
+
+// The same, where the thread knows of the job that it takes that it is this one.
+fn start_as<T, R, G, K>(rt: &T, alloc: Global, job: Job<R, G>) -> Begun<R, G>
+where
+    T: Threads + Wait + Copy + Send + 'static,
+    R: Source + Send + Drop + 'static,
+    G: Gate + Send + Drop + 'static,
+    K: Known<Job<R, G>> + Send + 'static,
+    requires { IsOnly K.is job }
+    ensures { MatchResult result (λ handle. handle.promise.0.value ≡ job) (IsNotStarted job) }
+{
+    let Ok(inbox) = Arc::new(alloc, Mutex::new(None)) else {
         return Err(not_started(job));
     };
-    let Ok(theirs) = Arc::try_clone(&word) else {
+    let Ok(theirs) = Arc::try_clone(&inbox) else {
         return Err(not_started(job));
     };
     let promise = WorkOf(Snapshot::of(&job));
     let own = *rt;
-    match thread::spawn_with(rt, promise, move || {
-        let mine = job;
-        work_unless(&own, &theirs, mine)
-    }) {
-        Ok(handle) => Ok(handle),
-        Err(refused) => {
-            word.store(1, Ordering::SeqCst);
-            Err((refused.value)())
+    match thread::spawn_with(
+        rt,
+        promise,
+        move || work_on_next::<T, R, G, K>(&own, &theirs),
+    ) {
+        Ok(handle) => {
+            handing::put::<T, Job<R, G>, K>(rt, &inbox, job);
+            Ok(handle)
         }
+        Err(_) => Err(not_started(job)),
     }
 }
 
-// Does a job, unless the word is set.
-fn work_unless<T, R, G>(rt: &T, word: &AtomicU64, job: Job<R, G>) -> Done<G>
+// Does the job that is handed over.
+fn work_on_next<T, R, G, K>(rt: &T, inbox: &Inbox<Job<R, G>, K>) -> Done<G>
 where
     T: Wait,
     R: Source + Drop,
     G: Gate + Drop,
-    ensures { IsJobDone R.gives R.left G.told job result }
+    K: Known<Job<R, G>>,
+    ensures { IsDoneOfOne K.is R.gives R.left G.told result }
 {
-    if word.load(Ordering::SeqCst) != 0 {
-        return not_started(job);
-    }
+    let job = handing::take::<T, Job<R, G>, K>(rt, inbox);
     let Job { reader, end, gate } = job;
     run_worker(rt, reader, end, gate)
 }
@@ -143,7 +157,7 @@ fn not_started<R: Source + Drop, G: Gate + Drop>(job: Job<R, G>) -> Done<G>
 }
 
 fn finish<T: Threads, R: Source, G: Gate>(rt: &T, begun: Begun<R, G>) -> Done<G>
-    ensures { MatchResult begun (λ handle. IsJobDone R.gives R.left G.told handle.promise.0.value result)
+    ensures { MatchResult begun (λ handle. IsWorkDone R.gives R.left G.told handle.promise.0.value result)
         (λ done. result ≡ done) }
 {
     match begun {

@@ -1,4 +1,5 @@
 use Rattle.std.proofs.Common.{◌≡◌, ◌∙◌, length, arith}
+use Rattle.share_ingress.specs.Threads.{IsNotStarted, IsWorkDone}
 use Rattle.share_ingress.proofs.ThreadSteps.{begun_none, begun_more, joined_none, joined_more, joined_all, finished}
 use Rattle.share_ingress.proofs.ThreadSteps.{nil_of, matches_more, each_matched, same_link}
 use Rattle.share_ingress.proofs.threads.run_workers.Goals as goal
@@ -40,8 +41,9 @@ loop-one-init g c =
 pub loop-one-preserved : goal.loop-one-preserved
 loop-one-preserved g c = record {
   joined = joined_more _ _ _ _ _ _ _ c.in-Some-pop.one c.finish.result c.in-Some-pop.ensures.items
-      c.put_last-in-Some-pop.ensures.items (finished c.in-Some-pop.one c.finish.result _
-      (λ handle. handle.promise.0.value) c.finish.ensures)
+      c.put_last-in-Some-pop.ensures.items (finished c.in-Some-pop.one c.finish.result
+      (IsWorkDone g.R.Source.gives g.R.Source.left g.G.Gate.told) IsNotStarted (λ handle. handle.promise.0.value)
+      c.finish.ensures)
       c.loop-one.invariant.joined;
   total = omega (arith, c.loop-one.invariant.total, c.in-Some-pop.ensures.cases, c.put_last-in-Some-pop.ensures.len);
   space = omega (arith, c.loop-one.invariant.space, c.put_last-in-Some-pop.ensures.capacity);

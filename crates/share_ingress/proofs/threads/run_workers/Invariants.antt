@@ -1,13 +1,12 @@
 use Rattle.std.proofs.Common.{◌≡◌, ◌≤◌, ◌+◌, [], MatchResult, vec_len, vec_capacity}
-use Rattle.share_ingress.specs.Threads.{IsJobDone}
+use Rattle.share_ingress.specs.Threads.{IsJobDone, IsNotStarted}
 use Rattle.share_ingress.proofs.ThreadSteps.{Begun, Joined}
 use Rattle.share_ingress.proofs.threads.run_workers.Given as goal
 
 abbrev pub invariant-loop-job : goal.invariant-loop-job
 invariant-loop-job g l = record {
   begun : Begun l.fn.jobs.items l.jobs.items l.begun.items
-      (λ job slot. MatchResult slot (λ handle. handle.promise.0.value ≡ job)
-      (λ done. IsJobDone g.R.Source.gives g.R.Source.left g.G.Gate.told job done));
+      (λ job slot. MatchResult slot (λ handle. handle.promise.0.value ≡ job) (IsNotStarted job));
   all : l.all.items ≡ [];
   len : vec_len l.all ≡ 0;
   total : vec_len l.begun + vec_len l.jobs ≡ vec_len l.fn.jobs;
@@ -21,9 +20,8 @@ decreases-loop-job g l = vec_len l.jobs
 abbrev pub invariant-loop-one : goal.invariant-loop-one
 invariant-loop-one g l = record {
   joined : Joined l.fn.jobs.items l.begun.items l.all.items
-      (λ job slot. MatchResult slot (λ handle. handle.promise.0.value ≡ job)
-      (λ done. IsJobDone g.R.Source.gives g.R.Source.left g.G.Gate.told job done)) (IsJobDone g.R.Source.gives
-      g.R.Source.left g.G.Gate.told);
+      (λ job slot. MatchResult slot (λ handle. handle.promise.0.value ≡ job) (IsNotStarted job))
+      (IsJobDone g.R.Source.gives g.R.Source.left g.G.Gate.told);
   total : vec_len l.begun + vec_len l.all ≡ vec_len l.fn.jobs;
   space : vec_len l.fn.jobs ≤ vec_capacity l.all;
 }

@@ -1,0 +1,57 @@
+//! An item is handed over to a thread that has been started, with what is known of it.
+ghost use Rattle.std.specs.Prelude.{⊤};
+
+use std::marker::{Brand, Model, PhantomData};
+use std::sync::{Mutex, Wait};
+use std::thread;
+
+/// What the thread that takes an item knows of it. Who hands the item over picks it.
+pub(crate) trait Known<X> {
+    ghost is: { X → Type 0 };
+}
+
+impl<X> Known<X> for Brand {
+    ghost is = { λ _. ⊤ };
+}
+
+/// An item of which this is known.
+#[derive(Drop)]
+pub(crate) struct Handed<X, K: Known<X>> {
+    item: X,
+    of: PhantomData<K>,
+}
+
+impl<X, K: Known<X>> Model for Handed<X, K> {
+    ghost Value = { X };
+
+    ghost view = { λ h. h.item };
+
+    ghost invariant = { λ h. K.is h.item };
+}
+
+/// Where an item is put and taken.
+pub(crate) type Inbox<X, K> = Mutex<Option<Handed<X, K>>>;
+
+/// Puts an item.
+pub(crate) fn put<T: Wait, X: Drop, K: Known<X>>(rt: &T, inbox: &Inbox<X, K>, item: X)
+    requires { K.is item }
+{
+    *inbox.lock(rt) = Some(Handed {
+        item,
+        of: PhantomData,
+    });
+}
+
+/// Takes the item once there is one.
+pub(crate) fn take<T: Wait, X: Drop, K: Known<X>>(rt: &T, inbox: &Inbox<X, K>) -> X
+    ensures { K.is result }
+{
+    for _ in rt.forever() {
+        if let Some(handed) = inbox.lock(rt).take() {
+            let Handed { item, .. } = handed;
+            return item;
+        }
+        thread::yield_now();
+    }
+    unreachable!()
+}

@@ -216,7 +216,7 @@ module _ {W : Type 0} (told : W → Option Told) (old new : Seen W) (journal : J
       let count = count_of old new same in absurd (omega (arith, count, more))
   asked_ran (asked_made living ran) more = ran
 
-  made_more : Ran told old (e ∷ []) (Replied reply ∷ []) new
+  pub made_more : Ran told old (e ∷ []) (Replied reply ∷ []) new
       → old.live.counts.events < new.live.counts.events
   made_more ran =
       let es = events_of journal.entries in

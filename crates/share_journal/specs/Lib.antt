@@ -1,3 +1,6 @@
+pub mod ArrivalLaws
+pub mod ArrivalRows
+pub mod Arrivals
 pub mod Entries
 pub mod Records
 pub mod Replays

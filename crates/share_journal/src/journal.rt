@@ -80,6 +80,13 @@ impl Journal {
         Some(&self.entries[(number - 1) as usize])
     }
 
+    /// All entries, in order.
+    pub fn entries(&self) -> &[Entry]
+        ensures { result.now ≡ self.now.entries }
+    {
+        self.entries.as_slice()
+    }
+
     /// Puts an entry at the end of a journal that is not full. It takes no memory.
     pub fn push(&mut self, entry: Entry)
         requires { length self.old.entries < self.old.life }

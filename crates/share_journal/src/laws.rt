@@ -1,10 +1,16 @@
 //! What holds of every recorder and its journal. A function here does nothing: its contract is a law, which is proved
 //! with it.
-ghost use Rattle.std.specs.Prelude.{◌≤◌, ℕ, Bool, List};
+ghost use Rattle.std.specs.Prelude.{◌≡◌, ◌≤◌, ◌++◌, ◌∷◌, [], ℕ, Bool, List};
 ghost use Rattle.share_model.specs.text.Audit.{IsAmple, audit};
 ghost use Rattle.share_model.specs.text.Talk.{start, talk, lines_of, FoundMemory};
 ghost use Rattle.share_model.specs.Headline.{Headline};
-ghost use Rattle.share_journal.specs.Entries.{events_of, replies_of};
+ghost use Rattle.share_base.specs.declared.command.Command.{Command};
+ghost use Rattle.share_base.specs.declared.command.Reply.{Reply};
+ghost use Rattle.share_base.specs.declared.command.Turn.{Turn};
+ghost use Rattle.share_model.specs.ingress.Queue.{Numbered};
+ghost use Rattle.share_journal.specs.Arrivals.{arrivals, arrivals_of, next_of};
+ghost use Rattle.share_journal.specs.Entries.{events_of, replies_of, command_entry, arrival_entry, turn_entries};
+ghost use Rattle.share_journal.specs.declared.entry.Entry.{Entry};
 ghost use Rattle.share_journal.specs.Replays.{IsReplayOf};
 
 use crate::recorder::Recorder;
@@ -37,3 +43,16 @@ pub fn audits_replay<W: Telling, S: Rates>(recorder: &Recorder<W, S>)
     // What `journal` answers is not used: its contract says that the entries are a run.
     let _ = recorder.journal();
 }
+
+/// The arrivals of a journal are numbered 1, 2, .. of each worker, whatever its entries. An arrival that is journaled
+/// is its worker's next one; commands, turns and faults are none.
+pub fn arrivals_are_numbered()
+    ensures numbers { (entries : List Entry) (worker : ℕ) → Numbered 0 (arrivals_of worker entries) }
+    ensures arrival { (entries : List Entry) (worker : ℕ) (name body : List ℕ) (reply : Reply)
+        → arrivals (entries ++ arrival_entry worker name body reply ∷ [])
+        ≡ arrivals entries ++ next_of (arrivals entries) worker name body ∷ [] }
+    ensures command { (entries : List Entry) (clerk : ℕ) (command : Command) (reply : Reply)
+        → arrivals (entries ++ command_entry clerk command reply ∷ []) ≡ arrivals entries }
+    ensures turn { (entries : List Entry) (turn : Turn)
+        → arrivals (entries ++ turn_entries turn) ≡ arrivals entries }
+{}

@@ -13,5 +13,5 @@ mod tests;
 pub use audit::Fault;
 pub use entry::{Entry, Source};
 pub use journal::Journal;
-pub use laws::{audits_replay, recorders_are_one_fold};
+pub use laws::{arrivals_are_numbered, audits_replay, recorders_are_one_fold};
 pub use recorder::Recorder;

@@ -1,9 +1,11 @@
 //! A link with its journal.
 ghost use Rattle.std.specs.Prelude.{◌≡◌, ◌<◌, ◌≤◌, ◌++◌, [], length, IfOk, IfErr, IfSome, true, false};
+ghost use Rattle.share_model.specs.link.Answers.{answers_event};
 ghost use Rattle.share_model.specs.link.Did.{Steps, CommandDid, TurnDid, TearDid};
 ghost use Rattle.share_model.specs.link.Live.{arrive_step};
 ghost use Rattle.share_journal.specs.Entries.{command_entry, arrival_entry, turn_entries, noted};
-ghost use Rattle.share_journal.specs.Records.{Recorded, IsRunNow, AcceptedNothing, are_new, made_event, entry_if};
+ghost use Rattle.share_journal.specs.Records.{Recorded, IsRunNow, AcceptedNothing, are_new, made_event};
+ghost use Rattle.share_journal.specs.Records.{entry_if};
 
 use crate::entry::{self, Entry, Source};
 use crate::journal::Journal;
@@ -94,13 +96,15 @@ impl<W: Telling, S: Rates> Recorder<W, S> {
         (engine, journal)
     }
 
-    /// The command of a clerk, as `Engine::command` makes it, and its entry where it was an event.
+    /// The command of a clerk, as `Engine::command` makes it, and its entry where it was an event: where the answer is
+    /// neither `Spent` nor `NoMemory`.
     pub fn command(&mut self, clerk: u64, command: Command) -> Reply
         ensures did { CommandDid self.old.link command result self.new.link }
         ensures entry { self.new.entries
             ≡ self.old.entries
             ++ entry_if (made_event self.old.link self.new.link)
             (command_entry clerk command result) }
+        ensures event { made_event self.old.link self.new.link ≡ answers_event result }
     {
         let event = entry::commanded(&command);
         let before = self.engine.events();
@@ -115,14 +119,15 @@ impl<W: Telling, S: Rates> Recorder<W, S> {
     }
 
     /// The packet of a worker for the flow of a name, as `Engine::arrive` takes it, and its entry where it was an
-    /// event. One copy of the payload goes into the buffer of the flow, and the other into the entry. It takes no
-    /// memory.
+    /// event: where the answer is not `Spent`. One copy of the payload goes into the buffer of the flow, and the other
+    /// into the entry. It takes no memory.
     pub fn arrive(&mut self, worker: u64, flow: Name, parcel: Parcel) -> Reply
         ensures did { Steps (λ _ l. arrive_step l flow parcel) self.old.link result self.new.link }
         ensures entry { self.new.entries
             ≡ self.old.entries
             ++ entry_if (made_event self.old.link self.new.link)
             (arrival_entry worker flow parcel result) }
+        ensures event { made_event self.old.link self.new.link ≡ answers_event result }
     {
         let (sending, body) = parcel.split();
         let event = entry::arrived(flow, body);

@@ -1,4 +1,6 @@
 -- A link: its packets, frames and tariffs, what it holds, and what each call does to it.
+pub mod AnswerLaws
+pub mod Answers
 pub mod BufferLaws
 pub mod Buffers
 pub mod CommandLaws

@@ -4,6 +4,7 @@ use Rattle.share_base.specs.declared.command.Event.TheVariants.{Arrived}
 use Rattle.share_model.specs.run.Laws.{arrive-asked}
 use Rattle.share_journal.specs.declared.entry.Source.TheVariants.{Worker}
 use Rattle.share_journal.proofs.Runs.{run-sound, replied_entry, same_test, asked-room, asked-kept}
+use Rattle.share_journal.proofs.Answered.{arrival-answers}
 use Rattle.share_journal.proofs.recorder.Recorder.arrive.Goals as goal
 
 pub note_if-requires : goal.note_if-requires
@@ -33,3 +34,13 @@ invariant_of-self g c =
     ∙ ap (Arrived c.args.flow) (c.split-sending.ensures.audit ∙ sym c.split-sending.ensures.sending)))
     c.note_if.new.journal
     c.note_if.ensures
+
+pub returns-clause-event : goal.returns-clause-event
+returns-clause-event g c =
+    rw (← c.self.view_is)
+    (arrival-answers g.W.Telling.told c.self.inside.engine c.arrive-reply.new.self c.arrive-reply.result
+    c.self.inside.journal c.self.invariant c.args.flow c.split-sending.result.0
+    (arrive-asked g.W.Telling.told c.self.inside.engine c.arrive-reply.result c.arrive-reply.new.self
+    c.self.invariant.1.range (run-sound c.self.invariant.1) c.args.flow c.split-sending.result.0
+    c.arrive-reply.ensures.fields c.arrive-reply.ensures.did)
+    c.arrive-reply.ensures.did)

@@ -4,6 +4,7 @@ use Rattle.share_base.specs.declared.command.Event.TheVariants.{Commanded}
 use Rattle.share_model.specs.run.Laws.{command-asked}
 use Rattle.share_journal.specs.declared.entry.Source.TheVariants.{Clerk}
 use Rattle.share_journal.proofs.Runs.{run-sound, replied_entry, same_test, asked-room, asked-kept}
+use Rattle.share_journal.proofs.Answered.{command-answers}
 use Rattle.share_journal.proofs.recorder.Recorder.command.Goals as goal
 
 pub note_if-requires : goal.note_if-requires
@@ -30,3 +31,13 @@ invariant_of-self g c =
     (c.replied.ensures ∙ ap (λ (e : Event). replied_entry e c.command-reply.result (Clerk c.args.clerk))
     c.commanded-event.ensures) c.note_if.new.journal
     c.note_if.ensures
+
+pub returns-clause-event : goal.returns-clause-event
+returns-clause-event g c =
+    rw (← c.self.view_is)
+    (command-answers g.W.Telling.told c.self.inside.engine c.command-reply.new.self c.command-reply.result
+    c.self.inside.journal c.self.invariant c.args.command
+    (command-asked g.W.Telling.told c.self.inside.engine c.command-reply.result c.command-reply.new.self
+    c.self.invariant.1.range (run-sound c.self.invariant.1) c.args.command c.command-reply.ensures.fields
+    c.command-reply.ensures.did)
+    c.command-reply.ensures.did)

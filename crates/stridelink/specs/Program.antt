@@ -36,3 +36,10 @@ pub record RanPart (before after_it : Option (List ℕ)) (life : ℕ) (rates : L
   pub rest : List ℕ
   pub printed : Appends before after_it text
   pub begins : printout life rates lacks read ≡ text ++ rest
+
+-- a beginning of the text was printed, the answers up to the first refusal without its line feed, and then a line feed
+pub record RanToRefusal (before after_it : Option (List ℕ)) (life : ℕ) (rates : List Rate) (script : List ℕ)
+    (left : Option (List ℕ)) : Type 0 where
+  pub at_refusal : Option (List ℕ)
+  pub part : RanPart before at_refusal life rates script left
+  pub ends : Appends at_refusal after_it (10 ∷ [])

@@ -1,7 +1,20 @@
 //! What help tells of scripts.
 
-/// Their lines, the words of these, the answers, and why a line is refused.
-pub const SCRIPTS: &str = "Lines of a script, whose words are parted by one space:
+/// An example, their lines, the words of these, the tariffs, the answers, why a line is refused, and how a run ends.
+pub const SCRIPTS: &str = "An example, a script that sends one packet:
+  open a 4 1         a flow named a, with room for 4 packets, under tariff 1
+  mktkt 10 base      ticket 1, of 10 units of the base currency
+  fund 1 flow a      which funds the flow
+  send a 6869        a packet of two bytes comes for it
+  turn 65535         the link sends its frame
+Its answers, with 14 bytes written, which come to 14 on the account of the flow:
+  flow 1
+  ticket 1
+  ok
+  packet 1 1
+  wrote 1 1 14 whole
+  out 4c01000000010000000100026869
+Lines of a script, whose words are parted by one space:
   mkcur NAME, rmcur NAME                make or remove a currency
   mktkt AMOUNT NAME, rmtkt TICKET       make or remove a ticket in a currency
   fund TICKET cur NAME                  let a ticket fund a currency
@@ -21,6 +34,12 @@ Words of a line:
   TARIFF  1 to 4
   HEX     a payload of 1 to 1490 bytes, two digits each, 0 to 9 or a to f
   BYTES   1 to 65535
+Tariffs, by which the bytes written of a flow are posted to its account; a frame
+is its packet and 12 bytes more, and is charged the overhead and whole cells:
+  1  cells of 1 byte of 1 unit; 1 for each unit
+  2  cells of 48 bytes of 48 units, an overhead of 16 units; 2 for each unit
+  3  cells of 1024 bytes of 1024 units; 1 for each unit
+  4  cells of 2048 bytes of 2048 units, an overhead of 1024 units; 3 for each unit
 Answers:
   ok, ticket TICKET, flow FLOW          it is done
   closed FLOW DROPPED ACCOUNT           a flow was closed
@@ -50,4 +69,10 @@ Refusals:
   17 TableFull   the table is full
   18 Sending     a frame of the flow is in part
   19 BufferFull  the buffer of the flow is full
-  20 Broken      the link is broken";
+  20 Broken      the link is broken
+Exit statuses:
+  0  the script was run to its end; refused lines are no fault
+  1  the script could not be read, the output could not be written, or memory
+     was lacking; with --strict also: a line was refused. Standard error tells
+     which
+  2  the words of the command line are wrong";

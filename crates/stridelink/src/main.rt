@@ -1,14 +1,15 @@
 //! A link that shares its bandwidth among packet flows by tickets, driven by a script of lines.
 #![tactic(auto)]
 
-ghost use Rattle.std.specs.Prelude.{◌≡◌, ◌≢◌, ◌⊎◌, ◌^◌, ℕ, [], None, IfOk, IfErr, IfSome, OnOk, MatchResult, IsOkAnd};
+ghost use Rattle.std.specs.Prelude.{◌≡◌, ◌≢◌, ◌⊎◌, ◌^◌, ℕ, [], None, true, false, IfOk, IfErr, IfSome, OnOk, MatchResult};
+ghost use Rattle.std.specs.Prelude.{IsOkAnd};
 ghost use Rattle.std.specs.Process.{exit_status};
 ghost use Rattle.clap.specs.Values.{kind_of};
 ghost use Rattle.share_script.specs.declared.script.ScriptFault.TheVariants.{Output, NoMemory};
 ghost use Rattle.share_model.specs.io.Calls.{ReadsToEnd, Offers};
 ghost use Rattle.share_model.specs.io.Told.{TapeAnswers};
 ghost use Rattle.share_model.specs.io.Printing.{bytes_told};
-ghost use Rattle.stridelink.specs.Program.{program_rates, Ran, RanPart};
+ghost use Rattle.stridelink.specs.Program.{program_rates, Ran, RanPart, RanToRefusal};
 ghost use Rattle.share_script.specs.Script.{IsFault};
 ghost use Rattle.share_core.specs.Life.{life_refusal};
 
@@ -21,41 +22,31 @@ macro_rules! program_shelf {
 }
 
 mod help;
+mod lines;
+mod strict;
 #[cfg(test)]
 mod tests;
+mod words;
 
+use crate::lines::LineReader;
+use crate::strict::StrictWriter;
+use crate::words::{Asked, Orders, parse};
 use clap::error::ErrorKind;
-use clap::{Arg, ArgAction, ArgMatches, Command, value_parser};
-use share_core::{Engine, MAX_LIFE};
+use share_core::Engine;
 use share_model::{PatientWriter, PlainReader, PlainWriter, Rates, Source, Tape, Telling};
 use share_script::{ScriptFault, print_bytes, run_script};
-use std::alloc::{AllocError, Global};
+use std::alloc::Global;
+use std::fs::File;
+use std::io::{BufReader, IsTerminal, Read};
 use std::process::ExitCode;
 use std::{env, io};
-
-/// The life of a link where the words give none.
-const LIFE: u64 = 65536;
 
 /// The status of a usage fault.
 const USAGE: u8 = 2;
 
-/// The version of the program.
-const VERSION: &str = "0.1.0";
-
-/// What is wrong with a word that is no UTF-8.
-const NOT_TEXT: &str = "invalid UTF-8 was detected in one or more arguments";
-
-/// What is wrong with a life that no link has.
-const NO_LIFE: &str = "a life is 1 to 16777216 events";
-
-/// What the words of the command line ask for.
-#[derive(Debug, Drop)]
-enum Asked {
-    /// To run the script of standard input on a link with a life of so many events.
-    Run { life: u64 },
-    /// To show a text: help, the version, or what is wrong with the words.
-    Text(clap::Error),
-}
+/// What is told where the lines of a script come from a terminal.
+const AT_TERMINAL: &str =
+    "stridelink: reads the lines of a script; 'stridelink run --help' tells them";
 
 // Runs a script on a new link over this shelf, and prints the bytes of the link in hexadecimal. On a fault a beginning
 // of that text was printed, for what was read of the script.
@@ -87,28 +78,119 @@ fn run<S: Rates + Drop, I: Source, O: Telling>(
     Ok(())
 }
 
-// Runs the script of standard input over this shelf, whose tariffs are the program's; the replies go to standard
-// output.
-fn run_on_tariffs<S: Rates + Drop>(
-    rt: &(impl Input + Print),
+// Runs a script up to its first refused line, and tells whether there was none. The output ends with the answer to that
+// line.
+fn run_strictly<S: Rates + Drop, I: Source, O: Telling>(
     alloc: Global,
     shelf: S,
     life: u64,
-) -> Result<(), ScriptFault>
-    requires rates { S.rates shelf ≡ program_rates }
+    input: &mut LineReader<I>,
+    output: &mut StrictWriter<O>,
+) -> Result<bool, ScriptFault>
     requires life { life_refusal life ≡ None }
+    ensures whole { IfOk result (λ whole. whole ≡ true → IfSome (I.left input.old.input) (λ script.
+        Ran (bytes_told (O.told output.old.output)) (bytes_told (O.told output.new.output))
+        life (S.rates shelf) script)) }
+    ensures refused { IfOk result (λ whole. whole ≡ false → IfSome (I.left input.old.input) (λ script.
+        RanToRefusal (bytes_told (O.told output.old.output)) (bytes_told (O.told output.new.output))
+        life (S.rates shelf) script (I.left input.new.input))) }
+    ensures mark { IfOk result (λ whole. whole ≡ false → output.new.is_refused ≡ true) }
 {
-    let mut input = PlainReader(rt.reader());
-    let mut output = PatientWriter(PlainWriter(io::writer(rt)));
-    run(alloc, shelf, life, &mut input, &mut output)
+    match run(alloc, shelf, life, input, output) {
+        Ok(()) => Ok(true),
+        Err(_) if output.is_refused() => {
+            output.end()?;
+            Ok(false)
+        }
+        Err(fault) => Err(fault),
+    }
 }
 
-// Runs the script of standard input over a shelf that is made here.
-fn run_on_standard(rt: &(impl Input + Print), alloc: Global, life: u64) -> Result<(), ScriptFault>
+// Tells which line was refused, and how. The status tells that one was also where standard error takes no text.
+fn tell_refusal<I: Source, O: Telling>(
+    rt: &impl Eprint,
+    input: &LineReader<I>,
+    output: &StrictWriter<O>,
+) {
+    let number = input.number();
+    let line = input.line().escape_ascii();
+    let answer = output.line().escape_ascii();
+    let _ = eprintln!(rt; "stridelink: line {number}, '{line}': {answer}");
+}
+
+// Runs a script up to its first refused line, which is told; the replies go to standard output.
+fn run_and_tell<S: Rates + Drop, R: Read + Drop>(
+    rt: &(impl Print + Eprint),
+    alloc: Global,
+    shelf: S,
+    life: u64,
+    script: R,
+) -> Result<ExitCode, ScriptFault>
     requires { life_refusal life ≡ None }
 {
+    let Ok(script) = BufReader::new(alloc, script) else {
+        return Err(ScriptFault::NoMemory);
+    };
+    let mut input = LineReader::new(PlainReader(script));
+    let mut output = StrictWriter::new(PatientWriter(PlainWriter(io::writer(rt))));
+    if run_strictly(alloc, shelf, life, &mut input, &mut output)? {
+        return Ok(ExitCode::SUCCESS);
+    }
+    tell_refusal(rt, &input, &output);
+    Ok(ExitCode::FAILURE)
+}
+
+// Runs a script over this shelf, whose tariffs are the program's; the replies go to standard output.
+fn run_on_tariffs<S: Rates + Drop, R: Read + Drop>(
+    rt: &(impl Print + Eprint),
+    alloc: Global,
+    shelf: S,
+    orders: Orders<'_>,
+    script: R,
+) -> Result<ExitCode, ScriptFault>
+    requires rates { S.rates shelf ≡ program_rates }
+    requires life { life_refusal orders.life ≡ None }
+{
+    if orders.is_strict {
+        return run_and_tell(rt, alloc, shelf, orders.life, script);
+    }
+    let mut input = PlainReader(script);
+    let mut output = PatientWriter(PlainWriter(io::writer(rt)));
+    run(alloc, shelf, orders.life, &mut input, &mut output)?;
+    Ok(ExitCode::SUCCESS)
+}
+
+// Runs a script over a shelf that is made here.
+fn run_on_standard<R: Read + Drop>(
+    rt: &(impl Print + Eprint),
+    alloc: Global,
+    orders: Orders<'_>,
+    script: R,
+) -> Result<ExitCode, ScriptFault>
+    requires { life_refusal orders.life ≡ None }
+{
     let shelf = program_shelf!(alloc);
-    run_on_tariffs(rt, alloc, shelf, life)
+    run_on_tariffs(rt, alloc, shelf, orders, script)
+}
+
+// Runs the script that is asked for.
+fn run_given(rt: &HostRuntime, orders: Orders<'_>) -> Result<ExitCode, ScriptFault>
+    requires { life_refusal orders.life ≡ None }
+{
+    match orders.file {
+        None => {
+            if rt.stdin().is_terminal() {
+                let _ = eprintln!(rt; "{AT_TERMINAL}");
+            }
+            run_on_standard(rt, rt.alloc(), orders, rt.reader())
+        }
+        Some(path) => {
+            let Ok(file) = File::open(rt, path) else {
+                return Err(ScriptFault::Input);
+            };
+            run_on_standard(rt, rt.alloc(), orders, file)
+        }
+    }
 }
 
 // The words of the command line, `None` where one of them is no UTF-8.
@@ -119,58 +201,6 @@ fn given_words(rt: &HostRuntime) -> Result<Option<Vec<String>>, ScriptFault>
         Ok(words) => Ok(Some(words.collect(rt.alloc())?)),
         Err(error) if error.kind() == io::ErrorKind::OutOfMemory => Err(ScriptFault::NoMemory),
         Err(_) => Ok(None),
-    }
-}
-
-// The command line of the program.
-fn command_line<'a>(alloc: Global) -> Result<Command<'a>, AllocError> {
-    let life = Arg::new(alloc, "life")
-        .long("life")
-        .value_name("L")
-        .help("the events of the link's life, 1 to 16777216")
-        .value_parser(value_parser!(u64).range(1..=MAX_LIFE as i64))
-        .default_value("65536")
-        .action(ArgAction::Set);
-    let run = Command::new(alloc, "run")
-        .about("runs the script of standard input")
-        .arg(life)?;
-    Command::new(alloc, "stridelink")
-        .version(VERSION)
-        .about("a link that shares its bandwidth among packet flows by tickets")
-        .after_help(help::SCRIPTS)
-        .subcommand_required(true)
-        .subcommand(run)
-}
-
-// The life that words give.
-fn given_life(matches: &ArgMatches<'_>) -> u64 {
-    match matches.subcommand() {
-        Some((_, run)) => run.get_one::<u64>("life").unwrap_or(LIFE),
-        None => LIFE,
-    }
-}
-
-// What the words ask for. `clap` refuses a life that is out of range; its contract says so of the arguments of a
-// command, but not of those of a subcommand, so the life is looked at once more.
-fn parse(alloc: Global, words: Option<&[String]>) -> Result<Asked, ScriptFault>
-    ensures memory { IfErr result (λ fault. fault ≡ NoMemory) }
-    ensures text { IfOk result (λ asked. (text : _) → asked ≡ Asked.Text text → kind_of text ≢ ErrorKind.OutOfMemory) }
-    ensures life { IfOk result (λ asked. (life : ℕ) → asked ≡ Asked.Run life → life_refusal life ≡ None) }
-{
-    let mut command = command_line(alloc)?;
-    let Some(words) = words else {
-        return Ok(Asked::Text(command.error(ErrorKind::InvalidValue, NOT_TEXT)?));
-    };
-    match command.try_get_matches_from_mut(words) {
-        Ok(matches) => {
-            let life = given_life(&matches);
-            if life < 1 || life > MAX_LIFE {
-                return Ok(Asked::Text(command.error(ErrorKind::ValueValidation, NO_LIFE)?));
-            }
-            Ok(Asked::Run { life })
-        }
-        Err(error) if error.kind() == ErrorKind::OutOfMemory => Err(ScriptFault::NoMemory),
-        Err(error) => Ok(Asked::Text(error)),
     }
 }
 
@@ -197,10 +227,7 @@ fn obey(rt: &HostRuntime) -> Result<ExitCode, ScriptFault> {
     let words = given_words(rt)?;
     match parse(rt.alloc(), words.as_ref().map(|words| words.as_slice()))? {
         Asked::Text(text) => show(rt, &text),
-        Asked::Run { life } => {
-            run_on_standard(rt, rt.alloc(), life)?;
-            Ok(ExitCode::SUCCESS)
-        }
+        Asked::Run(orders) => run_given(rt, orders),
     }
 }
 

@@ -56,19 +56,29 @@ shows 'stridelink 0.1.0' 'stridelink --version'
 shows 'stridelink 0.1.0' 'stridelink -V'
 shows 'a link that shares its bandwidth among packet flows by tickets' 'stridelink --help'
 shows 'a link that shares its bandwidth among packet flows by tickets' 'stridelink help'
-shows 'runs the script of standard input' 'stridelink run --help'
+shows 'runs a script' 'stridelink run --help'
 
 refuses "'stridelink' requires a subcommand but one was not provided" ''
 refuses "unrecognized subcommand 'walk'" 'walk'
 refuses "unexpected argument '--audit' found" 'run --audit'
-refuses "unexpected argument 'further' found" 'run further'
+refuses "unexpected argument 'further' found" 'run - further'
 refuses "a value is required for '--life <L>' but none was supplied" 'run --life'
 refuses "invalid value '0' for '--life <L>': 0 is not in 1..=16777216" 'run --life 0'
 refuses "invalid value '16777217' for '--life <L>': 16777217 is not in 1..=16777216" 'run --life=16777217'
 refuses "invalid value 'four' for '--life <L>': invalid digit found in string" 'run --life four'
 refuses "the argument '--life <L>' cannot be used multiple times" 'run --life 4 --life 4'
+refuses "the argument '--strict' cannot be used multiple times" 'run --strict --strict'
+refuses "unexpected argument '--stric\u{1b}[2J\t' found" "run \$'--stric\e[2J\t'"
+refuses "unrecognized subcommand 'wa\r\nlk'" "\$'wa\r\nlk'"
+refuses "invalid value '4\u{7f}' for '--life <L>': invalid digit found in string" "run --life=\$'4\x7f'"
 refuses 'invalid UTF-8 was detected in one or more arguments' "\$'\\xff'"
 refuses 'invalid UTF-8 was detected in one or more arguments' "run --life \$'4\\xff'"
+
+expect 2 "error: unrecognized subcommand 'walk'" '(exec -a other bin/stridelink walk)'
+grep -q '^Usage: stridelink <COMMAND>$' "$said" || {
+    echo "another name in the usage: $(< "$said")" >&2
+    failed=1
+}
 
 expect 1 'stridelink: cannot read the script' 'stridelink run < .'
 expect 1 'stridelink: cannot read the script' 'stridelink run <&-'

@@ -15,7 +15,8 @@ use Rattle.share_ledger.specs.declared.seats.Seat.{Seat}
 use Rattle.share_ledger.specs.Routes.{gathered}
 use Rattle.share_model.specs.lists.SumLaws.{sum_by-same_of}
 use Rattle.share_ledger.specs.Ranks.{AreOrdered}
-use Rattle.share_ledger.specs.Seats.{seat_of, taken, AreSeated, AreCounted, seats_at, backs_of, funds_of}
+use Rattle.share_ledger.specs.Seats.{seat_of, taken, AreSeated, AreCounted, AreValued, HaveValues, seats_at, backs_of}
+use Rattle.share_ledger.specs.Seats.{funds_of}
 use Rattle.share_ledger.specs.Seats.{seat_worth, weighed}
 use Rattle.share_ledger.proofs.RouteLists.{gathered-bound}
 use Rattle.share_ledger.proofs.RoutesDone.{done-within, done-few}
@@ -231,6 +232,23 @@ weighed-before bs awake v w whole p P before same =
     (sum_by-same_of P (seat_worth v whole) (seat_worth w whole) (seats_at bs p) before
     (λ s at. ap (λ n. cond (nat_eq s.from 0) s.amount (n * s.amount / whole s.from)) (same s at)))
 
+-- and not on the value of `base`
+pub weighed-above : (bs : List (List Seat)) (awake : ℕ → Bool) (v w whole : ℕ → ℕ) (p : ℕ) (P : Seat → Type 0)
+    → Each P (seats_at bs p) → ((s : Seat) → 0 < s.from → P s → v s.from ≡ w s.from)
+    → weighed bs awake v whole p ≡ weighed bs awake w whole p
+weighed-above bs awake v w whole p P before same =
+    ap (λ n. cond (awake p) n 0)
+    (sum_by-same_of P (seat_worth v whole) (seat_worth w whole) (seats_at bs p) before
+    (λ s at. by (nat_eq s.from 0) s refl at))
+  where
+    above : (n : ℕ) → nat_eq n 0 ≡ false → 0 < n
+    above n e = grind (arith, nat_tests)
+
+    by : (b : Bool) (s : Seat) → nat_eq s.from 0 ≡ b → P s
+        → cond b s.amount (v s.from * s.amount / whole s.from) ≡ cond b s.amount (w s.from * s.amount / whole s.from)
+    by true s e at = refl
+    by false s e at = ap (λ n. n * s.amount / whole s.from) (same s (above s.from e) at)
+
 -- The place that is next in an order
 module _ (bs : List (List Seat)) (order : ℕ → ℕ) (o : AreOrdered bs order) (i : ℕ) (up : 0 < i) (lt : i < 65) where
   pub next-spot : o.spot (order i) ≡ i
@@ -302,3 +320,29 @@ module _ (bs : List (List Seat)) (order : ℕ → ℕ) (o : AreOrdered bs order)
           ∙ weighed-before bs awake v next whole k (λ (s : Seat). (s.from < 65) × (o.spot s.from < o.spot k))
           (o.before k above below)
           (λ s at. left s.from (let lt_s = at.1 in omega arith))
+
+  -- what is computed so far are the values that there are
+  values-are : (awake : ℕ → Bool) (v w whole : ℕ → ℕ) → AreValued bs awake v whole
+      → ((k : ℕ) → 0 < k → k < 65 → o.spot k < i → w k ≡ weighed bs awake w whole k)
+      → (n : ℕ) → n ≤ i → (k : ℕ) → 0 < k → k < 65 → o.spot k < n → w k ≡ v k
+  values-are awake v w whole valued before zero le k above below under = absurd (omega arith)
+  values-are awake v w whole valued before (suc n) le k above below under =
+      before k above below (omega arith)
+      ∙ weighed-above bs awake w v whole k (λ (s : Seat). (s.from < 65) × (o.spot s.from < o.spot k))
+      (o.before k above below)
+      (λ s up at. values-are awake v w whole valued before n (omega arith) s.from up at.0
+      (let lt_s = at.1 in omega arith))
+      ∙ sym (valued k above below)
+
+  -- so the next one is small
+  pub next-small : (awake : ℕ → Bool) (w whole : ℕ → ℕ) → HaveValues bs awake whole
+      → ((k : ℕ) → 0 < k → k < 65 → o.spot k < i → w k ≡ weighed bs awake w whole k)
+      → weighed bs awake w whole (order i) ≤ 9 * 2 ^ 30
+  next-small awake w whole have before =
+      let v = have.0 in
+      let is =
+      weighed-above bs awake w v whole (order i) (λ (s : Seat). (s.from < 65) × (o.spot s.from < i)) next-before
+      (λ s up at. values-are awake v w whole have.1.0 before i (omega arith) s.from up at.0 at.1)
+      ∙ sym (have.1.0 (order i) next-above next-within) in
+      let few = have.1.1 (order i) next-within in
+      omega arith

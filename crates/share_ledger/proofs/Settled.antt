@@ -1,7 +1,7 @@
 -- Weights, values and tickets that meet the equations of one step, place by place, are those of the definition.
-use Rattle.std.proofs.Common.{◌≡◌, ◌≤◌, ◌<◌, ◌+◌, ◌*◌, ◌/◌, ◌^◌, ℕ, suc, Bool, true, false, cond, ◌&&◌}
+use Rattle.std.proofs.Common.{◌≡◌, ◌≤◌, ◌<◌, ◌+◌, ◌*◌, ◌/◌, ◌^◌, ℕ, zero, suc, Bool, true, false, cond, ◌&&◌}
 use Rattle.std.proofs.Common.{List, [], ◌∷◌, map, take, sum_by, length, bytes_eq, nat_eq, nat_lt, get_or}
-use Rattle.std.proofs.Common.{Some, option_map, slice_get, refl, sym, ap, ◌∙◌, arith}
+use Rattle.std.proofs.Common.{Some, option_map, slice_get, refl, sym, ap, subst, ◌∙◌, arith}
 use Rattle.std.specs.List.{list_any}
 use Rattle.std.proofs.lemmas.List.Sums.{sum_by-cons}
 use Rattle.std.proofs.lemmas.Bool.Decides.{nat_tests}
@@ -24,16 +24,18 @@ use Rattle.share_ledger.specs.declared.routes.Route.{Route}
 use Rattle.share_ledger.specs.declared.seats.Seat.{Seat}
 use Rattle.share_ledger.specs.Places.{place}
 use Rattle.share_ledger.specs.Rounds.{flags_of, numbers_of}
-use Rattle.share_ledger.specs.Routes.{flow_place, routes_of, gathered, carried, poured}
+use Rattle.share_ledger.specs.Routes.{flow_place, routes_of, gathered, carried, poured, valued}
 use Rattle.share_ledger.specs.Seats.{seat_worth, seats_at, weighed, AreSeated, AreCounted, AreAwake, AreValued}
-use Rattle.share_ledger.specs.Seats.{AreShared, backs_of, funds_of}
+use Rattle.share_ledger.specs.Seats.{AreShared, HaveValues, IsSeatWithin, backs_of, funds_of}
+use Rattle.share_ledger.specs.Ranks.{AreRanks}
 use Rattle.share_ledger.specs.declared.net.Net.{Net}
-use Rattle.share_ledger.specs.Nets.{IsReady, activity_of}
+use Rattle.share_ledger.specs.Nets.{IsBegun, IsReady, activity_of}
 use Rattle.share_ledger.specs.Shares.{shares_of}
 use Rattle.share_ledger.proofs.LinkPlaces.{place-base}
+use Rattle.share_ledger.proofs.NetSteps.{weighed-above}
 use Rattle.share_ledger.proofs.RouteLists.{share-at, activity-at}
 use Rattle.share_ledger.proofs.RouteWorths.{below, lead, gathered-is, whole-is, poured-currency, poured-flow}
-use Rattle.share_ledger.proofs.RouteWorths.{flow-place-below}
+use Rattle.share_ledger.proofs.RouteWorths.{flow-place-below, valued-bound}
 
 -- what the seats of a place are worth is what its routes carry
 pub weighed-poured : (rs : List Route) (ss : List (List Seat)) (on : ℕ → Bool) (v whole : ℕ → ℕ) (p : ℕ)
@@ -193,6 +195,14 @@ module _ (g : Graph) (ok : IsKept g) (lit on : ℕ → Bool) (whole value : ℕ 
   wholes : (c : NameBytes) → 1 ≤ times c (names_of g) → whole (place (names_of g) c) ≡ active g c
   wholes = whole-is g ok lit held flows held-are whole counted-held
 
+  -- values by rounds over the routes
+  rounds : ℕ → ℕ → ℕ
+  rounds n p = valued (routes_of g true g.tickets) held whole n p
+
+  each-two : (P Q : Seat → Type 0) (xs : List Seat) → Each P xs → Each Q xs → Each (λ (s : Seat). P s × Q s) xs
+  each-two P Q [] a b = tt
+  each-two P Q (x ∷ xs) a b = ((a.0, b.0), each-two P Q xs a.1 b.1)
+
   -- nothing is said of the value of `base` either
   valued_as : ℕ → ℕ
   valued_as p = cond (nat_eq p 0) (val g 9 base) (value p)
@@ -227,6 +237,38 @@ module _ (g : Graph) (ok : IsKept g) (lit on : ℕ → Bool) (whole value : ℕ 
       (λ (r : Route). cond (nat_eq p r.to && held r.to) (carry r) 0) (routes_of g true g.tickets)
       (backs-apart g g.tickets ok.shallow.unbacked)
       (λ r e. ap (λ b. cond (nat_eq p r.to && b) (carry r) 0) (sym (held-apart r.to e)))
+
+  -- the values of so many rounds are those of one more
+  round-values : (bs : List (List Seat)) (rank : ℕ → ℕ) → AreSeated (backs_of g) bs → AreRanks bs rank → (n p : ℕ)
+      → 0 < p → p < 65 → rank p ≤ n → rounds n p ≡ rounds (suc n) p
+  unfolding rounds valued
+  round-values bs rank seated ranked zero p up lt low = let high = ranked.high p up lt in absurd (omega arith)
+  round-values bs rank seated ranked (suc n) p up lt low =
+      sym (weighed-poured (backs_of g) bs held (rounds n) whole p seated lt)
+      ∙ weighed-above bs held (rounds n) (rounds (suc n)) whole p (λ (s : Seat). IsSeatWithin s × (rank s.from < rank p))
+      (each-two IsSeatWithin (λ (s : Seat). rank s.from < rank p) (seats_at bs p) (seated.within p lt)
+      (ranked.above p up lt))
+      (λ s made at. round-values bs rank seated ranked n s.from made at.0.from_place
+      (let less = at.1 in omega arith))
+      ∙ weighed-poured (backs_of g) bs held (rounds (suc n)) whole p seated lt
+
+  -- so there are values, and small ones
+  pub have-values : (bs : List (List Seat)) (rank : ℕ → ℕ) → AreSeated (backs_of g) bs → AreRanks bs rank
+      → HaveValues bs on whole
+  unfolding rounds valued
+  have-values bs rank seated ranked = (
+    rounds 9,
+    (
+      λ p up lt.
+          round-values bs rank seated ranked 9 p up lt (let low = ranked.low p in omega arith)
+          ∙ sym (weighed-poured (backs_of g) bs held (rounds 9) whole p seated lt)
+          ∙ ap (λ b. cond b (sum_by (seat_worth (rounds 9) whole) (seats_at bs p)) 0) (held-apart p (apart p up)),
+      λ p lt. valued-bound g ok lit held flows held-are whole wholes 9 p (omega arith) lt,
+    ),
+  )
+    where
+      apart : (p : ℕ) → 0 < p → nat_eq p 0 ≡ false
+      apart p up = grind (arith, nat_tests)
 
   named : NameBytes → ℕ
   named c = valued_as (place (names_of g) c)
@@ -322,3 +364,27 @@ shares-settled g net shares ok long ready =
     ∙ activity-at f g.flows known (ok.sound.numbers f)) begun.counted
     ready.awake_is net.backing.items begun.backing ready.valued net.funding.items (numbers_of shares) begun.funding
     ready.shared)
+
+-- what is counted and awake has values
+values-of : (g : Graph) (net : Net) (awake : ℕ → Bool) (whole : ℕ → ℕ) → IsKept g
+    → IsBegun net (backs_of g) (funds_of g) (activity_of g)
+    → AreCounted (backs_of g) (funds_of g) awake (flags_of net.active.value) whole → AreAwake awake whole
+    → HaveValues net.backing.items awake whole
+values-of g net awake whole ok begun counted lit =
+    have-values g ok (flags_of net.active.value) awake whole (numbers_of net.values.value)
+    (λ f known. begun.active_is (flow_place g.flows f) ∙ activity-at f g.flows known (ok.sound.numbers f)) counted lit
+    net.backing.items (numbers_of net.ranks.value) begun.backing begun.ranked
+
+-- the same of what is lent
+pub values-there : (g : Graph) (net : Net) (awake active : List Bool) (weights : List ℕ) (bs : List (List Seat))
+    (lit : List Bool) (ws : List ℕ) → IsKept g → IsBegun net (backs_of g) (funds_of g) (activity_of g)
+    → AreCounted (backs_of g) (funds_of g) (flags_of awake) (flags_of active) (numbers_of weights)
+    → AreAwake (flags_of awake) (numbers_of weights) → active ≡ net.active.value → bs ≡ net.backing.items → lit ≡ awake
+    → ws ≡ weights → HaveValues bs (flags_of lit) (numbers_of ws)
+values-there g net awake active weights bs lit ws ok begun counted on same seats flags numbers =
+    subst (λ (ss : List (List Seat)). HaveValues ss (flags_of lit) (numbers_of ws)) (sym seats)
+    (subst (λ (fs : List Bool). HaveValues net.backing.items (flags_of fs) (numbers_of ws)) (sym flags)
+    (subst (λ (ns : List ℕ). HaveValues net.backing.items (flags_of awake) (numbers_of ns)) (sym numbers)
+    (values-of g net (flags_of awake) (numbers_of weights) ok begun
+    (subst (λ (fs : List Bool). AreCounted (backs_of g) (funds_of g) (flags_of awake) (flags_of fs)
+    (numbers_of weights)) same counted) on)))

@@ -68,6 +68,10 @@ AreShared ss active value whole share = (p : ℕ) → p < 64 → share p ≡ min
 abbrev pub AreSmall : (ℕ → ℕ) → Type 0
 AreSmall value = (p : ℕ) → p < 65 → value p ≤ 9 * 2 ^ 30
 
+-- there are values that are so, and small
+abbrev pub HaveValues : List (List Seat) → (ℕ → Bool) → (ℕ → ℕ) → Type 0
+HaveValues ss awake whole = (value : ℕ → ℕ) × (AreValued ss awake value whole × AreSmall value)
+
 -- the routes of the tickets of a graph that back currencies, and of those that fund flows
 abbrev pub backs_of : Graph → List Route
 backs_of g = routes_of g true g.tickets

@@ -142,10 +142,9 @@ impl Kept {
         requires { IsBegun self.old.net (backs_of tables.now) (funds_of tables.now) (activity_of tables.now) }
         ensures { AreKept self.new.net self.new.ready self.new.shares.value tables.now }
     {
-        self.ready = self.net.settle(tables, &mut self.shares);
-        if !self.ready {
-            self.count(tables);
-        }
+        tables.is_kept();
+        self.net.settle(tables, &mut self.shares);
+        self.ready = true;
     }
 
     // What follows where the seats of one currency, and the seats or the activity of one flow, have changed at most.
@@ -154,12 +153,10 @@ impl Kept {
         requires was { WasSettled self.old.net self.old.shares.value currency flow }
         ensures { AreKept self.new.net self.new.ready self.new.shares.value tables.now }
     {
-        self.ready = self
-            .net
+        tables.is_kept();
+        self.net
             .settle_changed(tables, currency, flow, &mut self.shares);
-        if !self.ready {
-            self.count(tables);
-        }
+        self.ready = true;
     }
 
     /// All anew.

@@ -8,16 +8,13 @@ ghost use Rattle.share_model.specs.lists.Each.{Each};
 ghost use Rattle.share_ledger.specs.Rounds.{flags_of, numbers_of};
 ghost use Rattle.share_ledger.specs.Ranks.{AreOrdered};
 ghost use Rattle.share_ledger.specs.Seats.{IsSeatWithin, taken, seat_worth, seats_at, AreSeated};
-ghost use Rattle.share_ledger.specs.Seats.{AreCounted, AreAwake, AreValued, AreSmall, AreShared, weighed};
-ghost use Rattle.share_ledger.specs.Seats.{backs_of, funds_of};
+ghost use Rattle.share_ledger.specs.Seats.{AreCounted, AreAwake, AreValued, AreSmall, HaveValues, AreShared};
+ghost use Rattle.share_ledger.specs.Seats.{weighed, backs_of, funds_of};
 
 use crate::rounds::PLACES;
 use crate::routes;
 use crate::seats::{Seat, Seats};
 use crate::tables::{MAX_AMOUNT, MAX_FLOWS, Tables};
-
-/// More than any currency can be worth: nine times the amounts of all tickets.
-pub(crate) const MAX_VALUE: u64 = 9 << 30;
 
 /// The seats of the currencies and of the flows by their places, which flows are active and which currencies awake,
 /// what weighs on each place and weighed on it when all was settled last, the value of each currency, and its rank, with
@@ -300,32 +297,27 @@ pub(crate) fn value_at(
     weigh(seats.seats(), values, weights)
 }
 
-/// Computes the values of the currencies, from the least rank to the greatest. Gives up where one would be too great,
-/// which none ever is.
+/// Computes the values of the currencies, from the least rank to the greatest.
 pub(crate) fn revalue(
     backing: &[Seats],
     awake: &[bool; PLACES],
     weights: &[u32; PLACES],
     order: &[u8; PLACES],
     values: &mut [u64; PLACES],
-) -> bool
+)
     requires within { (p : ℕ) → p < 65 → Each IsSeatWithin (seats_at backing.now p) }
     requires places { length backing.now ≡ 65 }
     requires ordered { AreOrdered backing.now (numbers_of order.now) }
     requires small { AreSmall (numbers_of values.old) }
+    requires values { HaveValues backing.now (flags_of awake.now) (numbers_of weights.now) }
     ensures small { AreSmall (numbers_of values.new) }
-    ensures valued { result ≡ true → AreValued backing.now (flags_of awake.now)
+    ensures valued { AreValued backing.now (flags_of awake.now)
         (numbers_of values.new) (numbers_of weights.now) }
 {
     for i in 1..PLACES {
         let place = order[i] as usize;
-        let value = value_at(backing, awake, weights, values, place);
-        if value > MAX_VALUE {
-            return false;
-        }
-        values[place] = value;
+        values[place] = value_at(backing, awake, weights, values, place);
     }
-    true
 }
 
 /// The tickets of a flow: what its seats are worth, at most 2^20.

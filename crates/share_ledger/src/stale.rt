@@ -1,15 +1,15 @@
 //! What follows where a few weights have changed: only the values and the tickets that rest on them are computed anew.
 ghost use Rattle.std.specs.Prelude.{◌≡◌, ◌<◌, ◌≤◌, ◌+◌, ◌^◌, ◌&&◌, ◌||◌, ℕ, Bool, None, length, min, nat_eq, not, true, false};
-ghost use Rattle.std.specs.Prelude.{IfSome, if◌then◌else◌};
+ghost use Rattle.std.specs.Prelude.{◌*◌, IfSome, if◌then◌else◌};
 ghost use Rattle.std.specs.List.{list_any};
 ghost use Rattle.share_model.specs.lists.Each.{Each};
 ghost use Rattle.share_ledger.specs.Rounds.{flags_of, numbers_of};
 ghost use Rattle.share_ledger.specs.Ranks.{AreOrdered};
-ghost use Rattle.share_ledger.specs.Seats.{IsSeatWithin, seats_at, weighed, AreSmall, AreAwake, AreValued};
+ghost use Rattle.share_ledger.specs.Seats.{IsSeatWithin, seats_at, weighed, AreSmall, AreAwake, AreValued, HaveValues};
 ghost use Rattle.share_ledger.specs.Stale.{is_stale, is_touched, WereValued, HaveBits, AreMoved};
 ghost use Rattle.share_ledger.specs.Stale.{AreUntouched};
 
-use crate::net::{self, MAX_VALUE};
+use crate::net;
 use crate::rounds::PLACES;
 use crate::seats::{Seat, Seats, bit_of};
 use crate::tables::MAX_FLOWS;
@@ -96,32 +96,30 @@ fn revalue_at(
     place: usize,
     moved: &mut Moved,
     values: &mut [u64; PLACES],
-) -> bool
+)
     requires within { (p : ℕ) → p < 65 → Each IsSeatWithin (seats_at backing.now p) }
     requires places { length backing.now ≡ 65 }
     requires place { place < 65 }
     requires small { AreSmall (numbers_of values.old) }
+    requires bound { weighed backing.now (flags_of awake.now) (numbers_of values.old) (numbers_of weights.now) place
+        ≤ 9 * 2 ^ 30 }
     requires bits { HaveBits moved.old }
     ensures small { AreSmall (numbers_of values.new) }
     ensures bits { HaveBits moved.new }
-    ensures values { result ≡ true → (k : ℕ) → numbers_of values.new k
+    ensures values { (k : ℕ) → numbers_of values.new k
         ≡ (if nat_eq place k then weighed backing.now (flags_of awake.now) (numbers_of values.old)
         (numbers_of weights.now) place else numbers_of values.old k) }
-    ensures moved { result ≡ true → (k : ℕ) → flags_of moved.new.flags k
+    ensures moved { (k : ℕ) → flags_of moved.new.flags k
         ≡ (if nat_eq place k then not (nat_eq (numbers_of weights.now place) (numbers_of seen.now place))
         || not (nat_eq (numbers_of values.new place) (numbers_of values.old place)) else flags_of moved.old.flags k) }
 {
     let value = net::value_at(backing, awake, weights, values, place);
-    if value > MAX_VALUE {
-        return false;
-    }
     flag(
         moved,
         place,
         weights[place] != seen[place] || value != values[place],
     );
     values[place] = value;
-    true
 }
 
 // The same, where that may be another one.
@@ -134,33 +132,35 @@ fn renew_at(
     place: usize,
     moved: &mut Moved,
     values: &mut [u64; PLACES],
-) -> bool
+)
     requires within { (p : ℕ) → p < 65 → Each IsSeatWithin (seats_at backing.now p) }
     requires places { length backing.now ≡ 65 }
     requires place { place < 65 }
     requires small { AreSmall (numbers_of values.old) }
+    requires bound { weighed backing.now (flags_of awake.now) (numbers_of values.old) (numbers_of weights.now) place
+        ≤ 9 * 2 ^ 30 }
     requires bits { HaveBits moved.old }
     ensures small { AreSmall (numbers_of values.new) }
     ensures bits { HaveBits moved.new }
     ensures fresh { is_stale backing.now (flags_of moved.old.flags) (numbers_of weights.now) (numbers_of seen.now) changed
         place ≡ false → (moved.new ≡ moved.old) × (values.new ≡ values.old) }
-    ensures values { result ≡ true → is_stale backing.now (flags_of moved.old.flags) (numbers_of weights.now)
+    ensures values { is_stale backing.now (flags_of moved.old.flags) (numbers_of weights.now)
         (numbers_of seen.now) changed place ≡ true → (k : ℕ) → numbers_of values.new k
         ≡ (if nat_eq place k then weighed backing.now (flags_of awake.now) (numbers_of values.old)
         (numbers_of weights.now) place else numbers_of values.old k) }
-    ensures moved { result ≡ true → is_stale backing.now (flags_of moved.old.flags) (numbers_of weights.now)
+    ensures moved { is_stale backing.now (flags_of moved.old.flags) (numbers_of weights.now)
         (numbers_of seen.now) changed place ≡ true → (k : ℕ) → flags_of moved.new.flags k
         ≡ (if nat_eq place k then not (nat_eq (numbers_of weights.now place) (numbers_of seen.now place))
         || not (nat_eq (numbers_of values.new place) (numbers_of values.old place)) else flags_of moved.old.flags k) }
 {
     if !is_stale(backing, weights, seen, moved, changed, place) {
-        return true;
+        return;
     }
-    revalue_at(backing, awake, weights, seen, place, moved, values)
+    revalue_at(backing, awake, weights, seen, place, moved, values);
 }
 
 /// Computes the values of the currencies that may be others, from the least rank to the greatest, and flags the places
-/// whose value or weight is another one. Gives up where a value would be too great, which none ever is.
+/// whose value or weight is another one.
 pub(crate) fn revalue(
     backing: &[Seats],
     awake: &[bool; PLACES],
@@ -169,29 +169,28 @@ pub(crate) fn revalue(
     order: &[u8; PLACES],
     changed: usize,
     values: &mut [u64; PLACES],
-) -> Option<Moved>
+) -> Moved
     requires within { (p : ℕ) → p < 65 → Each IsSeatWithin (seats_at backing.now p) }
     requires places { length backing.now ≡ 65 }
     requires ordered { AreOrdered backing.now (numbers_of order.now) }
     requires small { AreSmall (numbers_of values.old) }
+    requires values { HaveValues backing.now (flags_of awake.now) (numbers_of weights.now) }
     requires awake { AreAwake (flags_of awake.now) (numbers_of weights.now) }
     requires were { WereValued backing.now (numbers_of values.old) (numbers_of seen.now) changed }
     ensures small { AreSmall (numbers_of values.new) }
-    ensures valued { IfSome result (λ _. AreValued backing.now (flags_of awake.now)
-        (numbers_of values.new) (numbers_of weights.now)) }
-    ensures moved { IfSome result (λ moved. HaveBits moved × AreMoved (flags_of moved.flags) (numbers_of values.old)
-        (numbers_of values.new) (numbers_of seen.now) (numbers_of weights.now)) }
+    ensures valued { AreValued backing.now (flags_of awake.now) (numbers_of values.new) (numbers_of weights.now) }
+    ensures bits { HaveBits result }
+    ensures moved { AreMoved (flags_of result.flags) (numbers_of values.old) (numbers_of values.new)
+        (numbers_of seen.now) (numbers_of weights.now) }
 {
     let mut moved = none_moved();
     for i in 1..PLACES {
         let place = order[i] as usize;
-        if !renew_at(
+        renew_at(
             backing, awake, weights, seen, changed, place, &mut moved, values,
-        ) {
-            return None;
-        }
+        );
     }
-    Some(moved)
+    moved
 }
 
 /// How many places are looked at together.

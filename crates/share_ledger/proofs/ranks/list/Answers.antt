@@ -1,4 +1,4 @@
-use Rattle.std.proofs.Common.{◌≡◌, ℕ, subst, arith}
+use Rattle.std.proofs.Common.{◌≡◌, subst, arith}
 use Rattle.share_ledger.specs.Ranks.{AreRankedTo}
 use Rattle.share_ledger.proofs.RankSteps.{ranks-begun, next-round, all-ranks, all-longest, all-more, all-listed}
 use Rattle.share_ledger.proofs.RankSteps.{some-deep}

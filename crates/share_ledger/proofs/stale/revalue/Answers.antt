@@ -1,8 +1,8 @@
-use Rattle.std.proofs.Common.{rules, ◌≡◌, ◌≤◌, ◌<◌, ◌+◌, ◌∙◌, ◌||◌, ℕ, Bool, List, true, false, not, cond, nat_eq, refl, ap, arith}
+use Rattle.std.proofs.Common.{rules, ◌≡◌, ◌<◌, ℕ, List, false, refl, ap, arith}
 use Rattle.share_ledger.specs.Rounds.{flags_of, numbers_of}
-use Rattle.share_ledger.specs.Seats.{weighed}
 use Rattle.share_ledger.specs.Stale.{is_stale}
 use Rattle.share_ledger.specs.declared.stale.Moved.{Moved}
+use Rattle.share_ledger.proofs.NetSteps.{next-small}
 use Rattle.share_ledger.proofs.StaleSteps.{next-left, next-same, next-valued, order-above}
 use Rattle.share_ledger.proofs.stale.revalue.Goals as goal
 
@@ -39,8 +39,8 @@ loop-i-preserved c =
       λ k. ap (λ (m : Moved). flags_of m.flags k) two.0,
       λ k. ap (λ (xs : List ℕ). numbers_of xs k) two.1,
     ) in
-    let wrote = c.renew_at.ensures.values c.if-not-renew_at.false in
-    let flagged = c.renew_at.ensures.moved c.if-not-renew_at.false in
+    let wrote = c.renew_at.ensures.values in
+    let flagged = c.renew_at.ensures.moved in
     let inv = c.loop-i.invariant in
     record {
       bits = c.renew_at.ensures.bits;
@@ -60,10 +60,13 @@ returns-clause-valued c = λ p up lt.
     (let there = (o.there p lt).0 in let done = c.loop-i-test.false in omega arith)
 
 pub returns-clause-moved : goal.returns-clause-moved
-returns-clause-moved c = (
-  c.loop-i.invariant.bits,
-  λ p up lt still.
-      let o = c.requires.ordered in
-      c.loop-i.invariant.same o p up lt
-      (let there = (o.there p lt).0 in let done = c.loop-i-test.false in omega arith) still,
-)
+returns-clause-moved c = λ p up lt still.
+    let o = c.requires.ordered in
+    c.loop-i.invariant.same o p up lt
+    (let there = (o.there p lt).0 in let done = c.loop-i-test.false in omega arith) still
+
+pub renew_at-requires-clause-bound : goal.renew_at-requires-clause-bound
+renew_at-requires-clause-bound c =
+    next-small c.args.backing.now (numbers_of c.args.order.now) c.requires.ordered c.loop-i.i (omega arith)
+    c.loop-i-test.true (flags_of c.args.awake.now) (numbers_of c.loop-i.values) (numbers_of c.args.weights.now)
+    c.requires.values (c.loop-i.invariant.valued c.requires.ordered)

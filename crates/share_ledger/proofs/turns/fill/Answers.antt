@@ -1,7 +1,6 @@
-use Rattle.std.proofs.Common.{◌<◌, List, get_or, sum_by, sym, ap, subst, ◌∙◌}
+use Rattle.std.proofs.Common.{List, get_or, sum_by, sym, ap, subst, ◌∙◌}
 use Rattle.share_model.specs.lists.Each.{Each}
 use Rattle.share_ledger.specs.declared.routes.Route.{Route}
-use Rattle.share_ledger.specs.declared.seats.Seat.{Seat}
 use Rattle.share_ledger.specs.Routes.{IsRouteWithin}
 use Rattle.share_ledger.specs.Seats.{IsSeatWithin}
 use Rattle.share_ledger.proofs.NetSeats.{sum-joined_more, each-joined}

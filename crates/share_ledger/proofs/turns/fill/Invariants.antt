@@ -1,4 +1,4 @@
-use Rattle.std.proofs.Common.{◌≡◌, ◌<◌, ℕ, true, nat_eq, take, sum_by, length, if◌then◌else◌}
+use Rattle.std.proofs.Common.{◌≡◌, ◌<◌, ℕ, nat_eq, take, sum_by, length, if◌then◌else◌}
 use Rattle.share_model.specs.lists.Each.{Each}
 use Rattle.share_ledger.specs.declared.routes.Route.{Route}
 use Rattle.share_ledger.specs.declared.seats.Seat.{Seat}

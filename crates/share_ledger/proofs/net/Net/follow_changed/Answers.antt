@@ -1,10 +1,11 @@
 use Rattle.std.proofs.Common.{rules}
 use Rattle.share_ledger.specs.Rounds.{flags_of, numbers_of}
+use Rattle.share_ledger.proofs.Settled.{values-there}
 use Rattle.share_ledger.proofs.StaleSteps.{shared-still}
 use Rattle.share_ledger.proofs.net.Net.follow_changed.Goals as goal
 
 pub returns-clause-ready : goal.returns-clause-ready
-returns-clause-ready c = λ _.
+returns-clause-ready c =
     let old = c.args.self.now in
     let begun = c.requires.begun in
     record {
@@ -19,10 +20,16 @@ returns-clause-ready c = λ _.
       };
       awake_is = search rules;
       valued = search rules;
-      shared = shared-still (flags_of c.in-Some.moved.flags) (numbers_of old.values.value)
+      shared = shared-still (flags_of c.revalue-moved.result.flags) (numbers_of old.values.value)
           (numbers_of c.revalue-moved.new.values) (numbers_of old.seen.value) (numbers_of c.spread.new.weights)
           old.funding.items (flags_of old.active.value) (numbers_of c.args.shares.now) (numbers_of c.reshare.new.shares)
           c.args.flow begun.funding.within (search rules) (λ p lt. let own = c.reshare.ensures p lt in cc)
           c.requires.was.shared;
       seen_is = search rules;
     }
+
+pub revalue-moved-requires-clause-values : goal.revalue-moved-requires-clause-values
+revalue-moved-requires-clause-values c =
+    values-there c.args.tables.now c.args.self.now c.spread.new.awake c.deref-2.result.now c.spread.new.weights
+    c.deref-4.result.now c.deref-5.result.now c.deref-6.result.now c.is_kept.ensures c.requires.begun c.spread.ensures.counted
+    c.spread.ensures.awake c.deref-2.ensures c.deref-4.ensures.value c.deref-5.ensures c.deref-6.ensures

@@ -3,7 +3,6 @@ use Rattle.share_ledger.specs.Nets.{activity_of, IsReady}
 use Rattle.share_ledger.specs.Rounds.{flags_of, numbers_of}
 use Rattle.share_ledger.specs.Seats.{backs_of, funds_of, weighed}
 use Rattle.share_ledger.specs.Stale.{WasSettled}
-use Rattle.share_ledger.proofs.Settled.{shares-settled}
 use Rattle.share_ledger.proofs.StaleSteps.{quiet-settled}
 use Rattle.share_ledger.proofs.net.Net.settle_changed.Goals as goal
 use Rattle.share_ledger.proofs.net.Net.settle_changed.Goals.{After-share}
@@ -28,15 +27,4 @@ quiet c =
     (sym c.share.ensures.set) ready
 
 pub returns-then-are_same-clause-ready : goal.returns-then-are_same-clause-ready
-returns-then-are_same-clause-ready c = λ _. quiet c
-
-pub returns-then-are_same-clause-shares : goal.returns-then-are_same-clause-shares
-returns-then-are_same-clause-shares c = λ _.
-    shares-settled c.args.tables.now c.args.self.now c.share.new.shares c.is_kept.ensures c.share.ensures.long.1
-    (quiet c)
-
-pub returns-clause-shares : goal.returns-clause-shares
-returns-clause-shares c = λ e.
-    shares-settled c.args.tables.now c.follow_changed.new.self c.follow_changed.new.shares c.is_kept.ensures
-    c.follow_changed.ensures.long
-    (c.follow_changed.ensures.ready e)
+returns-then-are_same-clause-ready c = quiet c

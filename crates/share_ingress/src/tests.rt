@@ -1,6 +1,8 @@
 //! Readers, the queue and workers in use: the worked examples, and what no contract says.
 
 mod beside;
+mod gathering;
+mod memory;
 mod queueing;
 mod reading;
 mod working;

@@ -1,4 +1,5 @@
 //! The queue on one thread: numbers, order, and what comes back where it is full.
+ghost use Rattle.std.specs.Prelude.{◌≡◌};
 
 use crate::{IngressEnd, Intake, Offered, queue};
 use share_base::{Name, Parcel, Refusal};
@@ -7,7 +8,9 @@ use std::process::Abort;
 use std::sync::Wait;
 
 /// What an end answers to one byte for the flow a.
-pub fn offered<T: Wait>(rt: &T, alloc: Global, end: &mut IngressEnd, payload: u8) -> Option<u64> {
+pub fn offered<T: Wait>(rt: &T, alloc: Global, end: &mut IngressEnd, payload: u8) -> Option<u64>
+    ensures { end.new.link ≡ end.old.link }
+{
     let name = Name::read(b"a")?;
     let parcel = Parcel::new(alloc, &[payload]).ok()?;
     match end.offer(rt, name, parcel) {
@@ -24,7 +27,9 @@ pub fn offered<T: Wait>(rt: &T, alloc: Global, end: &mut IngressEnd, payload: u8
 }
 
 /// The worker and the number of the offer in front, and its payload's first byte.
-pub fn taken<T: Wait>(rt: &T, intake: &mut Intake) -> Option<(u64, u64, u8)> {
+pub fn taken<T: Wait>(rt: &T, intake: &mut Intake) -> Option<(u64, u64, u8)>
+    ensures { intake.new.link ≡ intake.old.link }
+{
     let offer = intake.take(rt)?;
     let (sending, _audit) = offer.parcel.split();
     let first = *sending.as_slice().first()?;

@@ -1,0 +1,206 @@
+//! Calls that may find no memory: each of their requests is refused in turn, until none is, and then the answer is that
+//! of a call that was never refused. Requests are refused over the allocator of `.ci/allocator.c` alone, as `.ci/memory`
+//! runs these tests; over any other the first call is the last one.
+ghost use Rattle.std.specs.Prelude.{◌≡◌};
+ghost use Rattle.share_model.specs.lists.Each.{Each};
+
+use crate::tests::reading::Dripping;
+use crate::{
+    Done, Ended, Gate, IngressEnd, IngressReader, Intake, Job, Next, Why, WhyNot, queue,
+    run_workers,
+};
+use share_base::Refusal;
+use share_model::allocator::WAS_REFUSED;
+use share_model::{Got, Source, asks};
+use std::alloc::Global;
+use std::process::Abort;
+
+/// More requests than a call here makes.
+const REQUESTS: u16 = 64;
+
+/// A record for the flow a, whose payload is kept on the heap.
+const LONG: &[u8] = b"\x01a\x00\x14abcdefghijklmnopqrst";
+
+#[test]
+fn a_queue_is_made_once_its_memory_is_found(rt: HostRuntime) {
+    for request in 1..REQUESTS {
+        let _no = asks!(rt.alloc(), request);
+        let made = queue(rt.alloc(), 4, 2);
+        let was_refused = asks!(rt.alloc(), WAS_REFUSED);
+        assert_eq!(rt; made.is_err(), was_refused);
+        match made {
+            Ok(_) => return,
+            Err(refusal) => assert_eq!(rt; refusal, Refusal::NoMemory),
+        }
+    }
+    panic!(rt; "there is none for good");
+}
+
+// Joins the ends, and tells the tallies.
+fn joined(rt: &impl Abort, alloc: Global, intake: Intake, ends: Vec<IngressEnd>) -> Vec<u64>
+    requires { Each (λ e. e.link ≡ intake.link) ends.items }
+{
+    let mut intake = intake;
+    let mut ends = ends;
+    for request in 1..REQUESTS {
+        let _no = asks!(alloc, request);
+        let gathered = intake.gather(alloc, ends);
+        let was_refused = asks!(alloc, WAS_REFUSED);
+        assert_eq!(rt; gathered.is_err(), was_refused);
+        match gathered {
+            Ok((_intake, tallies)) => return tallies,
+            Err(refused) => {
+                assert_eq!(rt; refused.why, WhyNot::NoMemory);
+                intake = refused.intake;
+                ends = refused.ends;
+            }
+        }
+    }
+    panic!(rt; "there is none for good");
+}
+
+#[test]
+fn ends_are_joined_once_memory_for_their_tallies_is_found(rt: HostRuntime) {
+    let (intake, ends) = queue(rt.alloc(), 4, 2).expect(&rt, "a queue");
+    let tallies = joined(&rt, rt.alloc(), intake, ends);
+    assert!(rt; tallies.as_slice() == [0, 0].as_slice());
+}
+
+#[test]
+fn a_reader_is_made_once_its_memory_is_found(rt: HostRuntime) {
+    for request in 1..REQUESTS {
+        let _no = asks!(rt.alloc(), request);
+        let made = IngressReader::new(rt.alloc(), Dripping::new(LONG, 100, false), 100);
+        let was_refused = asks!(rt.alloc(), WAS_REFUSED);
+        assert_eq!(rt; made.is_err(), was_refused);
+        match made {
+            Ok(_) => return,
+            Err(refusal) => assert_eq!(rt; refusal, Refusal::NoMemory),
+        }
+    }
+    panic!(rt; "there is none for good");
+}
+
+#[test]
+fn an_item_is_given_once_memory_for_its_payload_is_found(rt: HostRuntime) {
+    for request in 1..REQUESTS {
+        let mut reader = IngressReader::new(rt.alloc(), Dripping::new(LONG, 100, false), 100)
+            .ok()
+            .expect(&rt, "a reader");
+        let _no = asks!(rt.alloc(), request);
+        let next = reader.next();
+        let was_refused = asks!(rt.alloc(), WAS_REFUSED);
+        match next {
+            Next::Item { .. } => {
+                assert!(rt; !was_refused);
+                return;
+            }
+            Next::Ended(ended) => {
+                assert!(rt; was_refused);
+                assert_eq!(rt; ended, Ended::NoMemory);
+                assert!(rt; matches!(reader.next(), Next::Ended(Ended::NoMemory)));
+            }
+        }
+    }
+    panic!(rt; "there is none for good");
+}
+
+/// Gives one record for the flow a, whose payload needs no memory.
+#[derive(Drop)]
+struct Once {
+    given: bool,
+}
+
+impl Source for Once {
+    ghost use Rattle.std.specs.Prelude.{None};
+    ghost use Rattle.share_model.specs.io.Given.{Gives};
+
+    ghost left = { λ _. None };
+
+    ghost gives = { λ _ buffer got _. Gives None buffer got None };
+
+    ghost tells = { λ before buffer got after given. given };
+
+    fn take_bytes(&mut self, buffer: &mut [u8]) -> Got {
+        if self.given || buffer.len() < 5 {
+            return Got::End;
+        }
+        self.given = true;
+        buffer[..5].copy_from_slice(b"\x01a\x00\x01b");
+        Got::Bytes(5)
+    }
+}
+
+/// Stops a worker at once where the queue is full.
+#[derive(Drop)]
+struct Impatient;
+
+impl Gate for Impatient {
+    ghost told = { λ _ _ _. Unit {0} };
+
+    fn before(&mut self, _n: u64) {}
+
+    fn offered(&mut self, _n: u64) {}
+
+    fn full(&mut self) -> bool {
+        false
+    }
+}
+
+fn one_item_each(rt: &impl Abort, alloc: Global) -> Vec<Job<Once, Impatient>> {
+    let (_intake, mut ends) = queue(alloc, 2, 2).expect(rt, "a queue");
+    let mut jobs = Vec::with_capacity(alloc, 2).expect(rt, "memory");
+    for _ in 0..2 {
+        let end = ends.pop().expect(rt, "an end");
+        let reader = IngressReader::new(alloc, Once { given: false }, 100)
+            .ok()
+            .expect(rt, "a reader");
+        let job = Job {
+            reader,
+            end,
+            gate: Impatient,
+        };
+        assert!(rt; jobs.push(job).is_ok());
+    }
+    jobs
+}
+
+// Whether each job was done; those that were not, were not started.
+fn all_done(rt: &impl Abort, all: &[Done<Impatient>]) -> bool {
+    let mut done = true;
+    for one in all {
+        if one.why == Why::NotStarted {
+            done = false;
+            assert_eq!(rt; one.tally, 0);
+        } else {
+            assert_eq!(rt; one.why, Why::Ended(Ended::End));
+            assert_eq!(rt; one.tally, 1);
+        }
+    }
+    done
+}
+
+#[test]
+fn jobs_are_done_once_memory_for_their_threads_is_found(rt: HostRuntime) {
+    for request in 1..REQUESTS {
+        let jobs = one_item_each(&rt, rt.alloc());
+        let _no = asks!(rt.alloc(), request);
+        let ran = run_workers(&rt, rt.alloc(), jobs);
+        let was_refused = asks!(rt.alloc(), WAS_REFUSED);
+        match ran {
+            Err(jobs) => {
+                assert!(rt; was_refused);
+                assert_eq!(rt; jobs.len(), 2);
+            }
+            Ok(all) => {
+                assert_eq!(rt; all.len(), 2);
+                let done = all_done(&rt, all.as_slice());
+                assert!(rt; done || was_refused);
+                if !was_refused {
+                    return;
+                }
+            }
+        }
+    }
+    panic!(rt; "there is none for good");
+}

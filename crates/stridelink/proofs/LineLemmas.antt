@@ -1,6 +1,6 @@
 -- The line to which the last byte of a text belongs, as one more byte is read.
-use Rattle.std.proofs.Common.{◌≡◌, ◌≢◌, ◌≤◌, ◌<◌, ◌+◌, ◌-◌, ◌^◌, ℕ, Bool, true, false, List, [], ◌∷◌, ◌++◌, length, take}
-use Rattle.std.proofs.Common.{min, refl, arith, sym, ap, ◌∙◌, subst, zero, suc, if◌then◌else◌, get_or}
+use Rattle.std.proofs.Common.{◌≡◌, ◌≢◌, ◌≤◌, ◌<◌, ◌+◌, ◌-◌, ◌^◌, ℕ, Bool, true, false, List, [], ◌∷◌, ◌++◌, length}
+use Rattle.std.proofs.Common.{min, take, refl, arith, sym, ap, ◌∙◌, subst, zero, suc, if◌then◌else◌, get_or}
 use Rattle.std.specs.List.{flat_map}
 use Rattle.std.proofs.lemmas.Grind.{flat_map-append}
 use Rattle.std.proofs.lemmas.List.{append-nil, length-append}
@@ -18,7 +18,14 @@ take_again (suc n) (x ∷ xs) ys = ap (λ zs. x ∷ zs) (take_again n xs ys)
 
 pub first_line : {kept : List ℕ} → kept ≡ [] → IsLine [] 1 kept false
 first_line none =
-    record { before = []; line = []; whole = refl; plain = (All-nil NoFeed, All-nil (λ b. b ≢ 10)); numbered = refl; keeps = none }
+    record {
+      before = [];
+      line = [];
+      whole = refl;
+      plain = (All-nil NoFeed, All-nil (λ b. b ≢ 10));
+      numbered = refl;
+      keeps = none;
+    }
 
 min_again : (n m : ℕ) → min (min n m + 1) m ≡ min (n + 1) m
 min_again n m = omega arith

@@ -19,8 +19,8 @@ kept_after kept part size Interrupted = kept
 kept_after kept part size Failed = kept
 
 -- What an offer does to the writer below, the line in which the output stands, and the mark of a refusal. The piece is
--- passed on as far as its first line goes: with its line feed if the line is no refusal, and else without; the line feed
--- of a refusal is not passed on, and from there on offers fail.
+-- passed on as far as its first line goes: with its line feed if the line is no refusal, and else without; the line
+-- feed of a refusal is not passed on, and from there on offers fail.
 pub data StrictAnswers {O : Type 0} (answers : O → List ℕ → Answer → O → Type 0) (before : O) (kept : List ℕ)
     (mark : Bool) (piece : List ℕ) (answer : Answer) (after : O) (keeps : List ℕ) (marks : Bool) : Type 0 where
   goes_on : NoFeed piece → answers before piece answer after → keeps ≡ kept_after kept piece (length piece) answer

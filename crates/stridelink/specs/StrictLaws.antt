@@ -12,11 +12,11 @@ use Rattle.stridelink.specs.Strict.{StrictAnswers, goes_on, is_answer, is_refusa
 -- an answer to a part of a piece is one to the piece
 pub told_of_part : (before after : Option Told) (part rest : List ℕ) (answer : Answer)
     → WasTold before part answer after → WasTold before (part ++ rest) answer after
-told_of_part before after part rest (Accepted k) told = (
-  omega (arith, told.0, length-append part rest),
-  told.1 ∙ ap (λ (bs : List ℕ). option_map (λ (t : Told). record { bytes = t.bytes ++ bs; counts = t.counts ++ k ∷ [] }) before)
-      (sym (take-append-le k part rest told.0)),
-)
+told_of_part before after part rest (Accepted k) told =
+    let more : List ℕ → Told → Told = λ bs t. record { bytes = t.bytes ++ bs; counts = t.counts ++ k ∷ [] } in (
+      omega (arith, told.0, length-append part rest),
+      told.1 ∙ ap (λ bs. option_map (more bs) before) (sym (take-append-le k part rest told.0)),
+    )
 told_of_part before after part rest Interrupted told = told
 told_of_part before after part rest Failed told = told
 
@@ -31,7 +31,7 @@ strict_tells told answers tells a kept mark piece answer b keeps marks (is_answe
     let short = tells a (line ++ 10 ∷ []) answer b did in
     subst P (append_assoc line (10 ∷ []) rest ∙ sym same)
     (told_of_part (told a) (told b) (line ++ 10 ∷ []) rest answer short)
-strict_tells told answers tells a kept mark piece answer b keeps marks (is_refusal line rest same plain some is did k m) =
+strict_tells told answers tells a _ _ piece answer b _ _ (is_refusal line rest same plain some is did k m) =
     let P : List ℕ → Type 0 = λ bs. WasTold (told a) bs answer (told b) in
     subst P (sym same) (told_of_part (told a) (told b) line (10 ∷ rest) answer (tells a line answer b did))
 strict_tells told answers tells a kept mark piece answer b keeps marks (is_over rest same is failed stays k m) =

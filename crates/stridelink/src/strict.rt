@@ -1,5 +1,5 @@
 //! A script's output up to its first refusal.
-ghost use Rattle.std.specs.Prelude.{◌≡◌, ◌≢◌, ◌↔◌, ◌≤◌, ◌<◌, ◌+◌, ◌++◌, [], ◌∷◌, take, drop, length, IsTrue, OnOk, false};
+ghost use Rattle.std.specs.Prelude.{◌≡◌, ◌↔◌, ◌≤◌, ◌<◌, ◌+◌, ◌++◌, [], ◌∷◌, take, drop, length, IsTrue, OnOk, false};
 ghost use Rattle.std.specs.Io.KnownBytes.{Appends};
 ghost use Rattle.share_model.specs.io.Printing.{bytes_told};
 ghost use Rattle.stridelink.specs.Strict.{IsRefusal, NoFeed, kept_after};

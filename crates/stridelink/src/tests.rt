@@ -1,6 +1,8 @@
 //! Whole runs of the program, against the text that the rules give.
 
-use crate::run;
+use crate::lines::LineReader;
+use crate::strict::StrictWriter;
+use crate::{run, run_strictly};
 use share_model::{Answer, PlainReader, Rates, Scripted, Tape};
 use share_script::ScriptFault;
 use std::alloc::Global;
@@ -72,10 +74,56 @@ fn the_last_line_fails<S: Rates + Copy>(
     Ok(())
 }
 
+/// Scripts, what a strict run of them prints, and the number and the text of the line that was refused, if one was.
+const STRICT: [(&[u8], &[u8], Option<(u64, &[u8])>); 3] = [
+    (
+        b"open a 4 1\n\nmktkt 1 base\n",
+        b"flow 1\nno 3 Syntax\n",
+        Some((2, b"")),
+    ),
+    (
+        b"audit 1\ntorn\nsend no 61",
+        b"idle\nno 7 NoFlow\n",
+        Some((3, b"send no 61")),
+    ),
+    (b"mkcur no\ntorn\n", b"ok\nidle\nout -\n", None),
+];
+
+// A writer that accepts so many bytes in each of the first hundred calls.
+fn short_writer(alloc: Global, count: usize) -> Result<Scripted, Fail> {
+    let mut answers = Vec::new(alloc);
+    for _ in 0..100 {
+        answers.push(Answer::Accepted(count))?;
+    }
+    Ok(Scripted::new(alloc, answers))
+}
+
+fn strict_runs_end_at_a_refusal<S: Rates + Copy>(
+    rt: &impl Abort,
+    alloc: Global,
+    shelf: S,
+) -> Result<(), Fail> {
+    for (script, want, refused) in STRICT {
+        for count in 1..9 {
+            let mut input = LineReader::new(PlainReader(script));
+            let mut output = StrictWriter::new(short_writer(alloc, count)?);
+            let ran = run_strictly(alloc, shelf, LIFE, &mut input, &mut output);
+            assert_eq!(rt; ran, Ok(refused.is_none()));
+            assert_eq!(rt; output.output.bytes(), want, "{count} bytes a call");
+            if let Some((number, line)) = refused {
+                let told = input.number() == number && input.line() == line;
+                assert!(rt; told, "line {number}");
+            }
+        }
+    }
+    Ok(())
+}
+
 #[test]
 fn scripts_over_the_tariffs_of_the_program(rt: HostRuntime) -> Result<(), Fail> {
     let alloc = rt.alloc();
     let shelf = program_shelf!(alloc);
     scripts_are_printed(&rt, alloc, &shelf)?;
-    the_last_line_fails(&rt, alloc, &shelf)
+    the_last_line_fails(&rt, alloc, &shelf)?;
+    strict_runs_end_at_a_refusal(&rt, alloc, &shelf)
 }

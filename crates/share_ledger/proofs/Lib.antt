@@ -13,11 +13,11 @@ pub mod NetSteps
 pub mod Numbers
 pub mod Positions
 pub mod RouteLists
-pub mod RouteSteps
 pub mod RouteWorths
 pub mod RoutesBefore
 pub mod RoutesDone
 pub mod RoutesLeft
+pub mod SeatChains
 pub mod SeatCounts
 pub mod SeatSources
 pub mod SeatSums

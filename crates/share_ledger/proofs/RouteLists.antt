@@ -4,14 +4,14 @@ use Rattle.std.proofs.Common.{◌∷◌, ◌++◌, map, filter, take, set, get_o
 use Rattle.std.proofs.Common.{slice_get, refl, sym, ap, ◌∙◌, arith, add-one}
 use Rattle.std.specs.List.{list_any}
 use Rattle.std.proofs.Math.Seq.{take-suc-set}
-use Rattle.std.proofs.lemmas.List.{append-nil, get_or-take}
+use Rattle.std.proofs.lemmas.List.{append-nil}
 use Rattle.std.proofs.lemmas.List.Sums.{sum_by-cons}
 use Rattle.std.proofs.lemmas.Bool.Decides.{nat_tests}
 use Rattle.share_model.specs.declared.funding.Ticket.{Ticket}
 use Rattle.share_model.specs.declared.funding.Holder.{Holder}
 use Rattle.share_model.specs.declared.funding.Holder.TheVariants.{Nobody, Currency, Flow}
 use Rattle.share_model.specs.declared.funding.OpenFlow.{OpenFlow}
-use Rattle.share_model.specs.funding.Graph.{NameBytes, Graph, is_active_flow, tickets}
+use Rattle.share_model.specs.funding.Graph.{NameBytes, Graph, tickets}
 use Rattle.share_model.specs.funding.Changes.{is_open_as}
 use Rattle.share_model.specs.funding.Laws.{uncapped}
 use Rattle.share_model.specs.funding.Kept.{names_of, times_open, IsHolderKnown, IsKept}
@@ -210,14 +210,6 @@ activity-at f (e ∷ es) known once = by (nat_eq f e.1.number) refl (activity-at
     by false x rest =
         let here = ap {B = ℕ} (λ b. cond b 1 0) (turned false x) in
         rest (omega (arith, more)) (omega (arith, more))
-
--- the activity that is read by place is that of the flow
-pub lit-is : (g : Graph) (held : List Bool) → IsKept g
-    → take (length g.flows) held ≡ map (λ (e : NameBytes × OpenFlow). e.1.active) g.flows
-    → (f : ℕ) → 1 ≤ times_open f g.flows → get_or held (flow_place g.flows f) false ≡ is_active_flow g f
-lit-is g held ok same f known =
-    sym (get_or-take (length g.flows) held (flow_place g.flows f) false (flow-place-below f g.flows known))
-    ∙ ap (λ l. get_or l (flow_place g.flows f) false) same ∙ activity-at f g.flows known (ok.sound.numbers f)
 
 -- each place is that of the flow that stands there
 at-place : (share : ℕ → ℕ) (es : List (NameBytes × OpenFlow)) (i k : ℕ) (held : ℕ → ℕ) → i < length es

@@ -1,11 +1,10 @@
--- Rounds over the routes of the tickets give the activity, the values and the worths of the definitions.
-use Rattle.std.proofs.Common.{◌≡◌, ◌≤◌, ◌<◌, ◌+◌, ◌*◌, ◌/◌, ◌^◌, ℕ, zero, suc, Bool, true, false, cond, ◌&&◌, ◌||◌}
+-- Sums over the routes of the tickets give the values and the worths of the definitions.
+use Rattle.std.proofs.Common.{◌≡◌, ◌≤◌, ◌<◌, ◌+◌, ◌*◌, ◌/◌, ◌^◌, ℕ, zero, suc, Bool, true, false, cond, ◌&&◌}
 use Rattle.std.proofs.Common.{List, [], ◌∷◌, filter, sum_by, length, bytes_eq, nat_eq, refl, sym, ap, ◌∙◌, arith}
 use Rattle.std.specs.List.{list_any}
 use Rattle.std.proofs.lemmas.List.Sums.{sum_by-cons}
 use Rattle.std.proofs.lemmas.Bool.Decides.{nat_tests}
 use Rattle.std.proofs.lemmas.Nat.{mul-le}
-use Rattle.std.proofs.Math.Bool.{and-false, or-false}
 use Rattle.share_model.specs.declared.funding.Holder.{Holder}
 use Rattle.share_model.specs.declared.funding.Holder.TheVariants.{Nobody, Currency, Flow}
 use Rattle.share_model.specs.declared.funding.Ticket.{Ticket}
@@ -16,30 +15,15 @@ use Rattle.share_model.specs.funding.Graph.{worth_by, val, worth}
 use Rattle.share_model.specs.lists.Each.{Each}
 use Rattle.share_model.specs.lists.Laws.{each_map}
 use Rattle.share_model.specs.funding.Kept.{names_of, times, times_open, IsHolderKnown, IsKept}
-use Rattle.share_model.specs.lists.CountLaws.{any-filter}
 use Rattle.share_model.specs.lists.SumLaws.{sum_by-filter, sum_by-le_of, sum_by-same_of}
 use Rattle.share_model.proofs.FundingShares.{active_amount, active-is, active-within, worths-within, vals-within}
 use Rattle.share_ledger.specs.declared.routes.Route.{Route}
 use Rattle.share_ledger.specs.Places.{place}
-use Rattle.share_ledger.specs.Routes.{flow_place, holder_place, route_of, is_kind, routes_of, reaches, awake, gathered}
+use Rattle.share_ledger.specs.Routes.{flow_place, holder_place, route_of, is_kind, routes_of, gathered}
 use Rattle.share_ledger.specs.Routes.{carried, poured, valued}
-use Rattle.share_ledger.proofs.LinkPlaces.{place-below, place-same, place-base, any-map, sum_by-map, IsPlaced, placed}
+use Rattle.share_ledger.proofs.LinkPlaces.{place-below, place-same, place-base, sum_by-map, IsPlaced, placed}
 
--- Two tests, or two sums, that together make up one
-two-any : (P : Ticket → Type 0) (p q r : Ticket → Bool) (ts : List Ticket) → Each P ts
-    → ((t : Ticket) → P t → (p t || q t) ≡ r t) → (list_any p ts || list_any q ts) ≡ list_any r ts
-two-any P p q r [] each same = refl
-two-any P p q r (t ∷ ts) each same =
-    shuffle (p t) (q t) (list_any p ts) (list_any q ts)
-    ∙ ap (λ b. b || (list_any p ts || list_any q ts)) (same t each.0)
-    ∙ ap (λ b. r t || b) (two-any P p q r ts each.1 same)
-  where
-    shuffle : (a b c d : Bool) → ((a || c) || (b || d)) ≡ ((a || b) || (c || d))
-    shuffle true b c d = refl
-    shuffle false true true d = refl
-    shuffle false true false d = refl
-    shuffle false false c d = refl
-
+-- Two sums that together make up one
 two-sum : (P : Ticket → Type 0) (v w u : Ticket → ℕ) (ts : List Ticket) → Each P ts
     → ((t : Ticket) → P t → v t + w t ≡ u t) → sum_by v ts + sum_by w ts ≡ sum_by u ts
 two-sum P v w u [] each same = refl
@@ -102,14 +86,6 @@ flow-place-below f (e ∷ es) known = by (nat_eq f e.1.number) refl (flow-place-
         omega arith
 
 module _ (g : Graph) where
-  pub any-routes : (F : Route → Bool) (b : Bool)
-      → list_any F (routes_of g b g.tickets)
-      ≡ list_any (λ (t : Ticket). is_kind b t.holder && F (route_of g t)) g.tickets
-  unfolding routes_of
-  any-routes F b =
-      any-map F (route_of g) (filter (λ (t : Ticket). is_kind b t.holder) g.tickets)
-      ∙ any-filter (λ (t : Ticket). is_kind b t.holder) (λ (t : Ticket). F (route_of g t)) g.tickets
-
   pub sum-routes : (F : Route → ℕ) (b : Bool)
       → sum_by F (routes_of g b g.tickets)
       ≡ sum_by (λ (t : Ticket). cond (is_kind b t.holder) (F (route_of g t)) 0) g.tickets
@@ -120,66 +96,6 @@ module _ (g : Graph) where
 
   pub below : IsKept g → (c : NameBytes) → 1 ≤ times c (names_of g) → place (names_of g) c < 65
   below ok c known = let under = place-below c (names_of g) known in let few = ok.few_currencies in omega arith
-
-module _ (g : Graph) (ok : IsKept g) (lit begun held : ℕ → Bool)
-    (flows : (f : ℕ) → 1 ≤ times_open f g.flows → lit (flow_place g.flows f) ≡ is_active_flow g f)
-    (first : (p : ℕ) → p < 65 → begun p ≡ reaches (routes_of g false g.tickets) lit p)
-    (rounds : (p : ℕ) → p < 65 → held p ≡ awake (routes_of g true g.tickets) begun 8 p) where
-  -- Activity
-  step-is : (flag : ℕ → Bool) (n : ℕ)
-      → ((c : NameBytes) → 1 ≤ times c (names_of g)
-      → flag (place (names_of g) c) ≡ list_any (act g n) (issued g.tickets c))
-      → (c : NameBytes) → 1 ≤ times c (names_of g)
-      → (reaches (routes_of g false g.tickets) lit (place (names_of g) c)
-      || reaches (routes_of g true g.tickets) flag (place (names_of g) c))
-      ≡ list_any (act g (suc n)) (issued g.tickets c)
-  unfolding reaches issued act
-  step-is flag n same c known =
-      ap
-      (λ b. b || list_any (λ (r : Route). nat_eq (place (names_of g) c) r.from && flag r.to)
-      (routes_of g true g.tickets))
-      (any-routes g (λ (r : Route). nat_eq (place (names_of g) c) r.from && lit r.to) false)
-      ∙ ap
-      (λ b. list_any
-      (λ (t : Ticket). is_kind false t.holder && (nat_eq (place (names_of g) c) (place (names_of g) t.denomination)
-      && lit (holder_place g t.holder))) g.tickets || b)
-      (any-routes g (λ (r : Route). nat_eq (place (names_of g) c) r.from && flag r.to) true)
-      ∙ two-any (IsPlaced g)
-      (λ (t : Ticket). is_kind false t.holder && (nat_eq (place (names_of g) c) (place (names_of g) t.denomination)
-      && lit (holder_place g t.holder)))
-      (λ (t : Ticket). is_kind true t.holder && (nat_eq (place (names_of g) c) (place (names_of g) t.denomination)
-      && flag (holder_place g t.holder)))
-      (λ (t : Ticket). bytes_eq c t.denomination && is_active_holder g (act g n) t.holder) g.tickets (placed g ok)
-      (λ t ok. ap
-      (λ b. (is_kind false t.holder && (b && lit (holder_place g t.holder)))
-      || (is_kind true t.holder && (b && flag (holder_place g t.holder))))
-      (place-same c t.denomination (names_of g) known)
-      ∙ by (bytes_eq c t.denomination) t.holder ok.holder_known)
-      ∙ sym (any-filter (λ (t : Ticket). bytes_eq c t.denomination) (act g (suc n)) g.tickets)
-    where
-      by : (b : Bool) (o : Holder) → IsHolderKnown g o
-          → ((is_kind false o && (b && lit (holder_place g o))) || (is_kind true o && (b && flag (holder_place g o))))
-          ≡ (b && is_active_holder g (act g n) o)
-      by b Nobody there = sym (and-false b)
-      by b (Currency d) there = ap (λ a. b && a) (same d there)
-      by b (Flow f) there = or-false (b && lit (flow_place g.flows f)) ∙ ap (λ a. b && a) (flows f there)
-
-  awake-is : (n : ℕ) (c : NameBytes) → 1 ≤ times c (names_of g)
-      → awake (routes_of g true g.tickets) begun n (place (names_of g) c) ≡ list_any (act g n) (issued g.tickets c)
-  unfolding awake act
-  awake-is zero c known = none (issued g.tickets c)
-    where
-      none : (ts : List Ticket) → false ≡ list_any (λ (t : Ticket). false) ts
-      none [] = refl
-      none (t ∷ ts) = none ts
-  awake-is (suc n) c known =
-      ap (λ b. b || reaches (routes_of g true g.tickets) (awake (routes_of g true g.tickets) begun n)
-      (place (names_of g) c)) (first (place (names_of g) c) (below g ok c known))
-      ∙ step-is (awake (routes_of g true g.tickets) begun n) n (awake-is n) c known
-
-  pub held-is : (c : NameBytes) → 1 ≤ times c (names_of g)
-      → held (place (names_of g) c) ≡ list_any (act g 8) (issued g.tickets c)
-  held-is c known = rounds (place (names_of g) c) (below g ok c known) ∙ awake-is 8 c known
 
 -- what the routes say is active, by the places of holders
 abbrev pub lead : Graph → (ℕ → Bool) → Holder → Bool

@@ -1,7 +1,7 @@
 -- What leaves the routes of the tickets.
 use Rattle.std.proofs.Common.{◌≡◌, ◌≤◌, ◌+◌, ℕ, suc, Bool, true, false, not, cond, List, [], ◌∷◌, ◌++◌, take, find}
 use Rattle.std.proofs.Common.{None, Some, length, bytes_eq, nat_eq, is_some, refl, sym, ap, ◌∙◌, arith, subst, map}
-use Rattle.std.proofs.Common.{◌<◌, ◌^◌, zero, get_or, min, sum_by, true≢false, position}
+use Rattle.std.proofs.Common.{◌<◌, ◌^◌, zero, get_or, min, sum_by, position}
 use Rattle.std.specs.Set.{remove_key}
 use Rattle.std.proofs.lemmas.List.{append-nil}
 use Rattle.std.proofs.lemmas.List.Sums.{sum_by-cons}
@@ -12,7 +12,7 @@ use Rattle.share_model.specs.declared.funding.Holder.{Holder}
 use Rattle.share_model.specs.declared.funding.Holder.TheVariants.{Nobody, Currency, Flow}
 use Rattle.share_model.specs.declared.funding.Ticket.{Ticket}
 use Rattle.share_model.specs.declared.funding.OpenFlow.{OpenFlow}
-use Rattle.share_model.specs.funding.Graph.{NameBytes, Graph, empty_graph, tickets}
+use Rattle.share_model.specs.funding.Graph.{NameBytes, Graph, tickets}
 use Rattle.share_model.specs.funding.Changes.{is_numbered, ticket_of, is_held, is_found_held, is_open_as, active_as}
 use Rattle.share_model.specs.funding.Changes.{with_activity, added_flow, make_currency, make_ticket, made_ticket}
 use Rattle.share_model.specs.funding.Changes.{remove_ticket_refusal, remove_ticket, add_flow, set_active}
@@ -38,29 +38,17 @@ use Rattle.share_ledger.proofs.LinkPlaces.{IsPlaced, placed}
 use Rattle.share_ledger.proofs.RouteLists.{routes-cons, routes-append}
 
 -- what is kept of a graph fits another with the same routes and the same tickets of the same flows
-pub kept-left : (net : Net) (ready : Bool) (shares : List ℕ) (g h : Graph)
+pub kept-left : (net : Net) (shares : List ℕ) (g h : Graph)
     → ((b : Bool) → routes_of g b g.tickets ≡ routes_of h b h.tickets) → g.flows ≡ h.flows
-    → ((f : ℕ) → tickets g f ≡ tickets h f) → AreKept net ready shares g → AreKept net ready shares h
-kept-left net ready shares g h routes flows same kept = record {
+    → ((f : ℕ) → tickets g f ≡ tickets h f) → AreKept net shares g → AreKept net shares h
+kept-left net shares g h routes flows same kept = record {
   of_flows = shares-left shares g h flows same kept.of_flows;
-  net_ready = λ e. relit net shares (backs_of h) (funds_of h) (activity_of g) (activity_of h)
+  net_ready = relit net shares (backs_of h) (funds_of h) (activity_of g) (activity_of h)
       (subst (λ rs. IsReady net shares (backs_of h) rs (activity_of g)) (routes false)
-      (subst (λ rs. IsReady net shares rs (funds_of g) (activity_of g)) (routes true) (kept.net_ready e)))
+      (subst (λ rs. IsReady net shares rs (funds_of g) (activity_of g)) (routes true) (kept.net_ready)))
       (λ k. ap (λ (es : List (NameBytes × OpenFlow)). get_or (map
       (λ (e : NameBytes × OpenFlow). e.1.active) es) k false)
       flows);
-  backing_places = kept.backing_places;
-  funding_places = kept.funding_places;
-}
-
--- nothing is kept of empty tables
-pub kept-empty_graph : (net : Net) (ready : Bool) (shares : List ℕ) → ready ≡ false → length net.backing.items ≡ 65
-    → length net.funding.items ≡ 65 → AreKept net ready shares empty_graph
-kept-empty_graph net ready shares off p q = record {
-  of_flows = refl;
-  net_ready = λ e. absurd (true≢false (sym e ∙ off));
-  backing_places = p;
-  funding_places = q;
 }
 
 -- routes of the same tickets
@@ -207,21 +195,19 @@ activity-opened [] name f (suc k) = refl
 activity-opened (e ∷ es) name f zero = refl
 activity-opened (e ∷ es) name f (suc k) = activity-opened es name f k
 
-pub kept-opened : (net : Net) (ready : Bool) (before after : List ℕ) (g : Graph) (name : NameBytes) (n : ℕ)
+pub kept-opened : (net : Net) (before after : List ℕ) (g : Graph) (name : NameBytes) (n : ℕ)
     → IsKept g → n ≡ length g.flows
     → ((k : ℕ) → get_or after k 0 ≡ cond (nat_eq n k) 0 (get_or before k 0))
-    → take (n + 1) after ≡ take n before ++ 0 ∷ [] → AreKept net ready before g
-    → AreKept net ready after (add_flow g name)
-kept-opened net ready before after g name n ok at wrote more kept = record {
+    → take (n + 1) after ≡ take n before ++ 0 ∷ [] → AreKept net before g
+    → AreKept net after (add_flow g name)
+kept-opened net before after g name n ok at wrote more kept = record {
   of_flows = shares-opened before after g name n ok at more kept.of_flows;
-  net_ready = λ e. relit net after (backs_of (add_flow g name)) (funds_of (add_flow g name)) (activity_of g)
+  net_ready = relit net after (backs_of (add_flow g name)) (funds_of (add_flow g name)) (activity_of g)
       (activity_of (add_flow g name))
       (subst (λ rs. IsReady net after (backs_of (add_flow g name)) rs (activity_of g)) (routes-add_flow g ok name false)
       (subst (λ rs. IsReady net after rs (funds_of g) (activity_of g)) (routes-add_flow g ok name true)
-      (opened (kept.net_ready e))))
+      (opened (kept.net_ready))))
       (activity-opened g.flows name g.next_flow);
-  backing_places = kept.backing_places;
-  funding_places = kept.funding_places;
 }
   where
     opened : IsReady net before (backs_of g) (funds_of g) (activity_of g)

@@ -1,6 +1,8 @@
 -- The seats of a holder are as many as the tickets that fund it.
-use Rattle.std.proofs.Common.{◌≡◌, ◌≤◌, ◌<◌, ℕ, zero, suc, true, false, cond, List, [], ◌∷◌, length}
-use Rattle.std.proofs.Common.{sum_by, nat_eq, refl, sym, ap, ◌∙◌, arith}
+use Rattle.std.proofs.Common.{◌≡◌, ◌≤◌, ◌<◌, ◌&&◌, ℕ, zero, suc, Bool, true, false, cond, List, [], ◌∷◌, length}
+use Rattle.std.proofs.Common.{sum_by, nat_eq, refl, sym, ap, ◌∙◌, true≢false, inl, inr, arith}
+use Rattle.std.specs.List.{list_any}
+use Rattle.std.proofs.lemmas.Bool.{eqb-true, cases_lt}
 use Rattle.std.proofs.lemmas.List.Sums.{sum_by-cons, length-filter}
 use Rattle.std.proofs.lemmas.Bool.Decides.{nat_tests}
 use Rattle.share_model.specs.declared.funding.Holder.{Holder}
@@ -10,18 +12,20 @@ use Rattle.share_model.specs.declared.funding.OpenFlow.{OpenFlow}
 use Rattle.share_model.specs.funding.Graph.{NameBytes, Graph, is_held_by_currency, is_held_by_flow, backing, funding}
 use Rattle.share_model.specs.funding.Changes.{is_open_as}
 use Rattle.share_model.specs.funding.Kept.{names_of, times, times_open, IsHolderKnown, IsKept}
-use Rattle.share_model.specs.lists.SumLaws.{sum_by-same_of}
+use Rattle.share_model.specs.lists.SumLaws.{sum_by-same, sum_by-same_of}
 use Rattle.share_ledger.specs.declared.routes.Route.{Route}
 use Rattle.share_ledger.specs.declared.seats.Seat.{Seat}
 use Rattle.share_ledger.specs.Places.{place}
-use Rattle.share_ledger.specs.Routes.{is_kind, flow_place, holder_place}
-use Rattle.share_ledger.specs.Seats.{seats_at, AreSeated, backs_of, funds_of}
+use Rattle.share_ledger.specs.Nets.{GrowsBy}
+use Rattle.share_ledger.specs.Routes.{is_kind, flow_place, holder_place, routes_of}
+use Rattle.share_ledger.specs.Seats.{is_like, seats_at, seat_of, AreSeated, backs_of, funds_of}
 use Rattle.share_ledger.proofs.LinkPlaces.{place-same, IsPlaced, placed}
 use Rattle.share_ledger.proofs.Positions.{IsFirstAt}
 use Rattle.share_ledger.proofs.RouteLists.{flow-place-first}
+use Rattle.share_ledger.proofs.SeatChains.{any-sum, found}
 use Rattle.share_ledger.proofs.RouteWorths.{sum-routes, below, flow-place-same, flow-place-below}
 
-ones : {X : Type 0} (xs : List X) → length xs ≡ sum_by (λ _. 1) xs
+pub ones : {X : Type 0} (xs : List X) → length xs ≡ sum_by (λ _. 1) xs
 ones [] = refl
 ones {X} (x ∷ xs) =
     let rest = ones xs in
@@ -29,13 +33,12 @@ ones {X} (x ∷ xs) =
     omega arith
 
 -- the tickets that fund a currency
-pub backing-count : (g : Graph) → IsKept g → (ss : List (List Seat)) → AreSeated (backs_of g) ss → (c : NameBytes)
-    → 1 ≤ times c (names_of g) → length (seats_at ss (place (names_of g) c)) ≡ length (backing g.tickets c)
+pub backing-routes : (g : Graph) → IsKept g → (c : NameBytes) → 1 ≤ times c (names_of g)
+    → sum_by (λ (r : Route). cond (nat_eq (place (names_of g) c) r.to) 1 0) (backs_of g) ≡ length (backing g.tickets c)
 unfolding backing
-backing-count g ok ss seated c known =
+backing-routes g ok c known =
     let p = place (names_of g) c in
-    ones (seats_at ss p) ∙ seated.seated (λ _. 1) p (below g ok c known)
-    ∙ sum-routes g (λ (r : Route). cond (nat_eq p r.to) 1 0) true
+    sum-routes g (λ (r : Route). cond (nat_eq p r.to) 1 0) true
     ∙ sum_by-same_of (IsPlaced g)
     (λ (t : Ticket). cond (is_kind true t.holder) (cond (nat_eq p (holder_place g t.holder)) 1 0) 0)
     (λ (t : Ticket). cond (is_held_by_currency c t.holder) 1 0) g.tickets (placed g ok)
@@ -48,6 +51,12 @@ backing-count g ok ss seated c known =
     by Nobody there = refl
     by (Flow f) there = refl
     by (Currency d) there = ap {B = ℕ} (λ b. cond b 1 0) (place-same c d (names_of g) known)
+
+pub backing-count : (g : Graph) → IsKept g → (ss : List (List Seat)) → AreSeated (backs_of g) ss → (c : NameBytes)
+    → 1 ≤ times c (names_of g) → length (seats_at ss (place (names_of g) c)) ≡ length (backing g.tickets c)
+backing-count g ok ss seated c known =
+    ones (seats_at ss (place (names_of g) c)) ∙ seated.seated (λ _. 1) (place (names_of g) c) (below g ok c known)
+    ∙ backing-routes g ok c known
 
 -- a flow at a place is open
 pub first-open : (f : ℕ) (es : List (NameBytes × OpenFlow)) (i : ℕ) → IsFirstAt (is_open_as f) es i
@@ -65,18 +74,32 @@ first-open f (e ∷ es) (suc i) first =
     let more = sum_by-cons (λ (x : NameBytes × OpenFlow). cond (nat_eq x.1.number f) 1 0) e es in
     omega arith
 
--- the tickets that fund the flow at a place
-pub funding-count : (g : Graph) → IsKept g → (ss : List (List Seat)) → AreSeated (funds_of g) ss → (f i : ℕ)
-    → IsFirstAt (is_open_as f) g.flows i → length (seats_at ss i) ≡ length (funding g.tickets f)
+-- the tickets that fund a flow
+pub funding-routes : (g : Graph) → IsKept g → (f : ℕ) → 1 ≤ times_open f g.flows
+    → sum_by (λ (r : Route). cond (nat_eq (flow_place g.flows f) r.to) 1 0) (funds_of g) ≡ length (funding g.tickets f)
 unfolding funding
-funding-count g ok ss seated f i first =
-    ones (seats_at ss i) ∙ seated.seated (λ _. 1) i inside
-    ∙ sum-routes g (λ (r : Route). cond (nat_eq i r.to) 1 0) false
+funding-routes g ok f known =
+    sum-routes g (λ (r : Route). cond (nat_eq (flow_place g.flows f) r.to) 1 0) false
     ∙ sum_by-same_of (IsPlaced g)
-    (λ (t : Ticket). cond (is_kind false t.holder) (cond (nat_eq i (holder_place g t.holder)) 1 0) 0)
+    (λ (t : Ticket). cond (is_kind false t.holder)
+    (cond (nat_eq (flow_place g.flows f) (holder_place g t.holder)) 1 0) 0)
     (λ (t : Ticket). cond (is_held_by_flow f t.holder) 1 0) g.tickets (placed g ok)
     (λ t at. by t.holder at.holder_known)
     ∙ sym (length-filter (λ (t : Ticket). is_held_by_flow f t.holder) g.tickets)
+  where
+    by : (h : Holder) → IsHolderKnown g h
+        → ◌≡◌ {A = ℕ} (cond (is_kind false h) (cond (nat_eq (flow_place g.flows f) (holder_place g h)) 1 0) 0)
+        (cond (is_held_by_flow f h) 1 0)
+    by Nobody there = refl
+    by (Currency d) there = refl
+    by (Flow k) there = ap {B = ℕ} (λ b. cond b 1 0) (flow-place-same f k g.flows known)
+
+pub funding-count : (g : Graph) → IsKept g → (ss : List (List Seat)) → AreSeated (funds_of g) ss → (f i : ℕ)
+    → IsFirstAt (is_open_as f) g.flows i → length (seats_at ss i) ≡ length (funding g.tickets f)
+funding-count g ok ss seated f i first =
+    ones (seats_at ss i) ∙ seated.seated (λ _. 1) i inside
+    ∙ ap (λ p. sum_by (λ (r : Route). cond (nat_eq p r.to) 1 0) (funds_of g)) at
+    ∙ funding-routes g ok f (first-open f g.flows i first)
   where
     at : i ≡ flow_place g.flows f
     at = flow-place-first f g.flows i first
@@ -87,12 +110,78 @@ funding-count g ok ss seated f i first =
         let few = ok.few_flows in
         omega (arith, at)
 
-    by : (h : Holder) → IsHolderKnown g h
-        → ◌≡◌ {A = ℕ} (cond (is_kind false h) (cond (nat_eq i (holder_place g h)) 1 0) 0)
-        (cond (is_held_by_flow f h) 1 0)
-    by Nobody there = refl
-    by (Currency d) there = refl
-    by (Flow k) there =
-        ap {B = ℕ} (λ b. cond b 1 0)
-        (ap (λ j. nat_eq j (flow_place g.flows k)) at
-        ∙ flow-place-same f k g.flows (first-open f g.flows i first))
+-- no holder has more than sixteen
+pub routes-few_at : (g : Graph) → IsKept g → (b : Bool) (p : ℕ)
+    → sum_by (λ (r : Route). cond (nat_eq p r.to) 1 0) (routes_of g b g.tickets) ≤ 16
+routes-few_at g ok b p = elim (cases_lt 0 (sum_by (λ (r : Route). cond (nat_eq p r.to) 1 0) (routes_of g b g.tickets))) [
+  | inl some ↦ by b some
+  | inr none ↦ omega arith
+]
+  where
+    both : (a b : Bool) → ◌≡◌ {A = ℕ} (cond a (cond b 1 0) 0) (cond (a && b) 1 0)
+    both true b = refl
+    both false b = refl
+
+    one : (b : Bool) → 0 < sum_by (λ (r : Route). cond (nat_eq p r.to) 1 0) (routes_of g b g.tickets)
+        → list_any (λ (t : Ticket). is_kind b t.holder && nat_eq p (holder_place g t.holder)) g.tickets ≡ true
+    one b some =
+        let same =
+        sum-routes g (λ (r : Route). cond (nat_eq p r.to) 1 0) b
+        ∙ sum_by-same (λ (t : Ticket). cond (is_kind b t.holder) (cond (nat_eq p (holder_place g t.holder)) 1 0) 0)
+        (λ (t : Ticket). cond (is_kind b t.holder && nat_eq p (holder_place g t.holder)) 1 0) g.tickets
+        (λ t. both (is_kind b t.holder) (nat_eq p (holder_place g t.holder))) in
+        any-sum (λ (t : Ticket). is_kind b t.holder && nat_eq p (holder_place g t.holder)) g.tickets (omega arith)
+
+    at-holder : (b : Bool) (h : Holder) → IsHolderKnown g h → (is_kind b h && nat_eq p (holder_place g h)) ≡ true
+        → sum_by (λ (r : Route). cond (nat_eq p r.to) 1 0) (routes_of g b g.tickets) ≤ 16
+    at-holder b Nobody there e = absurd (true≢false (sym e))
+    at-holder true (Currency c) there e =
+        let is = eqb-true p (place (names_of g) c) e in
+        let same = ap (λ q. sum_by (λ (r : Route). cond (nat_eq q r.to) 1 0) (backs_of g)) is
+        ∙ backing-routes g ok c there in
+        let few = ok.uncrowded.currencies c in
+        omega arith
+    at-holder false (Currency c) there e = absurd (true≢false (sym e))
+    at-holder true (Flow f) there e = absurd (true≢false (sym e))
+    at-holder false (Flow f) there e =
+        let is = eqb-true p (flow_place g.flows f) e in
+        let same = ap (λ q. sum_by (λ (r : Route). cond (nat_eq q r.to) 1 0) (funds_of g)) is
+        ∙ funding-routes g ok f there in
+        let few = ok.uncrowded.flows f in
+        omega arith
+
+    by : (b : Bool) → 0 < sum_by (λ (r : Route). cond (nat_eq p r.to) 1 0) (routes_of g b g.tickets)
+        → sum_by (λ (r : Route). cond (nat_eq p r.to) 1 0) (routes_of g b g.tickets) ≤ 16
+    by b some =
+        let t =
+        found (IsPlaced g) (λ (t : Ticket). is_kind b t.holder && nat_eq p (holder_place g t.holder)) g.tickets
+        (placed g ok) (one b some) in
+        at-holder b t.0.holder t.1.0.holder_known t.1.1.0
+
+-- there is room for one seat more where that is so with it
+pub room-more : (g : Graph) → IsKept g → (b : Bool) (rs : List Route) (r : Route) (ss : List (List Seat)) → AreSeated rs ss
+    → r.to < 65 → GrowsBy true rs (routes_of g b g.tickets) r → length (seats_at ss r.to) < 16
+room-more g ok b rs r ss seated lt grows =
+    let few = routes-few_at g ok b r.to in
+    let more = grows (λ (q : Route). cond (nat_eq r.to q.to) 1 0) in
+    let own = ones (seats_at ss r.to) ∙ seated.seated (λ _. 1) r.to lt in
+    let here = ap {B = ℕ} (λ b. cond b 1 0) (self r.to) in
+    omega arith
+  where
+    self : (n : ℕ) → nat_eq n n ≡ true
+    self n = grind (arith, nat_tests)
+
+-- the seat of a route is there
+pub seat-there : (rs less : List Route) (r : Route) (ss : List (List Seat)) → AreSeated rs ss → r.to < 65
+    → GrowsBy true less rs r → list_any (is_like (seat_of r)) (seats_at ss r.to) ≡ true
+seat-there rs less r ss seated lt grows =
+    let all = seated.seated (λ (s : Seat). cond (is_like (seat_of r) s) 1 0) r.to lt in
+    let more = grows (λ (q : Route). cond (nat_eq r.to q.to) (cond (is_like (seat_of r) (seat_of q)) 1 0) 0) in
+    let here =
+    ap {B = ℕ} (λ b. cond b (cond (is_like (seat_of r) (seat_of r)) 1 0) 0) (self r.to)
+    ∙ ap {B = ℕ} (λ b. cond (b && nat_eq r.amount r.amount) 1 0) (self r.from)
+    ∙ ap {B = ℕ} (λ b. cond b 1 0) (self r.amount) in
+    any-sum (is_like (seat_of r)) (seats_at ss r.to) (omega arith)
+  where
+    self : (n : ℕ) → nat_eq n n ≡ true
+    self n = grind (arith, nat_tests)

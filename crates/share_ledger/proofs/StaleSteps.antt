@@ -1,5 +1,5 @@
 -- What is left where no weight and no value that seats rest on has changed.
-use Rattle.std.proofs.Common.{zero, suc, ◌≡◌, ◌<◌, ◌≤◌, ◌+◌, ◌-◌, ◌*◌, ◌/◌, ◌^◌, ℕ, min, List, [], ◌∷◌}
+use Rattle.std.proofs.Common.{zero, suc, ◌≡◌, ◌<◌, ◌≤◌, ◌+◌, ◌*◌, ◌/◌, ◌^◌, ℕ, min, List, [], ◌∷◌}
 use Rattle.std.proofs.Common.{Bool, true, false, cond, not, ◌&&◌, ◌||◌}
 use Rattle.std.proofs.Common.{sum_by, nat_eq, nat_lt, length, set, refl, sym, ap, ◌∙◌, arith}
 use Rattle.std.specs.List.{list_any}

@@ -1,7 +1,6 @@
 -- Routes: what the tickets that have a holder do between places, and rounds over them.
-use Rattle.std.specs.Prelude.{◌≤◌, ◌<◌, ℕ, ◌*◌, ◌/◌, ◌^◌, zero, suc, Bool, false, not, ◌&&◌, ◌||◌, List, [], ◌∷◌, map}
+use Rattle.std.specs.Prelude.{◌≤◌, ◌<◌, ℕ, ◌*◌, ◌/◌, ◌^◌, zero, suc, Bool, false, not, ◌&&◌, List, [], ◌∷◌, map}
 use Rattle.std.specs.Prelude.{filter, sum_by, nat_eq, if◌then◌else◌}
-use Rattle.std.specs.List.{list_any}
 use Rattle.share_ledger.specs.declared.routes.Route.{Route}
 use Rattle.share_ledger.specs.Places.{place}
 use Rattle.share_model.specs.declared.funding.Holder.{Holder}
@@ -44,15 +43,6 @@ pub record IsRouteWithin (r : Route) : Type 0 where
   pub from_place : r.from < 65
   pub to_place : r.to < 65
   pub small : r.amount ≤ 2 ^ 20
-
--- some route from a place leads to a flagged place
-unfoldable pub reaches : List Route → (ℕ → Bool) → ℕ → Bool
-reaches rs flag p = list_any (λ r. nat_eq p r.from && flag r.to) rs
-
--- what is awake after n rounds, where some places have routes to active flows
-unfoldable pub awake : List Route → (ℕ → Bool) → ℕ → ℕ → Bool
-awake rs begun zero p = false
-awake rs begun (suc n) p = begun p || reaches rs (awake rs begun n) p
 
 -- the amounts of the routes from a place to flagged places
 unfoldable pub gathered : List Route → (ℕ → Bool) → ℕ → ℕ

@@ -1,5 +1,5 @@
 -- What is kept beside the tables.
-use Rattle.std.specs.Prelude.{◌≡◌, ℕ, Bool, true, List, map, take, length}
+use Rattle.std.specs.Prelude.{◌≡◌, ℕ, List, map, take, length}
 use Rattle.share_model.specs.declared.funding.OpenFlow.{OpenFlow}
 use Rattle.share_model.specs.funding.Graph.{NameBytes, Graph, tickets}
 use Rattle.share_ledger.specs.declared.net.Net.{Net}
@@ -10,9 +10,7 @@ use Rattle.share_ledger.specs.Seats.{backs_of, funds_of}
 abbrev pub shares_of : Graph → List ℕ
 shares_of g = map (λ (e : NameBytes × OpenFlow). tickets g e.1.number) g.flows
 
--- The tickets of the flows are those of the graph, and so is the net where it is ready.
-pub record AreKept (net : Net) (ready : Bool) (shares : List ℕ) (g : Graph) : Type 0 where
+-- The tickets of the flows are those of the graph, and so is the net.
+pub record AreKept (net : Net) (shares : List ℕ) (g : Graph) : Type 0 where
   pub of_flows : take (length g.flows) shares ≡ shares_of g
-  pub net_ready : ready ≡ true → IsReady net shares (backs_of g) (funds_of g) (activity_of g)
-  pub backing_places : length net.backing.items ≡ 65
-  pub funding_places : length net.funding.items ≡ 65
+  pub net_ready : IsReady net shares (backs_of g) (funds_of g) (activity_of g)

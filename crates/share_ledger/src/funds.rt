@@ -36,116 +36,93 @@ impl Net {
         ranks::list(&self.backing, from, to, &mut ranks, &mut order)
     }
 
-    // One more ticket backs a currency. Not so where its holder has no room.
-    fn add_backing(&mut self, tables: &Tables, route: &Route) -> bool
+    // One more ticket backs a currency.
+    fn add_backing(&mut self, tables: &Tables, route: &Route)
         requires within { IsRouteWithin route.now }
         requires begun { ComesToFund self.old tables.now route.now true }
-        ensures begun { result ≡ true
-            → IsBegun self.new (backs_of tables.now) (funds_of tables.now) (activity_of tables.now) }
-        ensures places { (length self.new.backing.items ≡ 65) × (length self.new.funding.items ≡ 65) }
-        ensures left { result ≡ true → IsLeft self.old self.new route.now.to 64 }
+        ensures begun { IsBegun self.new (backs_of tables.now) (funds_of tables.now) (activity_of tables.now) }
+        ensures left { IsLeft self.old self.new route.now.to 64 }
     {
         tables.is_kept();
-        if !seat(route, &mut self.backing) {
-            return false;
-        }
-        if !ranks::renew(
+        seat(route, &mut self.backing);
+        ranks::renew(
+            tables,
             &self.backing,
             route.from,
             route.to,
             &mut self.ranks,
             &mut self.order,
-        ) {
-            return false;
-        }
+        );
         let amount = counted(self.awake[route.to], route.amount);
         net::grow(&mut self.weights, route.from, amount);
-        true
     }
 
     // One more ticket funds a flow.
-    fn add_funding(&mut self, tables: &Tables, route: &Route) -> bool
+    fn add_funding(&mut self, tables: &Tables, route: &Route)
         requires within { IsRouteWithin route.now }
         requires begun { ComesToFund self.old tables.now route.now false }
-        ensures begun { result ≡ true
-            → IsBegun self.new (backs_of tables.now) (funds_of tables.now) (activity_of tables.now) }
-        ensures places { (length self.new.backing.items ≡ 65) × (length self.new.funding.items ≡ 65) }
-        ensures left { result ≡ true → IsLeft self.old self.new 0 route.now.to }
+        ensures begun { IsBegun self.new (backs_of tables.now) (funds_of tables.now) (activity_of tables.now) }
+        ensures left { IsLeft self.old self.new 0 route.now.to }
     {
         tables.is_kept();
-        if !seat(route, &mut self.funding) {
-            return false;
-        }
+        seat(route, &mut self.funding);
         let amount = counted(self.active[route.to], route.amount);
         net::grow(&mut self.weights, route.from, amount);
-        true
     }
 
     // A ticket backs a currency no longer.
-    fn take_backing(&mut self, tables: &Tables, route: &Route) -> bool
+    fn take_backing(&mut self, tables: &Tables, route: &Route)
         requires within { IsRouteWithin route.now }
         requires begun { CeasesToFund self.old tables.now route.now true }
-        ensures begun { result ≡ true
-            → IsBegun self.new (backs_of tables.now) (funds_of tables.now) (activity_of tables.now) }
-        ensures places { (length self.new.backing.items ≡ 65) × (length self.new.funding.items ≡ 65) }
-        ensures left { result ≡ true → IsLeft self.old self.new route.now.to 64 }
+        ensures begun { IsBegun self.new (backs_of tables.now) (funds_of tables.now) (activity_of tables.now) }
+        ensures left { IsLeft self.old self.new route.now.to 64 }
     {
         tables.is_kept();
-        if !unseat(route, &mut self.backing) {
-            return false;
-        }
+        unseat(route, &mut self.backing);
         let amount = counted(self.awake[route.to], route.amount);
         net::shrink(&mut self.weights, route.from, amount);
-        true
     }
 
     // A ticket funds a flow no longer.
-    fn take_funding(&mut self, tables: &Tables, route: &Route) -> bool
+    fn take_funding(&mut self, tables: &Tables, route: &Route)
         requires within { IsRouteWithin route.now }
         requires begun { CeasesToFund self.old tables.now route.now false }
-        ensures begun { result ≡ true
-            → IsBegun self.new (backs_of tables.now) (funds_of tables.now) (activity_of tables.now) }
-        ensures places { (length self.new.backing.items ≡ 65) × (length self.new.funding.items ≡ 65) }
-        ensures left { result ≡ true → IsLeft self.old self.new 0 route.now.to }
+        ensures begun { IsBegun self.new (backs_of tables.now) (funds_of tables.now) (activity_of tables.now) }
+        ensures left { IsLeft self.old self.new 0 route.now.to }
     {
         tables.is_kept();
-        if !unseat(route, &mut self.funding) {
-            return false;
-        }
+        unseat(route, &mut self.funding);
         let amount = counted(self.active[route.to], route.amount);
         net::shrink(&mut self.weights, route.from, amount);
-        true
     }
 
-    /// A ticket backs one currency more or funds one flow more. Not so where its holder has no room.
-    pub(crate) fn give(&mut self, tables: &Tables, route: &Route, backing: bool) -> bool
+    /// A ticket backs one currency more or funds one flow more.
+    pub(crate) fn give(&mut self, tables: &Tables, route: &Route, backing: bool)
         requires within { IsRouteWithin route.now }
         requires begun { ComesToFund self.old tables.now route.now backing }
-        ensures begun { result ≡ true
-            → IsBegun self.new (backs_of tables.now) (funds_of tables.now) (activity_of tables.now) }
-        ensures places { (length self.new.backing.items ≡ 65) × (length self.new.funding.items ≡ 65) }
-        ensures left { result ≡ true → IsLeft self.old self.new
+        ensures begun { IsBegun self.new (backs_of tables.now) (funds_of tables.now) (activity_of tables.now) }
+        ensures left { IsLeft self.old self.new
             (if backing then route.now.to else 0) (if backing then 64 else route.now.to) }
     {
         if backing {
-            return self.add_backing(tables, route);
+            self.add_backing(tables, route);
+            return;
         }
-        self.add_funding(tables, route)
+        self.add_funding(tables, route);
     }
 
     /// A ticket backs a currency or funds a flow no longer.
-    pub(crate) fn take(&mut self, tables: &Tables, route: &Route, backing: bool) -> bool
+    pub(crate) fn take(&mut self, tables: &Tables, route: &Route, backing: bool)
         requires within { IsRouteWithin route.now }
         requires begun { CeasesToFund self.old tables.now route.now backing }
-        ensures begun { result ≡ true
-            → IsBegun self.new (backs_of tables.now) (funds_of tables.now) (activity_of tables.now) }
-        ensures places { (length self.new.backing.items ≡ 65) × (length self.new.funding.items ≡ 65) }
-        ensures left { result ≡ true → IsLeft self.old self.new
+        ensures begun { IsBegun self.new (backs_of tables.now) (funds_of tables.now) (activity_of tables.now) }
+        ensures left { IsLeft self.old self.new
             (if backing then route.now.to else 0) (if backing then 64 else route.now.to) }
     {
         if backing {
-            return self.take_backing(tables, route);
+            self.take_backing(tables, route);
+            return;
         }
-        self.take_funding(tables, route)
+        self.take_funding(tables, route);
     }
 }

@@ -67,12 +67,11 @@ impl Listed {
     }
 }
 
-/// The net, whether it is ready, and the tickets of each open flow by its place; and room for routes, which are listed
-/// where all is computed anew.
+/// The net, and the tickets of each open flow by its place; and room for routes, which are listed where all is computed
+/// anew.
 #[derive(Drop)]
 pub(crate) struct Kept {
     pub(crate) net: Net,
-    pub(crate) ready: bool,
     pub(crate) shares: Box<[u32; MAX_FLOWS]>,
     backing: Listed,
     funding: Listed,
@@ -81,114 +80,69 @@ pub(crate) struct Kept {
 impl Kept {
     /// What is kept beside empty tables.
     pub(crate) fn new(alloc: Global) -> Result<Kept, AllocError>
-        ensures { IfOk result (λ kept. (kept.ready ≡ false) × (length kept.net.backing.items ≡ 65)
+        ensures { IfOk result (λ kept. (length kept.net.backing.items ≡ 65)
             × (length kept.net.funding.items ≡ 65)) }
     {
         Ok(Kept {
             net: Net::new(alloc)?,
-            ready: false,
             shares: Box::new(alloc, [0; MAX_FLOWS])?,
             backing: Listed::new(alloc)?,
             funding: Listed::new(alloc)?,
         })
     }
 
-    /// The net, where it is ready.
-    pub(crate) fn net(&self) -> Option<&Net>
-        ensures { IfSome result (λ net. (self.now.ready ≡ true) × (net.now ≡ self.now.net)) }
-    {
-        if self.ready {
-            return Some(&self.net);
-        }
-        None
-    }
-
-    /// The seats of the flows by their places, where they are ready.
-    pub(crate) fn funding(&self) -> Option<&[Seats]>
-        ensures { IfSome result (λ ss. (self.now.ready ≡ true) × (ss.now ≡ self.now.net.funding.items)) }
-    {
-        if self.ready {
-            return Some(&self.net.funding);
-        }
-        None
-    }
-
-    /// Whether no currency from a place on backs or is backed, and none of them funds a flow, so far as that is kept.
+    /// Whether no currency from a place on backs or is backed, and none of them funds a flow.
     pub(crate) fn is_before(&self, place: usize) -> bool
         requires places { (length self.now.net.backing.items ≡ 65) × (length self.now.net.funding.items ≡ 65) }
-        ensures { result ≡ true → (self.now.ready ≡ true)
-            × AreBefore self.now.net.backing.items self.now.net.funding.items place }
+        ensures { result ≡ true → AreBefore self.now.net.backing.items self.now.net.funding.items place }
     {
-        self.ready && bounds::are_before(&self.net.backing, &self.net.funding, place)
-    }
-
-    // The tickets of all flows by rounds over the routes, in whatever order the places stand.
-    fn count(&mut self, tables: &Tables)
-        requires places { (length self.old.net.backing.items ≡ 65) × (length self.old.net.funding.items ≡ 65) }
-        ensures { AreKept self.new.net self.new.ready self.new.shares.value tables.now }
-    {
-        self.ready = false;
-        self.backing.list(tables, true);
-        self.funding.list(tables, false);
-        tables.refresh(
-            self.backing.routes(),
-            self.funding.routes(),
-            &mut self.shares,
-        );
+        bounds::are_before(&self.net.backing, &self.net.funding, place)
     }
 
     // What follows from the seats and the activity.
     fn settle(&mut self, tables: &Tables)
         requires { IsBegun self.old.net (backs_of tables.now) (funds_of tables.now) (activity_of tables.now) }
-        ensures { AreKept self.new.net self.new.ready self.new.shares.value tables.now }
+        ensures { AreKept self.new.net self.new.shares.value tables.now }
     {
         tables.is_kept();
         self.net.settle(tables, &mut self.shares);
-        self.ready = true;
     }
 
     // What follows where the seats of one currency, and the seats or the activity of one flow, have changed at most.
     fn settle_changed(&mut self, tables: &Tables, currency: usize, flow: usize)
         requires begun { IsBegun self.old.net (backs_of tables.now) (funds_of tables.now) (activity_of tables.now) }
         requires was { WasSettled self.old.net self.old.shares.value currency flow }
-        ensures { AreKept self.new.net self.new.ready self.new.shares.value tables.now }
+        ensures { AreKept self.new.net self.new.shares.value tables.now }
     {
         tables.is_kept();
         self.net
             .settle_changed(tables, currency, flow, &mut self.shares);
-        self.ready = true;
     }
 
     /// All anew.
     pub(crate) fn renew(&mut self, tables: &Tables)
         requires places { (length self.old.net.backing.items ≡ 65) × (length self.old.net.funding.items ≡ 65) }
-        ensures { AreKept self.new.net self.new.ready self.new.shares.value tables.now }
+        ensures { AreKept self.new.net self.new.shares.value tables.now }
     {
         self.backing.list(tables, true);
         self.funding.list(tables, false);
-        let begun = self
-            .net
+        self.net
             .begin(tables, self.backing.routes(), self.funding.routes());
-        if begun {
-            self.settle(tables);
-            return;
-        }
-        self.count(tables);
+        self.settle(tables);
     }
 
     /// The flow at a place has become active or idle.
     pub(crate) fn set_active(&mut self, tables: &Tables, place: usize, active: bool)
         requires place { place < 64 }
-        requires places { (length self.old.net.backing.items ≡ 65) × (length self.old.net.funding.items ≡ 65) }
-        requires ready { self.old.ready ≡ true → IsReady self.old.net self.old.shares.value (backs_of tables.now)
+        requires ready { IsReady self.old.net self.old.shares.value (backs_of tables.now)
             (funds_of tables.now) (flags_of self.old.net.active.value) }
-        requires turned { self.old.ready ≡ true → (k : ℕ) → activity_of tables.now k
+        requires turned { (k : ℕ) → activity_of tables.now k
             ≡ (if nat_eq place k then active else flags_of self.old.net.active.value k) }
-        ensures { AreKept self.new.net self.new.ready self.new.shares.value tables.now }
+        ensures { AreKept self.new.net self.new.shares.value tables.now }
     {
         tables.is_kept();
-        if !self.ready || self.net.active[place] == active {
-            self.count(tables);
+        have_places(&self.shares);
+        if self.net.active[place] == active {
             return;
         }
         if self.net.is_funded_by_base(place) {
@@ -205,7 +159,7 @@ impl Kept {
         requires begun { IsBegun self.old.net (backs_of tables.now) (funds_of tables.now) (activity_of tables.now) }
         requires was { WasSettled self.old.net self.old.shares.value (if backing then route.now.to else 0)
             (if backing then 64 else route.now.to) }
-        ensures { AreKept self.new.net self.new.ready self.new.shares.value tables.now }
+        ensures { AreKept self.new.net self.new.shares.value tables.now }
     {
         if backing {
             self.settle_changed(tables, route.to, MAX_FLOWS);
@@ -217,53 +171,42 @@ impl Kept {
     /// A ticket has come to back a currency, or to fund a flow.
     pub(crate) fn give(&mut self, tables: &Tables, route: &Route, backing: bool)
         requires within { IsRouteWithin route.now }
-        requires places { (length self.old.net.backing.items ≡ 65) × (length self.old.net.funding.items ≡ 65) }
-        requires begun { self.old.ready ≡ true → ComesToFund self.old.net tables.now route.now backing }
-        requires was { self.old.ready ≡ true → WasSettled self.old.net self.old.shares.value 0 64 }
-        ensures { AreKept self.new.net self.new.ready self.new.shares.value tables.now }
+        requires begun { ComesToFund self.old.net tables.now route.now backing }
+        requires was { WasSettled self.old.net self.old.shares.value 0 64 }
+        ensures { AreKept self.new.net self.new.shares.value tables.now }
     {
-        if !self.ready {
-            self.renew(tables);
-            return;
-        }
-        let begun = self.net.give(tables, route, backing);
-        if begun {
-            self.follow(tables, route, backing);
-            return;
-        }
-        self.renew(tables);
+        self.net.give(tables, route, backing);
+        self.follow(tables, route, backing);
     }
 
     /// A ticket has ceased to back a currency, or to fund a flow.
     pub(crate) fn take(&mut self, tables: &Tables, route: &Route, backing: bool)
         requires within { IsRouteWithin route.now }
-        requires places { (length self.old.net.backing.items ≡ 65) × (length self.old.net.funding.items ≡ 65) }
-        requires begun { self.old.ready ≡ true → CeasesToFund self.old.net tables.now route.now backing }
-        requires was { self.old.ready ≡ true → WasSettled self.old.net self.old.shares.value 0 64 }
-        ensures { AreKept self.new.net self.new.ready self.new.shares.value tables.now }
+        requires begun { CeasesToFund self.old.net tables.now route.now backing }
+        requires was { WasSettled self.old.net self.old.shares.value 0 64 }
+        ensures { AreKept self.new.net self.new.shares.value tables.now }
     {
-        if !self.ready {
-            self.renew(tables);
-            return;
-        }
-        let begun = self.net.take(tables, route, backing);
-        if begun {
-            self.follow(tables, route, backing);
-            return;
-        }
-        self.renew(tables);
+        self.net.take(tables, route, backing);
+        self.follow(tables, route, backing);
     }
 
     /// Behind the tickets of the first flows stand none of one more.
     pub(crate) fn append_none(&mut self, count: usize)
         requires { count < 64 }
-        ensures left { (self.new.net ≡ self.old.net) × (self.new.ready ≡ self.old.ready) }
+        ensures left { self.new.net ≡ self.old.net }
         ensures shares { (k : ℕ) → slice_index_or self.new.shares.value k 0
             ≡ (if nat_eq count k then 0 else slice_index_or self.old.shares.value k 0) }
         ensures first { take (count + 1) self.new.shares.value ≡ take count self.old.shares.value ++ 0 ∷ [] }
     {
         append_none(&mut self.shares, count);
     }
+}
+
+// There is a place for the tickets of each flow that can be open.
+fn have_places(shares: &[u32; MAX_FLOWS])
+    ensures { length shares.now ≡ 64 }
+{
+    let _ = shares;
 }
 
 fn append_none(shares: &mut [u32; MAX_FLOWS], count: usize)

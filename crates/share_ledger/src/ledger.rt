@@ -38,7 +38,7 @@ impl Model for Ledger {
     ghost view = { λ l. l.tables };
 
     ghost invariant = { λ l.
-        AreKept l.kept.net l.kept.ready l.kept.shares.value l.tables };
+        AreKept l.kept.net l.kept.shares.value l.tables };
 }
 
 impl Ledger {
@@ -48,11 +48,10 @@ impl Ledger {
         ensures made { IfOk result (λ ledger. ledger ≡ empty_graph) }
         ensures refused { IfErr result (λ e. e ≡ Refusal.NoMemory) }
     {
-        let kept = Kept::new(alloc)?;
-        Ok(Ledger {
-            tables: Tables::new(alloc),
-            kept,
-        })
+        let mut kept = Kept::new(alloc)?;
+        let tables = Tables::new(alloc);
+        kept.renew(&tables);
+        Ok(Ledger { tables, kept })
     }
 
     /// Makes a currency. `Taken` where there is one of this name, `TableFull` where there are 64 besides `base`,
@@ -123,8 +122,7 @@ impl Ledger {
             (λ e. (fund_currency_refusal self.old ticket currency ≡ Some e) × (self.new ≡ self.old)) }
     {
         self.tables.is_kept();
-        self.tables
-            .fund_currency(ticket, currency, self.kept.net())?;
+        self.tables.fund_currency(ticket, currency, &self.kept.net)?;
         match self.tables.route_of(ticket) {
             Some((route, backing)) => self.kept.give(&self.tables, &route, backing),
             None => self.kept.renew(&self.tables),
@@ -141,7 +139,7 @@ impl Ledger {
             (λ e. (fund_flow_refusal self.old ticket flow ≡ Some e) × (self.new ≡ self.old)) }
     {
         self.tables.is_kept();
-        self.tables.fund_flow(ticket, flow, self.kept.funding())?;
+        self.tables.fund_flow(ticket, flow, &self.kept.net)?;
         match self.tables.route_of(ticket) {
             Some((route, backing)) => self.kept.give(&self.tables, &route, backing),
             None => self.kept.renew(&self.tables),

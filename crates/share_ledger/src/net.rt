@@ -1,7 +1,7 @@
 //! What the funding of each currency and of each flow comes to. Amounts go upwards, from a holder to what its seats are
 //! denominated in, and values downwards. Each seat of a currency comes from a place of a lower rank, so one pass over the
 //! places rank by rank settles either.
-ghost use Rattle.std.specs.Prelude.{◌≡◌, ℕ, ◌+◌, ◌-◌, ◌*◌, ◌^◌, ◌<◌, ◌≤◌, min, length, sum_by, true, false, not};
+ghost use Rattle.std.specs.Prelude.{◌≡◌, ℕ, ◌+◌, ◌-◌, ◌*◌, ◌/◌, ◌^◌, ◌<◌, ◌≤◌, min, length, sum_by, true, false, not};
 ghost use Rattle.std.specs.Prelude.{nat_eq, nat_lt, if◌then◌else◌};
 ghost use Rattle.std.specs.List.{list_all};
 ghost use Rattle.share_model.specs.lists.Each.{Each};
@@ -12,7 +12,6 @@ ghost use Rattle.share_ledger.specs.Seats.{AreCounted, AreAwake, AreValued, AreS
 ghost use Rattle.share_ledger.specs.Seats.{weighed, backs_of, funds_of};
 
 use crate::rounds::PLACES;
-use crate::routes;
 use crate::seats::{Seat, Seats};
 use crate::tables::{MAX_AMOUNT, MAX_FLOWS, Tables};
 
@@ -78,6 +77,15 @@ pub(crate) fn shrink(weights: &mut [u32; PLACES], place: usize, amount: u32)
     weights[place] -= amount;
 }
 
+// The share of a value that an amount has of the whole, and 0 where the whole is 0.
+fn share(value: u64, amount: u32, whole: u64) -> u64
+    requires value_small { value ≤ 9 * 2 ^ 30 }
+    requires amount_small { amount ≤ 2 ^ 20 }
+    ensures { result ≡ value * amount / whole }
+{
+    (value * u64::from(amount)).checked_div(whole).unwrap_or(0)
+}
+
 fn worth(seat: &Seat, values: &[u64; PLACES], weights: &[u32; PLACES]) -> u64
     requires within { IsSeatWithin seat.now }
     requires small { (p : ℕ) → p < 65 → numbers_of values.now p ≤ 9 * 2 ^ 30 }
@@ -88,7 +96,7 @@ fn worth(seat: &Seat, values: &[u64; PLACES], weights: &[u32; PLACES]) -> u64
         return u64::from(seat.amount);
     }
     let from = seat.from as usize;
-    routes::share(values[from], seat.amount, u64::from(weights[from]))
+    share(values[from], seat.amount, u64::from(weights[from]))
 }
 
 /// What seats are worth together.

@@ -4,11 +4,12 @@ ghost use Rattle.std.specs.Prelude.{◌≡◌, ◌+◌, ◌<◌, ◌≤◌, ◌&
 ghost use Rattle.std.specs.List.{list_all};
 ghost use Rattle.share_model.specs.lists.Each.{Each};
 ghost use Rattle.share_ledger.specs.Rounds.{numbers_of};
-ghost use Rattle.share_ledger.specs.Seats.{IsSeatWithin, seats_at};
+ghost use Rattle.share_ledger.specs.Seats.{IsSeatWithin, seats_at, AreSeated, backs_of};
 ghost use Rattle.share_ledger.specs.Ranks.{AreRanks, AreListed, AreLongest, AreRankedTo, is_tall};
 
 use crate::rounds::PLACES;
 use crate::seats::{Seat, Seats};
+use crate::tables::Tables;
 
 /// One more than the greatest rank: what stands for the rank of a place that has none yet.
 const NO_RANK: u8 = 9;
@@ -136,25 +137,40 @@ pub(crate) fn list(
     false
 }
 
-/// The ranks where a place has got a seat from another one: they stay where that is below it already.
+/// The ranks of all currencies of a graph, and the places rank by rank.
+pub(crate) fn list_all(
+    tables: &Tables,
+    backing: &[Seats],
+    ranks: &mut [u8; PLACES],
+    order: &mut [u8; PLACES],
+)
+    requires { AreSeated (backs_of tables.now) backing.now }
+    ensures ranked { AreRanks backing.now (numbers_of ranks.new) }
+    ensures listed { AreListed (numbers_of ranks.new) (numbers_of order.new) }
+{
+    tables.is_kept();
+    list(backing, 0, 0, ranks, order);
+}
+
+/// The same, where a place has got a seat from another one: ranks stay where that is below it already.
 pub(crate) fn renew(
+    tables: &Tables,
     backing: &[Seats],
     from: usize,
     to: usize,
     ranks: &mut [u8; PLACES],
     order: &mut [u8; PLACES],
-) -> bool
-    requires within { (p : ℕ) → p < 65 → Each IsSeatWithin (seats_at backing.now p) }
-    requires places { length backing.now ≡ 65 }
+)
+    requires seated { AreSeated (backs_of tables.now) backing.now }
     requires from_place { from < 65 }
     requires to_place { to < 65 }
     requires ranked { numbers_of ranks.old from < numbers_of ranks.old to → AreRanks backing.now (numbers_of ranks.old) }
     requires listed { AreListed (numbers_of ranks.old) (numbers_of order.old) }
-    ensures ranked { result ≡ true → AreRanks backing.now (numbers_of ranks.new) }
-    ensures listed { result ≡ true → AreListed (numbers_of ranks.new) (numbers_of order.new) }
+    ensures ranked { AreRanks backing.now (numbers_of ranks.new) }
+    ensures listed { AreListed (numbers_of ranks.new) (numbers_of order.new) }
 {
     if ranks[from] < ranks[to] {
-        return true;
+        return;
     }
-    list(backing, from, to, ranks, order)
+    list_all(tables, backing, ranks, order);
 }

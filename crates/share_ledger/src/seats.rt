@@ -1,6 +1,7 @@
 //! The tickets that fund one holder, each as a seat, in a room for sixteen.
 ghost use Rattle.std.specs.Prelude.{◌≡◌, ◌+◌, ◌<◌, ◌≤◌, ◌++◌, ◌∷◌, [], ℕ, length, sum_by, position, true};
 ghost use Rattle.std.specs.Prelude.{◌^◌, ◌%◌};
+ghost use Rattle.std.specs.List.{list_any};
 ghost use Rattle.share_model.specs.lists.Each.{Each};
 ghost use Rattle.share_ledger.specs.declared.seats.Seat.{Seat};
 ghost use Rattle.share_ledger.specs.Seats.{is_like, ComesFrom};
@@ -92,17 +93,17 @@ impl Seats {
         self.seats().iter().position(|other| seat.from == other.from && seat.amount == other.amount)
     }
 
-    /// Takes out one seat like this, where there is one, and says whether.
-    pub(crate) fn remove(&mut self, seat: Seat) -> bool
-        ensures { result ≡ true → (F : Seat → ℕ) → sum_by F self.new + F seat ≡ sum_by F self.old }
+    /// Takes out one seat like this.
+    pub(crate) fn remove(&mut self, seat: Seat)
+        requires { list_any (is_like seat) self.old ≡ true }
+        ensures { (F : Seat → ℕ) → sum_by F self.new + F seat ≡ sum_by F self.old }
     {
         let Some(place) = self.place_of(seat) else {
-            return false;
+            return;
         };
         self.count -= 1;
         self.room[place] = self.room[self.count];
         self.sources = sources_of(&self.room[..self.count]);
-        true
     }
 
     /// The bits of the places that the seats come from.

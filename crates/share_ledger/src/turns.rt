@@ -2,11 +2,12 @@
 ghost use Rattle.share_ledger.specs.declared.seats.Seat.{Seat};
 ghost use Rattle.std.specs.Prelude.{◌≡◌, ℕ, sum_by, ◌+◌, ◌<◌, ◌++◌, ◌∷◌, [], length, true, false, not, nat_eq, IfOk};
 ghost use Rattle.std.specs.Prelude.{◌^◌, min, slice_set, if◌then◌else◌};
-ghost use Rattle.std.specs.List.{list_all};
+ghost use Rattle.std.specs.Prelude.{◌≤◌};
+ghost use Rattle.std.specs.List.{list_all, list_any};
 ghost use Rattle.share_model.specs.lists.Each.{Each};
 ghost use Rattle.share_ledger.specs.Rounds.{flags_of, numbers_of};
 ghost use Rattle.share_ledger.specs.Routes.{IsRouteWithin};
-ghost use Rattle.share_ledger.specs.Seats.{seats_at, seat_of, AreSeated, AreCounted, backs_of, funds_of};
+ghost use Rattle.share_ledger.specs.Seats.{seats_at, seat_of, is_like, AreSeated, AreCounted, backs_of, funds_of};
 ghost use Rattle.share_ledger.specs.Seats.{IsSeatWithin, AreSmall, weighed};
 ghost use Rattle.share_ledger.specs.Nets.{activity_of, IsBegun};
 
@@ -15,7 +16,7 @@ use crate::ranks;
 use crate::rounds::PLACES;
 use crate::routes::Route;
 use crate::seats::{Seat, Seats};
-use crate::tables::{MAX_FLOWS, MAX_FUNDING, Tables};
+use crate::tables::{MAX_FLOWS, Tables};
 use std::alloc::{AllocError, Global};
 
 // So many holders without seats.
@@ -40,34 +41,32 @@ fn clear(holders: &mut Vec<Seats>)
     }
 }
 
-// The holder of a route gets its seat. Not so where it has no room.
-pub(crate) fn seat(route: &Route, holders: &mut Vec<Seats>) -> bool
+// The holder of a route gets its seat.
+pub(crate) fn seat(route: &Route, holders: &mut Vec<Seats>)
     requires within { IsRouteWithin route.now }
     requires places { length holders.old.items ≡ 65 }
+    requires room { length (seats_at holders.old.items route.now.to) < 16 }
     ensures places { length holders.new.items ≡ 65 }
-    ensures seated { result ≡ true → (k : ℕ) → seats_at holders.new.items k
+    ensures seated { (k : ℕ) → seats_at holders.new.items k
         ≡ (if nat_eq route.now.to k then seats_at holders.old.items k ++ seat_of route.now ∷ []
         else seats_at holders.old.items k) }
 {
     let holder = &mut holders[route.to];
-    if holder.count() >= MAX_FUNDING {
-        return false;
-    }
     holder.add(Seat {
         from: route.from as u32,
         amount: route.amount,
     });
-    true
 }
 
-// The holder of a route loses its seat, if it has it.
-pub(crate) fn unseat(route: &Route, holders: &mut Vec<Seats>) -> bool
+// The holder of a route loses its seat.
+pub(crate) fn unseat(route: &Route, holders: &mut Vec<Seats>)
     requires within { IsRouteWithin route.now }
     requires places { length holders.old.items ≡ 65 }
+    requires has { list_any (is_like (seat_of route.now)) (seats_at holders.old.items route.now.to) ≡ true }
     ensures places { length holders.new.items ≡ 65 }
     ensures others { (k : ℕ) → nat_eq route.now.to k ≡ false
         → seats_at holders.new.items k ≡ seats_at holders.old.items k }
-    ensures out { result ≡ true → (F : Seat → ℕ)
+    ensures out { (F : Seat → ℕ)
         → sum_by F (seats_at holders.new.items route.now.to) + F (seat_of route.now)
         ≡ sum_by F (seats_at holders.old.items route.now.to) }
 {
@@ -75,7 +74,7 @@ pub(crate) fn unseat(route: &Route, holders: &mut Vec<Seats>) -> bool
     holder.remove(Seat {
         from: route.from as u32,
         amount: route.amount,
-    })
+    });
 }
 
 // What a ticket counts for, where its holder is awake.
@@ -88,20 +87,17 @@ pub(crate) fn counted(holds: bool, amount: u32) -> u32
     0
 }
 
-// The holders get the seats of these routes and no others, unless one cannot be given.
-fn fill(routes: &[Route], holders: &mut Vec<Seats>) -> bool
+// The holders get the seats of these routes and no others.
+fn fill(routes: &[Route], holders: &mut Vec<Seats>)
     requires within { Each IsRouteWithin routes.now }
     requires places { length holders.old.items ≡ 65 }
-    ensures places { length holders.new.items ≡ 65 }
-    ensures seated { result ≡ true → AreSeated routes.now holders.new.items }
+    requires room { (p : ℕ) → p < 65 → sum_by (λ r. if nat_eq p r.to then 1 else 0) routes.now ≤ 16 }
+    ensures seated { AreSeated routes.now holders.new.items }
 {
     clear(holders);
     for route in routes {
-        if !seat(route, holders) {
-            return false;
-        }
+        seat(route, holders);
     }
-    true
 }
 
 fn lower_all(flags: &mut [bool; PLACES])
@@ -250,22 +246,17 @@ impl Net {
         );
     }
 
-    /// All seats, the ranks and the activity anew. Not so where a holder has no room for a seat, or a currency no rank.
-    pub(crate) fn begin(&mut self, tables: &Tables, backs: &[Route], funds: &[Route]) -> bool
+    /// All seats, the ranks and the activity anew.
+    pub(crate) fn begin(&mut self, tables: &Tables, backs: &[Route], funds: &[Route])
         requires backs { backs.now ≡ backs_of tables.now }
         requires funds { funds.now ≡ funds_of tables.now }
         requires places { (length self.old.backing.items ≡ 65) × (length self.old.funding.items ≡ 65) }
-        ensures begun { result ≡ true
-            → IsBegun self.new (backs_of tables.now) (funds_of tables.now) (activity_of tables.now) }
-        ensures places { (length self.new.backing.items ≡ 65) × (length self.new.funding.items ≡ 65) }
+        ensures { IsBegun self.new (backs_of tables.now) (funds_of tables.now) (activity_of tables.now) }
     {
         tables.is_kept();
-        if !fill(backs, &mut self.backing) || !fill(funds, &mut self.funding) {
-            return false;
-        }
-        if !ranks::list(&self.backing, 0, 0, &mut self.ranks, &mut self.order) {
-            return false;
-        }
+        fill(backs, &mut self.backing);
+        fill(funds, &mut self.funding);
+        ranks::list_all(tables, &self.backing, &mut self.ranks, &mut self.order);
         rouse(
             tables,
             &self.funding,
@@ -274,6 +265,5 @@ impl Net {
             &mut self.weights,
             &mut self.values,
         );
-        true
     }
 }

@@ -15,7 +15,6 @@ ghost use Rattle.share_ledger.specs.Seats.{AreSeated, funds_of};
 use super::Tables;
 use crate::holders;
 use crate::net::Net;
-use crate::seats::Seats;
 use share_base::{FlowNo, Name, Refusal, TicketNo};
 use share_model::{Holder, OpenFlow, Ticket};
 
@@ -100,14 +99,14 @@ impl Tables {
         }
     }
 
-    /// `net` has the seats and the ranks of the currencies, where they are kept.
+    /// `net` has the seats and the ranks of the currencies.
     pub(crate) fn fund_currency(
         &mut self,
         ticket: u64,
         currency: Name,
-        net: Option<&Net>,
+        net: &Net,
     ) -> Result<(), Refusal>
-        requires { IfSome net (λ n. AreBacking self.old n.now) }
+        requires { AreBacking self.old net.now }
         ensures done { IfOk result
             (λ _. (fund_currency_refusal self.old ticket currency ≡ None)
             × (self.new ≡ fund_currency self.old ticket currency)) }
@@ -122,21 +121,16 @@ impl Tables {
         Ok(())
     }
 
-    /// `seats` are those of the flows, where they are kept.
-    pub(crate) fn fund_flow(
-        &mut self,
-        ticket: u64,
-        flow: Name,
-        seats: Option<&[Seats]>,
-    ) -> Result<(), Refusal>
-        requires { IfSome seats (λ ss. AreSeated (funds_of self.old) ss.now) }
+    /// `net` has the seats of the flows.
+    pub(crate) fn fund_flow(&mut self, ticket: u64, flow: Name, net: &Net) -> Result<(), Refusal>
+        requires { AreSeated (funds_of self.old) net.now.funding.items }
         ensures done { IfOk result
             (λ _. (fund_flow_refusal self.old ticket flow ≡ None) × (self.new ≡ fund_flow self.old ticket flow)) }
         ensures refused { IfErr result
             (λ e. (fund_flow_refusal self.old ticket flow ≡ Some e) × (self.new ≡ self.old)) }
     {
         self.is_kept();
-        if let Some(refusal) = self.fund_flow_refusal(ticket, flow, seats) {
+        if let Some(refusal) = self.fund_flow_refusal(ticket, flow, net) {
             return Err(refusal);
         }
         if let Some(open) = self.flow_named(flow) {

@@ -1,6 +1,5 @@
-//! How many tickets fund a holder, and how the currencies stand above one another: by the seats where they are kept,
-//! and else by a scan of the tickets, or not at all.
-ghost use Rattle.std.specs.Prelude.{◌≡◌, length, IfSome, true, false, bytes_eq};
+//! How many tickets fund a holder, and whether the currencies keep ranks where one more does: by the seats that are kept.
+ghost use Rattle.std.specs.Prelude.{◌≡◌, length, true, false, bytes_eq};
 ghost use Rattle.share_model.specs.declared.funding.Holder.TheVariants.{Currency};
 ghost use Rattle.share_model.specs.funding.Graph.{base, backing, funding, chain_within, is_deep};
 ghost use Rattle.share_model.specs.funding.Changes.{is_currency, ticket_of, found_denomination, with_holder};
@@ -15,41 +14,27 @@ use share_base::{FlowNo, Name};
 
 impl Tables {
     /// How many tickets fund a currency.
-    pub(super) fn count_backing(&self, name: Name, net: Option<&Net>) -> usize
+    pub(super) fn count_backing(&self, name: Name, net: &Net) -> usize
         requires known { is_currency self.now name ≡ true }
-        requires seated { IfSome net (λ n. AreBacking self.now n.now) }
+        requires seated { AreBacking self.now net.now }
         ensures { result ≡ length (backing self.now.tickets name) }
     {
         self.is_kept();
-        let Some(net) = net else {
-            return self.scan_backing(name);
-        };
         let seats: &[Seats] = &net.backing;
         let holder = &seats[self.place_of(name)];
         holder.count()
     }
 
-    fn scan_backing(&self, name: Name) -> usize
-        ensures { result ≡ length (backing self.now.tickets name) }
-    {
-        self.tickets
-            .iter()
-            .filter(|ticket| holders::is_currency(&ticket.holder, name))
-            .count()
-    }
-
     /// How many tickets fund a flow.
-    pub(super) fn count_funding(&self, flow: FlowNo, seats: Option<&[Seats]>) -> usize
-        requires { IfSome seats (λ ss. AreSeated (funds_of self.now) ss.now) }
+    pub(super) fn count_funding(&self, flow: FlowNo, net: &Net) -> usize
+        requires { AreSeated (funds_of self.now) net.now.funding.items }
         ensures { result ≡ length (funding self.now.tickets flow) }
     {
         self.is_kept();
-        let Some(seats) = seats else {
-            return self.scan_funding(flow);
-        };
         let Some(place) = self.place_of_flow(flow) else {
             return self.scan_funding(flow);
         };
+        let seats: &[Seats] = &net.funding;
         let holder = &seats[place];
         holder.count()
     }
@@ -64,18 +49,15 @@ impl Tables {
     }
 
     /// Whether ranks of the currencies show that no chain would lead back or be too long if a ticket funded one.
-    pub(super) fn is_above(&self, number: u64, currency: Name, net: Option<&Net>) -> bool
+    pub(super) fn is_above(&self, number: u64, currency: Name, net: &Net) -> bool
         requires known { is_currency self.now currency ≡ true }
         requires made { bytes_eq currency base ≡ false }
-        requires seated { IfSome net (λ n. AreBacking self.now n.now) }
+        requires seated { AreBacking self.now net.now }
         ensures { result ≡ true
             → (chain_within self.now.tickets 8 currency (found_denomination (ticket_of self.now number)) ≡ false)
             × (is_deep (with_holder number (Currency currency) self.now.tickets) ≡ false) }
     {
         self.is_kept();
-        let Some(net) = net else {
-            return false;
-        };
         let Some(ticket) = self.ticket(number) else {
             return false;
         };

@@ -1,5 +1,5 @@
 //! When each command is refused, want of memory aside.
-ghost use Rattle.std.specs.Prelude.{◌≡◌, Some, IfSome};
+ghost use Rattle.std.specs.Prelude.{◌≡◌, Some};
 ghost use Rattle.share_model.specs.funding.Changes.{uses, make_currency_refusal};
 ghost use Rattle.share_model.specs.funding.Changes.{remove_currency_refusal, make_ticket_refusal};
 ghost use Rattle.share_model.specs.funding.Changes.{remove_ticket_refusal, fund_currency_refusal, fund_flow_refusal};
@@ -11,7 +11,6 @@ ghost use Rattle.share_ledger.specs.Seats.{AreSeated, funds_of};
 use super::{MAX_AMOUNT, MAX_CURRENCIES, MAX_FLOWS, MAX_FUNDING, MAX_TICKETS, Tables, is_base};
 use crate::holders;
 use crate::net::Net;
-use crate::seats::Seats;
 use share_base::{Name, Refusal};
 use share_model::Ticket;
 
@@ -79,14 +78,14 @@ impl Tables {
         }
     }
 
-    /// `net` has the seats and the ranks of the currencies, where they are kept.
+    /// `net` has the seats and the ranks of the currencies.
     pub(crate) fn fund_currency_refusal(
         &self,
         number: u64,
         currency: Name,
-        net: Option<&Net>,
+        net: &Net,
     ) -> Option<Refusal>
-        requires { IfSome net (λ n. AreBacking self.now n.now) }
+        requires { AreBacking self.now net.now }
         ensures { result ≡ fund_currency_refusal self.now number currency }
     {
         let Some(ticket) = self.ticket(number) else {
@@ -110,14 +109,9 @@ impl Tables {
         self.chain_refusal(number, currency)
     }
 
-    /// `seats` are those of the flows, where they are kept.
-    pub(crate) fn fund_flow_refusal(
-        &self,
-        number: u64,
-        flow: Name,
-        seats: Option<&[Seats]>,
-    ) -> Option<Refusal>
-        requires { IfSome seats (λ ss. AreSeated (funds_of self.now) ss.now) }
+    /// `net` has the seats of the flows.
+    pub(crate) fn fund_flow_refusal(&self, number: u64, flow: Name, net: &Net) -> Option<Refusal>
+        requires { AreSeated (funds_of self.now) net.now.funding.items }
         ensures { result ≡ fund_flow_refusal self.now number flow }
     {
         let Some(ticket) = self.ticket(number) else {
@@ -129,7 +123,7 @@ impl Tables {
         if holders::is_held(&ticket.holder) {
             return Some(Refusal::Funding);
         }
-        if self.count_funding(open.number, seats) >= MAX_FUNDING {
+        if self.count_funding(open.number, net) >= MAX_FUNDING {
             return Some(Refusal::Crowded);
         }
         None

@@ -1,18 +1,14 @@
-//! The routes of the tickets that have a holder, and the tickets of each open flow that follow from them.
+//! The routes of the tickets that have a holder.
 ghost use Rattle.std.specs.Prelude.{◌≡◌, ℕ, ◌≤◌, ◌<◌, length, map, take, slice_get, option_map, Some, IfSome, true};
 ghost use Rattle.std.specs.Prelude.{false};
 ghost use Rattle.share_model.specs.funding.Kept.{names_of, times, times_open, IsHolderKnown};
-ghost use Rattle.share_model.specs.funding.Laws.{uncapped};
-ghost use Rattle.share_ledger.specs.Rounds.{numbers_of};
 ghost use Rattle.share_ledger.specs.Routes.{flow_place, holder_place, is_kind, route_of, routes_of, IsRouteWithin};
 ghost use Rattle.share_model.specs.declared.funding.Ticket.{Ticket};
 ghost use Rattle.share_model.specs.funding.Changes.{ticket_of, is_held};
-ghost use Rattle.share_ledger.specs.Shares.{shares_of};
 
-use super::{MAX_AMOUNT, MAX_FLOWS, MAX_TICKETS, Tables};
+use super::{MAX_TICKETS, Tables};
 use crate::holders;
-use crate::rounds::PLACES;
-use crate::routes::{self, Route};
+use crate::routes::Route;
 use share_model::{Holder, Ticket};
 
 impl Tables {
@@ -83,55 +79,6 @@ impl Tables {
         match self.flow_at(place) {
             Some((_, open)) => open.active,
             None => false,
-        }
-    }
-
-    // Whether each open flow is active, by its place.
-    fn activity(&self) -> [bool; PLACES]
-        ensures { take (length self.now.flows) result ≡ map (λ e. e.1.active) self.now.flows }
-    {
-        self.is_kept();
-        let mut active = [false; PLACES];
-        for place in 0..self.flows.len() {
-            active[place] = self.is_active_at(place);
-        }
-        active
-    }
-
-    // What the tickets that fund each open flow are worth together, by its place.
-    fn worths(&self, backing: &[Route], funding: &[Route]) -> [u64; PLACES]
-        requires backing { backing.now ≡ routes_of self.now true self.now.tickets }
-        requires funding { funding.now ≡ routes_of self.now false self.now.tickets }
-        ensures { (f : ℕ) → 1 ≤ times_open f self.now.flows
-            → numbers_of result (flow_place self.now.flows f) ≡ uncapped self.now f }
-    {
-        self.is_kept();
-        let active = self.activity();
-        let begun = routes::reach(funding, &active, &[false; PLACES]);
-        let flags = routes::awake(backing, &begun);
-        let mut totals = [0; PLACES];
-        routes::gather(backing, &flags, &mut totals);
-        routes::gather(funding, &active, &mut totals);
-        let values = routes::values(backing, &flags, &totals);
-        routes::pour(funding, &active, &values, &totals)
-    }
-
-    /// The tickets of each open flow, in the order of opening.
-    pub(crate) fn refresh(
-        &self,
-        backing: &[Route],
-        funding: &[Route],
-        shares: &mut [u32; MAX_FLOWS],
-    )
-        requires backing { backing.now ≡ routes_of self.now true self.now.tickets }
-        requires funding { funding.now ≡ routes_of self.now false self.now.tickets }
-        ensures shares { take (length self.now.flows) shares.new ≡ shares_of self.now }
-        ensures long { length shares.new ≡ 64 }
-    {
-        self.is_kept();
-        let worths = self.worths(backing, funding);
-        for place in 0..self.flows.len() {
-            shares[place] = worths[place].min(MAX_AMOUNT) as u32;
         }
     }
 }

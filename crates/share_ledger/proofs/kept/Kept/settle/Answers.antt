@@ -7,7 +7,5 @@ returns c =
     record {
       of_flows = shares-settled c.args.tables.now c.settle.new.self c.settle.new.shares c.is_kept.ensures
           c.settle.ensures.long ready;
-      net_ready = λ _. ready;
-      backing_places = ready.begun.backing.places;
-      funding_places = ready.begun.funding.places;
+      net_ready = ready;
     }

@@ -7,7 +7,5 @@ returns c =
     record {
       of_flows = shares-settled c.args.tables.now c.settle_changed.new.self c.settle_changed.new.shares c.is_kept.ensures
           c.settle_changed.ensures.long ready;
-      net_ready = λ _. ready;
-      backing_places = ready.begun.backing.places;
-      funding_places = ready.begun.funding.places;
+      net_ready = ready;
     }

@@ -16,11 +16,11 @@ invariant_of-self-then-is_before c =
     let told = c.is_before.ensures c.if-is_before.true in
     let at : c.in-Some.place ≡ place (names_of g) c.args.name =
     subst (λ o. IfSome o (λ p. p ≡ place (names_of g) c.args.name)) c.in-Some.is c.place_made-place.ensures in
-    let begun = (c.self.invariant.net_ready told.0).begun in
+    let begun = c.self.invariant.net_ready.begun in
     let done = c.in_ok-remove_currency.ensures.done in
-    subst (AreKept kept.net kept.ready kept.shares.value) (sym done.1)
-    (kept-left kept.net kept.ready kept.shares.value g (remove_currency g c.args.name)
+    subst (AreKept kept.net kept.shares.value) (sym done.1)
+    (kept-left kept.net kept.shares.value g (remove_currency g c.args.name)
     (routes-remove_currency g c.is_kept.ensures c.args.name done.0 kept.net.backing.items kept.net.funding.items
     begun.backing begun.funding
-    (subst (AreBefore kept.net.backing.items kept.net.funding.items) at told.1))
+    (subst (AreBefore kept.net.backing.items kept.net.funding.items) at told))
     refl (λ f. sym ((leaves-tickets g).remove_currency c.args.name f)) c.self.invariant)

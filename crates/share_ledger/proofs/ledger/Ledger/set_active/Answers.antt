@@ -13,19 +13,19 @@ set_active-requires-in-Some-clause-place c =
     c.in-Some.place c.in-Some.ensures.place
 
 pub set_active-requires-in-Some-clause-ready : goal.set_active-requires-in-Some-clause-ready
-set_active-requires-in-Some-clause-ready c = λ e.
+set_active-requires-in-Some-clause-ready c =
     let kept = c.self.inside.kept in
     subst
     (λ (g : Graph). IsReady kept.net kept.shares.value (backs_of g) (funds_of g) (flags_of kept.net.active.value))
     (sym c.set_active.ensures.change)
     (turned-ready c.self.inside.tables c.is_kept.ensures kept.net kept.shares.value c.args.flow c.args.active
-    c.in-Some.place c.in-Some.ensures.place (c.self.invariant.net_ready e))
+    c.in-Some.place c.in-Some.ensures.place c.self.invariant.net_ready)
 
 pub set_active-requires-in-Some-clause-turned : goal.set_active-requires-in-Some-clause-turned
-set_active-requires-in-Some-clause-turned c = λ e k.
+set_active-requires-in-Some-clause-turned c = λ k.
     let kept = c.self.inside.kept in
     subst
     (λ (g : Graph). activity_of g k ≡ cond (nat_eq c.in-Some.place k) c.args.active (flags_of kept.net.active.value k))
     (sym c.set_active.ensures.change)
     (turned-activity c.self.inside.tables c.is_kept.ensures kept.net kept.shares.value c.args.flow c.args.active
-    c.in-Some.place c.in-Some.ensures.place (c.self.invariant.net_ready e) k)
+    c.in-Some.place c.in-Some.ensures.place c.self.invariant.net_ready k)

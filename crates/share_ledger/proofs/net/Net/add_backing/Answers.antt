@@ -1,10 +1,10 @@
 use Rattle.std.proofs.Common.{◌≡◌, ◌≤◌, ◌+◌, ◌^◌, ◌<◌, ℕ, true, false, cond, nat_eq, List, sym, ap, subst, ◌∙◌, arith}
 use Rattle.share_ledger.specs.Rounds.{flags_of, numbers_of}
-use Rattle.share_model.specs.lists.Each.{Each}
 use Rattle.share_ledger.specs.declared.seats.Seat.{Seat}
 use Rattle.share_ledger.specs.Ranks.{AreRanks, AreListed}
-use Rattle.share_ledger.specs.Seats.{IsSeatWithin, seats_at, backs_of, funds_of}
+use Rattle.share_ledger.specs.Seats.{AreSeated, backs_of, funds_of}
 use Rattle.share_ledger.proofs.NetMore.{counted-given, less-bound, seated-more, seated-same, ranked-more, sum-bound}
+use Rattle.share_ledger.proofs.SeatCounts.{room-more}
 use Rattle.share_ledger.proofs.net.Net.add_backing.Goals as goal
 
 pub grow-requires-clause-small : goal.grow-requires-clause-small
@@ -20,12 +20,18 @@ grow-requires-clause-small c = λ p lt.
     ap (λ (ws : List ℕ). numbers_of ws p) c.deref_mut-3.ensures.value in
     omega (arith, bound, same)
 
-pub renew-requires-clause-within : goal.renew-requires-clause-within
-renew-requires-clause-within c =
+pub seat-requires-clause-room : goal.seat-requires-clause-room
+seat-requires-clause-room c =
     let b = c.requires.begun in
-    subst (λ (ss : List (List Seat)). (p : ℕ) → p < 65 → Each IsSeatWithin (seats_at ss p)) (sym c.deref.ensures.value)
+    room-more c.args.tables.now c.is_kept.ensures true b.0 c.args.route.now c.args.self.now.backing.items
+    b.1.1.0.backing c.requires.within.to_place b.1.1.1
+
+pub renew-requires-clause-seated : goal.renew-requires-clause-seated
+renew-requires-clause-seated c =
+    let b = c.requires.begun in
+    subst (λ (ss : List (List Seat)). AreSeated (backs_of c.args.tables.now) ss) (sym c.deref.ensures.value)
     (seated-more b.0 (backs_of c.args.tables.now) c.args.route.now c.args.self.now.backing.items c.seat.new.holders.items
-    b.1.1.0.backing c.requires.within b.1.1.1 (c.seat.ensures.seated c.if-not-seat.false) c.seat.ensures.places).within
+    b.1.1.0.backing c.requires.within b.1.1.1 c.seat.ensures.seated c.seat.ensures.places)
 
 pub renew-requires-clause-ranked : goal.renew-requires-clause-ranked
 renew-requires-clause-ranked c =
@@ -36,7 +42,7 @@ renew-requires-clause-ranked c =
     (λ below. subst (λ (ss : List (List Seat)). AreRanks ss (numbers_of c.args.self.now.ranks.value))
     (sym c.deref.ensures.value)
     (ranked-more c.args.self.now.backing.items c.seat.new.holders.items c.args.route.now
-    (numbers_of c.args.self.now.ranks.value) b.1.1.0.ranked below (c.seat.ensures.seated c.if-not-seat.false)))
+    (numbers_of c.args.self.now.ranks.value) b.1.1.0.ranked below c.seat.ensures.seated))
 
 pub renew-requires-clause-listed : goal.renew-requires-clause-listed
 renew-requires-clause-listed c =
@@ -49,7 +55,7 @@ either_more : (w n : ℕ) → w + n ≡ w + (n + 0)
 either_more w n = omega arith
 
 pub returns-clause-begun : goal.returns-clause-begun
-returns-clause-begun c = λ e.
+returns-clause-begun c =
     let g = c.args.tables.now in
     let old = c.args.self.now in
     let r = c.args.route.now in
@@ -59,15 +65,15 @@ returns-clause-begun c = λ e.
     let was = b.1.1.0 in
     let gb = b.1.1.1 in
     let gf = b.1.1.2 in
-    let joined = c.seat.ensures.seated c.if-not-seat.false in
+    let joined = c.seat.ensures.seated in
     record {
       backing = seated-more backs (backs_of g) r old.backing.items c.seat.new.holders.items was.backing
           c.requires.within gb
           joined c.seat.ensures.places;
       funding = seated-same funds (funds_of g) r old.funding.items was.funding gf;
       ranked = subst (λ (ss : List (List Seat)). AreRanks ss (numbers_of c.renew.new.ranks)) c.deref.ensures.value
-          (c.renew.ensures.ranked c.if-not-renew.false);
-      listed = c.renew.ensures.listed c.if-not-renew.false;
+          c.renew.ensures.ranked;
+      listed = c.renew.ensures.listed;
       active_is = was.active_is;
       counted = counted-given backs funds (backs_of g) (funds_of g) r true false (flags_of old.awake.value)
           (flags_of old.active.value) gb gf (numbers_of old.weights.value) (numbers_of c.grow.new.weights) was.counted

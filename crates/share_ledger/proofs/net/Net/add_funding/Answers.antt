@@ -2,6 +2,7 @@ use Rattle.std.proofs.Common.{◌≡◌, ◌≤◌, ◌+◌, ◌^◌, ℕ, true,
 use Rattle.share_ledger.specs.Rounds.{flags_of, numbers_of}
 use Rattle.share_ledger.specs.Seats.{backs_of, funds_of}
 use Rattle.share_ledger.proofs.NetMore.{counted-given, less-bound, seated-more, seated-same, sum-bound}
+use Rattle.share_ledger.proofs.SeatCounts.{room-more}
 use Rattle.share_ledger.proofs.net.Net.add_funding.Goals as goal
 
 pub grow-requires-clause-small : goal.grow-requires-clause-small
@@ -17,11 +18,17 @@ grow-requires-clause-small c = λ p lt.
     ap (λ (ws : List ℕ). numbers_of ws p) c.deref_mut.ensures.value in
     omega (arith, bound, same)
 
+pub seat-requires-clause-room : goal.seat-requires-clause-room
+seat-requires-clause-room c =
+    let b = c.requires.begun in
+    room-more c.args.tables.now c.is_kept.ensures false b.1.0 c.args.route.now c.args.self.now.funding.items
+    b.1.1.0.funding c.requires.within.to_place b.1.1.2
+
 either_more : (w n : ℕ) → w + n ≡ w + (0 + n)
 either_more w n = omega arith
 
 pub returns-clause-begun : goal.returns-clause-begun
-returns-clause-begun c = λ e.
+returns-clause-begun c =
     let g = c.args.tables.now in
     let old = c.args.self.now in
     let r = c.args.route.now in
@@ -31,7 +38,7 @@ returns-clause-begun c = λ e.
     let was = b.1.1.0 in
     let gb = b.1.1.1 in
     let gf = b.1.1.2 in
-    let joined = c.seat.ensures.seated c.if-not-seat.false in
+    let joined = c.seat.ensures.seated in
     record {
       backing = seated-same backs (backs_of g) r old.backing.items was.backing gb;
       funding = seated-more funds (funds_of g) r old.funding.items c.seat.new.holders.items was.funding

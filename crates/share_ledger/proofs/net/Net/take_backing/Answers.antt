@@ -3,6 +3,7 @@ use Rattle.std.proofs.lemmas.Bool.Decides.{nat_tests}
 use Rattle.share_ledger.specs.Rounds.{flags_of, numbers_of}
 use Rattle.share_ledger.specs.Seats.{backs_of, funds_of}
 use Rattle.share_ledger.proofs.NetMore.{gain-held, counted-taken, seated-less, seated-back, ranked-less}
+use Rattle.share_ledger.proofs.SeatCounts.{seat-there}
 use Rattle.share_ledger.proofs.net.Net.take_backing.Goals as goal
 
 self_from : (n : ℕ) → nat_eq n n ≡ true
@@ -10,6 +11,12 @@ self_from n = grind (arith, nat_tests)
 
 either_less : (w n : ℕ) → w + (n + 0) ≡ w + n
 either_less w n = omega arith
+
+pub unseat-requires-clause-has : goal.unseat-requires-clause-has
+unseat-requires-clause-has c =
+    let b = c.requires.begun in
+    seat-there b.0 (backs_of c.args.tables.now) c.args.route.now c.args.self.now.backing.items b.1.1.0.backing
+    c.requires.within.to_place b.1.1.1
 
 pub shrink-requires-clause-held : goal.shrink-requires-clause-held
 shrink-requires-clause-held c =
@@ -28,7 +35,7 @@ shrink-requires-clause-held c =
     omega (arith, held, amount, here, same)
 
 pub returns-clause-begun : goal.returns-clause-begun
-returns-clause-begun c = λ e.
+returns-clause-begun c =
     let g = c.args.tables.now in
     let old = c.args.self.now in
     let r = c.args.route.now in
@@ -38,7 +45,7 @@ returns-clause-begun c = λ e.
     let was = b.1.1.0 in
     let gb = b.1.1.1 in
     let gf = b.1.1.2 in
-    let out = c.unseat.ensures.out c.if-not-unseat.false in
+    let out = c.unseat.ensures.out in
     record {
       backing = seated-less backs (backs_of g) r old.backing.items c.unseat.new.holders.items was.backing gb
           c.unseat.ensures.others

@@ -1,14 +1,15 @@
-use Rattle.std.proofs.Common.{◌≡◌, ◌+◌, ◌<◌, ◌-◌, List, sum_by, take, length, sym, ap, ◌∙◌, arith}
+use Rattle.std.proofs.Common.{◌≡◌, ◌+◌, ◌<◌, ◌-◌, List, sum_by, take, length, sym, ap, ◌∙◌, true≢false, arith}
 use Rattle.std.proofs.Common.{get_or, set}
 use Rattle.std.proofs.lemmas.List.{get_or-take, length-take}
+use Rattle.share_model.specs.funding.SettleLaws.{none_any}
 use Rattle.share_ledger.specs.declared.seats.Seat.{Seat}
 use Rattle.share_ledger.specs.Seats.{is_like}
-use Rattle.share_ledger.proofs.Positions.{position-first}
+use Rattle.share_ledger.proofs.Positions.{position-first, position-none}
 use Rattle.share_ledger.proofs.SeatSums.{first-passes, first-below, like-same, sum-taken_out}
 use Rattle.share_ledger.proofs.seats.Seats.remove.Goals as goal
 
 pub returns : goal.returns
-returns c = λ e F.
+returns c = λ F.
     let none : Seat = record { from = 0; amount = 0 } in
     let room = c.self.inside.room in
     let n = c.self.inside.count in
@@ -26,3 +27,9 @@ returns c = λ e F.
     ap (λ s. sum_by F (take (n - 1) (set room i (get_or room (n - 1) none))) + F s) (sym same)
     ∙ sum-taken_out F room n i none (omega arith) fits
     ∙ ap (sum_by F) c.self.view_is
+
+pub returns-in_default : goal.returns-in_default
+returns-in_default c =
+    absurd (true≢false (sym c.requires
+    ∙ none_any (is_like c.args.seat) c.args.self.now
+    (position-none (is_like c.args.seat) c.args.self.now (sym c.place_of.ensures ∙ c.in_default.is))))

@@ -30,7 +30,7 @@ pub struct Ungathered {
 
 impl Intake {
     /// Joins all ends of this queue to the intake, and tells how many offers were popped of each worker, in the order
-    /// of the workers: all that its end queued. Afterwards the queue holds nothing, and nothing can be queued any more.
+    /// of the workers: all that its end queued. Afterwards each worker is closed, and no offer can be taken any more.
     /// `Mismatch` where an end is missing, then `LeftOver` where one has queued more than was popped of it, then
     /// `NoMemory`; what was passed comes back as it was.
     pub fn gather(

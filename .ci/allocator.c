@@ -22,6 +22,7 @@ enum {
 static void *(*next_malloc)(size);
 static void *(*next_realloc)(void *, size);
 static void (*next_free)(void *);
+static void (*next_exit)(int);
 
 static long wanted;     /* the number of the request to refuse, 0 where none is */
 static long requests;   /* the requests since then */
@@ -35,6 +36,7 @@ __attribute__((constructor)) static void find_next(void) {
     next_malloc = (void *(*)(size))dlsym(NEXT, "malloc");
     next_realloc = (void *(*)(void *, size))dlsym(NEXT, "realloc");
     next_free = (void (*)(void *))dlsym(NEXT, "free");
+    next_exit = (void (*)(int))dlsym(NEXT, "_exit");
 }
 
 static int refuses(void) {
@@ -110,6 +112,16 @@ static void tell(const char *word, long value) {
 }
 
 __attribute__((destructor)) static void tell_all(void) {
+    static int told;
+    if (told++)
+        return;
     tell("questions ", questions);
     tell("refusals ", refusals);
+}
+
+/* A program whose tests start threads ends so, and then no destructor is called. */
+__attribute__((noreturn)) void _exit(int status) {
+    tell_all();
+    next_exit(status);
+    __builtin_unreachable();
 }

@@ -14,19 +14,11 @@ try:
 
 build: bin/stridelink
 
-# The crates below the engine, which do not stand on each other, are proved side by side: rt proves what a crate stands
-# on one crate after the other. Those above them are a chain.
-SIDE_BY_SIDE := share_ledger share_stride share_tariff share_flows share_frame
-
 bin/stridelink: $(SOURCES)
 	@echo 'proving and building stridelink: some minutes where nothing is built yet' >&2
 	mkdir -p bin
-	($(MAKE) -j$$(.ci/jobs) $(SIDE_BY_SIDE:%=prove-%) && cd crates/stridelink && rt run -- --help) \
-		> bin/build.log 2>&1 || { cat bin/build.log >&2; exit 1; }
+	cd crates/stridelink && rt run -- --help > ../../bin/build.log 2>&1 || { cat ../../bin/build.log >&2; exit 1; }
 	cp crates/stridelink/out/stridelink bin/stridelink
-
-prove-%:
-	cd crates/$* && rt lib
 
 test:
 	@echo 'the gate: every proof from nothing, the edits that must fail, the tests and the program; more than an hour' >&2

@@ -136,3 +136,13 @@ pub output_fault : {R W O : Type 0} (gives : R → List ℕ → Got → R → Ty
     → IsFault gives most i j answers u accepts a b fault
 output_fault gives most i j answers u accepts a b is read refused =
     subst (λ x. IsFault gives most i j answers u accepts a b x) (sym is) (read, refused)
+
+-- the offer that ended a run
+pub output_refused : {R W O : Type 0} (gives : R → List ℕ → Got → R → Type 0) (most : ℕ) (i j : R)
+    (answers : W → List ℕ → Answer → W → Type 0) (u : W) (accepts : O → List ℕ → Answer → O → Type 0) (a b : O)
+    (fault : ScriptFault) → fault ≡ Output → IsFault gives most i j answers u accepts a b fault
+    → OfferRefused accepts a b
+output_refused gives most i j answers u accepts a b fault is told =
+    let ended : IsFault gives most i j answers u accepts a b Output =
+    subst (λ x. IsFault gives most i j answers u accepts a b x) is told in
+    ended.1

@@ -3,6 +3,7 @@ use Rattle.std.specs.Prelude.{◌≡◌, ◌≢◌, ℕ, Bool, true, List, [], �
 use Rattle.std.specs.List.{All}
 use Rattle.share_model.specs.declared.writer.Answer.{Answer}
 use Rattle.share_model.specs.declared.writer.Answer.TheVariants.{Accepted, Interrupted, Failed}
+use Rattle.share_model.specs.io.Calls.{OfferRefused}
 
 -- the line begins as refusals do
 abbrev pub IsRefusal : List ℕ → Type 0
@@ -34,3 +35,10 @@ pub data StrictAnswers {O : Type 0} (answers : O → List ℕ → Answer → O �
       → StrictAnswers answers before kept mark piece answer after keeps marks
   is_over : (rest : List ℕ) → piece ≡ 10 ∷ rest → IsRefusal kept → answer ≡ Failed → after ≡ before → keeps ≡ kept
       → marks ≡ true → StrictAnswers answers before kept mark piece answer after keeps marks
+
+-- after offers of which some was accepted each, one was refused, and the writer stands at a refusal then
+pub record EndsAtRefusal {W : Type 0} (answers : W → List ℕ → Answer → W → Type 0) (mark : W → Bool) (first : W)
+    : Type 0 where
+  pub last : W
+  pub calls : OfferRefused answers first last
+  pub marked : mark last ≡ true

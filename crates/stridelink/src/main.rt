@@ -6,10 +6,11 @@ ghost use Rattle.std.specs.Prelude.{MatchResult, IsOkAnd};
 ghost use Rattle.std.specs.Process.{exit_status};
 ghost use Rattle.clap.specs.Values.{kind_of};
 ghost use Rattle.share_script.specs.declared.script.ScriptFault.TheVariants.{Output, NoMemory};
-ghost use Rattle.share_model.specs.io.Calls.{ReadsToEnd, Offers};
+ghost use Rattle.share_model.specs.io.Calls.{ReadsToEnd, HasRead, Offers};
 ghost use Rattle.share_model.specs.io.Told.{TapeAnswers};
 ghost use Rattle.share_model.specs.io.Printing.{bytes_told};
 ghost use Rattle.stridelink.specs.Program.{program_rates, Ran, RanPart, RanToRefusal};
+ghost use Rattle.stridelink.specs.Strict.{EndsAtRefusal};
 ghost use Rattle.share_script.specs.Script.{IsFault};
 ghost use Rattle.share_core.specs.Life.{life_refusal};
 
@@ -88,17 +89,23 @@ fn run_strictly<S: Rates + Drop, I: Source, O: Telling>(
     output: &mut StrictWriter<O>,
 ) -> Result<bool, ScriptFault>
     requires life { life_refusal life ≡ None }
+    requires goes { output.old.is_refused ≡ false }
     ensures whole { IfOk result (λ whole. whole ≡ true → IfSome (I.left input.old.input) (λ script.
         Ran (bytes_told (O.told output.old.output)) (bytes_told (O.told output.new.output))
         life (S.rates shelf) script)) }
     ensures refused { IfOk result (λ whole. whole ≡ false → IfSome (I.left input.old.input) (λ script.
         RanToRefusal (bytes_told (O.told output.old.output)) (bytes_told (O.told output.new.output))
         life (S.rates shelf) script (I.left input.new.input))) }
-    ensures mark { IfOk result (λ whole. whole ≡ false → output.new.is_refused ≡ true) }
+    ensures offers { IfOk result (λ whole. whole ≡ true
+        → Offers ⟦<StrictWriter<O> as Telling>⟧.answers output.old output.new) }
+    ensures stops { IfOk result (λ whole. whole ≡ false
+        → EndsAtRefusal ⟦<StrictWriter<O> as Telling>⟧.answers (λ w. w.is_refused) output.old) }
+    ensures read { IfOk result (λ whole. whole ≡ false
+        → HasRead ⟦<LineReader<I> as Source>⟧.gives (2 ^ 32) input.old input.new) }
 {
     match run(alloc, shelf, life, input, output) {
         Ok(()) => Ok(true),
-        Err(_) if output.is_refused() => {
+        Err(ScriptFault::Output) if output.is_refused() => {
             output.end()?;
             Ok(false)
         }

@@ -1,0 +1,18 @@
+use Rattle.std.proofs.Common.{◌∙◌, ap, sym}
+use Rattle.share_model.specs.link.Answers.{answers_event}
+use Rattle.share_locked.proofs.Steps.{command_booked, command_unbooked, command_kept}
+use Rattle.share_locked.proofs.locked.Locked.command.Goals as goal
+
+pub invariant_of-self : goal.invariant_of-self
+invariant_of-self g c = (
+  c.self.invariant.0,
+  command_kept _ _ _ _ _ _ c.command-reply.ensures.entry ∙ c.self.invariant.1,
+  c.self.invariant.2,
+)
+
+pub invariant_of-self-2 : goal.invariant_of-self-2
+invariant_of-self-2 g c = (
+  c.self.invariant.0,
+  command_kept _ _ _ _ _ _ c.command-reply.ensures.entry ∙ c.self.invariant.1,
+  c.self.invariant.2,
+)

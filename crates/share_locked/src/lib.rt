@@ -1,0 +1,12 @@
+//! A running link: what stands behind its lock, its clerks, the worker that serves it, and its settling.
+#![tactic(auto)]
+
+mod clerk;
+mod link;
+mod locked;
+mod running;
+
+pub use clerk::{Clerk, Receipt};
+pub use link::Link;
+pub use locked::{Admit, Locked};
+pub use running::{LinkEnd, Port, Stop, run_link};

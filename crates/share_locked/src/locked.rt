@@ -1,0 +1,189 @@
+//! What stands behind the lock of a running link.
+ghost use Rattle.std.specs.Prelude.{◌≡◌, ◌<◌, ◌≤◌, ◌++◌, [], suc, length, IfOk, IfErr};
+ghost use Rattle.share_base.specs.Refusal.{IsRefused};
+ghost use Rattle.share_base.specs.declared.refusal.Refusal.TheVariants.{NoMemory};
+ghost use Rattle.share_model.specs.link.Answers.{answers_event};
+ghost use Rattle.share_model.specs.link.Did.{TurnDid};
+ghost use Rattle.share_model.specs.text.Report.{report};
+ghost use Rattle.share_journal.specs.Arrivals.{arrivals};
+ghost use Rattle.share_journal.specs.Entries.{turn_entries};
+ghost use Rattle.share_journal.specs.Records.{IsRunNow};
+ghost use Rattle.share_locked.specs.Views.{LockedView, new_clerk, clerk_refusal, with_clerk};
+ghost use Rattle.share_locked.specs.Calls.{Admission, CommandMade, KeepsSide};
+
+use crate::clerk::{Clerk, receipt_of};
+use crate::link::Link;
+use share_base::{Command, Refusal, Reply, Turn};
+use share_ingress::{Intake, Offer};
+use share_journal::Recorder;
+use share_model::{Rates, Tape, Telling};
+use std::alloc::Global;
+use std::marker::{Model, PhantomData};
+use std::sync::Wait;
+
+/// How many clerks a link has at most.
+const MAX_CLERKS: u64 = 2;
+
+/// A recorder, the intake of its queue, and how many clerks were made, as they stand behind the lock of a running link.
+/// At every moment what stands there is a run: the events of the entries are the run of the link, as `recorder` says,
+/// and the arrivals among them are what the intake took, in order.
+#[derive(Drop)]
+pub struct Locked<W: Telling, S: Rates, L: Link> {
+    recorder: Recorder<W, S>,
+    intake: Intake,
+    clerks: u64,
+    of: PhantomData<L>,
+}
+
+impl<W: Telling, S: Rates, L: Link> Model for Locked<W, S, L> {
+    ghost use Rattle.std.specs.Prelude.{◌≡◌, ◌≤◌};
+    ghost use Rattle.std.specs.Coded.{codes};
+    ghost use Rattle.share_model.specs.stride.Moves.{coded_stride};
+    ghost use Rattle.share_journal.specs.Arrivals.{arrivals};
+    ghost use Rattle.share_locked.specs.Views.{LockedView};
+
+    ghost Value = { LockedView W };
+
+    ghost coded = { Prim.hlevel (codes, coded_stride) };
+
+    ghost view = { λ l. record { recorder = l.recorder; intake = l.intake; clerks = l.clerks } };
+
+    ghost invariant = { λ l.
+        (l.intake.link ≡ L.link)
+        × (arrivals l.recorder.entries ≡ l.intake.popped)
+        × (l.clerks ≤ 2) };
+}
+
+/// What `Locked::admit` answers.
+#[derive(Clone, Copy, Debug, PartialEq, Eq)]
+pub enum Admit {
+    /// The n-th offer of a worker was taken from the queue and came to its flow, with this reply.
+    Admitted { worker: u64, n: u64, reply: Reply },
+    /// The queue was empty at some moment of the call.
+    Empty,
+    /// The life was spent before, and nothing was taken.
+    Spent,
+}
+
+impl<W: Telling, S: Rates, L: Link> Locked<W, S, L> {
+    /// A recorder and the intake of this link, of which neither has seen anything yet. It takes no memory.
+    pub fn new(recorder: Recorder<W, S>, intake: Intake) -> Locked<W, S, L>
+        requires empty { recorder.entries ≡ [] }
+        requires link { intake.link ≡ L.link }
+        requires nothing { intake.popped ≡ [] }
+        ensures { result ≡ record { recorder = recorder; intake = intake; clerks = 0 } }
+    {
+        Locked {
+            recorder,
+            intake,
+            clerks: 0,
+            of: PhantomData,
+        }
+    }
+
+    /// The recorder: its entries are a run, of each worker its arrivals are numbered 1, 2, .., and they are what the
+    /// intake took of the queue, in order.
+    pub fn recorder(&self) -> &Recorder<W, S>
+        ensures recorder { result.now ≡ self.now.recorder }
+        ensures run { IsRunNow W.told self.now.recorder.link self.now.recorder.entries }
+        ensures arrivals { arrivals self.now.recorder.entries ≡ self.now.intake.popped }
+        ensures link { self.now.intake.link ≡ L.link }
+    {
+        let _ = self.recorder.journal();
+        &self.recorder
+    }
+
+    /// How many offers the queue holds at most.
+    pub fn capacity(&self) -> usize
+        ensures { result ≡ self.now.intake.capacity }
+    {
+        self.intake.capacity()
+    }
+
+    /// One more clerk of this link, or `TableFull` at the third.
+    pub fn clerk(&mut self, alloc: Global) -> Result<Clerk<L>, Refusal>
+        ensures ok { IfOk result (λ clerk.
+            (clerk ≡ new_clerk (suc self.old.clerks) clerk.room)
+            × (self.new ≡ with_clerk self.old)
+            × (self.old.clerks < 2)) }
+        ensures refused { IfErr result (λ e.
+            IsRefused (clerk_refusal self.old.clerks) e × (self.new ≡ self.old)) }
+    {
+        if self.clerks >= MAX_CLERKS {
+            return Err(Refusal::TableFull);
+        }
+        self.clerks += 1;
+        Ok(Clerk::new(alloc, self.clerks))
+    }
+
+    /// A clerk's command: the number of its entry in the journal, of which the clerk keeps a receipt, and the reply; or
+    /// the number 0 where it was no event, which is `Spent` or `NoMemory` and changes nothing. The condition: the clerk
+    /// has room for a receipt, as `Clerk::ready` makes it.
+    pub fn command(&mut self, clerk: &mut Clerk<L>, command: Command) -> (u64, Reply)
+        requires room { length clerk.old.receipts < clerk.old.room }
+        ensures { CommandMade self.old clerk.old command result.0 result.1 self.new clerk.new }
+    {
+        let reply = self.recorder.command(clerk.number(), command);
+        if !answers_event(&reply) {
+            return (0, reply);
+        }
+        let number = self.recorder.journal().len();
+        clerk.keep(receipt_of(number, &command, &reply));
+        (number, reply)
+    }
+
+    /// Takes the offer in front of the queue, and makes it an arrival, in one call. It takes no memory, and may spin
+    /// while another thread is in the middle of a push.
+    pub fn admit<R: Wait>(&mut self, rt: &R) -> Admit
+        ensures { Admission self.old result self.new }
+    {
+        if self.recorder.engine().spent() {
+            return Admit::Spent;
+        }
+        let Some(offer) = self.intake.take(rt) else {
+            return Admit::Empty;
+        };
+        let Offer {
+            worker,
+            n,
+            name,
+            parcel,
+        } = offer;
+        let reply = self.recorder.arrive(worker, name, parcel);
+        Admit::Admitted { worker, n, reply }
+    }
+
+    /// A turn of the link of at least 1 byte, as `Recorder::turn` makes it. It takes no memory.
+    pub fn turn(&mut self, most: u32) -> Turn
+        requires { 1 ≤ most }
+        ensures did { TurnDid W.answers self.old.recorder.link most result self.new.recorder.link }
+        ensures entry { self.new.recorder.entries ≡ self.old.recorder.entries ++ turn_entries result }
+        ensures side { KeepsSide self.old self.new }
+    {
+        self.recorder.turn(most)
+    }
+
+    /// The report of the link as it is now, or `NoMemory`.
+    pub fn report(&self, alloc: Global) -> Result<Vec<u8>, Refusal>
+        ensures ok { IfOk result (λ text. text.items ≡ report self.now.recorder.link.live) }
+        ensures refused { IfErr result (λ e. e ≡ NoMemory) }
+    {
+        let mut tape = Tape::new(alloc);
+        if share_report::report(self.recorder.engine(), &mut tape).is_err() {
+            drop(tape);
+            return Err(Refusal::NoMemory);
+        }
+        Ok(tape.into_bytes())
+    }
+}
+
+// Whether a reply is that to an event.
+fn answers_event(reply: &Reply) -> bool
+    ensures { result ≡ answers_event reply.now }
+{
+    match reply {
+        Reply::Refused(Refusal::NoMemory) => false,
+        Reply::Refused(Refusal::Spent) => false,
+        _ => true,
+    }
+}

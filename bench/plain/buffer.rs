@@ -54,17 +54,30 @@ impl Buffer {
         self.count == self.limit
     }
 
-    /// Puts a frame with this payload behind the others, where an even number of digits spell it; else nothing changes.
-    pub fn push(&mut self, flow: u32, seq: u32, payload: &[u8]) -> bool {
+    /// The room of a frame behind the others, its header written.
+    fn next(&mut self, flow: u32, seq: u32, size: usize) -> &mut [u8] {
         if self.frames.len() - self.end < MAX_FRAME {
             self.frames.resize(2 * self.frames.len(), 0);
         }
-        let size = payload.len() / 2;
         let frame = &mut self.frames[self.end..self.end + HEADER + size];
         frame[..2].copy_from_slice(&[0x4c, 1]);
         frame[2..6].copy_from_slice(&flow.to_be_bytes());
         frame[6..10].copy_from_slice(&seq.to_be_bytes());
         frame[10..HEADER].copy_from_slice(&(size as u16).to_be_bytes());
+        frame
+    }
+
+    /// Puts a frame with this payload behind the others.
+    pub fn push_bytes(&mut self, flow: u32, seq: u32, payload: &[u8]) {
+        self.next(flow, seq, payload.len())[HEADER..].copy_from_slice(payload);
+        self.end += HEADER + payload.len();
+        self.count += 1;
+    }
+
+    /// Puts a frame with this payload behind the others, where an even number of digits spell it; else nothing changes.
+    pub fn push(&mut self, flow: u32, seq: u32, payload: &[u8]) -> bool {
+        let size = payload.len() / 2;
+        let frame = self.next(flow, seq, size);
         let mut seen = 0;
         for (byte, pair) in frame[HEADER..].iter_mut().zip(payload.as_chunks().0) {
             let spelled = spelled(pair);

@@ -6,8 +6,10 @@ use crate::names::{Name, Names};
 use crate::output::Output;
 use crate::queue::Queue;
 use crate::refusal::Refusal::{self, *};
+use crate::report::{self, Row, Totals};
 use crate::words::{name, name_first, number, number_first, split};
-use std::io;
+use std::io::{self, ErrorKind, Write};
+use std::mem;
 
 pub const MAX_LINE: usize = 20480;
 const MAX_PAYLOAD: usize = 1490;
@@ -28,6 +30,7 @@ static TARIFFS: [Tariff; 4] = [
 ];
 
 struct Flow {
+    name: Name,
     number: u32,
     next: u32,
     tariff: &'static Tariff,
@@ -58,10 +61,27 @@ struct Part {
     out: usize,
 }
 
+/// The answer to a turn on a writer.
+#[derive(Clone, Copy, PartialEq, Eq)]
+pub enum Turn {
+    Wrote(usize),
+    Torn,
+    Idle,
+    Again,
+    Broken,
+    Spent,
+}
+
 pub struct Link {
     life: u64,
     events: u64,
+    /// Whether no line of a script was answered.
+    is_fresh: bool,
     broken: bool,
+    /// The packets that closed flows accepted, those of them that were dropped, and the sum of their accounts.
+    closed: (u64, u64, u64),
+    /// How many bytes were written that are not on the tape.
+    sent: u64,
     /// The places of the open flows, and those where there is none.
     names: Names,
     free: u64,
@@ -81,7 +101,10 @@ impl Link {
         Link {
             life,
             events: 0,
+            is_fresh: true,
             broken: false,
+            closed: (0, 0, 0),
+            sent: 0,
             names: Names::new(),
             free: u64::MAX,
             flows: (0..MAX_FLOWS).map(|_| None).collect(),
@@ -97,8 +120,11 @@ impl Link {
 
     pub fn answer(&mut self, line: &[u8]) -> io::Result<()> {
         self.output.make_room()?;
+        let is_first = mem::replace(&mut self.is_fresh, false);
         let answered = if line.len() > MAX_LINE {
             Err(Syntax)
+        } else if is_first && line == b"audit 1" {
+            Ok(())
         } else if let Some(words) = line.strip_prefix(b"send ") {
             self.send(words)
         } else if let Some(words) = line.strip_prefix(b"turn ") {
@@ -114,12 +140,39 @@ impl Link {
         Ok(())
     }
 
+    /// Answers a line of a control connection into an output that has room for a report; whether it was an event.
+    pub fn answer_control(&mut self, line: &[u8], output: &mut Output) -> bool {
+        let before = self.events;
+        mem::swap(&mut self.output, output);
+        let answered = if line.len() > MAX_LINE { Err(Syntax) } else { self.command(line) };
+        if let Err(refusal) = answered {
+            self.output.text(refusal.text());
+        }
+        mem::swap(&mut self.output, output);
+        self.events > before
+    }
+
     /// All that was written.
     pub fn finish(&mut self) -> io::Result<()> {
         self.output.finish(&self.tape)
     }
 
+    /// Writes the report.
+    pub fn report(&mut self) -> io::Result<()> {
+        self.put_report();
+        self.output.flush()
+    }
+
+    fn put_report(&mut self) {
+        let text = report::text(&self.totals(), &self.rows());
+        self.output.text(&text);
+    }
+
     fn command(&mut self, line: &[u8]) -> Result<(), Refusal> {
+        if line == b"report" {
+            self.put_report();
+            return Ok(());
+        }
         let (keyword, words) = split(line).ok_or(Syntax)?;
         match keyword {
             b"fund" => self.fund(words),
@@ -144,6 +197,53 @@ impl Link {
             b"close" => self.close(words),
             _ => Err(Syntax),
         }
+    }
+
+    pub fn is_spent(&self) -> bool {
+        self.events == self.life
+    }
+
+    /// Whether a frame is in part, or some flow competes, and the link could still send.
+    pub fn is_unsent(&self) -> bool {
+        !self.broken && !self.is_spent() && self.sending().is_some()
+    }
+
+    pub fn is_broken(&self) -> bool {
+        self.broken
+    }
+
+    /// What the report tells of the link.
+    fn totals(&self) -> Totals {
+        let (clock, tickets, pass) = self.queue.global();
+        let (accepted, dropped, past) = self.closed;
+        let open = || self.flows.iter().flatten();
+        let accepted = accepted + open().map(|flow| u64::from(flow.next) - 1).sum::<u64>();
+        let waiting = open().map(|flow| flow.buffer.len() as u64).sum::<u64>() - u64::from(self.torn.is_some());
+        let torn = u64::from(self.broken);
+        let bytes = self.tape.len() as u64 + self.sent;
+        let link = if self.broken { 2 } else { u64::from(self.part.is_some()) };
+        Totals { clock, accepted, torn, waiting, dropped, bytes, past, tickets, pass, link }
+    }
+
+    /// What it tells of the open flows, in order of opening.
+    fn rows(&self) -> Vec<Row> {
+        let mut rows: Vec<Row> = (0..MAX_FLOWS).filter_map(|place| self.row(place)).collect();
+        rows.sort_by_key(|row| row.number);
+        rows
+    }
+
+    fn row(&self, place: usize) -> Option<Row> {
+        let flow = self.flows[place].as_ref()?;
+        let (competes, position) = self.queue.position(place);
+        Some(Row {
+            number: flow.number,
+            name: flow.name,
+            tickets: self.ledger.worths.sum(place).min(MAX_TICKETS),
+            waiting: flow.buffer.len() - usize::from(self.torn == Some(place)),
+            account: flow.account,
+            competes,
+            position,
+        })
     }
 
     fn check_life(&self) -> Result<(), Refusal> {
@@ -213,7 +313,7 @@ impl Link {
         self.free &= self.free - 1;
         self.opened += 1;
         self.names.insert(name, place);
-        self.flows[place] = Some(Flow { number: self.opened, next: 1, tariff, account: 0, buffer: Buffer::new(limit) });
+        self.flows[place] = Some(Flow { name, number: self.opened, next: 1, tariff, account: 0, buffer: Buffer::new(limit) });
         self.ledger.worths.add_flow(place);
         self.queue.add(place, self.opened);
     }
@@ -232,6 +332,9 @@ impl Link {
         let torn = self.torn.take_if(|torn| *torn == place).is_some();
         if let Some(flow) = self.flows[place].take() {
             let dropped = flow.buffer.len() - usize::from(torn);
+            self.closed.0 += u64::from(flow.next) - 1;
+            self.closed.1 += dropped as u64;
+            self.closed.2 += flow.account;
             self.output.line(b"closed", &[u64::from(flow.number), dropped as u64, flow.account], b"\n");
         }
         Ok(())
@@ -289,6 +392,20 @@ impl Link {
         Ok(())
     }
 
+    /// A packet comes while the life is not spent. It is an event also where no flow takes it.
+    pub fn arrive(&mut self, name: Name, payload: &[u8]) {
+        let receiver = self.receiver(name, payload.len());
+        self.events += 1;
+        let Ok(place) = receiver else { return };
+        let Some(flow) = &mut self.flows[place] else { return };
+        flow.buffer.push_bytes(flow.number, flow.next, payload);
+        flow.next += 1;
+        if flow.buffer.len() == 1 {
+            self.ledger.worths.set_active(place, true);
+            self.level();
+        }
+    }
+
     /// The place of the flow whose frame is sent next, and how much of it is out.
     fn sending(&self) -> Option<Part> {
         match self.part {
@@ -333,6 +450,38 @@ impl Link {
         Ok(())
     }
 
+    /// One write call with the rest of the frame in part, or of the next one.
+    pub fn turn_on(&mut self, writer: &mut impl Write) -> Turn {
+        if self.is_spent() {
+            return Turn::Spent;
+        }
+        if self.broken {
+            return Turn::Broken;
+        }
+        let Some(Part { place, out }) = self.sending() else { return Turn::Idle };
+        let Some(flow) = &self.flows[place] else { return Turn::Idle };
+        let frame = flow.buffer.head();
+        let size = frame.len();
+        match writer.write(&frame[out..]) {
+            Ok(count) if count > 0 => {
+                self.events += 1;
+                self.sent += count as u64;
+                if out + count == size {
+                    self.leave(place, size);
+                } else {
+                    self.part = Some(Part { place, out: out + count });
+                }
+                Turn::Wrote(count)
+            }
+            Err(fault) if fault.kind() == ErrorKind::Interrupted => Turn::Again,
+            _ => {
+                self.events += 1;
+                self.fail(place, out);
+                Turn::Torn
+            }
+        }
+    }
+
     /// The first frame of a flow is out whole.
     fn leave(&mut self, place: usize, size: usize) {
         self.part = None;
@@ -351,13 +500,19 @@ impl Link {
     fn tear(&mut self) -> Result<(), Refusal> {
         self.check_life()?;
         let Some(Part { place, out }) = self.begin()? else { return Ok(()) };
+        self.fail(place, out);
+        let flow = self.flows[place].as_ref().ok_or(NoFlow)?;
+        self.output.line(b"torn", &[u64::from(flow.number), flow.head(), out as u64], b"\n");
+        Ok(())
+    }
+
+    /// The frame of a flow is torn after so many bytes.
+    fn fail(&mut self, place: usize, out: usize) {
         self.broken = true;
         self.part = None;
         self.torn = Some(place);
-        let flow = self.flows[place].as_mut().ok_or(NoFlow)?;
+        let Some(flow) = &mut self.flows[place] else { return };
         let units = flow.post(out);
         self.queue.charge(place, units);
-        self.output.line(b"torn", &[u64::from(flow.number), flow.head(), out as u64], b"\n");
-        Ok(())
     }
 }

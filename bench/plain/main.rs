@@ -3,24 +3,36 @@
 //! the tape; hexadecimal is read by a table of pairs; answers are written into the one buffer of the output; and no
 //! line allocates but where something grows. What flows are worth is kept, and computed anew only where it changes;
 //! the flows that compete stand in a heap. It takes the words `run --life L`, which have to be right.
+//!
+//! With `serve` it is the link on sockets, over the mutex, the bounded channel and the threads of the standard library:
+//! the yardstick of serve.py, and what examples/serve.py was tried with. Its words are in arguments.rs.
 
+mod arguments;
 mod buffer;
 mod chains;
+mod connections;
+mod control;
 mod heap;
+mod journal;
 mod ledger;
 mod link;
+mod locked;
 mod names;
 mod output;
 mod queue;
+mod records;
 mod refusal;
+mod report;
+mod serve;
 mod words;
 mod worths;
 
 use link::{Link, MAX_LINE};
 use output::Output;
 use std::fs::File;
-use std::io::{self, Read};
+use std::io::{self, Read, Write};
 use std::os::fd::AsFd;
+use std::process::ExitCode;
 
 const INPUT: usize = 1 << 17;
 
@@ -56,9 +68,18 @@ fn run(link: &mut Link, script: &mut File) -> io::Result<()> {
     link.finish()
 }
 
-fn main() -> io::Result<()> {
+fn main() -> io::Result<ExitCode> {
+    let words: Vec<String> = std::env::args().skip(1).collect();
+    if words.first().is_some_and(|word| word == "serve") {
+        let Some(arguments) = arguments::read(&words[1..]) else {
+            let _ = io::stderr().write_all(b"error: these are no words of serve\n");
+            return Ok(ExitCode::from(2));
+        };
+        return Ok(ExitCode::from(serve::serve(&arguments)));
+    }
     let life = std::env::args().nth(3).and_then(|word| word.parse().ok()).unwrap_or(65536);
     let mut script = File::from(io::stdin().as_fd().try_clone_to_owned()?);
     let output = Output::new(File::from(io::stdout().as_fd().try_clone_to_owned()?));
-    run(&mut Link::new(life, output), &mut script)
+    run(&mut Link::new(life, output), &mut script)?;
+    Ok(ExitCode::SUCCESS)
 }

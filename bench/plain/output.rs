@@ -4,7 +4,12 @@ use std::fs::File;
 use std::io::{self, Write};
 
 const ROOM: usize = 1 << 16;
-const MAX_ANSWER: usize = 128;
+
+/// The longest answer is a report: totals of 35 bytes, 64 flows of 93 bytes, and the word that ends it.
+const MAX_ANSWER: usize = 6400;
+
+/// The longest answer of one line.
+const MAX_LINE: usize = 128;
 
 /// The two decimal digits of each number below 100.
 static DECIMALS: [[u8; 2]; 100] = {
@@ -24,13 +29,13 @@ fn digit(value: u8) -> u8 {
 
 /// Puts a text at a place of an answer; the place behind it.
 #[inline(always)]
-fn put(answer: &mut [u8; MAX_ANSWER], at: usize, text: &[u8]) -> usize {
+fn put(answer: &mut [u8; MAX_LINE], at: usize, text: &[u8]) -> usize {
     answer[at..at + text.len()].copy_from_slice(text);
     at + text.len()
 }
 
 #[inline(always)]
-fn put_number(answer: &mut [u8; MAX_ANSWER], at: usize, number: u64) -> usize {
+fn put_number(answer: &mut [u8; MAX_LINE], at: usize, number: u64) -> usize {
     if number < 10 { put(answer, at, &[b'0' + number as u8]) } else { put_long_number(answer, at, number) }
 }
 
@@ -46,7 +51,7 @@ fn digits_of(number: u64) -> usize {
     }
 }
 
-fn put_long_number(answer: &mut [u8; MAX_ANSWER], at: usize, number: u64) -> usize {
+fn put_long_number(answer: &mut [u8; MAX_LINE], at: usize, number: u64) -> usize {
     let count = digits_of(number);
     let mut rest = number;
     let (first, pairs) = answer[at..at + count].as_rchunks_mut();
@@ -74,13 +79,15 @@ impl Output {
 
     /// Makes room for one answer.
     pub fn make_room(&mut self) -> io::Result<()> {
-        if self.filled > ROOM - MAX_ANSWER {
-            self.flush()?;
-        }
-        Ok(())
+        if self.has_room() { Ok(()) } else { self.flush() }
     }
 
-    fn flush(&mut self) -> io::Result<()> {
+    /// Whether there is room for one answer.
+    pub fn has_room(&self) -> bool {
+        self.filled <= ROOM - MAX_ANSWER
+    }
+
+    pub fn flush(&mut self) -> io::Result<()> {
         self.file.write_all(&self.buffer[..self.filled])?;
         self.filled = 0;
         Ok(())

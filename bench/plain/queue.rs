@@ -81,6 +81,20 @@ impl Queue {
         self.heap.first().map(usize::from)
     }
 
+    /// Whether a client competes, and its pass or its remain.
+    pub fn position(&self, place: usize) -> (bool, i128) {
+        if self.heap.contains(place as u8) {
+            (true, self.heap.pass(place as u8))
+        } else {
+            (false, self.clients[place].remain)
+        }
+    }
+
+    /// The clock, the global tickets and the global pass.
+    pub fn global(&self) -> (u64, u64, i128) {
+        (self.clock, self.tickets, self.pass)
+    }
+
     /// Charges a client that has had tickets.
     pub fn charge(&mut self, place: usize, units: u32) {
         let share = self.count(place, units);

@@ -313,7 +313,8 @@ impl Link {
         self.free &= self.free - 1;
         self.opened += 1;
         self.names.insert(name, place);
-        self.flows[place] = Some(Flow { name, number: self.opened, next: 1, tariff, account: 0, buffer: Buffer::new(limit) });
+        let (number, buffer) = (self.opened, Buffer::new(limit));
+        self.flows[place] = Some(Flow { name, number, next: 1, tariff, account: 0, buffer });
         self.ledger.worths.add_flow(place);
         self.queue.add(place, self.opened);
     }

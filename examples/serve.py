@@ -1,0 +1,833 @@
+#!/usr/bin/env python3
+"""Plays control clients, ingress clients and the peer of the uplink with a built server, over real sockets.
+
+The program is bin/stridelink, or that of the environment variable STRIDELINK; it has to know `serve` and `run`. With
+words, only the cases of these names are tried. What is wanted comes from the rules: the bytes that the peer gets are
+those that the audit gives as a script, each connection's packets stand in it once and in order, and the report is the
+audit's. Each case has a limit of time, and what it started ends with it. Until the program has `serve`, this is tried
+with the plain program of bench/plain, and no gate runs it.
+"""
+import os
+import resource
+import signal
+import socket
+import struct
+import sys
+import time
+
+from serving import (ENDED, END, FUNDED, LOOPBACK, PROGRAM, Failure, Run, check, ends_by_itself, expect, expect_equal,
+                     frame, limit_time, payloads, record, reset, total,
+                     wait_for)
+
+LIMIT = 60
+QUIET_SECONDS = 1.5
+QUIET_SHARE = 0.02
+MOST_ENDS = 2
+SERVED = """\
+clock                           13
+accepted                         1
+written                          1
+torn                             0
+waiting                          0
+dropped                          0
+bytes                           13
+past                             0
+tickets                          0
+pass                   13958643712
+link                             0
+flow        1 a                      0    0                13 out              1099511627776
+end
+"""
+
+
+def packets(name, connection, count, size):
+    """Packets of a connection: (name, payload)."""
+    return [(name, payload) for payload in payloads(connection, count, size)]
+
+
+def records(some):
+    return b"".join(record(name, payload) for name, payload in some)
+
+
+def served(run):
+    """One packet, from its record to its frame."""
+    peer = run.peer()
+    server = run.server(peer)
+    control = server.control()
+    control.fund(4)
+    server.ingress(bytes.fromhex("0161000161")).close()
+    control.close()
+    server.ends()
+    check(server, peer, [("whole", [("a", b"a")])])
+    expect_equal(peer.got.hex(), "4c010000000100000001000161", "the frame")
+    expect_equal(server.text("stdout"), SERVED, "the report")
+    told = server.text("stderr").splitlines()
+    for line in (ENDED % ("control", 1), ENDED % ("ingress", 1)):
+        expect(any(text.startswith(line) for text in told), "not told: %s" % line)
+
+
+def quiet(run):
+    """Without --verbose nothing is told. The ports are found among those that the process listens on."""
+    peer = run.peer()
+    server = run.start(peer.address, verbose=False, ingress="127.0.0.2:0", control="127.0.0.3:0")
+    server.ports = wait_for(lambda: listeners(server.process.pid), "two sockets that listen")
+    with socket.create_connection(("127.0.0.3", server.ports["control"])) as control:
+        control.sendall(b"open a 4 1\n")
+        expect_equal(control.recv(100), b"flow 1\n", "the reply")
+        socket.create_connection(("127.0.0.2", server.ports["ingress"])).close()
+    server.ends()
+    check(server, peer, [])
+    expect_equal(server.text("stderr"), "", "what is told")
+
+
+def listeners(process):
+    """The ports on which a process listens at 127.0.0.2 (ingress) and 127.0.0.3 (control), if both are there."""
+    sockets = set()
+    for descriptor in os.listdir("/proc/%d/fd" % process):
+        link = os.readlink("/proc/%d/fd/%s" % (process, descriptor))
+        sockets.add(link.removeprefix("socket:[").removesuffix("]"))
+    found = {}
+    with open("/proc/net/tcp") as source:
+        for line in source.readlines()[1:]:
+            words = line.split()
+            address, port = words[1].split(":")
+            name = {"0200007F": "ingress", "0300007F": "control"}.get(address)
+            if name and words[3] == "0A" and words[9] in sockets:
+                found[name] = int(port, 16)
+    return found if len(found) == 2 else None
+
+
+def control_lines(run):
+    """What a control connection answers to lines of all kinds."""
+    peer = run.peer()
+    server = run.server(peer, clerks=2)
+    first, second = server.control(), server.control()
+    first.ask_wanted(["turn 1", "send a 61", "torn", "audit 1", "", "mkcur x", "mkcur  y", "mkcur Y", "mkcur y\r"],
+                     ["no 3 Syntax"] * 5 + ["ok"] + ["no 3 Syntax"] * 3)
+    first.ask_wanted(["x" * 20481, "mkcur " + "y" * 60000, "mkcur x", "mkcur z"],
+                     ["no 3 Syntax", "no 3 Syntax", "no 9 Taken", "ok"])
+    first.ask_wanted(["mktkt 0 nope", "mktkt 1 nope", "fund 9 flow zz", "open a 0 9", "open a 1 9", "rmcur base"],
+                     ["no 4 Range", "no 5 NoCurrency", "no 6 NoTicket", "no 4 Range", "no 8 NoTariff", "no 10 Base"])
+    second.ask_wanted(["open a 4 1", "open b 4 3", "report"], ["flow 1", "flow 2", expected_rows()])
+    for byte in b"mktkt 7 base\nfund 1 flow a\n":
+        second.send(bytes([byte]))
+    expect_equal([second.reply(), second.reply()], ["ticket 1", "ok"], "replies to single bytes")
+    first.ask_wanted(["close b", "rmtkt 1", "unfund 1", "rmtkt 1"], ["closed 2 0 0", "no 12 Funding", "ok", "ok"])
+    many = ["mktkt 1 base", "rmtkt %d"]
+    lines = [line % number if "%" in line else line for number in range(2, 3002) for line in many]
+    first.ask_wanted(lines, [reply for number in range(2, 3002) for reply in ("ticket %d" % number, "ok")])
+    first.send(b"mkcur w\nmktkt 1 ba")
+    expect_equal(first.close(), b"ok\n", "the replies to a line and a line without its end")
+    second.vanish()
+    server.ingress().close()
+    server.ends()
+    replay = check(server, peer, [])
+    expect_equal(len(replay.lines), 1 + 2 + 6 + 2 + 2 + 4 + 6000 + 1, "commands in the audit")
+
+
+def expected_rows():
+    """The report of a link with the flows a and b, of which nothing was sent."""
+    keys = ("clock", "accepted", "written", "torn", "waiting", "dropped", "bytes", "past", "tickets", "pass", "link")
+    rows = [total(key, 0)[:-1] for key in keys]
+    rows += ["flow %8d %-16s %7d %4d %17d %-3s %26d" % (n, name, 0, 0, 0, "out", 0) for n, name in ((1, "a"), (2, "b"))]
+    return "\n".join([*rows, "end"])
+
+
+def accepted_in_order(run):
+    """Control connections are accepted first, each is answered at once, and ingress connections wait for all of them,
+    also those that were there before."""
+    peer = run.peer()
+    server = run.server(peer, clerks=2)
+    some = packets("a", 0, 10, 100)
+    connection = server.ingress(records(some))
+    first = server.control()
+    first.fund()
+    time.sleep(0.2)
+    expect(total("accepted", 0) in first.ask("report")[0], "a packet arrives before all control connections are there")
+    second = server.control()
+    wait_for(lambda: len(peer.got) == 10 * 112, "the frames of a client")
+    for client in (first, second, connection):
+        client.close()
+    server.ends()
+    check(server, peer, [("whole", some)])
+
+
+def full_queue(run):
+    """Two workers and two clerks, and 20,000 packets while the peer reads nothing for a while."""
+    peer = run.peer(lambda peer: peer.go_on.wait(), narrow=True)
+    server = run.server(peer, workers=2, clerks=2)
+    controls = [server.control(), server.control()]
+    controls[0].fund()
+    controls[1].ask_wanted(["open b 1024 2", "mktkt 3 base", "fund 2 flow b"], ["flow 2", "ticket 2", "ok"])
+    sent = [packets("ab"[number], number, 10000, 700) for number in (0, 1)]
+    connections = [server.ingress(), server.ingress()]
+    senders = [run.thread(send_all, connection, some) for connection, some in zip(connections, sent)]
+    wait_for(lambda: is_blocked(server, senders), "clients that wait for a full queue")
+    commanders = [run.thread(command_much, control, "xy"[number]) for number, control in enumerate(controls)]
+    used = server.processor_seconds()
+    time.sleep(QUIET_SECONDS)
+    share = (server.processor_seconds() - used) / QUIET_SECONDS
+    peer.go_on.set()
+    for task in senders + commanders:
+        task.finish(LIMIT)
+    server.ends(seconds=LIMIT)
+    replay = check(server, peer, [("whole", some) for some in sent])
+    for name in "xy":
+        wanted = [word % (name, number) for number in range(200) for word in ("mkcur %s%d", "rmcur %s%d")]
+        commands = [line for line, reply in replay.answered() if line.split()[1][0] == name and reply == "ok"]
+        expect_equal(commands, wanted, "the commands of a clerk")
+    expect(share < QUIET_SHARE, "a server whose queue is full takes %.1f %% of a core" % (100 * share))
+
+
+def send_all(connection, some):
+    connection.settimeout(LIMIT)
+    connection.sendall(records(some))
+    connection.close()
+
+
+def is_blocked(server, senders):
+    """Whether the server has not used any time for a while, with all clients at work."""
+    used = server.processor_seconds()
+    time.sleep(0.3)
+    return all(sender.is_alive() for sender in senders) and server.processor_seconds() - used < 0.003
+
+
+def command_much(control, name):
+    for number in range(200):
+        words = ["mkcur %s%d" % (name, number), "rmcur %s%d" % (name, number)]
+        control.ask_wanted(words, ["ok", "ok"])
+        if number % 20 == 0:
+            expect(control.ask("report")[0].endswith("\nend"), "no report")
+    control.close()
+
+
+def idle(run):
+    """A server with nothing to do, one with an unfunded packet among them."""
+    peer = run.peer()
+    server = run.server(peer)
+    control = server.control()
+    control.ask_wanted(["open a 4 1"], ["flow 1"])
+    connection = server.ingress(record("a", b"a"))
+    wait_for(lambda: total("accepted", 1) in control.ask("report")[0], "the packet's arrival")
+    time.sleep(0.1)
+    used = server.processor_seconds()
+    time.sleep(QUIET_SECONDS)
+    share = (server.processor_seconds() - used) / QUIET_SECONDS
+    control.ask_wanted(["mktkt 1 base", "fund 1 flow a"], ["ticket 1", "ok"])
+    wait_for(lambda: peer.got == frame(1, 1, b"a"), "the frame of a flow that is funded late")
+    control.close()
+    connection.close()
+    server.ends()
+    check(server, peer, [("whole", [("a", b"a")])])
+    expect(share < QUIET_SHARE, "an idle server takes %.1f %% of a core" % (100 * share))
+
+
+def shares_64(run):
+    """Two clients that send much more than the peer reads share the link 3 to 1 while both buffers are full."""
+    shares(run, 64)
+
+
+def shares_1024(run):
+    shares(run, 1024)
+
+
+def shares(run, limit):
+    def read_slowly(peer):
+        while not peer.go_on.is_set() and peer.read(1024):
+            time.sleep(0.003)
+
+    peer = run.peer(read_slowly, narrow=True)
+    server = run.server(peer, workers=2)
+    control = server.control()
+    control.ask_wanted(["open a %d 1" % limit, "open b %d 1" % limit, "mktkt 3 base", "mktkt 1 base", "fund 1 flow a",
+                        "fund 2 flow b"], ["flow 1", "flow 2", "ticket 1", "ticket 2", "ok", "ok"])
+    sent = [packets("ab"[number], number, 2500, 1490) for number in (0, 1)]
+    run.thread(send_in_turns, [server.ingress(), server.ingress()], sent).finish(LIMIT)
+    peer.go_on.set()
+    control.close()
+    server.ends(seconds=LIMIT)
+    first, second = written_while_full(check(server, peer, [("whole", some) for some in sent]))
+    expect(first + second >= 100, "only %d frames were sent while both buffers were full" % (first + second))
+    expect(2.7 * second <= first <= 3.3 * second, "frames sent of two flows: %d and %d" % (first, second))
+
+
+def send_in_turns(connections, sent):
+    """Sends of each connection's packets five at a time, a thousand a second: so the queue seldom is full, and none of
+    the connections has its places for itself."""
+    for connection in connections:
+        connection.settimeout(LIMIT)
+    for start in range(0, len(sent[0]), 5):
+        for connection, some in zip(connections, sent):
+            connection.sendall(records(some[start:start + 5]))
+        time.sleep(0.004)
+    for connection in connections:
+        connection.close()
+
+
+def written_while_full(replay):
+    """The whole frames of flows 1 and 2 once each buffer was full, and before the last packet of the flood that ended
+    first."""
+    last = {line.split()[1]: place for place, line in enumerate(replay.lines) if line.startswith("send ")}
+    end = min(last.values())
+    full, written = set(), {1: 0, 2: 0}
+    for line, reply in list(replay.answered())[:end]:
+        words = reply.split()
+        if reply == "no 19 BufferFull":
+            full.add(line.split()[1])
+        elif len(full) == 2 and words[0] == "wrote" and words[4] == "whole":
+            written[int(words[1])] += 1
+    return written[1], written[2]
+
+
+BAD_RECORDS = {
+    "a name without a byte": b"\x00" + b"a\x00\x01a",
+    "a name of 17 bytes": b"\x11" + b"a" * 17 + b"\x00\x01a",
+    "a name that begins with a digit": b"\x021a\x00\x01a",
+    "a name with an upper-case letter": b"\x02aB\x00\x01a",
+    "a name with a space": b"\x02a \x00\x01a",
+    "a payload of no byte": b"\x01a\x00\x00",
+    "a payload of 1491 bytes": b"\x01a\x05\xd3" + b"a" * 1491,
+    "a payload of 65535 bytes": b"\x01a\xff\xff",
+}
+
+
+def malformed(run):
+    """A record that is none ends its connection; what came before it is sent, and nothing behind it."""
+    for what, bad in BAD_RECORDS.items():
+        peer = run.peer()
+        server = run.server(peer, workers=2)
+        control = server.control()
+        control.fund()
+        good = [packets("a", number, 50, 20) for number in (0, 1)]
+        first = server.ingress(records(good[0]) + bad + records(packets("a", 2, 50, 20)))
+        ends_by_itself(first)
+        first.close()
+        second = server.ingress(records(good[1]))
+        second.close()
+        control.close()
+        server.ends()
+        replay = check(server, peer, [("whole", some) for some in good])
+        expect_equal(replay.totals()["written"], 100, "frames beside " + what)
+
+
+def cut(run):
+    """A record that is cut anywhere is dropped; so is a name that no flow has, as an arrival that is refused."""
+    whole = record("abc", b"payload")
+    for place in range(1, len(whole)):
+        peer = run.peer()
+        server = run.server(peer)
+        control = server.control()
+        control.fund()
+        some = [("a", b"1st"), ("nobody", b"2nd")]
+        server.ingress(records(some) + whole[:place]).close()
+        control.close()
+        server.ends()
+        replay = check(server, peer, [("whole", some)])
+        expect_equal([reply for _, _, reply in replay.arrivals()], ["packet 1 1", "no 7 NoFlow"], "arrivals")
+
+
+def clients_vanish(run):
+    """Clients that are reset in the middle of a record or a line are no fault, and harm nobody else."""
+    peer = run.peer()
+    server = run.server(peer, workers=2, clerks=2)
+    first, second = server.control(), server.control()
+    second.fund()
+    gone = packets("a", 0, 5, 1000)
+    vanishing = server.ingress(records(gone) + b"\x01a\x03\xe8half")
+    stays = server.ingress()
+    wait_for(lambda: len(peer.got) == 5 * 1012, "the frames of a client")
+    reset(vanishing)
+    first.send(b"report\n" * 100 + b"mkcur")
+    first.replies.close()
+    reset(first.socket)
+    some = packets("a", 1, 100, 100)
+    stays.sendall(records(some))
+    wait_for(lambda: len(peer.got) == 5 * 1012 + 100 * 112, "the frames of another client")
+    second.ask_wanted(["mkcur x"], ["ok"])
+    second.close()
+    stays.close()
+    server.ends()
+    check(server, peer, [("whole", gone), ("whole", some)])
+
+
+def clients_stall(run):
+    """A client that stops in the middle of a record, one that sends a byte at a time, one that asks and never reads,
+    and one that sends half a line, hold up nobody."""
+    peer = run.peer()
+    server = run.server(peer, workers=2, clerks=2)
+    deaf, control = server.control(), server.control()
+    control.fund()
+    asked = run.thread(lambda: deaf.send(b"report\n" * 20000))
+    stalls, slow = server.ingress(b"\x01a\x00"), server.ingress()
+    some = packets("a", 1, 60, 8)
+    for byte in records(some):
+        slow.sendall(bytes([byte]))
+    wait_for(lambda: len(peer.got) == 60 * 20, "the frames of a client")
+    control.ask_wanted(["mkcur x"], ["ok"])
+    control.send(b"mkcur ")
+    time.sleep(0.2)
+    late = [("a", b"late")]
+    stalls.sendall(records(late)[3:])
+    wait_for(lambda: len(peer.got) == 60 * 20 + 16, "the frame of a client that went on")
+    control.ask_wanted(["y"], ["ok"])
+    expect_equal([deaf.reply() is not None for _ in range(20000)], [True] * 20000, "the reports, read late")
+    asked.finish()
+    for connection in (deaf, control, stalls, slow):
+        connection.close()
+    server.ends()
+    check(server, peer, [("whole", late), ("whole", some)])
+
+
+def packets_until_torn(run, peer):
+    """Sends packets one by one until the uplink is torn; what follows is admitted still, and a flow can be closed."""
+    server = run.server(peer)
+    control = server.control()
+    control.fund()
+    some = packets("a", 0, 2000, 1000)
+    connection = server.ingress()
+
+    def is_torn(count):
+        connection.sendall(record(*some[count]))
+        return control.ask("report")[0].split("\n")[10].split() == ["link", "2"]
+
+    sent = next((count for count in range(len(some) - 1) if is_torn(count)), None)
+    expect(sent is not None, "the uplink is not torn")
+    connection.sendall(record(*some[sent + 1]))
+    connection.close()
+    control.ask_wanted(["mkcur x"], ["ok"])
+    wait_for(lambda: total("accepted", sent + 2) in control.ask("report")[0], "arrivals on a torn link")
+    control.close()
+    server.ends(1, "the uplink failed")
+    replay = check(server, peer, [("whole", some[:sent + 2])], torn=True)
+    expect_equal(sum(reply.startswith("torn 1 ") for reply in replay.replies), 1, "faults in the audit")
+    expect_equal(replay.lines.count("torn"), 1, "faults in the audit")
+
+
+def peer_closes_at_once(run):
+    packets_until_torn(run, run.peer(lambda peer: peer.connection.close()))
+
+
+def peer_resets_at_once(run):
+    packets_until_torn(run, run.peer(lambda peer: reset(peer.connection)))
+
+
+def peer_closes_after_some_bytes(run):
+    def read_some(peer):
+        while len(peer.got) < 1500:
+            peer.read(1500 - len(peer.got))
+        peer.connection.close()
+
+    peer = run.peer(read_some)
+    packets_until_torn(run, peer)
+    expect_equal(len(peer.got), 1500, "bytes that the peer got")
+
+
+def peer_reads_slowly(run):
+    """A slow peer gets everything, also what was on its way when all clients had ended."""
+    def read_slowly(peer):
+        while peer.read(700):
+            time.sleep(0.002)
+
+    peer = run.peer(read_slowly, narrow=True)
+    server = run.server(peer)
+    control = server.control()
+    control.fund()
+    some = packets("a", 0, 300, 500)
+    server.ingress(records(some)).close()
+    control.close()
+    server.ends()
+    expect_equal(check(server, peer, [("whole", some)]).totals()["written"], 300, "frames")
+
+
+def peer_writes_back(run):
+    """What the peer says is read away: neither does it disturb the run, nor is the end of the frames lost by it."""
+    def write_back(peer):
+        peer.connection.sendall(b"hello " * 1000)
+        while peer.read(700):
+            peer.connection.sendall(b"thanks " * 100)
+        peer.connection.sendall(b"bye " * 10000)
+
+    peer = run.peer(write_back)
+    server = run.server(peer)
+    control = server.control()
+    control.fund()
+    some = packets("a", 0, 1000, 1000)
+    server.ingress(records(some)).close()
+    control.close()
+    server.ends()
+    expect_equal(check(server, peer, [("whole", some)]).totals()["written"], 1000, "frames")
+
+
+def spent_life(run):
+    """A spent life ends the ingress connections, idle ones too, and control connections are answered on."""
+    peer = run.peer()
+    server = run.server(peer, workers=2, life=5)
+    control = server.control()
+    control.fund(4)
+    busy, silent = server.ingress(record("a", b"1st")), server.ingress()
+    for connection in (busy, silent):
+        ends_by_itself(connection)
+        connection.close()
+    control.ask_wanted(["mkcur x", "close a", "mkcur", "turn 1"], ["no 2 Spent"] * 2 + ["no 3 Syntax"] * 2)
+    report = control.ask("report")[0]
+    expect(report.startswith(total("clock", 15) + total("accepted", 1) + total("written", 1)), "a report: %s" % report)
+    control.close()
+    server.ends(1, "the life is spent")
+    replay = check(server, peer, [("whole", [("a", b"1st")])])
+    expect_equal(len(replay.lines), 5, "events in the audit")
+
+
+def spent_life_under_load(run):
+    """Offers that no event is left for are dropped; what was admitted is in the audit."""
+    peer = run.peer()
+    server = run.server(peer, workers=2, life=1000)
+    control = server.control()
+    control.fund()
+    sent = [packets("a", number, 5000, 100) for number in (0, 1)]
+    connections = [server.ingress(), server.ingress()]
+    for connection, some in zip(connections, sent):
+        run.thread(send_all, connection, some)
+    for connection in connections:
+        wait_for(lambda: is_over(connection), "the end of a connection")
+    control.ask_wanted(["mkcur x"], ["no 2 Spent"])
+    control.close()
+    server.ends(1, "the life is spent")
+    replay = check(server, peer, [("part", some) for some in sent])
+    expect_equal(len(replay.lines), 1000, "events in the audit")
+
+
+def is_over(connection):
+    """Whether a connection that another thread writes to has ended."""
+    if connection.fileno() < 0:
+        return True
+    try:
+        return connection.recv(1) == b""
+    except OSError:
+        return True
+
+
+def until_eof_idle(run):
+    """The end of standard input ends a server whose connections are idle, and one that waits for more connections."""
+    for workers, clerks, there in ((1, 1, 2), (2, 2, 0), (2, 1, 1), (2, 1, 2)):
+        peer = run.peer()
+        server = run.server(peer, workers=workers, clerks=clerks, until_eof=True)
+        control = server.control() if there > 0 else None
+        some = []
+        if control:
+            control.fund()
+        if there > 1:
+            some = packets("a", 0, 200, 20)
+            server.ingress(records(some) + b"\x01a\x00")
+            wait_for(lambda: len(peer.got) == 200 * 32, "the frames of a client")
+        server.end_input()
+        server.ends(seconds=END)
+        if control:
+            expect_equal(control.close(), b"", "what is said at the end")
+        check(server, peer, [("whole", some)])
+
+
+def until_eof_gives_what_had_come(run):
+    """What had come when standard input ended is answered, admitted, sent and settled."""
+    peer = run.peer(lambda peer: peer.go_on.wait(), narrow=True)
+    server = run.server(peer, until_eof=True)
+    control = server.control()
+    control.fund()
+    some = packets("a", 0, 500, 100)
+    connection = server.ingress(records(some))
+    control.send(b"mkcur x\nmkcur y\nmkcur")
+    time.sleep(0.3)
+    server.end_input()
+    time.sleep(0.3)
+    peer.go_on.set()
+    server.ends(seconds=END)
+    expect_equal(control.close(), b"ok\nok\n", "the replies")
+    connection.close()
+    replay = check(server, peer, [("whole", some)])
+    expect_equal(replay.totals()["written"], 500, "frames")
+
+
+def until_eof_floods(run):
+    """A client that goes on sending is cut off, and the audit tells what was admitted."""
+    peer = run.peer()
+    server = run.server(peer, until_eof=True, life=1 << 20)
+    control = server.control()
+    control.ask_wanted(["open a 1 1"], ["flow 1"])
+    connection = server.ingress()
+    chunk = record("a", b"0" * 1000) * 100
+
+    def flood():
+        try:
+            while True:
+                connection.sendall(chunk)
+        except OSError:
+            pass
+
+    flooding = run.thread(flood)
+    wait_for(lambda: total("accepted", 1) in control.ask("report")[0], "the first packet's arrival")
+    server.end_input()
+    status = server.wait(END)
+    flooding.finish()
+    replay = check(server, peer)
+    expect_equal(status, 1 if len(replay.lines) == server.life else 0, "status")
+    expect(set(replay.lines[1:]) == {"send a " + "30" * 1000}, "other packets arrived than were sent")
+    expect_equal(replay.totals()["waiting"], 1, "packets that wait")
+
+
+def until_eof_unread_replies(run):
+    """A client that never reads its replies cannot hold up the end."""
+    peer = run.peer()
+    server = run.server(peer, until_eof=True)
+    control = server.control()
+    control.fund()
+    control.socket.settimeout(None)
+
+    def ask_on():
+        try:
+            while True:
+                control.send(b"report\n" * 1000)
+        except OSError:
+            pass
+
+    asking = run.thread(ask_on)
+    some = packets("a", 0, 10, 100)
+    server.ingress(records(some)).close()
+    wait_for(lambda: len(peer.got) == 10 * 112, "the frames of a client")
+    time.sleep(0.5)
+    server.end_input()
+    server.ends(seconds=END)
+    asking.finish()
+    check(server, peer, [("whole", some)])
+
+
+def until_eof_dead_peer(run):
+    """An uplink that takes nothing is torn, so that a dead peer costs no audit."""
+    peer = run.peer(lambda peer: peer.go_on.wait(), narrow=True)
+    server = run.server(peer, until_eof=True)
+    control = server.control()
+    control.fund()
+    some = packets("a", 0, 3000, 1000)
+    sending = run.thread(send_quietly, server.ingress(), some)
+    wait_for(lambda: is_blocked(server, []), "a link that waits for its peer")
+    server.end_input()
+    status = server.wait(END)
+    sending.finish()
+    peer.go_on.set()
+    expect_equal(status, 1, "status")
+    server.ends(1, "the uplink failed")
+    replay = check(server, peer, [("part", some)], torn=True)
+    expect_equal(replay.lines.count("torn"), 1, "faults in the audit")
+
+
+def send_quietly(connection, some):
+    try:
+        connection.sendall(records(some))
+    except OSError:
+        pass
+
+
+def until_eof_open(run):
+    """A server that has nothing more to do does not wait for the end of standard input."""
+    peer = run.peer()
+    server = run.server(peer, until_eof=True)
+    control = server.control()
+    control.fund()
+    some = packets("a", 0, 10, 100)
+    server.ingress(records(some)).close()
+    control.close()
+    server.ends()
+    check(server, peer, [("whole", some)])
+
+
+def fault_words(run):
+    """Words that are wrong or missing are a usage fault, and nothing is made or listened on."""
+    words = {"ingress": LOOPBACK + ":0", "control": LOOPBACK + ":0", "uplink": LOOPBACK + ":1", "workers": 1,
+             "life": 16}
+    wrong = [{"workers": 0}, {"workers": MOST_ENDS + 1}, {"workers": "x"}, {"clerks": 0}, {"clerks": MOST_ENDS + 1},
+             {"life": 0}, {"life": (1 << 24) + 1}, {"life": -1}]
+    wrong += [{word: None} for word in words] + [{"audit": ""}, {"further": ["--fast"]}, {"further": ["further"]},
+                                                 {"further": ["--life", "4"]}, {"further": ["--clerks"]}]
+    for change in wrong:
+        server = run.start(**{"verbose": False, **words, **change})
+        expect_equal(server.wait(), 2, "status of the words %s" % change)
+        expect_equal(server.text("stdout"), "", "the output")
+        expect(not os.path.exists(server.path("audit")), "a file is made")
+
+
+def nothing_is_left(server):
+    expect_equal(sorted(os.listdir(server.folder)), ["stderr", "stdout"], "files")
+
+
+def fault_addresses(run):
+    """An address that is taken, one that is none, and an uplink that nobody listens on."""
+    peer = run.peer()
+    with socket.socket() as taken, socket.socket() as silent:
+        taken.bind((LOOPBACK, 0))
+        taken.listen()
+        silent.bind((LOOPBACK, 0))
+        taken, silent = ("%s:%d" % some.getsockname() for some in (taken, silent))
+        for words, uplink, text in (({"ingress": taken}, peer.address, "cannot listen on " + taken),
+                                    ({"control": taken}, peer.address, "cannot listen on " + taken),
+                                    ({"control": "nonsense"}, peer.address, "cannot listen on nonsense"),
+                                    ({"ingress": taken}, silent, "cannot listen on " + taken),
+                                    ({}, silent, "cannot connect to " + silent),
+                                    ({}, "nonsense", "cannot connect to nonsense")):
+            server = run.start(uplink, **words)
+            server.ends(1, text)
+            expect_equal(server.text("stdout"), "", "the output")
+            nothing_is_left(server)
+
+
+def fault_memory(run):
+    """A life that there is no memory for is told before anything listens."""
+    peer = run.peer()
+    size = 160 << 20
+    server = run.start(peer.address, life=1 << 24,
+                       before=lambda: resource.setrlimit(resource.RLIMIT_AS, (size, size)))
+    server.ends(1, "out of memory")
+    nothing_is_left(server)
+    expect(peer.connection is None, "the uplink was connected")
+
+
+def fault_accept(run):
+    """A connection that finds no descriptor ends the run, with its audit and report."""
+    peer = run.peer()
+    server = run.server(peer, clerks=2)
+    lower(server, resource.RLIMIT_NOFILE, lowest_free(server))
+    first, second = server.control(), None
+    try:
+        second = server.control()
+        first.fund()
+    except (OSError, Failure):
+        pass
+    server.ends(1, "cannot accept a connection", seconds=END)
+    for control in filter(None, (first, second)):
+        control.vanish()
+    check(server, peer, [])
+
+
+def fault_thread(run):
+    """A thread that is refused ends the run, with its audit and report."""
+    peer = run.peer()
+    server = run.server(peer, workers=2)
+    control = server.control()
+    control.fund()
+    first = server.ingress(record("a", b"1st"))
+    wait_for(lambda: len(peer.got) == 15, "the frame of a client")
+    with open("/proc/%d/statm" % server.process.pid) as source:
+        size = int(source.read().split()[0]) * resource.getpagesize()
+    lower(server, resource.RLIMIT_AS, size + (1 << 20))
+    second = server.ingress()
+    server.ends(1, "cannot start a worker", seconds=END)
+    for connection in (first, second):
+        connection.close()
+    control.vanish()
+    check(server, peer, [("whole", [("a", b"1st")])])
+
+
+def lower(server, what, limit):
+    """Takes a resource away from a server that runs."""
+    most = resource.prlimit(server.process.pid, what)[1]
+    resource.prlimit(server.process.pid, what, (limit, most))
+
+
+def lowest_free(server):
+    taken = {int(name) for name in os.listdir("/proc/%d/fd" % server.process.pid)}
+    return next(number for number in range(1 << 20) if number not in taken)
+
+
+def one_packet(run, server):
+    control = server.control()
+    control.fund()
+    server.ingress(record("a", b"1st")).close()
+    control.close()
+
+
+def fault_files(run):
+    """An audit that cannot be opened is told before anything listens, one that cannot be written at the end."""
+    peer = run.peer()
+    missing = os.path.join(run.folder(), "missing", "audit")
+    for path in (missing, "/"):
+        server = run.start(peer.address, audit=path)
+        server.ends(1, "cannot write the audit " + path)
+        nothing_is_left(server)
+    expect(peer.connection is None, "the uplink was connected")
+    server = run.server(peer, audit="/dev/full")
+    one_packet(run, server)
+    server.ends(1, "cannot write the audit /dev/full")
+    expect(server.text("stdout").startswith(total("clock", 15)), "no report")
+    for path, fault in ((None, "cannot write the output"), ("/dev/full", "cannot write the audit /dev/full")):
+        with open("/dev/full", "wb") as full:
+            peer = run.peer()
+            server = run.server(peer, audit=path, stdout=full)
+            one_packet(run, server)
+            server.ends(1, fault)
+            peer.thread.join()
+            expect_equal(bytes(peer.got), frame(1, 1, b"1st"), "the frame")
+            expect_equal(os.path.exists(server.path("audit")), path is None, "whether there is an audit")
+
+
+def audit_files(run):
+    """An old audit stays until the new one is whole; a link and a pipe are written in place."""
+    folder = run.folder()
+    old, link = os.path.join(folder, "old"), os.path.join(folder, "link")
+    with open(old, "w") as sink:
+        sink.write("an old audit that is longer than the new one\n" * 100)
+    os.symlink(old, link)
+    for path in (old, link):
+        peer = run.peer()
+        server = run.server(peer, audit=path)
+        control = server.control()
+        expect(open(old).read().startswith("an old audit" if path == old else "audit 1"), "the old audit is gone")
+        control.fund()
+        server.ingress(record("a", b"1st")).close()
+        control.close()
+        server.ends()
+        check(server, peer, [("whole", [("a", b"1st")])])
+        expect(os.path.islink(link), "the link is gone")
+        expect_equal(sorted(os.listdir(folder)), ["link", "old"], "files")
+    pipe = os.path.join(folder, "pipe")
+    os.mkfifo(pipe)
+    got = []
+    reading = run.thread(lambda: got.append(open(pipe).read()))
+    peer = run.peer()
+    server = run.server(peer, audit=pipe)
+    one_packet(run, server)
+    server.ends()
+    reading.finish()
+    expect_equal(got[0], "audit 1\nopen a 1024 1\nmktkt 1 base\nfund 1 flow a\nsend a 317374\nturn 15\n", "the audit")
+
+
+CASES = (served, quiet, control_lines, accepted_in_order, idle, full_queue, shares_64, shares_1024, malformed, cut,
+         clients_vanish, clients_stall, peer_closes_at_once, peer_resets_at_once, peer_closes_after_some_bytes,
+         peer_reads_slowly, peer_writes_back, spent_life, spent_life_under_load, until_eof_idle,
+         until_eof_gives_what_had_come, until_eof_floods, until_eof_unread_replies, until_eof_dead_peer, until_eof_open,
+         fault_words, fault_addresses, fault_memory, fault_accept, fault_thread, fault_files, audit_files)
+
+
+def holds(case):
+    """Tries a case, and tells how it failed."""
+    start = time.monotonic()
+    signal.alarm(LIMIT)
+    try:
+        with Run() as run:
+            case(run)
+    except (Failure, OSError, EOFError, ValueError) as fault:
+        print("%s: %s: %s" % (case.__name__, type(fault).__name__, fault), file=sys.stderr)
+        return False
+    finally:
+        signal.alarm(0)
+        if os.environ.get("TIMES"):
+            print("%-30s %6.2f s" % (case.__name__, time.monotonic() - start), flush=True)
+    return True
+
+
+def main():
+    names = {case.__name__: case for case in CASES}
+    if not set(sys.argv[1:]) <= set(names):
+        sys.exit("the cases are " + " ".join(names))
+    limit_time()
+    failed = [case for case in CASES if case.__name__ in (sys.argv[1:] or names) and not holds(case)]
+    return 1 if failed else 0
+
+
+sys.exit(main())

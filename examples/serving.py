@@ -1,0 +1,457 @@
+"""What the cases of serve.py use: the server that is tried, the clients and the peer of its uplink, and the checks that
+hold for each run."""
+import contextlib
+import os
+import re
+import signal
+import socket
+import struct
+import subprocess
+import tempfile
+import threading
+import time
+from collections import defaultdict
+
+TOP = os.path.dirname(os.path.dirname(os.path.abspath(__file__)))
+PROGRAM = os.path.abspath(os.environ.get("STRIDELINK", os.path.join(TOP, "bin", "stridelink")))
+
+# How long anything may take that is not made slow on purpose, and how long an end by --until-eof may take, in seconds.
+PATIENCE = 20
+END = 40
+
+# The lines of --verbose that are wanted: these two once the server listens, and one for each connection that ended.
+LISTENING = re.compile(r"^listening for (ingress|control) on 127\.0\.0\.1:(\d+)$", re.MULTILINE)
+ENDED = "%s %d: ended"
+
+FUNDED = ("open a %d 1", "mktkt 1 base", "fund 1 flow a")
+LOOPBACK = "127.0.0.1"
+
+
+class Failure(Exception):
+    """A case that did not come out as the rules have it."""
+
+
+def expect(holds, text):
+    if not holds:
+        raise Failure(text)
+
+
+def expect_equal(found, wanted, what):
+    expect(found == wanted, "%s: found %s, wanted %s" % (what, shortened(found), shortened(wanted)))
+
+
+def shortened(value):
+    text = repr(value)
+    return text if len(text) <= 300 else "%s .. %s (%d characters)" % (text[:140], text[-140:], len(text))
+
+
+def wait_for(holds, what, seconds=PATIENCE):
+    """Waits until something holds, and answers what it gave."""
+    until = time.monotonic() + seconds
+    while time.monotonic() < until:
+        found = holds()
+        if found:
+            return found
+        time.sleep(0.005)
+    raise Failure("waited in vain: " + what)
+
+
+def total(key, value):
+    """A line of a report's totals."""
+    return "%-8s%26d\n" % (key, value)
+
+
+def record(name, payload):
+    """The record of a packet on an ingress connection."""
+    return bytes([len(name)]) + name.encode() + struct.pack(">H", len(payload)) + payload
+
+
+def payloads(connection, count, size):
+    """So many payloads of so many bytes, 5 or more, that no other connection has."""
+    filling = bytes(i * 7 % 256 for i in range(size - 5))
+    return [struct.pack(">BI", connection, number) + filling for number in range(count)]
+
+
+def frame(flow, seq, payload):
+    return b"\x4c\x01" + struct.pack(">IIH", flow, seq, len(payload)) + payload
+
+
+def frames(data):
+    """The frames at the front of these bytes, as (flow, sequence number, payload), and what is left."""
+    found, at = [], 0
+    while len(data) - at >= 12:
+        flow, seq, size = struct.unpack_from(">IIH", data, at + 2)
+        expect(data[at:at + 2] == b"\x4c\x01" and flow and seq and 1 <= size <= 1490, "no frame at byte %d" % at)
+        if len(data) - at < 12 + size:
+            break
+        found.append((flow, seq, data[at + 12:at + 12 + size]))
+        at += 12 + size
+    return found, data[at:]
+
+
+def reset(connection):
+    """Closes a connection so that the other side sees a fault."""
+    connection.setsockopt(socket.SOL_SOCKET, socket.SO_LINGER, struct.pack("ii", 1, 0))
+    connection.close()
+
+
+def ends_by_itself(connection):
+    """Waits until the server has ended a connection, whether it said so or reset it."""
+    connection.settimeout(PATIENCE)
+    try:
+        while connection.recv(65536):
+            pass
+    except ConnectionError:
+        pass
+    except TimeoutError:
+        raise Failure("the server does not end a connection") from None
+
+
+class Peer:
+    """The peer of the uplink: a thread that accepts one connection and reads what is sent. `behave(peer)` is what it
+    does first; after that it reads to the end. A narrow one lets few bytes wait on the way, some 25,000: the system
+    then wakes the writer where a third of them is free."""
+
+    def __init__(self, behave=None, narrow=False):
+        self.got = bytearray()
+        self.connection = None
+        self.behave = behave
+        self.fault = None
+        self.listener = socket.socket()
+        if narrow:
+            self.listener.setsockopt(socket.SOL_SOCKET, socket.SO_RCVBUF, 1)
+            self.listener.setsockopt(socket.IPPROTO_TCP, socket.TCP_MAXSEG, 256)
+        self.listener.bind((LOOPBACK, 0))
+        self.listener.listen(1)
+        self.listener.settimeout(PATIENCE)
+        self.address = "%s:%d" % self.listener.getsockname()
+        self.go_on = threading.Event()
+        self.thread = threading.Thread(target=self.run, daemon=True)
+        self.thread.start()
+
+    def run(self):
+        try:
+            self.connection = self.listener.accept()[0]
+            if self.behave:
+                self.behave(self)
+            while self.connection.fileno() >= 0 and self.read(1 << 18):
+                pass
+        except OSError as fault:
+            self.fault = fault
+        finally:
+            if self.connection:
+                self.connection.close()
+
+    def read(self, most):
+        """Reads some bytes; none at the end."""
+        data = self.connection.recv(most)
+        self.got += data
+        return len(data)
+
+    def close(self):
+        self.go_on.set()
+        for waiting in (self.listener, self.connection):
+            with contextlib.suppress(OSError, AttributeError):
+                waiting.shutdown(socket.SHUT_RDWR)
+        self.listener.close()
+        self.thread.join(PATIENCE)
+
+
+class Control:
+    """A control connection."""
+
+    def __init__(self, address):
+        self.socket = socket.create_connection(address, PATIENCE)
+        self.replies = self.socket.makefile("rb")
+
+    def send(self, data):
+        self.socket.sendall(data)
+
+    def reply(self):
+        """The next reply, without its line feed; a report is one reply. None at the end."""
+        line = self.replies.readline()
+        if not line:
+            return None
+        text = line
+        while text.startswith(b"clock ") and line != b"end\n":
+            line = self.replies.readline()
+            text += line
+            expect(line, "a report ends in the middle")
+        return text.decode()[:-1]
+
+    def ask(self, *lines):
+        """Sends lines together; the replies."""
+        self.send("".join(line + "\n" for line in lines).encode())
+        return [self.reply() for _ in lines]
+
+    def ask_wanted(self, lines, replies):
+        """Sends lines together, and wants these replies."""
+        expect_equal(self.ask(*lines), list(replies), "replies to %s" % (lines,))
+
+    def fund(self, limit=1024):
+        """Opens the flow a with a ticket of 1."""
+        self.ask_wanted([FUNDED[0] % limit, *FUNDED[1:]], ["flow 1", "ticket 1", "ok"])
+
+    def close(self):
+        """Says that nothing more is asked; what is answered until the end."""
+        self.socket.shutdown(socket.SHUT_WR)
+        rest = self.replies.read()
+        self.vanish()
+        return rest
+
+    def vanish(self):
+        self.replies.close()
+        self.socket.close()
+
+
+class Server:
+    """A server that runs in a folder of its own. The audit goes to `audit` there, unless another path is given; an
+    empty one leaves the word out, and so does None for other words."""
+
+    def __init__(self, folder, uplink, workers=1, clerks=None, life=65536, audit=None, ingress=LOOPBACK + ":0",
+                 control=LOOPBACK + ":0", verbose=True, until_eof=False, further=(), stdout=None, before=None):
+        self.folder = folder
+        self.life = life
+        self.audit_path = audit or os.path.join(folder, "audit")
+        self.ports = {}
+        words = {"ingress": ingress, "control": control, "uplink": uplink, "workers": workers, "life": life,
+                 "audit": self.audit_path if audit != "" else None, "clerks": clerks}
+        command = [PROGRAM, "serve"]
+        for word, value in words.items():
+            if value is not None:
+                command += ["--" + word, str(value)]
+        command += ["--verbose"] * verbose + ["--until-eof"] * until_eof + list(further)
+        with open(self.path("stdout"), "wb") as out, open(self.path("stderr"), "wb") as errors:
+            self.process = subprocess.Popen(command, stdin=subprocess.PIPE if until_eof else subprocess.DEVNULL,
+                                            stdout=stdout or out, stderr=errors, preexec_fn=before)
+
+    def path(self, name):
+        return os.path.join(self.folder, name)
+
+    def text(self, name):
+        with open(self.path(name), encoding="utf-8", errors="replace") as source:
+            return source.read()
+
+    def listens(self):
+        """Waits until the server tells its ports."""
+        def told():
+            self.ports = dict(LISTENING.findall(self.text("stderr")))
+            return len(self.ports) == 2 or self.process.poll() is not None
+        wait_for(told, "what the server listens on")
+        expect(len(self.ports) == 2, "the server does not listen: %s" % self.text("stderr"))
+        return self
+
+    def control(self):
+        return Control((LOOPBACK, int(self.ports["control"])))
+
+    def ingress(self, data=b""):
+        connection = socket.create_connection((LOOPBACK, int(self.ports["ingress"])), PATIENCE)
+        connection.sendall(data)
+        return connection
+
+    def end_input(self):
+        """Ends the standard input of a server that runs until then."""
+        self.process.stdin.close()
+
+    def wait(self, seconds=PATIENCE):
+        """Waits until the server has ended; its status."""
+        try:
+            return self.process.wait(seconds)
+        except subprocess.TimeoutExpired:
+            raise Failure("the server does not end; it told: %s" % shortened(self.text("stderr"))) from None
+
+    def ends(self, status=0, fault=None, seconds=PATIENCE):
+        """Wants that the server ends with this status, and that this fault is the last line that it tells."""
+        found = self.wait(seconds)
+        told = self.text("stderr")
+        expect_equal(found, status, "status (told: %s)" % shortened(told))
+        last = told.splitlines()[-1] if told else ""
+        if fault is None:
+            expect(not last.startswith("stridelink: "), "a fault is told: %s" % last)
+        else:
+            expect_equal(last, "stridelink: " + fault, "the last line")
+            expect_equal(told.count("stridelink: "), 1, "how many faults are told")
+
+    def processor_seconds(self):
+        """The processor time that its threads have used."""
+        used = 0
+        folder = "/proc/%d/task" % self.process.pid
+        for thread in os.listdir(folder):
+            with open("%s/%s/schedstat" % (folder, thread)) as source:
+                used += int(source.read().split()[0])
+        return used / 1e9
+
+    def close(self):
+        if self.process.poll() is None:
+            self.process.kill()
+        self.process.wait()
+        if self.process.stdin:
+            with contextlib.suppress(OSError):
+                self.process.stdin.close()
+
+
+class Replay:
+    """The audit of a run, and what `stridelink run` answers to it and to a report behind it."""
+
+    def __init__(self, audit, life):
+        expect(audit.startswith("audit 1\n") and audit.endswith("\n"), "no audit: %s" % shortened(audit))
+        done = subprocess.run([PROGRAM, "run", "--life", str(life)], input=(audit + "report\n").encode(),
+                              stdout=subprocess.PIPE, stderr=subprocess.PIPE, timeout=60, check=False)
+        expect(done.returncode == 0, "the audit's replay fails: %s" % shortened(done.stderr))
+        replies, out = done.stdout.decode().rsplit("out ", 1)
+        self.replies, report = replies.split("clock ", 1)
+        self.report = "clock " + report
+        self.out = bytes.fromhex(out.strip().replace("-", ""))
+        self.lines = audit.splitlines()[1:]
+        self.replies = self.replies.splitlines()
+        expect_equal(len(self.replies), len(self.lines), "how many lines of the audit are answered")
+        expect(len(self.lines) <= life, "the audit is longer than the life")
+
+    def answered(self):
+        """The lines, each with its reply."""
+        return zip(self.lines, self.replies)
+
+    def arrivals(self):
+        """The names and payloads that arrived, each with its reply."""
+        for line, reply in self.answered():
+            if line.startswith("send "):
+                _, name, digits = line.split(" ")
+                yield name, bytes.fromhex(digits), reply
+
+    def totals(self):
+        """The totals of the report."""
+        words = [line.split() for line in self.report.splitlines()[:11]]
+        return {key: int(value) for key, value in words}
+
+
+def check_arrivals(replay, sent):
+    """Wants that of each connection all records of `whole`, and of no other one more than a beginning of `part`, stand
+    in the audit, in order and once. `sent` gives (whole or part, [(name, payload)]) for each connection."""
+    owner = {packet: number for number, (_, packets) in enumerate(sent) for packet in packets}
+    expect_equal(len(owner), sum(len(packets) for _, packets in sent), "records that can be told apart")
+    found = [[] for _ in sent]
+    for name, payload, _ in replay.arrivals():
+        number = owner.get((name, payload))
+        expect(number is not None, "a packet of %s that nobody sent: %s" % (name, shortened(payload)))
+        found[number].append((name, payload))
+    for number, (extent, packets) in enumerate(sent):
+        wanted = packets if extent == "whole" else packets[:len(found[number])]
+        expect_equal(len(found[number]), len(wanted), "how many packets of connection %d arrived" % (number + 1))
+        expect(found[number] == wanted, "the packets of connection %d stand in another order" % (number + 1))
+
+
+def check_frames(replay):
+    """Wants that the packets of each flow were sent in the order in which they were accepted, counted from 1."""
+    accepted = defaultdict(list)
+    for _, payload, reply in replay.arrivals():
+        word, *numbers = reply.split()
+        if word == "packet":
+            flow, seq = map(int, numbers)
+            accepted[flow].append(payload)
+            expect_equal(seq, len(accepted[flow]), "the number of a packet of flow %d" % flow)
+    sent = defaultdict(int)
+    for flow, seq, payload in frames(replay.out)[0]:
+        sent[flow] += 1
+        expect_equal(seq, sent[flow], "the number of a frame of flow %d" % flow)
+        expect(payload == accepted[flow][seq - 1], "the payload of frame %d of flow %d" % (seq, flow))
+    totals = replay.totals()
+    expect_equal(totals["accepted"], sum(map(len, accepted.values())), "packets accepted")
+    expect_equal(totals["accepted"], sum(totals[key] for key in ("written", "torn", "waiting", "dropped")), "packets")
+    expect_equal(totals["bytes"], len(replay.out), "bytes written")
+    return sent
+
+
+def check(server, peer, sent=None, torn=False):
+    """What holds for each run that has ended: the audit gives the bytes that the peer got, or bytes that begin with
+    them where the uplink is torn; each connection's packets stand in it, where these are told; and the report is that
+    of the audit."""
+    with open(server.audit_path, encoding="ascii") as source:
+        replay = Replay(source.read(), server.life)
+    peer.thread.join(PATIENCE)
+    expect(not peer.thread.is_alive(), "the peer's connection does not end")
+    if torn:
+        expect(replay.out.startswith(bytes(peer.got)), "the audit's bytes do not begin with those that the peer got")
+    else:
+        expect(peer.fault is None, "the peer's connection fails: %s" % peer.fault)
+        expect(replay.out == bytes(peer.got), "the audit gives %d bytes, the peer got %d or others"
+               % (len(replay.out), len(peer.got)))
+    if sent is not None:
+        check_arrivals(replay, sent)
+    check_frames(replay)
+    expect_equal(replay.totals()["link"], 2 if torn else 0, "the state of the link")
+    expect_equal(server.text("stdout"), replay.report, "the report")
+    leftovers = [name for name in os.listdir(server.folder) if name not in ("audit", "stdout", "stderr")]
+    expect(not leftovers, "files are left behind: %s" % leftovers)
+    return replay
+
+
+class Run:
+    """What a case may use. All of it ends with the case."""
+
+    def __init__(self):
+        self.stack = contextlib.ExitStack()
+
+    def __enter__(self):
+        return self
+
+    def __exit__(self, *_):
+        self.stack.close()
+
+    def folder(self):
+        return self.stack.enter_context(tempfile.TemporaryDirectory())
+
+    def peer(self, behave=None, narrow=False):
+        peer = Peer(behave, narrow)
+        self.stack.callback(peer.close)
+        return peer
+
+    def start(self, uplink, **words):
+        """Starts a server with an uplink to an address."""
+        server = Server(self.folder(), uplink, **words)
+        self.stack.callback(server.close)
+        return server
+
+    def server(self, peer, **words):
+        """Starts a server that listens."""
+        return self.start(peer.address, **words).listens()
+
+    def thread(self, work, *words):
+        """Works beside. `join` of what is answered waits for the end, and raises what went wrong."""
+        task = Task(work, words)
+        task.start()
+        return task
+
+
+class Task(threading.Thread):
+    def __init__(self, work, words):
+        super().__init__(daemon=True)
+        self.work = work
+        self.words = words
+        self.fault = None
+
+    def run(self):
+        try:
+            self.work(*self.words)
+        except Exception as fault:
+            self.fault = fault
+
+    def finish(self, seconds=PATIENCE):
+        self.join(seconds)
+        expect(not self.is_alive(), "a client does not end")
+        if self.fault:
+            raise self.fault
+
+
+def alarmed(*_):
+    raise Failure("the time is over")
+
+
+def ended(number, _):
+    raise SystemExit(128 + number)
+
+
+def limit_time():
+    """Lets the end of a case's time, and signals that end this program, go through what closes all that was started."""
+    signal.signal(signal.SIGALRM, alarmed)
+    for number in (signal.SIGTERM, signal.SIGHUP, signal.SIGINT):
+        signal.signal(number, ended)

@@ -209,14 +209,15 @@ class Server:
     empty one leaves the word out, and so does None for other words."""
 
     def __init__(self, folder, uplink, workers=1, clerks=None, life=65536, audit=None, ingress=LOOPBACK + ":0",
-                 control=LOOPBACK + ":0", verbose=True, until_eof=False, further=(), stdout=None, before=None):
+                 control=LOOPBACK + ":0", verbose=True, until_eof=False, further=(), stdout=None, before=None,
+                 program=PROGRAM):
         self.folder = folder
         self.life = life
         self.audit_path = audit or os.path.join(folder, "audit")
         self.ports = {}
         words = {"ingress": ingress, "control": control, "uplink": uplink, "workers": workers, "life": life,
                  "audit": self.audit_path if audit != "" else None, "clerks": clerks}
-        command = [PROGRAM, "serve"]
+        command = [program, "serve"]
         for word, value in words.items():
             if value is not None:
                 command += ["--" + word, str(value)]

@@ -22,6 +22,7 @@ from dataclasses import dataclass
 
 from bench import MEBIBYTE, PROGRAM, TOP, build_plain, median, print_row
 
+sys.dont_write_bytecode = True
 sys.path.insert(0, os.path.join(TOP, "examples"))
 from serving import LOOPBACK, Server, record  # noqa: E402
 

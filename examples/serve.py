@@ -7,13 +7,17 @@ those that the audit gives as a script, each connection's packets stand in it on
 audit's. Each case has a limit of time, and what it started ends with it. Until the program has `serve`, this is tried
 with the plain program of bench/plain, and no gate runs it.
 """
+import fcntl
 import os
 import resource
 import signal
 import socket
 import struct
 import sys
+import termios
 import time
+
+sys.dont_write_bytecode = True
 
 from serving import (ENDED, END, FUNDED, LOOPBACK, PROGRAM, Failure, Run, check, ends_by_itself, expect, expect_equal,
                      frame, limit_time, payloads, record, reset, total,
@@ -106,9 +110,12 @@ def control_lines(run):
                      ["no 3 Syntax"] * 5 + ["ok"] + ["no 3 Syntax"] * 3)
     first.ask_wanted(["x" * 20481, "mkcur " + "y" * 60000, "mkcur x", "mkcur z"],
                      ["no 3 Syntax", "no 3 Syntax", "no 9 Taken", "ok"])
+    first.send(b"y" * 100000)
+    time.sleep(0.1)
+    first.ask_wanted(["mkcur w", "report"], ["no 3 Syntax", expected_rows(())])
     first.ask_wanted(["mktkt 0 nope", "mktkt 1 nope", "fund 9 flow zz", "open a 0 9", "open a 1 9", "rmcur base"],
                      ["no 4 Range", "no 5 NoCurrency", "no 6 NoTicket", "no 4 Range", "no 8 NoTariff", "no 10 Base"])
-    second.ask_wanted(["open a 4 1", "open b 4 3", "report"], ["flow 1", "flow 2", expected_rows()])
+    second.ask_wanted(["open a 4 1", "open b 4 3", "report"], ["flow 1", "flow 2", expected_rows("ab")])
     for byte in b"mktkt 7 base\nfund 1 flow a\n":
         second.send(bytes([byte]))
     expect_equal([second.reply(), second.reply()], ["ticket 1", "ok"], "replies to single bytes")
@@ -125,11 +132,12 @@ def control_lines(run):
     expect_equal(len(replay.lines), 1 + 2 + 6 + 2 + 2 + 4 + 6000 + 1, "commands in the audit")
 
 
-def expected_rows():
-    """The report of a link with the flows a and b, of which nothing was sent."""
+def expected_rows(names):
+    """The report of a link with these flows, of which nothing was sent."""
     keys = ("clock", "accepted", "written", "torn", "waiting", "dropped", "bytes", "past", "tickets", "pass", "link")
     rows = [total(key, 0)[:-1] for key in keys]
-    rows += ["flow %8d %-16s %7d %4d %17d %-3s %26d" % (n, name, 0, 0, 0, "out", 0) for n, name in ((1, "a"), (2, "b"))]
+    rows += ["flow %8d %-16s %7d %4d %17d %-3s %26d" % (n, name, 0, 0, 0, "out", 0)
+             for n, name in enumerate(names, 1)]
     return "\n".join([*rows, "end"])
 
 
@@ -279,35 +287,37 @@ def written_while_full(replay):
     return written[1], written[2]
 
 
-BAD_RECORDS = {
-    "a name without a byte": b"\x00" + b"a\x00\x01a",
-    "a name of 17 bytes": b"\x11" + b"a" * 17 + b"\x00\x01a",
-    "a name that begins with a digit": b"\x021a\x00\x01a",
-    "a name with an upper-case letter": b"\x02aB\x00\x01a",
-    "a name with a space": b"\x02a \x00\x01a",
+BAD_FIELDS = {
+    "a name without a byte": b"\x00",
+    "a name of 17 bytes": b"\x11",
+    "a name that begins with a digit": b"\x021a",
+    "a name with an upper-case letter": b"\x02aB",
+    "a name with a space": b"\x02a ",
     "a payload of no byte": b"\x01a\x00\x00",
-    "a payload of 1491 bytes": b"\x01a\x05\xd3" + b"a" * 1491,
+    "a payload of 1491 bytes": b"\x01a\x05\xd3",
     "a payload of 65535 bytes": b"\x01a\xff\xff",
 }
 
 
 def malformed(run):
-    """A record that is none ends its connection; what came before it is sent, and nothing behind it."""
-    for what, bad in BAD_RECORDS.items():
+    """A field that no record has ends its connection as soon as it is whole; what came before it is sent, and nothing
+    behind it."""
+    for what, bad in BAD_FIELDS.items():
         peer = run.peer()
         server = run.server(peer, workers=2)
         control = server.control()
         control.fund()
         good = [packets("a", number, 50, 20) for number in (0, 1)]
-        first = server.ingress(records(good[0]) + bad + records(packets("a", 2, 50, 20)))
-        ends_by_itself(first)
-        first.close()
-        second = server.ingress(records(good[1]))
-        second.close()
+        first = server.ingress(records(good[0]) + bad)
+        second = server.ingress(records(good[1]) + bad + b"a" * 1491 + records(packets("a", 2, 50, 20)))
+        for connection in (first, second):
+            ends_by_itself(connection)
+            connection.close()
+        control.ask_wanted(["mkcur x"], ["ok"])
         control.close()
         server.ends()
         replay = check(server, peer, [("whole", some) for some in good])
-        expect_equal(replay.totals()["written"], 100, "frames beside " + what)
+        expect_equal(replay.totals()["written"], 100, "frames before " + what)
 
 
 def cut(run):
@@ -532,28 +542,39 @@ def until_eof_gives_what_had_come(run):
     server = run.server(peer, until_eof=True)
     control = server.control()
     control.fund()
-    some = packets("a", 0, 500, 100)
-    connection = server.ingress(records(some))
+    some = packets("a", 0, 660, 1000)
+    connection = server.ingress(records(some[:60]))
+    wait_for(lambda: is_blocked(server, []), "a link that waits for its peer")
+    sending = run.thread(connection.sendall, records(some[60:]))
     control.send(b"mkcur x\nmkcur y\nmkcur")
-    time.sleep(0.3)
+    sending.finish()
+    time.sleep(0.2)
+    came = len(records(some)) - unacknowledged(connection)
     server.end_input()
     time.sleep(0.3)
     peer.go_on.set()
     server.ends(seconds=END)
     expect_equal(control.close(), b"ok\nok\n", "the replies")
     connection.close()
-    replay = check(server, peer, [("whole", some)])
-    expect_equal(replay.totals()["written"], 500, "frames")
+    totals = check(server, peer, [("part", some)]).totals()
+    expect(totals["written"] >= came // len(record(*some[0])), "%d bytes had come, and %d frames of 1000 were sent"
+           % (came, totals["written"]))
+
+
+def unacknowledged(connection):
+    """How many bytes of those that were sent the other side does not have yet."""
+    return struct.unpack("i", fcntl.ioctl(connection, termios.TIOCOUTQ, bytes(4)))[0]
 
 
 def until_eof_floods(run):
-    """A client that goes on sending is cut off, and the audit tells what was admitted."""
+    """A client that goes on sending is cut off, long before it has spent a life, and the audit tells what was
+    admitted."""
     peer = run.peer()
-    server = run.server(peer, until_eof=True, life=1 << 20)
+    server = run.server(peer, until_eof=True, life=1 << 22)
     control = server.control()
     control.ask_wanted(["open a 1 1"], ["flow 1"])
     connection = server.ingress()
-    chunk = record("a", b"0" * 1000) * 100
+    chunk = record("a", b"0" * 9) * 100000
 
     def flood():
         try:
@@ -565,11 +586,10 @@ def until_eof_floods(run):
     flooding = run.thread(flood)
     wait_for(lambda: total("accepted", 1) in control.ask("report")[0], "the first packet's arrival")
     server.end_input()
-    status = server.wait(END)
+    server.ends(seconds=END)
     flooding.finish()
     replay = check(server, peer)
-    expect_equal(status, 1 if len(replay.lines) == server.life else 0, "status")
-    expect(set(replay.lines[1:]) == {"send a " + "30" * 1000}, "other packets arrived than were sent")
+    expect(set(replay.lines[1:]) == {"send a " + "30" * 9}, "other packets arrived than were sent")
     expect_equal(replay.totals()["waiting"], 1, "packets that wait")
 
 

@@ -2,10 +2,11 @@
 """Plays control clients, ingress clients and the peer of the uplink with a built server, over real sockets.
 
 The program is bin/stridelink, or that of the environment variable STRIDELINK; it has to know `serve` and `run`. With
-words, only the cases of these names are tried. What is wanted comes from the rules: the bytes that the peer gets are
-those that the audit gives as a script, each connection's packets stand in it once and in order, and the report is the
-audit's. Each case has a limit of time, and what it started ends with it. Until the program has `serve`, this is tried
-with the plain program of bench/plain, and no gate runs it.
+words, only the cases of these names are tried; with TIMES set, it tells how long each took. What is wanted comes from
+the rules: the bytes that the peer gets are those that the audit gives as a script, each connection's packets stand in
+it once and in order, and the report is the audit's. Each case has a limit of time, and what it started ends with it.
+
+Until the program has `serve`, this is tried with the plain program of bench/plain, and no gate runs it.
 """
 import fcntl
 import os
@@ -16,16 +17,22 @@ import struct
 import sys
 import termios
 import time
+import traceback
 
 sys.dont_write_bytecode = True
 
-from serving import (ENDED, END, FUNDED, LOOPBACK, PROGRAM, Failure, Run, check, ends_by_itself, expect, expect_equal,
-                     frame, limit_time, payloads, record, reset, total,
-                     wait_for)
+from serving import (ENDED, END, LOOPBACK, PATIENCE, Failure, Run, check, ends_by_itself, expect, expect_equal,
+                     frame, limit_time, payloads, record, reset, total, wait_for)
 
+# Seconds for a case, and for all of them.
 LIMIT = 60
+LIMIT_OF_ALL = 240
+
+# A server that waits may use this share of a core, measured over so many seconds.
 QUIET_SECONDS = 1.5
 QUIET_SHARE = 0.02
+
+# The most workers, and the most clerks.
 MOST_ENDS = 2
 SERVED = """\
 clock                           13
@@ -194,10 +201,10 @@ def send_all(connection, some):
 
 
 def is_blocked(server, senders):
-    """Whether the server has not used any time for a while, with all clients at work."""
+    """Whether the server has hardly used any time for a while, with all clients at work."""
     used = server.processor_seconds()
     time.sleep(0.3)
-    return all(sender.is_alive() for sender in senders) and server.processor_seconds() - used < 0.003
+    return all(sender.is_alive() for sender in senders) and server.processor_seconds() - used < 0.3 * QUIET_SHARE
 
 
 def command_much(control, name):
@@ -570,7 +577,7 @@ def until_eof_floods(run):
     """A client that goes on sending is cut off, long before it has spent a life, and the audit tells what was
     admitted."""
     peer = run.peer()
-    server = run.server(peer, until_eof=True, life=1 << 22)
+    server = run.server(peer, until_eof=True, life=1 << 20)
     control = server.control()
     control.ask_wanted(["open a 1 1"], ["flow 1"])
     connection = server.ingress()
@@ -755,7 +762,11 @@ def lowest_free(server):
     return next(number for number in range(1 << 20) if number not in taken)
 
 
-def one_packet(run, server):
+ONE_PACKET = "audit 1\nopen a 1024 1\nmktkt 1 base\nfund 1 flow a\nsend a 317374\nturn 15\n"
+
+
+def one_packet(server):
+    """The clients of a run whose audit is this."""
     control = server.control()
     control.fund()
     server.ingress(record("a", b"1st")).close()
@@ -772,18 +783,20 @@ def fault_files(run):
         nothing_is_left(server)
     expect(peer.connection is None, "the uplink was connected")
     server = run.server(peer, audit="/dev/full")
-    one_packet(run, server)
+    one_packet(server)
     server.ends(1, "cannot write the audit /dev/full")
     expect(server.text("stdout").startswith(total("clock", 15)), "no report")
     for path, fault in ((None, "cannot write the output"), ("/dev/full", "cannot write the audit /dev/full")):
         with open("/dev/full", "wb") as full:
             peer = run.peer()
             server = run.server(peer, audit=path, stdout=full)
-            one_packet(run, server)
+            one_packet(server)
             server.ends(1, fault)
-            peer.thread.join()
+            peer.thread.join(PATIENCE)
             expect_equal(bytes(peer.got), frame(1, 1, b"1st"), "the frame")
             expect_equal(os.path.exists(server.path("audit")), path is None, "whether there is an audit")
+            if path is None:
+                expect_equal(server.text("audit"), ONE_PACKET, "the audit")
 
 
 def audit_files(run):
@@ -811,10 +824,12 @@ def audit_files(run):
     reading = run.thread(lambda: got.append(open(pipe).read()))
     peer = run.peer()
     server = run.server(peer, audit=pipe)
-    one_packet(run, server)
+    one_packet(server)
     server.ends()
     reading.finish()
-    expect_equal(got[0], "audit 1\nopen a 1024 1\nmktkt 1 base\nfund 1 flow a\nsend a 317374\nturn 15\n", "the audit")
+    expect_equal(got[0], ONE_PACKET, "the audit")
+    peer.thread.join(PATIENCE)
+    expect_equal(bytes(peer.got), frame(1, 1, b"1st"), "the frame")
 
 
 CASES = (served, quiet, control_lines, accepted_in_order, idle, full_queue, shares_64, shares_1024, malformed, cut,
@@ -824,15 +839,18 @@ CASES = (served, quiet, control_lines, accepted_in_order, idle, full_queue, shar
          fault_words, fault_addresses, fault_memory, fault_accept, fault_thread, fault_files, audit_files)
 
 
-def holds(case):
-    """Tries a case, and tells how it failed."""
+def holds(case, end):
+    """Tries a case, which has LIMIT seconds and what is left until the end of all; whether it holds. Tells why not."""
     start = time.monotonic()
-    signal.alarm(LIMIT)
+    signal.alarm(max(1, min(LIMIT, int(end - start))))
     try:
         with Run() as run:
             case(run)
-    except (Failure, OSError, EOFError, ValueError) as fault:
-        print("%s: %s: %s" % (case.__name__, type(fault).__name__, fault), file=sys.stderr)
+    except Exception as fault:
+        trace = traceback.extract_tb(fault.__traceback__)
+        lines = ", ".join(str(place.lineno) for place in trace if place.filename == __file__)
+        kind = "" if isinstance(fault, Failure) else type(fault).__name__ + ": "
+        print("%s: %s%s (lines %s)" % (case.__name__, kind, fault, lines), file=sys.stderr)
         return False
     finally:
         signal.alarm(0)
@@ -846,7 +864,8 @@ def main():
     if not set(sys.argv[1:]) <= set(names):
         sys.exit("the cases are " + " ".join(names))
     limit_time()
-    failed = [case for case in CASES if case.__name__ in (sys.argv[1:] or names) and not holds(case)]
+    end = time.monotonic() + LIMIT_OF_ALL
+    failed = [case for case in CASES if case.__name__ in (sys.argv[1:] or names) and not holds(case, end)]
     return 1 if failed else 0
 
 

@@ -24,7 +24,7 @@ from bench import MEBIBYTE, PROGRAM, TOP, build_plain, median, print_row
 
 sys.dont_write_bytecode = True
 sys.path.insert(0, os.path.join(TOP, "examples"))
-from serving import LOOPBACK, Server, record  # noqa: E402
+from serving import LOOPBACK, Server, connected, record  # noqa: E402
 
 ROUNDS = int(os.environ.get("ROUNDS", "7"))
 PACKETS = int(os.environ.get("PACKETS", "60000"))
@@ -68,7 +68,7 @@ class Link:
         self.server = Server(self.folder.name, "%s:%d" % self.listener.getsockname(), workers=2, life=life,
                              audit="/dev/null", program=program).listens()
         self.peer = self.listener.accept()[0]
-        self.control = socket.create_connection((LOOPBACK, int(self.server.ports["control"])))
+        self.control = connected((LOOPBACK, int(self.server.ports["control"])))
         for line in ("open a %d 1" % LIMIT, "open b %d 1" % LIMIT, "mktkt 1 base", "mktkt 1 base", "fund 1 flow a",
                      "fund 2 flow b"):
             self.ask(line)

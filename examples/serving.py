@@ -89,6 +89,13 @@ def frames(data):
     return found, data[at:]
 
 
+def connected(address):
+    """A connection on which nothing waits until more is there to be sent."""
+    connection = socket.create_connection(address, PATIENCE)
+    connection.setsockopt(socket.IPPROTO_TCP, socket.TCP_NODELAY, 1)
+    return connection
+
+
 def reset(connection):
     """Closes a connection so that the other side sees a fault."""
     connection.setsockopt(socket.SOL_SOCKET, socket.SO_LINGER, struct.pack("ii", 1, 0))
@@ -161,7 +168,7 @@ class Control:
     """A control connection."""
 
     def __init__(self, address):
-        self.socket = socket.create_connection(address, PATIENCE)
+        self.socket = connected(address)
         self.replies = self.socket.makefile("rb")
 
     def send(self, data):
@@ -246,7 +253,7 @@ class Server:
         return Control((LOOPBACK, int(self.ports["control"])))
 
     def ingress(self, data=b""):
-        connection = socket.create_connection((LOOPBACK, int(self.ports["ingress"])), PATIENCE)
+        connection = connected((LOOPBACK, int(self.ports["ingress"])))
         connection.sendall(data)
         return connection
 

@@ -238,7 +238,7 @@ def idle(run):
 
 
 def shares_64(run):
-    """Two clients that send much more than the peer reads share the link 3 to 1 while both buffers are full."""
+    """Two floods share the link 3 to 1 while both buffers of 64 packets are full and the peer reads slowly."""
     shares(run, 64)
 
 
@@ -251,32 +251,28 @@ def shares(run, limit):
         while not peer.go_on.is_set() and peer.read(1024):
             time.sleep(0.003)
 
+    def waiting():
+        """How many packets wait in both buffers."""
+        return int(control.ask("report")[0].splitlines()[4].split()[1])
+
     peer = run.peer(read_slowly, narrow=True)
     server = run.server(peer, workers=2)
     control = server.control()
     control.ask_wanted(["open a %d 1" % limit, "open b %d 1" % limit, "mktkt 3 base", "mktkt 1 base", "fund 1 flow a",
                         "fund 2 flow b"], ["flow 1", "flow 2", "ticket 1", "ticket 2", "ok", "ok"])
-    sent = [packets("ab"[number], number, 2500, 1490) for number in (0, 1)]
-    run.thread(send_in_turns, [server.ingress(), server.ingress()], sent).finish(LIMIT)
+    sent = [packets("ab"[number], number, 5000, 700) for number in (0, 1)]
+    connections = [server.ingress(), server.ingress()]
+    senders = [run.thread(send_all, connection, some) for connection, some in zip(connections, sent)]
+    wait_for(lambda: waiting() > 3 * limit // 2, "buffers that are full", LIMIT)
+    wait_for(lambda: waiting() < limit, "the end of the floods", LIMIT)
     peer.go_on.set()
+    for sender in senders:
+        sender.finish(LIMIT)
     control.close()
     server.ends(seconds=LIMIT)
     first, second = written_while_full(check(server, peer, [("whole", some) for some in sent]))
     expect(first + second >= 100, "only %d frames were sent while both buffers were full" % (first + second))
     expect(2.7 * second <= first <= 3.3 * second, "frames sent of two flows: %d and %d" % (first, second))
-
-
-def send_in_turns(connections, sent):
-    """Sends of each connection's packets five at a time, a thousand a second: so the queue seldom is full, and none of
-    the connections has its places for itself."""
-    for connection in connections:
-        connection.settimeout(LIMIT)
-    for start in range(0, len(sent[0]), 5):
-        for connection, some in zip(connections, sent):
-            connection.sendall(records(some[start:start + 5]))
-        time.sleep(0.004)
-    for connection in connections:
-        connection.close()
 
 
 def written_while_full(replay):

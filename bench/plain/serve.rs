@@ -125,9 +125,9 @@ impl Server {
         number: usize,
         start: impl FnOnce(Arc<TcpStream>) -> io::Result<ScopedJoinHandle<'scope, T>>,
     ) -> Option<ScopedJoinHandle<'scope, T>> {
-        let accepted = listener.accept().and_then(|(stream, address)| {
+        let accepted = listener.accept().map(|(stream, address)| {
             let _ = stream.set_nodelay(true);
-            Ok((Arc::new(stream), address))
+            (Arc::new(stream), address)
         });
         let (stream, address) = match accepted {
             Ok(accepted) if !self.connections.is_ending() => accepted,

@@ -1,2 +1,4 @@
 pub mod Calls
+pub mod Receipts
+pub mod Settles
 pub mod Views

@@ -8,5 +8,5 @@ mod running;
 
 pub use clerk::{Clerk, Receipt};
 pub use link::Link;
-pub use locked::{Admit, Locked};
+pub use locked::{Admit, Locked, Settled, Unsettled, WhyUnsettled, settle};
 pub use running::{LinkEnd, Port, Stop, run_link};

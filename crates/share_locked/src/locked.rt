@@ -11,8 +11,11 @@ ghost use Rattle.share_journal.specs.Records.{IsRunNow};
 ghost use Rattle.share_locked.specs.Views.{LockedView, new_clerk, clerk_refusal, with_clerk};
 ghost use Rattle.share_locked.specs.Calls.{Admission, CommandMade, KeepsSide};
 
+mod settling;
+
 use crate::clerk::{Clerk, receipt_of};
 use crate::link::Link;
+pub use settling::{Settled, Unsettled, WhyUnsettled, settle};
 use share_base::{Command, Refusal, Reply, Turn};
 use share_ingress::{Intake, Offer};
 use share_journal::Recorder;

@@ -1,0 +1,388 @@
+//! The settling of a link that is served no more.
+ghost use Rattle.std.specs.Prelude.{◌≡◌, ◌≤◌, [], length, sum, count_by, Any, MatchBool, IfOk, IfErr};
+ghost use Rattle.share_model.specs.lists.Each.{Each};
+ghost use Rattle.share_ingress.specs.Gathers.{Gathered, Refuses};
+ghost use Rattle.share_journal.specs.Arrivals.{arrivals};
+ghost use Rattle.std.specs.Prelude.{◌≢◌, ◌++◌, ◌↔◌, List, IsTrue, MatchOption};
+ghost use Rattle.share_locked.specs.Receipts.{Agrees, Disagrees, booked, listed, commands_in, has_clerk, is_command};
+ghost use Rattle.share_locked.specs.Receipts.{is_arrival, receipts_in};
+ghost use Rattle.share_locked.specs.declared.clerk.Receipt.{Receipt};
+ghost use Rattle.share_locked.specs.Settles.{is_unsent, AreAgreed, AreClerks, ClerkIsMissing, Disagreed, IsJoined};
+ghost use Rattle.share_locked.specs.Settles.{IsAccounted};
+ghost use Rattle.share_locked.specs.Settles.{IsSettled, Unsettles, why_of};
+
+use super::Locked;
+use crate::clerk::{Clerk, Receipt, receipt_of};
+use crate::link::Link;
+use share_base::{Command, Event, Outcome, Reply};
+use share_ingress::{IngressEnd, Ungathered, WhyNot};
+use share_journal::{Entry, Recorder, Source, audits_replay};
+use share_model::{Rates, Telling};
+use std::alloc::Global;
+
+/// Why a link was not settled.
+#[derive(Clone, Copy, Debug, PartialEq, Eq)]
+pub enum WhyUnsettled {
+    /// There is a frame to send, the link is not broken, and its life is not spent.
+    Unsent,
+    /// An end or a clerk is missing, or the receipts of the clerks are not the commands of the journal.
+    Mismatch,
+    /// An end has queued more than was taken of it.
+    LeftOver,
+    /// Memory was refused.
+    NoMemory,
+}
+
+/// A settled link: its recorder; how many offers were taken of each worker, in the order of the workers; how many
+/// arrivals the journal has, refused ones too; and how many commands.
+#[derive(Drop)]
+pub struct Settled<W: Telling, S: Rates> {
+    pub recorder: Recorder<W, S>,
+    pub tallies: Vec<u64>,
+    pub arrivals: u64,
+    pub commands: u64,
+}
+
+/// A link that was not settled, with its ends and its clerks, as they were, and why.
+#[derive(Drop)]
+pub struct Unsettled<W: Telling, S: Rates, L: Link> {
+    pub why: WhyUnsettled,
+    pub locked: Locked<W, S, L>,
+    pub ends: Vec<IngressEnd>,
+    pub clerks: Vec<Clerk<L>>,
+}
+
+/// Settles a link with all its ends and clerks. Refusals, in order, after which everything comes back as it was:
+///
+/// - `Unsent`: there is a frame to send, the link is not broken, and its life is not spent;
+/// - `Mismatch`: an end or a clerk is missing, or the receipts of the clerks are not the commands of the journal;
+/// - `LeftOver`: an end has queued more than was taken of it;
+/// - `NoMemory`.
+///
+/// Of a settled link, all that the end of each worker queued came to the link, once and in order; and the audit of its
+/// journal, run as a script in a life that is not shorter, gives the bytes that the writer tells, where no line of the
+/// output is `no 1 NoMemory`.
+pub fn settle<W: Telling, S: Rates, L: Link>(
+    alloc: Global,
+    locked: Locked<W, S, L>,
+    ends: Vec<IngressEnd>,
+    clerks: Vec<Clerk<L>>,
+) -> Result<Settled<W, S>, Unsettled<W, S, L>>
+    requires { Each (λ e. e.link ≡ L.link) ends.items }
+    ensures ok { IfOk result (λ s.
+        IsSettled locked ends.items clerks.items s.recorder s.tallies.items s.arrivals s.commands) }
+    ensures accounts { IfOk result (λ s. IsAccounted W.told s.recorder ends.items) }
+    ensures back { IfErr result (λ u. (u.locked ≡ locked)
+        × (u.ends.items ≡ ends.items)
+        × (u.clerks.items ≡ clerks.items)
+        × Unsettles u.why locked ends.items clerks.items) }
+{
+    if locked.is_unsent() {
+        return Err(Unsettled {
+            why: WhyUnsettled::Unsent,
+            locked,
+            ends,
+            clerks,
+        });
+    }
+    if !locked.agrees(clerks.as_slice()) {
+        return Err(Unsettled {
+            why: WhyUnsettled::Mismatch,
+            locked,
+            ends,
+            clerks,
+        });
+    }
+    match locked.join(alloc, ends) {
+        Ok(settled) => Ok(settled),
+        Err((why, locked, ends)) => Err(Unsettled {
+            why: why_of(why),
+            locked,
+            ends,
+            clerks,
+        }),
+    }
+}
+
+// The same want, of a whole link.
+fn why_of(why: WhyNot) -> WhyUnsettled
+    ensures { result ≡ why_of why }
+{
+    match why {
+        WhyNot::Mismatch => WhyUnsettled::Mismatch,
+        WhyNot::LeftOver => WhyUnsettled::LeftOver,
+        WhyNot::NoMemory => WhyUnsettled::NoMemory,
+    }
+}
+
+// A link that was not joined with its ends, and why.
+type Unjoined<W, S, L> = (WhyNot, Locked<W, S, L>, Vec<IngressEnd>);
+
+impl<W: Telling, S: Rates, L: Link> Locked<W, S, L> {
+    // Whether there is a frame to send, where the link is not broken and its life is not spent.
+    fn is_unsent(&self) -> bool
+        ensures { result ≡ is_unsent self.now.recorder.link }
+    {
+        let engine = self.recorder.engine();
+        !engine.spent() && !engine.broken() && engine.sends()
+    }
+
+    // Whether these are all clerks, and their receipts the commands of the journal.
+    fn agrees(&self, clerks: &[Clerk<L>]) -> bool
+        ensures { MatchBool result (AreAgreed self.now clerks.now) (Disagreed self.now clerks.now) }
+    {
+        let entries = self.recorder.journal().entries();
+        if !are_there(clerks, self.clerks) {
+            return false;
+        }
+        if !all_agree(entries, clerks) {
+            return false;
+        }
+        are_all(commands_in(entries), clerks)
+    }
+
+    // Joins the ends to the intake, and lets go of both.
+    fn join(self, alloc: Global, ends: Vec<IngressEnd>) -> Result<Settled<W, S>, Unjoined<W, S, L>>
+        requires { Each (λ e. e.link ≡ L.link) ends.items }
+        ensures ok { IfOk result (λ s.
+            IsJoined self ends.items s.recorder s.tallies.items s.arrivals s.commands) }
+        ensures accounts { IfOk result (λ s. IsAccounted W.told s.recorder ends.items) }
+        ensures back { IfErr result (λ u. (u.1 ≡ self)
+            × (u.2.items ≡ ends.items)
+            × Refuses u.0 self.intake ends.items) }
+    {
+        let Locked {
+            recorder,
+            intake,
+            clerks,
+            of,
+        } = self;
+        match intake.gather(alloc, ends) {
+            Ok((intake, tallies)) => {
+                drop(intake);
+                // It does nothing: its contract says what the audit comes to.
+                audits_replay(&recorder);
+                let arrivals = arrivals_in(recorder.journal().entries());
+                let commands = commands_in(recorder.journal().entries());
+                Ok(Settled {
+                    recorder,
+                    tallies,
+                    arrivals,
+                    commands,
+                })
+            }
+            Err(Ungathered { why, intake, ends }) => Err((
+                why,
+                Locked {
+                    recorder,
+                    intake,
+                    clerks,
+                    of,
+                },
+                ends,
+            )),
+        }
+    }
+}
+
+// Whether so many clerks are among these, numbered from 1.
+fn are_there<L: Link>(clerks: &[Clerk<L>], count: u64) -> bool
+    ensures { MatchBool result (AreClerks count clerks.now) (ClerkIsMissing count clerks.now) }
+{
+    for made in 0..count {
+        if !is_there(clerks, made + 1) {
+            return false;
+        }
+    }
+    true
+}
+
+// Whether one of the clerks has this number.
+fn is_there<L: Link>(clerks: &[Clerk<L>], number: u64) -> bool
+    ensures { result ≡ has_clerk number clerks.now }
+{
+    clerks.iter().any(|clerk| clerk.number() == number)
+}
+
+// Whether the receipts of each clerk are its commands among these entries.
+fn all_agree<L: Link>(entries: &[Entry], clerks: &[Clerk<L>]) -> bool
+    ensures { MatchBool result (Each (Agrees entries.now) clerks.now) (Any (Disagrees entries.now) clerks.now) }
+{
+    for clerk in clerks {
+        if !agrees(entries, clerk) {
+            return false;
+        }
+    }
+    true
+}
+
+// Whether the receipts of a clerk are its commands among these entries.
+fn agrees<L: Link>(entries: &[Entry], clerk: &Clerk<L>) -> bool
+    ensures { MatchBool result (Agrees entries.now clerk.now) (Disagrees entries.now clerk.now) }
+{
+    let mut left = clerk.receipts();
+    let mut rest = entries;
+    let mut number = 0;
+    while let Some((entry, after)) = rest.split_first() {
+        number += 1;
+        match after_entry(clerk.number(), number, entry, left) {
+            Some(fewer) => left = fewer,
+            None => return false,
+        }
+        rest = after;
+    }
+    left.is_empty()
+}
+
+// The receipts after that of an entry, where the entry is a command of this clerk; all where it is not; and `None`
+// where the first receipt is another one.
+fn after_entry<'a>(
+    clerk: u64,
+    number: u64,
+    entry: &Entry,
+    receipts: &'a [Receipt],
+) -> Option<&'a [Receipt]>
+    ensures { MatchOption result
+        ((rest : List Receipt) → receipts.now ≢ booked clerk number entry.now ++ rest)
+        (λ rest. receipts.now ≡ booked clerk number entry.now ++ rest.now) }
+{
+    let Some(due) = due(clerk, number, entry) else {
+        return Some(receipts);
+    };
+    let (first, rest) = receipts.split_first()?;
+    if is_same(first, &due) {
+        Some(rest)
+    } else {
+        None
+    }
+}
+
+fn is_same(one: &Receipt, other: &Receipt) -> bool
+    ensures { IsTrue result ↔ (one.now ≡ other.now) }
+{
+    one.number == other.number
+        && is_same_command(&one.command, &other.command)
+        && is_same_reply(&one.reply, &other.reply)
+}
+
+// As derived, `==` does not tell a contract that the commands are the same.
+fn is_same_command(one: &Command, other: &Command) -> bool
+    ensures { IsTrue result ↔ (one.now ≡ other.now) }
+{
+    match (one, other) {
+        (Command::MakeCurrency(a), Command::MakeCurrency(b)) => a == b,
+        (Command::RemoveCurrency(a), Command::RemoveCurrency(b)) => a == b,
+        (
+            Command::MakeTicket {
+                amount: a,
+                currency: c,
+            },
+            Command::MakeTicket {
+                amount: b,
+                currency: d,
+            },
+        ) => { a == b && c == d }
+        (Command::RemoveTicket(a), Command::RemoveTicket(b)) => a == b,
+        (
+            Command::FundCurrency {
+                ticket: a,
+                currency: c,
+            },
+            Command::FundCurrency {
+                ticket: b,
+                currency: d,
+            },
+        ) => { a == b && c == d }
+        (Command::FundFlow { ticket: a, flow: c }, Command::FundFlow { ticket: b, flow: d }) => a
+            == b
+            && c == d,
+        (Command::Unfund(a), Command::Unfund(b)) => a == b,
+        (
+            Command::OpenFlow {
+                name: a,
+                limit: c,
+                tariff: e,
+            },
+            Command::OpenFlow {
+                name: b,
+                limit: d,
+                tariff: f,
+            },
+        ) => a == b && c == d && e == f,
+        (Command::CloseFlow(a), Command::CloseFlow(b)) => a == b,
+        _ => false,
+    }
+}
+
+fn is_same_reply(one: &Reply, other: &Reply) -> bool
+    ensures { IsTrue result ↔ (one.now ≡ other.now) }
+{
+    one == other
+}
+
+// The receipt that a clerk has of an entry, where that is one of its commands.
+fn due(clerk: u64, number: u64, entry: &Entry) -> Option<Receipt>
+    ensures { booked clerk number entry.now ≡ listed result }
+{
+    match (&entry.source, &entry.event, &entry.reply) {
+        (Source::Clerk(from), Event::Commanded(command), Outcome::Replied(reply))
+            if *from == clerk => { Some(receipt_of(number, command, reply)) }
+        _ => None,
+    }
+}
+
+// Whether the clerks have so many receipts together.
+fn are_all<L: Link>(commands: u64, clerks: &[Clerk<L>]) -> bool
+    ensures { IsTrue result ↔ (receipts_in clerks.now ≡ commands) }
+{
+    let mut left = commands;
+    for clerk in clerks {
+        let count = clerk.receipts().len() as u64;
+        if count > left {
+            return false;
+        }
+        left -= count;
+    }
+    left == 0
+}
+
+// How many commands there are among entries.
+fn commands_in(entries: &[Entry]) -> u64
+    ensures { result ≡ commands_in entries.now }
+{
+    let mut count = 0;
+    for entry in entries {
+        if is_command(entry) {
+            count += 1;
+        }
+    }
+    count
+}
+
+fn is_command(entry: &Entry) -> bool
+    ensures { result ≡ is_command entry.now }
+{
+    matches!(entry.event, Event::Commanded(_))
+}
+
+// How many arrivals there are among entries.
+fn arrivals_in(entries: &[Entry]) -> u64
+    ensures { result ≡ count_by is_arrival entries.now }
+{
+    let mut count = 0;
+    for entry in entries {
+        if is_arrival(entry) {
+            count += 1;
+        }
+    }
+    count
+}
+
+fn is_arrival(entry: &Entry) -> bool
+    ensures { result ≡ is_arrival entry.now }
+{
+    matches!(
+        (&entry.source, &entry.event),
+        (Source::Worker(_), Event::Arrived { .. })
+    )
+}

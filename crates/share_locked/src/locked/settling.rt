@@ -269,48 +269,29 @@ fn is_same(one: &Receipt, other: &Receipt) -> bool
 fn is_same_command(one: &Command, other: &Command) -> bool
     ensures { IsTrue result ↔ (one.now ≡ other.now) }
 {
-    match (one, other) {
-        (Command::MakeCurrency(a), Command::MakeCurrency(b)) => a == b,
-        (Command::RemoveCurrency(a), Command::RemoveCurrency(b)) => a == b,
-        (
-            Command::MakeTicket {
-                amount: a,
-                currency: c,
-            },
-            Command::MakeTicket {
-                amount: b,
-                currency: d,
-            },
-        ) => { a == b && c == d }
-        (Command::RemoveTicket(a), Command::RemoveTicket(b)) => a == b,
-        (
-            Command::FundCurrency {
-                ticket: a,
-                currency: c,
-            },
-            Command::FundCurrency {
-                ticket: b,
-                currency: d,
-            },
-        ) => { a == b && c == d }
-        (Command::FundFlow { ticket: a, flow: c }, Command::FundFlow { ticket: b, flow: d }) => a
-            == b
-            && c == d,
-        (Command::Unfund(a), Command::Unfund(b)) => a == b,
-        (
-            Command::OpenFlow {
-                name: a,
-                limit: c,
-                tariff: e,
-            },
-            Command::OpenFlow {
-                name: b,
-                limit: d,
-                tariff: f,
-            },
-        ) => a == b && c == d && e == f,
-        (Command::CloseFlow(a), Command::CloseFlow(b)) => a == b,
-        _ => false,
+    match one {
+        Command::MakeCurrency(name) => matches!(other, Command::MakeCurrency(b) if b == name),
+        Command::RemoveCurrency(name) => matches!(other, Command::RemoveCurrency(b) if b == name),
+        Command::MakeTicket { amount, currency } => {
+            matches!(other, Command::MakeTicket { amount: a, currency: b } if a == amount && b == currency)
+        }
+        Command::RemoveTicket(ticket) => matches!(other, Command::RemoveTicket(a) if a == ticket),
+        Command::FundCurrency { ticket, currency } => {
+            matches!(other, Command::FundCurrency { ticket: a, currency: b } if a == ticket && b == currency)
+        }
+        Command::FundFlow { ticket, flow } => {
+            matches!(other, Command::FundFlow { ticket: a, flow: b } if a == ticket && b == flow)
+        }
+        Command::Unfund(ticket) => matches!(other, Command::Unfund(a) if a == ticket),
+        Command::OpenFlow {
+            name,
+            limit,
+            tariff,
+        } => {
+            matches!(other, Command::OpenFlow { name: a, limit: b, tariff: c }
+                if a == name && b == limit && c == tariff)
+        }
+        Command::CloseFlow(name) => matches!(other, Command::CloseFlow(b) if b == name),
     }
 }
 

@@ -130,8 +130,9 @@ module _ {R G : Type 0} (gives : R → List ℕ → Got → R → Type 0) (told 
             rounds = f.rounds + waits.rounds;
             queued = subst (λ (d : EndView). Queueing told start gate (f.items + 1) (f.rounds + waits.rounds) d last)
                 (sym put)
-                (one_queued f.items f.rounds waits.rounds done.refused e name payload g asked waited last f.queued told_next
-                waits.again waits.came_back (let P : ℕ → Type 0 = λ i. told waited (item_queued i) last in subst P n_items queued));
+                (one_queued f.items f.rounds waits.rounds done.refused e name payload g asked waited last f.queued
+                told_next waits.again waits.came_back
+                (let P : ℕ → Type 0 = λ i. told waited (item_queued i) last in subst P n_items queued));
             spent = record {
               count = spent.count;
               reads = subst (λ r. Reads gives reader.reader spent.count r) (sym same) spent.reads;
@@ -141,7 +142,8 @@ module _ {R G : Type 0} (gives : R → List ℕ → Got → R → Type 0) (told 
           }
 
       module _ (left : Reading R) (unread : left ≡ record new { turns = left.turns }) where
-        drops_next : (why : Why) (done : EndView) (last : G) → Drops told e new.turns asked left.turns done.refused why last
+        drops_next : (why : Why) (done : EndView) (last : G)
+            → Drops told e new.turns asked left.turns done.refused why last
             → done ≡ record e { refused = done.refused } → DropsNext gives told (f.items + 1) e new why g done last left
         drops_next why done last dropped same =
             record { asked = asked; next = told_next; dropped = dropped; same = same; unread = unread }

@@ -148,7 +148,8 @@ module _ {R G : Type 0} (gives : R → List ℕ → Got → R → Type 0) (told 
         drops_next why done last dropped same =
             record { asked = asked; next = told_next; dropped = dropped; same = same; unread = unread }
 
-        finishes : (why : Why) (done : EndView) (last : G) → Drops told e new.turns asked left.turns done.refused why last
+        finishes : (why : Why) (done : EndView) (last : G)
+            → Drops told e new.turns asked left.turns done.refused why last
             → done ≡ record e { refused = done.refused } → Finishes gives told (f.items + 1) e new g why done last left
         finishes (Over over) done last dropped same = inr (drops_next (Over over) done last dropped same)
         finishes Stopped done last dropped same = drops_next Stopped done last dropped same

@@ -19,7 +19,8 @@ use Rattle.share_ingress.proofs.Offers.{each_snoc}
 -- Counts
 
 -- an offer of this worker is popped, whose number is the next
-counts_more : (counts : List ℕ) (os : List Offer) (o : Offer) → Counts counts os → (1 ≤ o.worker) → (o.worker ≤ 8) → o.n ≡ suc (length (of_worker o.worker os))
+counts_more : (counts : List ℕ) (os : List Offer) (o : Offer) → Counts counts os → (1 ≤ o.worker) → (o.worker ≤ 8)
+    → o.n ≡ suc (length (of_worker o.worker os))
     → Counts (slice_set counts (o.worker - 1) o.n) (os ++ o ∷ [])
 counts_more counts os o h low high next = (
   length-set counts (o.worker - 1) o.n ∙ h.0,
@@ -30,7 +31,8 @@ counts_more counts os o h low high next = (
       here ∙ next ∙ ap (λ u. suc (length (of_worker u os))) mine
       ∙ (let more : length (of_worker (suc w) os ++ o ∷ []) ≡ length (of_worker (suc w) os) + 1 =
       length-append (of_worker (suc w) os) (o ∷ []) in
-      let more_is : suc (length (of_worker (suc w) os)) ≡ length (of_worker (suc w) os ++ o ∷ []) = omega (arith, more) in
+      let more_is : suc (length (of_worker (suc w) os)) ≡ length (of_worker (suc w) os ++ o ∷ []) =
+      omega (arith, more) in
       more_is)
       ∙ ap (λ (t : List Offer). length t) (sym (of_snoc_same (suc w) os o mine)))
       (λ (e : w ≢ o.worker - 1). get_or-set_other counts (o.worker - 1) w o.n 0 e ∙ h.1 w below
@@ -42,7 +44,8 @@ counts_more counts os o h low high next = (
 module _ (v w : QueueView) (o : Offer) (workers : ℕ) (is : v ≡ an_intake workers v.popped v.ahead v.closed)
     (taken : Taken v o w) where
   pub view_after : w ≡ an_intake workers w.popped w.ahead w.closed
-  view_after = taken.view_is ∙ λ k. an_intake (is k).made ((sym taken.view_is) k).popped w.ahead ((sym taken.view_is) k).closed
+  view_after = taken.view_is
+      ∙ λ k. an_intake (is k).made ((sym taken.view_is) k).popped w.ahead ((sym taken.view_is) k).closed
 
   worker_is : IsWorker workers o.worker
   worker_is = subst (λ (u : QueueView). IsWorker u.made o.worker) is taken.known

@@ -192,7 +192,8 @@ module _ (pass made : ℕ) (popped ahead : List Offer) (closed : List ℕ) where
       let was = h.intake pass (an_intake made popped ahead closed) at refl in
       let now = an_intake (suc made) popped ahead closed in
       let none : [] ≡ of_worker (suc made) h.got ++ of_worker (suc made) items =
-      rw was.made_is (sym (sym (of_append (suc h.made) h.got items) ∙ of_stranger h.made (suc h.made) (h.got ++ items) h.known (λ w. omega (arith, w.1)))) in
+      rw was.made_is (sym (sym (of_append (suc h.made) h.got items)
+      ∙ of_stranger h.made (suc h.made) (h.got ++ items) h.known (λ w. omega (arith, w.1)))) in
       record {
         reader = h.reader;
         seat = moved h.seat (suc h.made) (length views);

@@ -38,9 +38,9 @@ impl<R: Source, G: Gate> Promise<Done<G>> for WorkOf<R, G> {
 // A worker at work, or one that was not started.
 type Begun<R, G> = Result<PromisedHandle<Done<G>, WorkOf<R, G>>, Done<G>>;
 
-/// Runs each job in a thread of its own, joins all, and answers what they leave, in the order of the jobs: each end is of
-/// its job's queue. A job whose thread was not to be had is not started: its reader is dropped. The jobs come back where
-/// no room for their results was to be had, before any was started.
+/// Runs each job in a thread of its own, joins all, and answers what they leave, in the order of the jobs: each end is
+/// of its job's queue. A job whose thread was not to be had is not started: its reader is dropped. The jobs come back
+/// where no room for their results was to be had, before any was started.
 pub fn run_workers<T, R, G>(
     rt: &T,
     alloc: Global,
@@ -83,8 +83,8 @@ fn put_last<A: Drop>(list: &mut Vec<A>, item: A)
     };
 }
 
-// Starts a job in a thread of its own. It is handed over once the thread is there: where none was to be had, it is still
-// here.
+// Starts a job in a thread of its own. It is handed over once the thread is there: where none was to be had, it is
+// still here.
 fn start<T, R, G>(rt: &T, alloc: Global, job: Job<R, G>) -> Begun<R, G>
 where
     T: Threads + Wait + Copy + Send + 'static,

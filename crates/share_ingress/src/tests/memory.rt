@@ -1,6 +1,6 @@
 //! Calls that may find no memory: each of their requests is refused in turn, until none is, and then the answer is that
-//! of a call that was never refused. Requests are refused over the allocator of `.ci/allocator.c` alone, as `.ci/memory`
-//! runs these tests; over any other the first call is the last one.
+//! of a call that was never refused. Requests are refused over the allocator of `.ci/allocator.c` alone, as
+//! `.ci/memory` runs these tests; over any other the first call is the last one.
 ghost use Rattle.std.specs.Prelude.{◌≡◌};
 ghost use Rattle.share_model.specs.lists.Each.{Each};
 

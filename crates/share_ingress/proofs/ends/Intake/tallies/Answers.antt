@@ -8,7 +8,8 @@ pub returns-clause-items : goal.returns-clause-items
 returns-clause-items c =
     rw (← c.self.view_is)
     (IfOk-weaker c.to_vec.result _ (λ t. t.items ≡ tallies_of c.self.inside.workers _)
-    (λ t copied. copied (λ x y h. h) ∙ tallies_are c.self.inside.workers c.self.inside.counts _ c.self.invariant.2 c.self.invariant.4)
+    (λ t copied. copied (λ x y h. h)
+    ∙ tallies_are c.self.inside.workers c.self.inside.counts _ c.self.invariant.2 c.self.invariant.4)
     c.to_vec.ensures.items_if_clones_equal)
 
 pub returns-clause-total : goal.returns-clause-total

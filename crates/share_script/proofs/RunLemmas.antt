@@ -178,7 +178,8 @@ printed_all a b c old mid new script rest left h reads f (inr e) =
     let last = subst V (sym (lines-last left u.clean (some_length left e.0))) also in
     let P : List (List ℕ) → Type 0 = λ ls. Went old.link.life old.link.rates start ls (f.text ++ e.1.text) q [] [] in
     let spooled = spooled_more a b c [] [] [] f.text e.1.text f.spooled e.1.spooled in
-    printed_by a c old new script rest (f.text ++ e.1.text) q reads (spooled_whole a c (f.text ++ e.1.text) spooled) said.holds
+    printed_by a c old new script rest (f.text ++ e.1.text) q reads (spooled_whole a c (f.text ++ e.1.text) spooled)
+    said.holds
     (said.life ∙ u.life) (said.rates ∙ u.rates)
     (subst P (no_lines script)
     (went_more old.link.life old.link.rates start u.progress q _ _ _ f.text e.1.text [] last (u.goes [] last.more)))
@@ -239,7 +240,8 @@ pub run_whole : (given left a b c : Option (List ℕ)) (old mid new : AtLine Tol
     → IfSome given (λ script. FedWhole Some a b old script left mid line) → Ends Some b c mid line new
     → IfSome given (λ script. Printed a c old.link script left new.link)
 run_whole None left a b c old mid new line h f e = tt
-run_whole (Some script) left a b c old mid new line h f e = printed_all a b c old mid new script left line h f.reads f.fed e
+run_whole (Some script) left a b c old mid new line h f e =
+    printed_all a b c old mid new script left line h f.reads f.fed e
 
 pub run_part : (given left a b : Option (List ℕ)) (old : AtLine Told) → HoldsNone old
     → IfSome given (λ script. FedPart Some a b old script left)

@@ -36,8 +36,9 @@ pub record Printed (before after_it : Option (List ℕ)) (old : Seen Told) (scri
   pub life : new.life ≡ old.life
   pub rates : new.rates ≡ old.rates
 
--- the whole script was read, and the answers to its lines were printed: the texts of the outcomes of the events that the lines make, and each text
--- without an event in its place; and of these events the link and its tape keep the sentence of this project
+-- the whole script was read, and the answers to its lines were printed: the texts of the outcomes of the events that
+-- the lines make, and each text without an event in its place; and of these events the link and its tape keep the
+-- sentence of this project
 pub record IsOneFold (before after_it : Option (List ℕ)) (old : Seen Told) (script : List ℕ) (left : Option (List ℕ))
     (new : Seen Told) : Type 0 where
   pub reads : Consumes (Some script) left script

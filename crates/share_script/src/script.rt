@@ -7,8 +7,8 @@ ghost use Rattle.share_model.specs.io.Printing.{bytes_told};
 ghost use Rattle.share_model.specs.text.Says.{TakesAll};
 ghost use Rattle.share_model.specs.text.Talk.{start};
 ghost use Rattle.share_script.specs.Script.{IsOneFold};
-ghost use Rattle.share_script.specs.Script.{Printed, PrintedPart, Feeds, FeedsPart, FedWhole, FedPart, Spoke, SpokePart};
-ghost use Rattle.share_script.specs.Script.{Ends, EndsPart};
+ghost use Rattle.share_script.specs.Script.{Printed, PrintedPart, Feeds, FeedsPart, FedWhole, FedPart, Spoke};
+ghost use Rattle.share_script.specs.Script.{SpokePart, Ends, EndsPart};
 ghost use Rattle.share_script.specs.Script.{Wrote, IsStop, IsEnd, IsFault};
 ghost use Rattle.share_script.specs.Session.{Stands};
 
@@ -89,7 +89,8 @@ impl<T: Drop> From<AllocFailed<T>> for ScriptFault {
 /// Runs a script on a new link whose tape is empty: each line is answered by a line of output, but `report` by the
 /// report of the link, and `audit 1` as the first line by nothing. The answers to what one read gave are offered before
 /// the next read is made. It ends where the input ends, or at the first fault, which drops the link; what was printed
-/// is then a beginning of the answers to the lines of what was read. An interrupted read is made again, 2^32 are made at most.
+/// is then a beginning of the answers to the lines of what was read. An interrupted read is made again, 2^32 are made
+/// at most.
 ///
 /// `Input` where a read failed or too many would be made, `Output` where an offer of an answer or a report was refused,
 /// `NoMemory` where no buffers were to be had, before anything is read, or the tape found no memory for a frame.

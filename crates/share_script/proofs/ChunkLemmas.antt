@@ -3,11 +3,14 @@ use Rattle.std.proofs.Common.{◌≡◌, ◌<◌, ◌≤◌, ℕ, true, List, []
 use Rattle.std.proofs.Common.{Some, arith, sym, ◌∙◌, ap, subst}
 use Rattle.std.proofs.Math.Seq.{take-add}
 use Rattle.memchr.specs.Find.{IsFirstByte}
-use Rattle.std.proofs.lemmas.List.{take_all, take_more, length-drop}
+use Rattle.std.proofs.lemmas.List.{take_all, take_more, length-drop, length-take, drop-take, drop-drop}
 use Rattle.std.proofs.lemmas.Bool.Decides.{nat_tests}
 use Rattle.share_model.specs.text.Talk.{is_feed}
 use Rattle.share_script.specs.Script.{NoFeed}
 use Rattle.share_script.proofs.WordLemmas.{passes_before, nowhere}
+
+pub feed_byte : (b : ℕ) → is_feed b ≡ true → b ≡ 10
+feed_byte b e = grind (arith, nat_tests)
 
 pub piece_clean : (chunk : List ℕ) (at count : ℕ)
     → IsFirstByte is_feed (take (length chunk - at) (drop at chunk)) (Some count)
@@ -36,9 +39,6 @@ piece_whole chunk at count few first =
     ap (λ m. take m (drop at chunk) ++ 10 ∷ []) n ∙ ap (λ b. take count (drop at chunk) ++ b ∷ []) (sym feed)
     ∙ sym (take_more (drop at chunk) count 0 short) in
     (omega (arith, length-drop at chunk), ap (λ r. take at chunk ++ r) line ∙ sym (take-add at (count + 1) chunk))
-  where
-    feed_byte : (b : ℕ) → is_feed b ≡ true → b ≡ 10
-    feed_byte b e = grind (arith, nat_tests)
 
 pub last_clean : (chunk : List ℕ) (at : ℕ) → IsFirstByte is_feed (take (length chunk - at) (drop at chunk)) None
     → NoFeed (take (length chunk - at) (drop at chunk))
@@ -49,3 +49,15 @@ pub last_whole : (chunk : List ℕ) (at : ℕ) → at ≤ length chunk → take 
 last_whole chunk at few = sym (take-add at (length chunk - at) chunk)
     ∙ (let n : at + (length chunk - at) ≡ length chunk = omega arith in ap (λ m. take m chunk) n
     ∙ take_all (length chunk) chunk (omega arith))
+
+-- A chunk in its buffer
+
+pub passed : (buffer : List ℕ) (at end count : ℕ) → at ≤ end → end ≤ length buffer
+    → count ≤ length (take (end - at) (drop at buffer))
+    → take (end - (at + count)) (drop (at + count) buffer) ≡ drop count (take (end - at) (drop at buffer))
+passed buffer at end count low high few =
+    let more : end - at ≡ count + (end - (at + count)) =
+    omega (arith, few, length-take (end - at) (drop at buffer)) in
+    sym (ap (λ n. drop count (take n (drop at buffer))) more
+    ∙ drop-take count (end - (at + count)) (drop at buffer)
+    ∙ ap (λ r. take (end - (at + count)) r) (drop-drop count at buffer))

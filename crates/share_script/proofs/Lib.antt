@@ -4,6 +4,7 @@ mod ChunkLemmas
 mod DigitLemmas
 mod FeedLemmas
 mod HexLemmas
+mod IncomingLemmas
 mod LaneLemmas
 mod LineLemmas
 mod NumberLemmas

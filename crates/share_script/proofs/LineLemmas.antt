@@ -2,7 +2,6 @@
 use Rattle.std.proofs.Common.{◌≡◌, ◌<◌, ◌≤◌, ◌⊎◌, inl, inr, ℕ, Bool, true, false, List, [], ◌∷◌, ◌++◌, length, take}
 use Rattle.std.proofs.Common.{Result, Ok, Err, drop, arith, sym, ◌∙◌, ap, refl, length-append, length-take}
 use mathlib.Core.List.{append_assoc}
-use Rattle.std.specs.List.{slice_split}
 use Rattle.std.proofs.lemmas.List.{take_all, get_or-take}
 use Rattle.std.proofs.lemmas.List.Elements.{All-append, All-cons, All-from_get_or}
 use Rattle.std.proofs.lemmas.List.Splits.{slice_split_none}
@@ -95,14 +94,15 @@ feed_of : (bs : List ℕ) → Feed bs
 feed_of [] = no_feed (λ k d h. absurd (omega arith))
 feed_of (b ∷ bs) = feed_step b bs _ refl (feed_of bs)
 
--- lines with a first line that is read alike
-record SameLines (xs ys : List ℕ) : Type 0 where
-  first : List ℕ
-  other : List ℕ
-  rest : List (List ℕ)
-  xs_are : lines_of xs ≡ first ∷ rest
-  ys_are : lines_of ys ≡ other ∷ rest
-  same : reading first ≡ reading other
+-- lines that are the same after the first, which is too long
+pub record SameLines (xs ys : List ℕ) : Type 0 where
+  pub first : List ℕ
+  pub other : List ℕ
+  pub rest : List (List ℕ)
+  pub xs_are : lines_of xs ≡ first ∷ rest
+  pub ys_are : lines_of ys ≡ other ∷ rest
+  pub first_long : 20480 < length first
+  pub other_long : 20480 < length other
 
 longer : (bs rest : List ℕ) → 20480 < length bs → 20480 < length (bs ++ rest)
 longer bs rest h = omega (arith, length-append bs rest)
@@ -121,7 +121,8 @@ long_lines bs rest clean long (no_feed none) =
       ys_are = lines-end (take 20481 bs ++ rest)
           (All-append (λ b. is_feed b ≡ false) (take 20481 bs) rest (clean_cut bs clean) none)
           ∙ last-some _ (omega arith);
-      same = long_same _ _ p q;
+      first_long = p;
+      other_long = q;
     }
 long_lines bs rest clean long (at_feed front back none is) =
     let n : 20480 < length (take 20481 bs) = omega (arith, length-take 20481 bs) in
@@ -136,7 +137,8 @@ long_lines bs rest clean long (at_feed front back none is) =
           ∙ ap lines_of (sym (append_assoc (take 20481 bs) front (10 ∷ back)))
           ∙ lines-feed (take 20481 bs ++ front) back
           (All-append (λ b. is_feed b ≡ false) (take 20481 bs) front (clean_cut bs clean) none);
-      same = long_same _ _ p q;
+      first_long = p;
+      other_long = q;
     }
 
 -- lines that are answered alike from every state
@@ -147,20 +149,32 @@ pub record Alike (xs ys : List ℕ) : Type 0 where
       → after life rates s lacks (lines_of xs) ≡ after life rates s lacks (lines_of ys)
 
 alike_long : (xs ys : List ℕ) → SameLines xs ys → Alike xs ys
-alike_long xs ys e = record {
-  texts = λ life rates s lacks. ap (talk life rates s lacks) e.xs_are
-      ∙ talk_same life rates s lacks e.first e.other e.rest e.same ∙ ap (talk life rates s lacks) (sym e.ys_are);
-  states = λ life rates s lacks. ap (after life rates s lacks) e.xs_are
-      ∙ after_same life rates s lacks e.first e.other e.rest e.same ∙ ap (after life rates s lacks) (sym e.ys_are);
-}
+alike_long xs ys e =
+    let same = long_same e.first e.other e.first_long e.other_long in
+    record {
+      texts = λ life rates s lacks. ap (talk life rates s lacks) e.xs_are
+          ∙ talk_same life rates s lacks e.first e.other e.rest same ∙ ap (talk life rates s lacks) (sym e.ys_are);
+      states = λ life rates s lacks. ap (after life rates s lacks) e.xs_are
+          ∙ after_same life rates s lacks e.first e.other e.rest same ∙ ap (after life rates s lacks) (sym e.ys_are);
+    }
+
+-- the beginning of a line is all of it, or the line is too long with either
+pub cut_or_long : (bs rest : List ℕ) → NoFeed bs
+    → (bs ≡ take 20481 bs) ⊎ SameLines (bs ++ rest) (take 20481 bs ++ rest)
+cut_or_long bs rest clean = by_length (short_or_long (length bs))
+  where
+    by_length : (length bs ≤ 20481) ⊎ (20481 < length bs)
+        → (bs ≡ take 20481 bs) ⊎ SameLines (bs ++ rest) (take 20481 bs ++ rest)
+    by_length (inl h) = inl (sym (take_all 20481 bs h))
+    by_length (inr h) = inr (long_lines bs rest clean h (feed_of rest))
 
 pub alike_cut : (bs rest : List ℕ) → NoFeed bs → Alike (bs ++ rest) (take 20481 bs ++ rest)
-alike_cut bs rest clean = cut_by (short_or_long (length bs))
+alike_cut bs rest clean = cut_by (cut_or_long bs rest clean)
   where
-    cut_by : (length bs ≤ 20481) ⊎ (20481 < length bs) → Alike (bs ++ rest) (take 20481 bs ++ rest)
-    cut_by (inl h) = let e : bs ++ rest ≡ take 20481 bs ++ rest = ap (λ r. r ++ rest) (sym (take_all 20481 bs h)) in
-        record {
-          texts = λ life rates s lacks. ap (λ r. talk life rates s lacks (lines_of r)) e;
-          states = λ life rates s lacks. ap (λ r. after life rates s lacks (lines_of r)) e;
-        }
-    cut_by (inr h) = alike_long _ _ (long_lines bs rest clean h (feed_of rest))
+    cut_by : (bs ≡ take 20481 bs) ⊎ SameLines (bs ++ rest) (take 20481 bs ++ rest)
+        → Alike (bs ++ rest) (take 20481 bs ++ rest)
+    cut_by (inl e) = record {
+      texts = λ life rates s lacks. ap (λ r. talk life rates s lacks (lines_of (r ++ rest))) e;
+      states = λ life rates s lacks. ap (λ r. after life rates s lacks (lines_of (r ++ rest))) e;
+    }
+    cut_by (inr long) = alike_long _ _ long

@@ -1,10 +1,11 @@
-//! What holds of every line that is written. The function here does nothing: its contract is a law, which is proved
-//! with it.
-ghost use Rattle.std.specs.Prelude.{◌≡◌, ◌++◌, ◌∷◌, ℕ, List, true, false, Ok, Err, codes};
+//! What holds of every line that is written, and of the lines of every connection. The functions here do nothing:
+//! their contracts are laws, which are proved with them.
+ghost use Rattle.std.specs.Prelude.{◌≡◌, ◌++◌, ◌∷◌, ℕ, List, Option, true, false, Ok, Err, codes};
 ghost use Rattle.share_base.specs.declared.refusal.Refusal.TheVariants.{Range};
 ghost use Rattle.share_model.specs.declared.line.Line.{Line};
 ghost use Rattle.share_model.specs.text.Lines.{IsLine, is_in_range, reading, spelled};
 ghost use Rattle.share_model.specs.text.Talk.{lines_of};
+ghost use Rattle.share_script.specs.Lines.{Took, incoming_lines};
 
 /// What is written of lines is read as these lines: their bytes fall into the same lines again, one for each, and each
 /// is read as what was written, or refused as `Range` where it is out of range.
@@ -14,4 +15,11 @@ pub fn written_lines_are_read()
     ensures read { (l : Line) → IsLine l → is_in_range l ≡ true → reading (spelled l) ≡ Ok l }
     ensures refused { (l : Line) → IsLine l → is_in_range l ≡ false
         → reading (spelled l) ≡ Err Range }
+{}
+
+/// Whatever was read of a connection and taken of it so far, and whatever comes behind, the lines of the whole text are
+/// those that were given, and then those of what is ahead.
+pub fn lines_given_are_of_the_text()
+    ensures { (text : List ℕ) (given : List (Option (List ℕ))) (ahead : List ℕ) → Took text given ahead
+        → (more : List ℕ) → incoming_lines (text ++ more) ≡ given ++ incoming_lines (ahead ++ more) }
 {}

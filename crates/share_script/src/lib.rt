@@ -1,10 +1,13 @@
-//! Scripts: their lines, read from bytes, and whole scripts, run on a link from a reader to a writer.
+//! Scripts: their lines, read from bytes, and whole scripts, run on a link from a reader to a writer. Connections: their
+//! lines, as they come.
 #![tactic(auto)]
 
 mod answers;
 mod carry;
+mod chunk;
 mod hex;
 mod laws;
+mod lines;
 mod payload;
 mod reading;
 mod replies;
@@ -18,7 +21,8 @@ mod words;
 mod writing;
 
 pub use hex::print_bytes;
-pub use laws::written_lines_are_read;
+pub use laws::{lines_given_are_of_the_text, written_lines_are_read};
+pub use lines::{Incoming, IncomingLines};
 pub use reading::read_line;
 pub use script::{ScriptFault, run_script};
 pub use share_model::{NotWritten, Tape};

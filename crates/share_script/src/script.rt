@@ -14,6 +14,7 @@ ghost use Rattle.share_script.specs.Session.{Stands};
 
 use crate::answers::{Session, answer, say};
 use crate::carry::Carry;
+use crate::chunk::CHUNK;
 use crate::reading::zeros;
 use crate::spool::Spool;
 use memchr::memchr;
@@ -21,9 +22,6 @@ use share_core::Engine;
 use share_model::{Got, NotWritten, Rates, Source, Tape, Telling};
 use std::alloc::{AllocError, AllocFailed, Global};
 use thiserror::Error;
-
-/// How many bytes are read in one call, at most.
-const CHUNK: usize = 65536;
 
 /// How many read calls a run makes, at most.
 const MAX_READS: u64 = 1 << 32;

@@ -1,13 +1,12 @@
 -- The tickets of the open flows, kept by place.
 use Rattle.std.proofs.Common.{◌≡◌, ◌<◌, ℕ, ◌+◌, zero, suc, Bool, true, false, not, ◌&&◌, ◌||◌, List, [], ◌∷◌, ◌++◌}
-use Rattle.std.proofs.Common.{map, take, set, get_or, length, nat_eq, Some, None, Result, Ok, Err, IfOk, IfErr}
-use Rattle.std.proofs.Common.{option_map, slice_get, position, refl, sym, ap, ◌∙◌, arith, add-one, length-append}
+use Rattle.std.proofs.Common.{map, take, get_or, length, nat_eq, Some, None, Result, Ok, Err, IfOk, IfErr}
+use Rattle.std.proofs.Common.{option_map, slice_get, position, refl, sym, ap, ◌∙◌, arith, length-append}
 use Rattle.std.specs.List.{list_any}
 use Rattle.std.proofs.lemmas.List.{map-append}
-use Rattle.std.proofs.lemmas.Option.{same_Some}
 use Rattle.std.proofs.lemmas.Bool.Decides.{nat_tests}
+use Rattle.std.proofs.lemmas.Option.{same_Some}
 use Rattle.std.proofs.Math.Bool.{beq}
-use Rattle.std.proofs.Math.Seq.{take-suc-set}
 use Rattle.indexmap.specs.IndexMap.{set_value_at}
 use Rattle.share_model.specs.lists.Each.{Each}
 use Rattle.share_model.specs.lists.Laws.{has_number, rises-fresh}
@@ -103,20 +102,6 @@ shares-opened before after g name n ok at more kept =
     ∙ ap (λ ns. ns ++ 0 ∷ []) (shares-same g (add_flow g name) g.flows (λ f. sym ((leaves-tickets g).add_flow name f)))
     ∙ ap (λ k. map (λ (e : NameBytes × OpenFlow). tickets (add_flow g name) e.1.number) g.flows ++ k ∷ []) (sym none)
     ∙ sym (map-append (λ (e : NameBytes × OpenFlow). tickets (add_flow g name) e.1.number) g.flows (e ∷ []))
-
--- one place more
-got-more : {X Y : Type 0} (part : X → Y) (xs : List X) (i : ℕ) (y : Y) → option_map part (slice_get xs i) ≡ Some y
-    → map part (take (suc i) xs) ≡ map part (take i xs) ++ y ∷ []
-got-more part [] i y got = absurd cc
-got-more part (x ∷ xs) zero y got = ap (λ z. z ∷ []) (same_Some (part x) y got)
-got-more part (x ∷ xs) (suc i) y got = ap (λ ys. part x ∷ ys) (got-more part xs i y got)
-
-pub parts-more : {X Y : Type 0} (part : X → Y) (xs : List X) (ys : List Y) (i : ℕ) (y : Y) → i < length ys
-    → take i ys ≡ map part (take i xs) → option_map part (slice_get xs i) ≡ Some y
-    → take (i + 1) (set ys i y) ≡ map part (take (i + 1) xs)
-parts-more part xs ys i y inside so_far got =
-    ap (λ k. take k (set ys i y)) (add-one i) ∙ take-suc-set ys i y inside
-    ∙ ap (λ zs. zs ++ y ∷ []) so_far ∙ sym (got-more part xs i y got) ∙ ap (λ k. map part (take k xs)) (sym (add-one i))
 
 -- The activity of a flow that stands as it is set
 pub stands-so : (b a : Bool) → not (beq b a) ≡ false → b ≡ a

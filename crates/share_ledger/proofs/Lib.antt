@@ -1,17 +1,17 @@
+pub mod CyclePlaces
 pub mod FlowShares
 pub mod Lays
-pub mod RankChains
-pub mod RankSteps
-pub mod LinkChains
-pub mod LinkPlaces
-pub mod LinkSteps
+pub mod Lists
 pub mod NetFunds
 pub mod NetMore
 pub mod NetQuiet
 pub mod NetSeats
 pub mod NetSteps
 pub mod Numbers
+pub mod Places
 pub mod Positions
+pub mod RankChains
+pub mod RankSteps
 pub mod RouteLists
 pub mod RouteWorths
 pub mod RoutesBefore
@@ -24,4 +24,3 @@ pub mod SeatSums
 pub mod Settled
 pub mod StaleSteps
 pub mod StaleStretches
-pub mod Walks

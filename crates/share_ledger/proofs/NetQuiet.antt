@@ -14,7 +14,7 @@ use Rattle.share_model.specs.lists.SumLaws.{sum_by-same_of}
 use Rattle.share_ledger.specs.declared.net.Net.{Net}
 use Rattle.share_ledger.specs.declared.routes.Route.{Route}
 use Rattle.share_ledger.specs.declared.seats.Seat.{Seat}
-use Rattle.share_ledger.specs.Rounds.{flags_of, numbers_of}
+use Rattle.share_ledger.specs.Arrays.{flags_of, numbers_of}
 use Rattle.share_ledger.specs.Nets.{IsBegun, IsReady}
 use Rattle.share_ledger.specs.Seats.{IsSeatWithin, seat_worth, seats_at, taken, weighed}
 use Rattle.share_ledger.proofs.NetSteps.{array-set}

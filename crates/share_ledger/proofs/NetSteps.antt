@@ -311,7 +311,8 @@ module _ (bs : List (List Seat)) (order : ℕ → ℕ) (o : AreOrdered bs order)
       by : (b : Bool) → nat_eq (order i) k ≡ b → next k ≡ weighed bs awake next whole k
       by true e =
           set_one k ∙ ap (λ b. cond b n (v k)) e ∙ here
-          ∙ weighed-before bs awake v next whole (order i) (λ (s : Seat). (s.from < 65) × (o.spot s.from < i)) next-before
+          ∙ weighed-before bs awake v next whole (order i) (λ (s : Seat). (s.from < 65) × (o.spot s.from < i))
+          next-before
           (λ s at. left s.from at.1)
           ∙ ap (weighed bs awake next whole) (eqb-true (order i) k e)
       by false e =

@@ -25,9 +25,9 @@ use Rattle.share_ledger.specs.Ranks.{AreRanks}
 use Rattle.share_ledger.specs.Places.{place}
 use Rattle.share_ledger.specs.Routes.{is_kind, holder_place, route_of}
 use Rattle.share_ledger.specs.Seats.{seats_at, seat_of, AreSeated, backs_of}
-use Rattle.share_ledger.proofs.LinkPlaces.{place-base, IsPlaced, placed}
+use Rattle.share_ledger.proofs.Places.{past-base, IsPlaced, placed}
 use Rattle.share_ledger.proofs.RouteWorths.{sum-routes, below}
-use Rattle.share_ledger.proofs.Walks.{no-term}
+use Rattle.share_ledger.proofs.Lists.{no-term}
 
 -- The ranks of the names of a graph rise along its chains
 abbrev Rises : Graph → (ℕ → ℕ) → ℕ → Holder → Type 0
@@ -64,7 +64,8 @@ module _ (g : Graph) (rank : ℕ → ℕ) where
       on rest (Flow f) up = refl
       on rest (Currency c) up = rest c (omega arith)
 
-      by : ((c : NameBytes) → rank_of g rank b < rank_of g rank c + n → chain ts n c b ≡ false) → (x : Bool) (t : Ticket)
+      by : ((c : NameBytes) → rank_of g rank b < rank_of g rank c + n → chain ts n c b ≡ false)
+          → (x : Bool) (t : Ticket)
           → bytes_eq a t.denomination ≡ x → RisesBy g rank t
           → (bytes_eq a t.denomination && leads_on (λ c. chain ts n c b) t.holder) ≡ false
       by rest true t e up =
@@ -136,8 +137,11 @@ module _ (g : Graph) (rank : ℕ → ℕ) where
           → (find (is_numbered n) ts ≡ Some t → rank_of g rank t.denomination < rank_of g rank c
           → Each (RisesBy g rank) ts → Each (RisesBy g rank) (with_holder n (Currency c) ts))
           → Each (RisesBy g rank) (cond b (held_by (Currency c) x ∷ ts) (x ∷ with_holder n (Currency c) ts))
-      by true e rest =
-          (subst (λ (y : Ticket). rank_of g rank y.denomination < rank_of g rank c) (sym (same_Some x t e)) less, each.1)
+      by true e rest = (
+        subst (λ (y : Ticket). rank_of g rank y.denomination < rank_of g rank c) (sym (same_Some x t e))
+            less,
+        each.1,
+      )
       by false e rest = (each.0, rest e less each.1)
 
   high-written : (n : ℕ) (c : NameBytes) (P : NameBytes → Type 0) (ts : List Ticket)
@@ -180,13 +184,6 @@ module _ (g : Graph) (ok : IsKept g) (ss : List (List Seat)) (seated : AreSeated
   each-swap Q [] all = tt
   each-swap Q (t ∷ ts) all = (λ p up lt. (all p up lt).0, each-swap Q ts (λ p up lt. (all p up lt).1))
 
-  -- where a name that is not `base` stands
-  past-base : (c : NameBytes) → bytes_eq c base ≡ false → 0 < place (names_of g) c
-  past-base c apart = by (place (names_of g) c) (place-base g c ∙ apart)
-    where
-      by : (p : ℕ) → nat_eq p 0 ≡ false → 0 < p
-      by p e = grind (arith, nat_tests)
-
   rises-at : (n : ℕ) (h : Holder) → IsHolderKnown g h → is_held_by_currency base h ≡ false
       → ((p : ℕ) → 0 < p → p < 65
       → ◌≡◌ {A = ℕ}
@@ -197,7 +194,7 @@ module _ (g : Graph) (ok : IsKept g) (ss : List (List Seat)) (seated : AreSeated
   rises-at n (Currency c) known unbacked none =
       let p = place (names_of g) c in
       by (rank n) (rank p) p (nat_lt (rank n) (rank p)) refl
-      (none p (past-base c (name_sym c base ∙ unbacked)) (below g ok c known))
+      (none p (past-base g c (name_sym c base ∙ unbacked)) (below g ok c known))
     where
       itself : (p : ℕ) → nat_eq p p ≡ true
       itself p = grind (arith, nat_tests)
@@ -228,7 +225,7 @@ module _ (g : Graph) (ok : IsKept g) (ss : List (List Seat)) (seated : AreSeated
       (each-swap (λ p t. ticket-part p t ≡ 0) g.tickets at-place) in
       let high =
       each_map (IsPlaced g) (λ (t : Ticket). bytes_eq t.denomination base ≡ false → 1 ≤ rank_of g rank t.denomination)
-      (λ t known apart. ranks.high (place (names_of g) t.denomination) (past-base t.denomination apart)
+      (λ t known apart. ranks.high (place (names_of g) t.denomination) (past-base g t.denomination apart)
       (below g ok t.denomination known.denomination_known)) g.tickets (placed g ok) in (
         within-none g rank g.tickets rises 8 c t.denomination less,
         deep-none g rank (with_holder n (Currency c) g.tickets)

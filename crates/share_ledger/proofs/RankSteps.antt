@@ -10,7 +10,7 @@ use Rattle.std.proofs.lemmas.List.Sums.{sum_by-cons, sum_by-set}
 use Rattle.share_model.specs.lists.Each.{Each}
 use Rattle.share_ledger.specs.declared.seats.Seat.{Seat}
 use Rattle.share_ledger.specs.Ranks.{AreRanks, AreListed, AreLongest, AreRankedTo, is_tall}
-use Rattle.share_ledger.specs.Rounds.{numbers_of}
+use Rattle.share_ledger.specs.Arrays.{numbers_of}
 use Rattle.share_ledger.specs.Seats.{seats_at}
 use Rattle.share_ledger.proofs.NetSteps.{array-set}
 
@@ -331,7 +331,8 @@ module _ (ss : List (List Seat)) (from to : ℕ) (ranks order : List ℕ) (count
   unfolding next list
   placed e = by (nat_eq (numbers_of ranks p) 9) (nat_eq p to) (nat_lt (numbers_of ranks from) most) refl refl refl e
     where
-      by : (a b c : Bool) → nat_eq (numbers_of ranks p) 9 ≡ a → nat_eq p to ≡ b → nat_lt (numbers_of ranks from) most ≡ c
+      by : (a b c : Bool) → nat_eq (numbers_of ranks p) 9 ≡ a → nat_eq p to ≡ b
+          → nat_lt (numbers_of ranks from) most ≡ c
           → (a && (not b || c) && list_all (λ (s : Seat). nat_lt (numbers_of ranks s.from) most) (seats_at ss p)) ≡ true
           → (count < 65) × AreRankedTo ss from to (set ranks p most) (set order count p) (count + 1) most (p + 1)
       by true true true x y z e =
@@ -378,7 +379,8 @@ module _ (ss : List (List Seat)) (from to : ℕ) (ranks order : List ℕ) (count
       by (λ n. tall-seats m e xs inside.1 n) (nat_lt (numbers_of ranks x.from) most) refl none
     where
       by : (list_all (λ (s : Seat). nat_lt (numbers_of ranks s.from) most) xs ≡ false
-          → list_any (λ (s : Seat). is_tall ss from to m s.from) xs ≡ true) → (b : Bool) → nat_lt (numbers_of ranks x.from) most ≡ b
+          → list_any (λ (s : Seat). is_tall ss from to m s.from) xs ≡ true)
+          → (b : Bool) → nat_lt (numbers_of ranks x.from) most ≡ b
           → (b && list_all (λ (s : Seat). nat_lt (numbers_of ranks s.from) most) xs) ≡ false
           → (is_tall ss from to m x.from || list_any (λ (s : Seat). is_tall ss from to m s.from) xs) ≡ true
       by rest true f none =
@@ -411,7 +413,8 @@ module _ (ss : List (List Seat)) (from to : ℕ) (ranks order : List ℕ) (count
       or_true true = refl
       or_true false = refl
   tall-here m e true false x y none =
-      ap (λ b. (b && is_tall ss from to m from) || list_any (λ (s : Seat). is_tall ss from to m s.from) (seats_at ss p)) x
+      ap (λ b. (b && is_tall ss from to m from) || list_any (λ (s : Seat). is_tall ss from to m s.from) (seats_at ss p))
+      x
       ∙ ap (λ b. b || list_any (λ (s : Seat). is_tall ss from to m s.from) (seats_at ss p))
       (tall-from from m e from_lt y)
 

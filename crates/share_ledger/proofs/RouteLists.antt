@@ -19,8 +19,8 @@ use Rattle.share_model.specs.lists.Each.{Each}
 use Rattle.share_ledger.specs.declared.routes.Route.{Route}
 use Rattle.share_ledger.specs.Routes.{flow_place, holder_place, route_of, is_kind, routes_of, IsRouteWithin, gathered}
 use Rattle.share_ledger.proofs.Positions.{IsFirstAt}
-use Rattle.share_ledger.proofs.Walks.{sum_by-bound}
-use Rattle.share_ledger.proofs.LinkPlaces.{place-below, IsPlaced, placed}
+use Rattle.share_ledger.proofs.Lists.{sum_by-bound}
+use Rattle.share_ledger.proofs.Places.{place-below, IsPlaced, placed}
 use Rattle.share_ledger.proofs.RouteWorths.{flow-place-below}
 
 -- One ticket more

@@ -21,7 +21,7 @@ use Rattle.share_ledger.specs.declared.routes.Route.{Route}
 use Rattle.share_ledger.specs.Places.{place}
 use Rattle.share_ledger.specs.Routes.{flow_place, holder_place, route_of, is_kind, routes_of, gathered}
 use Rattle.share_ledger.specs.Routes.{carried, poured, valued}
-use Rattle.share_ledger.proofs.LinkPlaces.{place-below, place-same, place-base, sum_by-map, IsPlaced, placed}
+use Rattle.share_ledger.proofs.Places.{place-below, place-same, place-base, sum_by-map, IsPlaced, placed}
 
 -- Two sums that together make up one
 two-sum : (P : Ticket → Type 0) (v w u : Ticket → ℕ) (ts : List Ticket) → Each P ts

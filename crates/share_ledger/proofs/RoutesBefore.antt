@@ -22,11 +22,11 @@ use Rattle.share_ledger.specs.declared.seats.Seat.{Seat}
 use Rattle.share_ledger.specs.Places.{place}
 use Rattle.share_ledger.specs.Routes.{holder_place, is_kind, route_of, routes_of}
 use Rattle.share_ledger.specs.Seats.{seats_at, seat_of, AreSeated, backs_of, funds_of}
-use Rattle.share_ledger.proofs.LinkPlaces.{IsPlaced, placed}
+use Rattle.share_ledger.proofs.Places.{IsPlaced, placed}
 use Rattle.share_ledger.proofs.RouteLists.{routes-cons, route-within}
 use Rattle.share_ledger.proofs.RouteWorths.{sum-routes}
 use Rattle.share_ledger.proofs.RoutesLeft.{route-same}
-use Rattle.share_ledger.proofs.Walks.{no-term}
+use Rattle.share_ledger.proofs.Lists.{no-term}
 
 -- a name before one that is taken out keeps its place
 place-removed : (c d : NameBytes) (cs : List NameBytes) → place cs d < place cs c

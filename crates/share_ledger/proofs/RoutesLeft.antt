@@ -26,7 +26,7 @@ use Rattle.share_ledger.specs.Places.{place}
 use Rattle.share_ledger.specs.Routes.{flow_place, holder_place, route_of, is_kind, routes_of}
 use Rattle.share_ledger.specs.declared.net.Net.{Net}
 use Rattle.share_ledger.specs.Nets.{IsReady, activity_of}
-use Rattle.share_ledger.specs.Rounds.{flags_of, numbers_of}
+use Rattle.share_ledger.specs.Arrays.{flags_of, numbers_of}
 use Rattle.share_ledger.specs.Seats.{backs_of, funds_of, seats_at, seat_worth, weighed}
 use Rattle.share_ledger.specs.Shares.{AreKept}
 use Rattle.share_ledger.proofs.NetQuiet.{relit, activity-turned}
@@ -34,7 +34,7 @@ use Rattle.share_ledger.proofs.Positions.{position-first, flow-first}
 use Rattle.share_ledger.proofs.SeatSums.{first-below}
 use Rattle.share_ledger.proofs.NetSeats.{activity-beyond}
 use Rattle.share_ledger.proofs.FlowShares.{shares-left, shares-opened}
-use Rattle.share_ledger.proofs.LinkPlaces.{IsPlaced, placed}
+use Rattle.share_ledger.proofs.Places.{IsPlaced, placed}
 use Rattle.share_ledger.proofs.RouteLists.{routes-cons, routes-append}
 
 -- what is kept of a graph fits another with the same routes and the same tickets of the same flows

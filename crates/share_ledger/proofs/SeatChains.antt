@@ -8,7 +8,8 @@ use Rattle.std.proofs.lemmas.List.Sums.{sum_by-cons}
 use Rattle.share_model.specs.declared.funding.Holder.{Holder}
 use Rattle.share_model.specs.declared.funding.Holder.TheVariants.{Nobody, Currency, Flow}
 use Rattle.share_model.specs.declared.funding.Ticket.{Ticket}
-use Rattle.share_model.specs.funding.Graph.{NameBytes, base, Graph, is_held_by_currency, issued, leads_on, runs, is_deep}
+use Rattle.share_model.specs.funding.Graph.{NameBytes, base, Graph, is_held_by_currency, issued, leads_on, runs}
+use Rattle.share_model.specs.funding.Graph.{is_deep}
 use Rattle.share_model.specs.funding.SettleLaws.{runs-none}
 use Rattle.share_model.specs.funding.Kept.{names_of, times, IsKept}
 use Rattle.share_model.specs.lists.CountLaws.{any-filter}
@@ -20,7 +21,7 @@ use Rattle.share_ledger.specs.Places.{place}
 use Rattle.share_ledger.specs.Ranks.{is_tall}
 use Rattle.share_ledger.specs.Routes.{is_kind, holder_place}
 use Rattle.share_ledger.specs.Seats.{seats_at, seat_of, AreSeated, backs_of}
-use Rattle.share_ledger.proofs.LinkPlaces.{place-base, place-same, IsPlaced, placed}
+use Rattle.share_ledger.proofs.Places.{place-base, place-same, IsPlaced, placed}
 use Rattle.share_ledger.proofs.RouteWorths.{sum-routes, below}
 
 -- one that passes a test, and so stands for any other test that it passes
@@ -163,7 +164,8 @@ module _ (g : Graph) (ss : List (List Seat)) (seated : AreSeated (backs_of g) ss
         → runs ts (suc k) t.denomination ≡ true
     unfolding runs issued
     runs-on t d k held there on =
-        any-filter (λ (u : Ticket). bytes_eq t.denomination u.denomination) (λ (u : Ticket). leads_on (runs ts k) u.holder)
+        any-filter (λ (u : Ticket). bytes_eq t.denomination u.denomination)
+        (λ (u : Ticket). leads_on (runs ts k) u.holder)
         ts
         ∙ there (λ (u : Ticket). bytes_eq t.denomination u.denomination && leads_on (runs ts k) u.holder)
         (ap (λ b. b && leads_on (runs ts k) t.holder) (itself t.denomination) ∙ ap (leads_on (runs ts k)) held ∙ on)
@@ -205,7 +207,8 @@ module _ (g : Graph) (ss : List (List Seat)) (seated : AreSeated (backs_of g) ss
         other false e = e
     tall-runs (suc m) k a there tall on =
         let p = place (names_of g) a in
-        let one = found (IsPlaced g) (backs (is_tall ss from to m) p) ts known (last-step m p (below g ok a there) tall) in
+        let one = found (IsPlaced g) (backs (is_tall ss from to m) p) ts known
+        (last-step m p (below g ok a there) tall) in
         let back = backer (is_tall ss from to m) p one.0 one.1.1.0 in
         let same =
         same_name a back.holder

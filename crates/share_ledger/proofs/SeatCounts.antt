@@ -19,7 +19,7 @@ use Rattle.share_ledger.specs.Places.{place}
 use Rattle.share_ledger.specs.Nets.{GrowsBy}
 use Rattle.share_ledger.specs.Routes.{is_kind, flow_place, holder_place, routes_of}
 use Rattle.share_ledger.specs.Seats.{is_like, seats_at, seat_of, AreSeated, backs_of, funds_of}
-use Rattle.share_ledger.proofs.LinkPlaces.{place-same, IsPlaced, placed}
+use Rattle.share_ledger.proofs.Places.{place-same, IsPlaced, placed}
 use Rattle.share_ledger.proofs.Positions.{IsFirstAt}
 use Rattle.share_ledger.proofs.RouteLists.{flow-place-first}
 use Rattle.share_ledger.proofs.SeatChains.{any-sum, found}
@@ -113,10 +113,11 @@ funding-count g ok ss seated f i first =
 -- no holder has more than sixteen
 pub routes-few_at : (g : Graph) → IsKept g → (b : Bool) (p : ℕ)
     → sum_by (λ (r : Route). cond (nat_eq p r.to) 1 0) (routes_of g b g.tickets) ≤ 16
-routes-few_at g ok b p = elim (cases_lt 0 (sum_by (λ (r : Route). cond (nat_eq p r.to) 1 0) (routes_of g b g.tickets))) [
-  | inl some ↦ by b some
-  | inr none ↦ omega arith
-]
+routes-few_at g ok b p =
+    elim (cases_lt 0 (sum_by (λ (r : Route). cond (nat_eq p r.to) 1 0) (routes_of g b g.tickets))) [
+      | inl some ↦ by b some
+      | inr none ↦ omega arith
+    ]
   where
     both : (a b : Bool) → ◌≡◌ {A = ℕ} (cond a (cond b 1 0) 0) (cond (a && b) 1 0)
     both true b = refl
@@ -159,7 +160,8 @@ routes-few_at g ok b p = elim (cases_lt 0 (sum_by (λ (r : Route). cond (nat_eq 
         at-holder b t.0.holder t.1.0.holder_known t.1.1.0
 
 -- there is room for one seat more where that is so with it
-pub room-more : (g : Graph) → IsKept g → (b : Bool) (rs : List Route) (r : Route) (ss : List (List Seat)) → AreSeated rs ss
+pub room-more : (g : Graph) → IsKept g → (b : Bool) (rs : List Route) (r : Route) (ss : List (List Seat))
+    → AreSeated rs ss
     → r.to < 65 → GrowsBy true rs (routes_of g b g.tickets) r → length (seats_at ss r.to) < 16
 room-more g ok b rs r ss seated lt grows =
     let few = routes-few_at g ok b r.to in

@@ -10,7 +10,7 @@ use Rattle.share_model.specs.lists.Each.{Each}
 use Rattle.share_ledger.specs.declared.seats.Seat.{Seat}
 use Rattle.share_ledger.specs.Seats.{is_like, IsSeatWithin, taken}
 use Rattle.share_ledger.proofs.Positions.{IsFirstAt}
-use Rattle.share_ledger.proofs.Walks.{Each-at, sum_by-bound}
+use Rattle.share_ledger.proofs.Lists.{Each-at, sum_by-bound}
 
 -- the amounts of at most sixteen seats are small
 pub taken-bound : (ss : List Seat) (p : ℕ) → Each IsSeatWithin ss → length ss ≤ 16 → taken ss p ≤ 2 ^ 24

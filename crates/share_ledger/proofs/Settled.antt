@@ -23,7 +23,7 @@ use Rattle.share_model.specs.funding.SettleLaws.{any-same, act-unique, val-uniqu
 use Rattle.share_ledger.specs.declared.routes.Route.{Route}
 use Rattle.share_ledger.specs.declared.seats.Seat.{Seat}
 use Rattle.share_ledger.specs.Places.{place}
-use Rattle.share_ledger.specs.Rounds.{flags_of, numbers_of}
+use Rattle.share_ledger.specs.Arrays.{flags_of, numbers_of}
 use Rattle.share_ledger.specs.Routes.{flow_place, routes_of, gathered, carried, poured, valued}
 use Rattle.share_ledger.specs.Seats.{seat_worth, seats_at, weighed, AreSeated, AreCounted, AreAwake, AreValued}
 use Rattle.share_ledger.specs.Seats.{AreShared, HaveValues, IsSeatWithin, backs_of, funds_of}
@@ -31,7 +31,7 @@ use Rattle.share_ledger.specs.Ranks.{AreRanks}
 use Rattle.share_ledger.specs.declared.net.Net.{Net}
 use Rattle.share_ledger.specs.Nets.{IsBegun, IsReady, activity_of}
 use Rattle.share_ledger.specs.Shares.{shares_of}
-use Rattle.share_ledger.proofs.LinkPlaces.{place-base}
+use Rattle.share_ledger.proofs.Places.{place-base}
 use Rattle.share_ledger.proofs.NetSteps.{weighed-above}
 use Rattle.share_ledger.proofs.RouteLists.{share-at, activity-at}
 use Rattle.share_ledger.proofs.RouteWorths.{below, lead, gathered-is, whole-is, poured-currency, poured-flow}
@@ -245,7 +245,8 @@ module _ (g : Graph) (ok : IsKept g) (lit on : ℕ → Bool) (whole value : ℕ 
   round-values bs rank seated ranked zero p up lt low = let high = ranked.high p up lt in absurd (omega arith)
   round-values bs rank seated ranked (suc n) p up lt low =
       sym (weighed-poured (backs_of g) bs held (rounds n) whole p seated lt)
-      ∙ weighed-above bs held (rounds n) (rounds (suc n)) whole p (λ (s : Seat). IsSeatWithin s × (rank s.from < rank p))
+      ∙ weighed-above bs held (rounds n) (rounds (suc n)) whole p
+      (λ (s : Seat). IsSeatWithin s × (rank s.from < rank p))
       (each-two IsSeatWithin (λ (s : Seat). rank s.from < rank p) (seats_at bs p) (seated.within p lt)
       (ranked.above p up lt))
       (λ s made at. round-values bs rank seated ranked n s.from made at.0.from_place

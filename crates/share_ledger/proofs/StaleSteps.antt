@@ -13,7 +13,7 @@ use Rattle.share_ledger.specs.declared.net.Net.{Net}
 use Rattle.share_ledger.specs.declared.routes.Route.{Route}
 use Rattle.share_ledger.specs.declared.seats.Seat.{Seat}
 use Rattle.share_ledger.specs.Nets.{IsBegun, IsReady}
-use Rattle.share_ledger.specs.Rounds.{flags_of, numbers_of}
+use Rattle.share_ledger.specs.Arrays.{flags_of, numbers_of}
 use Rattle.share_ledger.specs.Seats.{IsSeatWithin, seat_worth, seats_at, weighed, AreAwake, AreShared}
 use Rattle.share_ledger.specs.Ranks.{AreOrdered}
 use Rattle.share_ledger.specs.Stale.{is_stale, WereValued, AreMoved, WasSettled, IsLeft}
@@ -224,12 +224,14 @@ module _ (ss : List (List Seat)) (order : ℕ → ℕ) (o : AreOrdered ss order)
 
       by : (b : Bool) → is_stale ss moved u s changed (order i) ≡ b → x k ≡ weighed ss awake x u k
       by true e =
-          valued-more ss order o i up lt awake w x u (weighed ss awake w u (order i)) (wrote e) refl valued k above below
+          valued-more ss order o i up lt awake w x u (weighed ss awake w u (order i)) (wrote e) refl
+          valued k above below
           under
       by false e =
           (fresh e).1 k
           ∙ fresh-valued moved v w s u ss order o i up lt awake changed lit were e left same valued k above below under
-          ∙ weighed-before ss awake w x u k (λ (y : Seat). Unit {0}) (anything (seats_at ss k)) (λ s _. sym ((fresh e).1 s.from))
+          ∙ weighed-before ss awake w x u k (λ (y : Seat). Unit {0}) (anything (seats_at ss k))
+          (λ s _. sym ((fresh e).1 s.from))
 
 -- the tickets of flows that were computed anew, or did not have to be
 pub shared-still : (moved : ℕ → Bool) (v w s u : ℕ → ℕ) (fs : List (List Seat)) (on : ℕ → Bool) (old next : ℕ → ℕ)

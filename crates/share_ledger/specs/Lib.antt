@@ -1,9 +1,10 @@
+pub mod Arrays
 pub mod Bounds
+pub mod Chains
 pub mod Nets
 pub mod Numbers
 pub mod Places
 pub mod Ranks
-pub mod Rounds
 pub mod Routes
 pub mod Seats
 pub mod Shares

@@ -4,7 +4,7 @@ use Rattle.share_model.specs.declared.funding.OpenFlow.{OpenFlow}
 use Rattle.share_model.specs.funding.Graph.{NameBytes, Graph}
 use Rattle.share_ledger.specs.declared.net.Net.{Net}
 use Rattle.share_ledger.specs.declared.routes.Route.{Route}
-use Rattle.share_ledger.specs.Rounds.{flags_of, numbers_of}
+use Rattle.share_ledger.specs.Arrays.{flags_of, numbers_of}
 use Rattle.share_ledger.specs.Ranks.{AreRanks, AreListed}
 use Rattle.share_ledger.specs.Seats.{backs_of, funds_of, AreSeated, AreCounted, AreAwake, AreValued}
 use Rattle.share_ledger.specs.Seats.{AreShared, AreSmall}

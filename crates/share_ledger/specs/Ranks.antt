@@ -6,7 +6,7 @@ use Rattle.share_model.specs.funding.Graph.{Graph}
 use Rattle.share_model.specs.lists.Each.{Each}
 use Rattle.share_ledger.specs.declared.net.Net.{Net}
 use Rattle.share_ledger.specs.declared.seats.Seat.{Seat}
-use Rattle.share_ledger.specs.Rounds.{numbers_of}
+use Rattle.share_ledger.specs.Arrays.{numbers_of}
 use Rattle.share_ledger.specs.Seats.{seats_at, AreSeated, backs_of}
 
 -- each currency besides `base` has a rank of 1 to 8, above those of the places that its seats come from
@@ -43,8 +43,8 @@ is_tall ss from to (suc n) p =
 abbrev pub AreLongest : List (List Seat) → ℕ → ℕ → (ℕ → ℕ) → Type 0
 AreLongest ss from to rank = (p n : ℕ) → 0 < p → p < 65 → n < rank p → is_tall ss from to n p ≡ true
 
--- Ranks are given from 1 on: the places of ranks below one are listed, and of this rank itself those before a place. The
--- others have no rank, for which 9 stands.
+-- Ranks are given from 1 on: the places of ranks below one are listed, and of this rank itself those before a place.
+-- The others have no rank, for which 9 stands.
 pub record AreRankedTo (ss : List (List Seat)) (from to : ℕ) (ranks order : List ℕ) (count most upto : ℕ) : Type 0 where
   pub ranks_long : length ranks ≡ 65
   pub order_long : length order ≡ 65
@@ -70,7 +70,8 @@ pub record AreRankedTo (ss : List (List Seat)) (from to : ℕ) (ranks order : Li
 abbrev pub IsBelow : List (List Seat) → ℕ → ℕ → Type 0
 IsBelow ss from to = (rank : ℕ → ℕ) × (AreRanks ss rank × (rank from < rank to))
 
--- the seats are those of the currencies of a graph, and have these ranks
+-- the seats are those of the currencies of a graph, and have these ranks, in this order
 pub record AreBacking (g : Graph) (n : Net) : Type 0 where
   pub seated : AreSeated (backs_of g) n.backing.items
   pub ranked : AreRanks n.backing.items (numbers_of n.ranks.value)
+  pub listed : AreListed (numbers_of n.ranks.value) (numbers_of n.order.value)

@@ -5,7 +5,7 @@ use Rattle.std.specs.List.{list_any}
 use Rattle.share_ledger.specs.declared.net.Net.{Net}
 use Rattle.share_ledger.specs.declared.seats.Seat.{Seat}
 use Rattle.share_ledger.specs.declared.stale.Moved.{Moved}
-use Rattle.share_ledger.specs.Rounds.{flags_of, numbers_of}
+use Rattle.share_ledger.specs.Arrays.{flags_of, numbers_of}
 use Rattle.share_ledger.specs.Seats.{seats_at, weighed}
 
 -- the value of a currency may be another one: it is the one that changed, its weight is another, or the place of a

@@ -3,8 +3,8 @@ ghost use Rattle.std.specs.Prelude.{◌≡◌, ◌<◌, length, true, nat_lt};
 ghost use Rattle.std.specs.List.{list_all};
 ghost use Rattle.share_ledger.specs.Bounds.{AreBefore};
 
-use crate::rounds::PLACES;
 use crate::seats::{Seat, Seats};
+use crate::tables::PLACES;
 
 fn come_before(seats: &[Seat], place: usize) -> bool
     ensures { result ≡ list_all (λ s. nat_lt s.from place) seats.now }

@@ -1,24 +1,24 @@
 //! What commands do to the net: a ticket that comes to fund or ceases to.
-ghost use Rattle.std.specs.Prelude.{◌≡◌, ◌<◌, ℕ, length, true, false, not};
+ghost use Rattle.std.specs.Prelude.{◌≡◌, ◌<◌, ℕ, Bool, length, true, false, not};
 ghost use Rattle.std.specs.Prelude.{take, if◌then◌else◌};
 ghost use Rattle.share_model.specs.lists.Each.{Each};
-ghost use Rattle.share_ledger.specs.Ranks.{AreRanks, IsBelow};
-ghost use Rattle.share_ledger.specs.Rounds.{numbers_of};
+ghost use Rattle.share_ledger.specs.Chains.{AreBacked};
+ghost use Rattle.share_ledger.specs.Ranks.{AreRanks, AreListed, IsBelow, is_tall};
+ghost use Rattle.share_ledger.specs.Arrays.{numbers_of};
 ghost use Rattle.share_ledger.specs.Routes.{IsRouteWithin};
 ghost use Rattle.share_ledger.specs.Seats.{IsSeatWithin, seats_at, backs_of, funds_of};
 ghost use Rattle.share_ledger.specs.Nets.{activity_of, ComesToFund, CeasesToFund, IsBegun};
 ghost use Rattle.share_ledger.specs.Stale.{IsLeft};
 
 use crate::net::{self, Net};
-use crate::ranks;
-use crate::rounds::PLACES;
 use crate::routes::Route;
-use crate::tables::Tables;
+use crate::tables::{PLACES, Tables};
 use crate::turns::{counted, seat, unseat};
+use crate::{chains, ranks};
 
 impl Net {
-    /// Whether all currencies have ranks with one more seat, from a place at another one. Where they have, the seat makes no
-    /// chain too long, and none that leads back.
+    /// Whether all currencies have ranks with one more seat, from a place at another one: the seat makes no chain too
+    /// long, and none that leads back. It may be that the ranks that are kept show it.
     pub(crate) fn has_ranks(&self, from: usize, to: usize) -> bool
         requires within { (p : ℕ) → p < 65 → Each IsSeatWithin (seats_at self.now.backing.items p) }
         requires places { length self.now.backing.items ≡ 65 }
@@ -26,7 +26,9 @@ impl Net {
         requires from_place { from < 65 }
         requires made { 0 < to }
         requires to_place { to < 65 }
-        ensures { result ≡ true → IsBelow self.now.backing.items from to }
+        ensures below { result ≡ true → IsBelow self.now.backing.items from to }
+        ensures deep { result ≡ false
+            → (p : ℕ) × ((0 < p) × ((p < 65) × (is_tall self.now.backing.items from to 8 p ≡ true))) }
     {
         if self.ranks[from] < self.ranks[to] {
             return true;
@@ -34,6 +36,19 @@ impl Net {
         let mut ranks = [0; PLACES];
         let mut order = [0; PLACES];
         ranks::list(&self.backing, from, to, &mut ranks, &mut order)
+    }
+
+    /// Whether the currency at one place is that at another or backs it, by however many steps.
+    pub(crate) fn backs(&self, first: usize, place: usize) -> bool
+        requires within { (p : ℕ) → p < 65 → Each IsSeatWithin (seats_at self.now.backing.items p) }
+        requires places { length self.now.backing.items ≡ 65 }
+        requires ranked { AreRanks self.now.backing.items (numbers_of self.now.ranks.value) }
+        requires listed { AreListed (numbers_of self.now.ranks.value) (numbers_of self.now.order.value) }
+        requires place { place < 65 }
+        ensures { (flag : ℕ → Bool) × (AreBacked self.now.backing.items first flag × (result ≡ flag place)) }
+    {
+        let flags = chains::backed_by(&self.backing, &self.order, first);
+        flags[place]
     }
 
     // One more ticket backs a currency.

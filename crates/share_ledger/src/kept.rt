@@ -4,7 +4,7 @@ ghost use Rattle.std.specs.Prelude.{slice_index_or, IfOk, IfSome};
 ghost use Rattle.std.specs.Prelude.{if◌then◌else◌};
 ghost use Rattle.share_ledger.specs.Bounds.{AreBefore};
 ghost use Rattle.share_ledger.specs.Nets.{activity_of, ComesToFund, CeasesToFund, IsBegun, IsReady};
-ghost use Rattle.share_ledger.specs.Rounds.{flags_of};
+ghost use Rattle.share_ledger.specs.Arrays.{flags_of};
 ghost use Rattle.share_ledger.specs.Routes.{IsRouteWithin, routes_of};
 ghost use Rattle.share_ledger.specs.Seats.{backs_of, funds_of};
 ghost use Rattle.share_ledger.specs.Shares.{AreKept};

@@ -2,13 +2,13 @@
 //!
 //! A `Ledger` is seen as the `Graph` of share_model's room of funding. Each command changes it as `Changes`
 //! says, or is refused by the table there with nothing changed, and `tickets` gives the tickets of a flow on
-//! the graph as it is. What weighs on each currency and what it is worth is kept by its place: a change goes up
-//! by weights and down by values, in one pass over the places each. Where a currency is backed by one that was made
-//! later, rounds over all tickets stand for the passes, one for each step that a chain may have. Never is there a
-//! walk over the paths, of which there can be 16^9 from `base` to a flow.
+//! the graph as it is. What weighs on each currency and what it is worth is kept by its place, with a rank above those
+//! of the currencies that back it: a change goes up by weights and down by values, in one pass over the places each,
+//! rank by rank. Never is there a walk over the paths, of which there can be 16^9 from `base` to a flow.
 #![tactic(auto)]
 
 mod bounds;
+mod chains;
 mod funds;
 mod holders;
 mod kept;
@@ -16,7 +16,6 @@ mod laws;
 mod ledger;
 mod net;
 mod ranks;
-mod rounds;
 mod routes;
 mod seats;
 mod settles;

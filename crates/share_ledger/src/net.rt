@@ -1,23 +1,22 @@
 //! What the funding of each currency and of each flow comes to. Amounts go upwards, from a holder to what its seats are
-//! denominated in, and values downwards. Each seat of a currency comes from a place of a lower rank, so one pass over the
-//! places rank by rank settles either.
+//! denominated in, and values downwards. Each seat of a currency comes from a place of a lower rank, so one pass over
+//! the places rank by rank settles either.
 ghost use Rattle.std.specs.Prelude.{◌≡◌, ℕ, ◌+◌, ◌-◌, ◌*◌, ◌/◌, ◌^◌, ◌<◌, ◌≤◌, min, length, sum_by, true, false, not};
 ghost use Rattle.std.specs.Prelude.{nat_eq, nat_lt, if◌then◌else◌};
 ghost use Rattle.std.specs.List.{list_all};
 ghost use Rattle.share_model.specs.lists.Each.{Each};
-ghost use Rattle.share_ledger.specs.Rounds.{flags_of, numbers_of};
+ghost use Rattle.share_ledger.specs.Arrays.{flags_of, numbers_of};
 ghost use Rattle.share_ledger.specs.Ranks.{AreOrdered};
 ghost use Rattle.share_ledger.specs.Seats.{IsSeatWithin, taken, seat_worth, seats_at, AreSeated};
 ghost use Rattle.share_ledger.specs.Seats.{AreCounted, AreAwake, AreValued, AreSmall, HaveValues, AreShared};
 ghost use Rattle.share_ledger.specs.Seats.{weighed, backs_of, funds_of};
 
-use crate::rounds::PLACES;
 use crate::seats::{Seat, Seats};
-use crate::tables::{MAX_AMOUNT, MAX_FLOWS, Tables};
+use crate::tables::{MAX_AMOUNT, MAX_FLOWS, PLACES, Tables};
 
 /// The seats of the currencies and of the flows by their places, which flows are active and which currencies awake,
-/// what weighs on each place and weighed on it when all was settled last, the value of each currency, and its rank, with
-/// the places listed rank by rank.
+/// what weighs on each place and weighed on it when all was settled last, the value of each currency, and its rank,
+/// with the places listed rank by rank.
 #[derive(Drop)]
 pub(crate) struct Net {
     pub(crate) backing: Vec<Seats>,

@@ -3,13 +3,12 @@
 ghost use Rattle.std.specs.Prelude.{◌≡◌, ◌+◌, ◌<◌, ◌≤◌, ◌&&◌, ◌||◌, ℕ, length, true, false, not, nat_eq, nat_lt};
 ghost use Rattle.std.specs.List.{list_all};
 ghost use Rattle.share_model.specs.lists.Each.{Each};
-ghost use Rattle.share_ledger.specs.Rounds.{numbers_of};
+ghost use Rattle.share_ledger.specs.Arrays.{numbers_of};
 ghost use Rattle.share_ledger.specs.Seats.{IsSeatWithin, seats_at, AreSeated, backs_of};
 ghost use Rattle.share_ledger.specs.Ranks.{AreRanks, AreListed, AreLongest, AreRankedTo, is_tall};
 
-use crate::rounds::PLACES;
 use crate::seats::{Seat, Seats};
-use crate::tables::Tables;
+use crate::tables::{PLACES, Tables};
 
 /// One more than the greatest rank: what stands for the rank of a place that has none yet.
 const NO_RANK: u8 = 9;
@@ -164,7 +163,8 @@ pub(crate) fn renew(
     requires seated { AreSeated (backs_of tables.now) backing.now }
     requires from_place { from < 65 }
     requires to_place { to < 65 }
-    requires ranked { numbers_of ranks.old from < numbers_of ranks.old to → AreRanks backing.now (numbers_of ranks.old) }
+    requires ranked { numbers_of ranks.old from < numbers_of ranks.old to
+        → AreRanks backing.now (numbers_of ranks.old) }
     requires listed { AreListed (numbers_of ranks.old) (numbers_of order.old) }
     ensures ranked { AreRanks backing.now (numbers_of ranks.new) }
     ensures listed { AreListed (numbers_of ranks.new) (numbers_of order.new) }

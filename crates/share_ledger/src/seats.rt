@@ -4,9 +4,10 @@ ghost use Rattle.std.specs.Prelude.{◌^◌, ◌%◌};
 ghost use Rattle.std.specs.List.{list_any};
 ghost use Rattle.share_model.specs.lists.Each.{Each};
 ghost use Rattle.share_ledger.specs.declared.seats.Seat.{Seat};
-ghost use Rattle.share_ledger.specs.Seats.{is_like, ComesFrom};
+ghost use Rattle.share_ledger.specs.Arrays.{flags_of};
+ghost use Rattle.share_ledger.specs.Seats.{is_like, ComesFrom, IsSeatWithin};
 
-use crate::tables::MAX_FUNDING;
+use crate::tables::{MAX_FUNDING, PLACES};
 use std::marker::Model;
 
 /// A ticket that funds: where its denomination stands among the currencies, and its amount.
@@ -123,4 +124,17 @@ fn sources_of(seats: &[Seat]) -> u64
         sources |= bit_of(seat.from as usize);
     }
     sources
+}
+
+/// Whether one of some seats comes from a flagged place.
+pub(crate) fn come_from(seats: &[Seat], flags: &[bool; PLACES]) -> bool
+    requires { Each IsSeatWithin seats.now }
+    ensures { result ≡ list_any (λ s. flags_of flags.now s.from) seats.now }
+{
+    for seat in seats {
+        if flags[seat.from as usize] {
+            return true;
+        }
+    }
+    false
 }

@@ -12,7 +12,8 @@ impl Net {
     /// What follows from the seats and the activity: what is awake, the values, and the tickets of the flows.
     pub(crate) fn settle(&mut self, tables: &Tables, shares: &mut [u32; MAX_FLOWS])
         requires { IsBegun self.old (backs_of tables.now) (funds_of tables.now) (activity_of tables.now) }
-        ensures ready { IsReady self.new shares.new (backs_of tables.now) (funds_of tables.now) (activity_of tables.now) }
+        ensures ready { IsReady self.new shares.new (backs_of tables.now) (funds_of tables.now)
+            (activity_of tables.now) }
         ensures long { length shares.new ≡ 64 }
     {
         tables.is_kept();
@@ -51,7 +52,8 @@ impl Net {
     )
         requires begun { IsBegun self.old (backs_of tables.now) (funds_of tables.now) (activity_of tables.now) }
         requires was { WasSettled self.old shares.old currency flow }
-        ensures ready { IsReady self.new shares.new (backs_of tables.now) (funds_of tables.now) (activity_of tables.now) }
+        ensures ready { IsReady self.new shares.new (backs_of tables.now) (funds_of tables.now)
+            (activity_of tables.now) }
         ensures long { length shares.new ≡ 64 }
     {
         tables.is_kept();
@@ -94,7 +96,8 @@ impl Net {
     )
         requires begun { IsBegun self.old (backs_of tables.now) (funds_of tables.now) (activity_of tables.now) }
         requires was { WasSettled self.old shares.old currency flow }
-        ensures ready { IsReady self.new shares.new (backs_of tables.now) (funds_of tables.now) (activity_of tables.now) }
+        ensures ready { IsReady self.new shares.new (backs_of tables.now) (funds_of tables.now)
+            (activity_of tables.now) }
         ensures long { length shares.new ≡ 64 }
     {
         if currency == 0 && flow < MAX_FLOWS && net::are_same(&self.weights, &self.seen) {

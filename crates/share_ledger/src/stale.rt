@@ -1,18 +1,17 @@
 //! What follows where a few weights have changed: only the values and the tickets that rest on them are computed anew.
-ghost use Rattle.std.specs.Prelude.{◌≡◌, ◌<◌, ◌≤◌, ◌+◌, ◌^◌, ◌&&◌, ◌||◌, ℕ, Bool, None, length, min, nat_eq, not, true, false};
-ghost use Rattle.std.specs.Prelude.{◌*◌, IfSome, if◌then◌else◌};
+ghost use Rattle.std.specs.Prelude.{◌≡◌, ◌<◌, ◌≤◌, ◌+◌, ◌^◌, ◌&&◌, ◌||◌, ℕ, Bool, None, length, min, nat_eq, not};
+ghost use Rattle.std.specs.Prelude.{◌*◌, IfSome, if◌then◌else◌, true, false};
 ghost use Rattle.std.specs.List.{list_any};
 ghost use Rattle.share_model.specs.lists.Each.{Each};
-ghost use Rattle.share_ledger.specs.Rounds.{flags_of, numbers_of};
+ghost use Rattle.share_ledger.specs.Arrays.{flags_of, numbers_of};
 ghost use Rattle.share_ledger.specs.Ranks.{AreOrdered};
 ghost use Rattle.share_ledger.specs.Seats.{IsSeatWithin, seats_at, weighed, AreSmall, AreAwake, AreValued, HaveValues};
 ghost use Rattle.share_ledger.specs.Stale.{is_stale, is_touched, WereValued, HaveBits, AreMoved};
 ghost use Rattle.share_ledger.specs.Stale.{AreUntouched};
 
 use crate::net;
-use crate::rounds::PLACES;
-use crate::seats::{Seat, Seats, bit_of};
-use crate::tables::MAX_FLOWS;
+use crate::seats::{Seats, bit_of, come_from};
+use crate::tables::{MAX_FLOWS, PLACES};
 
 /// The places whose value or weight is another one: a flag of each, and the bits of those that are flagged.
 #[derive(Clone, Copy, Debug)]
@@ -43,19 +42,6 @@ fn flag(moved: &mut Moved, place: usize, flagged: bool)
     if flagged {
         moved.bits |= bit_of(place);
     }
-}
-
-// Whether one of some seats comes from a flagged place.
-fn come_from(seats: &[Seat], flags: &[bool; PLACES]) -> bool
-    requires { Each IsSeatWithin seats.now }
-    ensures { result ≡ list_any (λ s. flags_of flags.now s.from) seats.now }
-{
-    for seat in seats {
-        if flags[seat.from as usize] {
-            return true;
-        }
-    }
-    false
 }
 
 // Whether a seat of a holder comes from a flagged place. Mostly none does, and then mostly no bit is the same.
@@ -142,8 +128,8 @@ fn renew_at(
     requires bits { HaveBits moved.old }
     ensures small { AreSmall (numbers_of values.new) }
     ensures bits { HaveBits moved.new }
-    ensures fresh { is_stale backing.now (flags_of moved.old.flags) (numbers_of weights.now) (numbers_of seen.now) changed
-        place ≡ false → (moved.new ≡ moved.old) × (values.new ≡ values.old) }
+    ensures fresh { is_stale backing.now (flags_of moved.old.flags) (numbers_of weights.now) (numbers_of seen.now)
+        changed place ≡ false → (moved.new ≡ moved.old) × (values.new ≡ values.old) }
     ensures values { is_stale backing.now (flags_of moved.old.flags) (numbers_of weights.now)
         (numbers_of seen.now) changed place ≡ true → (k : ℕ) → numbers_of values.new k
         ≡ (if nat_eq place k then weighed backing.now (flags_of awake.now) (numbers_of values.old)

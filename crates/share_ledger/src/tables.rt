@@ -1,14 +1,14 @@
 //! The tables of the ledger, and what is looked up in them.
 ghost use Rattle.std.specs.Prelude.{◌≡◌, length, bytes_eq, nat_eq, map, position, option_map};
-ghost use Rattle.std.specs.Prelude.{option_copied, slice_get, Some, MatchOption, IsTrue, ◌-◌};
+ghost use Rattle.std.specs.Prelude.{option_copied, slice_get, Some, MatchOption, IsTrue, ◌-◌, ◌≤◌, ◌<◌, IfSome};
 ghost use Rattle.share_model.specs.funding.Graph.{base, empty_graph};
 ghost use Rattle.share_model.specs.funding.Changes.{ticket_of, is_currency, flow_named, is_numbered};
-ghost use Rattle.share_model.specs.funding.Kept.{IsKept};
+ghost use Rattle.share_model.specs.funding.Kept.{IsKept, names_of, times};
+ghost use Rattle.share_ledger.specs.Places.{place};
 ghost use Rattle.share_model.specs.declared.funding.OpenFlow.{OpenFlow};
 
 mod changes;
 mod counts;
-mod links;
 mod refusals;
 mod routes;
 
@@ -21,6 +21,9 @@ use std::marker::Model;
 
 /// The most currencies besides `base`.
 pub(crate) const MAX_CURRENCIES: usize = 64;
+
+/// The places of currencies: that of `base`, and 64 more.
+pub(crate) const PLACES: usize = 65;
 
 /// The most tickets at once.
 pub(crate) const MAX_TICKETS: usize = 1024;
@@ -135,6 +138,35 @@ impl Tables {
         ensures { result ≡ flow_named self.now name }
     {
         self.flows.get(&name).copied()
+    }
+
+    /// The place of a currency: 0 for `base`, then the order in which they were made.
+    fn place_of(&self, name: Name) -> usize
+        requires { 1 ≤ times name (names_of self.now) }
+        ensures value { result ≡ place (names_of self.now) name }
+        ensures within { result < 65 }
+    {
+        self.is_kept();
+        if is_base(name) {
+            return 0;
+        }
+        match self.currencies.get_index_of(&name) {
+            Some(place) => place + 1,
+            None => 0,
+        }
+    }
+
+    /// The place of a currency that was made, if it is there.
+    pub(crate) fn place_made(&self, name: Name) -> Option<usize>
+        ensures { IfSome result (λ p. p ≡ place (names_of self.now) name) }
+    {
+        if is_base(name) {
+            return None;
+        }
+        match self.currencies.get_index_of(&name) {
+            Some(place) => Some(place + 1),
+            None => None,
+        }
     }
 
     /// The number of the open flow of this name.

@@ -5,7 +5,7 @@ ghost use Rattle.std.specs.Prelude.{◌^◌, min, slice_set, if◌then◌else◌
 ghost use Rattle.std.specs.Prelude.{◌≤◌};
 ghost use Rattle.std.specs.List.{list_all, list_any};
 ghost use Rattle.share_model.specs.lists.Each.{Each};
-ghost use Rattle.share_ledger.specs.Rounds.{flags_of, numbers_of};
+ghost use Rattle.share_ledger.specs.Arrays.{flags_of, numbers_of};
 ghost use Rattle.share_ledger.specs.Routes.{IsRouteWithin};
 ghost use Rattle.share_ledger.specs.Seats.{seats_at, seat_of, is_like, AreSeated, AreCounted, backs_of, funds_of};
 ghost use Rattle.share_ledger.specs.Seats.{IsSeatWithin, AreSmall, weighed};
@@ -13,10 +13,9 @@ ghost use Rattle.share_ledger.specs.Nets.{activity_of, IsBegun};
 
 use crate::net::{self, Net};
 use crate::ranks;
-use crate::rounds::PLACES;
 use crate::routes::Route;
 use crate::seats::{Seat, Seats};
-use crate::tables::{MAX_FLOWS, Tables};
+use crate::tables::{MAX_FLOWS, PLACES, Tables};
 use std::alloc::{AllocError, Global};
 
 // So many holders without seats.

@@ -1,8 +1,11 @@
-//! How many tickets fund a holder, and whether the currencies keep ranks where one more does: by the seats that are kept.
-ghost use Rattle.std.specs.Prelude.{◌≡◌, length, true, false, bytes_eq};
+//! How many tickets fund a holder, and whether one more would lead back or be too much: by the seats that are kept.
+ghost use Rattle.std.specs.Prelude.{◌≡◌, length, true, false, bytes_eq, [], ◌∷◌, is_some};
+ghost use Rattle.share_base.specs.Refusal.{first_refusal};
+ghost use Rattle.share_base.specs.declared.refusal.Refusal as Refusal;
 ghost use Rattle.share_model.specs.declared.funding.Holder.TheVariants.{Currency};
 ghost use Rattle.share_model.specs.funding.Graph.{base, backing, funding, chain_within, is_deep};
-ghost use Rattle.share_model.specs.funding.Changes.{is_currency, ticket_of, found_denomination, with_holder};
+ghost use Rattle.share_model.specs.funding.Changes.{is_currency, ticket_of, is_found_held, found_denomination};
+ghost use Rattle.share_model.specs.funding.Changes.{with_holder};
 ghost use Rattle.share_ledger.specs.Ranks.{AreBacking};
 ghost use Rattle.share_ledger.specs.Seats.{AreSeated, funds_of};
 
@@ -10,7 +13,7 @@ use super::Tables;
 use crate::holders;
 use crate::net::Net;
 use crate::seats::Seats;
-use share_base::{FlowNo, Name};
+use share_base::{FlowNo, Name, Refusal};
 
 impl Tables {
     /// How many tickets fund a currency.
@@ -48,20 +51,30 @@ impl Tables {
             .count()
     }
 
-    /// Whether ranks of the currencies show that no chain would lead back or be too long if a ticket funded one.
-    pub(super) fn is_above(&self, number: u64, currency: Name, net: &Net) -> bool
+    /// Cycle or Deep, where the currency cannot be funded by this ticket for one of them.
+    pub(super) fn chain_refusal(&self, number: u64, currency: Name, net: &Net) -> Option<Refusal>
         requires known { is_currency self.now currency ≡ true }
         requires made { bytes_eq currency base ≡ false }
+        requires free { is_found_held (ticket_of self.now number) ≡ false }
         requires seated { AreBacking self.now net.now }
-        ensures { result ≡ true
-            → (chain_within self.now.tickets 8 currency (found_denomination (ticket_of self.now number)) ≡ false)
-            × (is_deep (with_holder number (Currency currency) self.now.tickets) ≡ false) }
+        ensures { is_some (ticket_of self.now number) ≡ true
+            → result ≡ first_refusal (
+            (chain_within self.now.tickets 8 currency (found_denomination (ticket_of self.now number)), Refusal.Cycle)
+            ∷ (is_deep (with_holder number (Currency currency) self.now.tickets), Refusal.Deep)
+            ∷ []) }
     {
         self.is_kept();
         let Some(ticket) = self.ticket(number) else {
-            return false;
+            return None;
         };
         let from = self.place_of(ticket.denomination);
-        net.has_ranks(from, self.place_of(currency))
+        let to = self.place_of(currency);
+        if net.has_ranks(from, to) {
+            return None;
+        }
+        if net.backs(to, from) {
+            return Some(Refusal::Cycle);
+        }
+        Some(Refusal::Deep)
     }
 }

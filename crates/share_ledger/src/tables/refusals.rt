@@ -103,10 +103,7 @@ impl Tables {
         if self.count_backing(currency, net) >= MAX_FUNDING {
             return Some(Refusal::Crowded);
         }
-        if self.is_above(number, currency, net) {
-            return None;
-        }
-        self.chain_refusal(number, currency)
+        self.chain_refusal(number, currency, net)
     }
 
     /// `net` has the seats of the flows.

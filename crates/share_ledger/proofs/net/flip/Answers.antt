@@ -1,5 +1,5 @@
 use Rattle.std.proofs.Common.{◌≡◌, ◌+◌, ℕ, true, false, [], set, ap, ◌∙◌, arith}
-use Rattle.share_ledger.specs.Rounds.{flags_of, numbers_of}
+use Rattle.share_ledger.specs.Arrays.{flags_of, numbers_of}
 use Rattle.share_ledger.specs.Seats.{taken, backs_of, funds_of}
 use Rattle.share_ledger.proofs.NetSteps.{array-set, at-default, woken, rested-held, rested, counted-bound}
 use Rattle.share_ledger.proofs.net.flip.Goals as goal

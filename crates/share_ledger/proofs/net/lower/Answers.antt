@@ -1,4 +1,4 @@
-use Rattle.share_ledger.specs.Rounds.{numbers_of}
+use Rattle.share_ledger.specs.Arrays.{numbers_of}
 use Rattle.share_ledger.proofs.SeatSums.{lower-fits}
 use Rattle.share_ledger.proofs.net.lower.Goals as goal
 

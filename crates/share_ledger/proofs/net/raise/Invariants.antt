@@ -1,5 +1,5 @@
 use Rattle.std.proofs.Common.{◌≡◌, ◌<◌, ◌+◌, ℕ, take, length, slice_index_or}
-use Rattle.share_ledger.specs.Rounds.{numbers_of}
+use Rattle.share_ledger.specs.Arrays.{numbers_of}
 use Rattle.share_ledger.specs.Seats.{taken}
 use Rattle.share_ledger.proofs.net.raise.Given as goal
 

@@ -1,6 +1,6 @@
 use Rattle.std.proofs.Common.{rules, ◌≤◌, ◌*◌, ◌^◌, ℕ, Bool, true, false, cond, nat_eq, set, sym, subst, ◌∙◌, arith}
 use Rattle.std.proofs.lemmas.List.{length-set}
-use Rattle.share_ledger.specs.Rounds.{flags_of, numbers_of}
+use Rattle.share_ledger.specs.Arrays.{flags_of, numbers_of}
 use Rattle.share_ledger.proofs.NetSteps.{array-set, valued-more, next-small}
 use Rattle.share_ledger.proofs.StaleSteps.{order-above}
 use Rattle.share_ledger.proofs.net.revalue.Goals as goal

@@ -1,6 +1,6 @@
 use Rattle.std.proofs.Common.{◌≡◌, ◌<◌, ◌-◌, ℕ, nat_lt}
 use Rattle.share_ledger.specs.Ranks.{AreOrdered}
-use Rattle.share_ledger.specs.Rounds.{flags_of, numbers_of}
+use Rattle.share_ledger.specs.Arrays.{flags_of, numbers_of}
 use Rattle.share_ledger.specs.Seats.{AreCounted, backs_of, funds_of}
 use Rattle.share_ledger.proofs.net.spread.Given as goal
 

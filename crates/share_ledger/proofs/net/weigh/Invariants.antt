@@ -1,5 +1,5 @@
 use Rattle.std.proofs.Common.{◌≡◌, ◌≤◌, ◌*◌, ◌^◌, take, sum_by}
-use Rattle.share_ledger.specs.Rounds.{numbers_of}
+use Rattle.share_ledger.specs.Arrays.{numbers_of}
 use Rattle.share_ledger.specs.Seats.{seat_worth}
 use Rattle.share_ledger.proofs.net.weigh.Given as goal
 

@@ -1,7 +1,7 @@
 use Rattle.std.proofs.Common.{◌≡◌, true, take, nat_lt}
 use Rattle.std.specs.List.{list_all}
 use Rattle.share_ledger.specs.declared.seats.Seat.{Seat}
-use Rattle.share_ledger.specs.Rounds.{numbers_of}
+use Rattle.share_ledger.specs.Arrays.{numbers_of}
 use Rattle.share_ledger.proofs.ranks.are_below.Given as goal
 
 abbrev pub invariant-loop-seat : goal.invariant-loop-seat

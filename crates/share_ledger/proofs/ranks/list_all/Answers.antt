@@ -1,6 +1,6 @@
 use Rattle.std.proofs.Common.{◌≡◌, Bool, true, false, refl}
 use Rattle.share_ledger.specs.Ranks.{AreRanks, AreListed}
-use Rattle.share_ledger.specs.Rounds.{numbers_of}
+use Rattle.share_ledger.specs.Arrays.{numbers_of}
 use Rattle.share_ledger.proofs.SeatChains.{never-tall}
 use Rattle.share_ledger.proofs.ranks.list_all.Goals as goal
 

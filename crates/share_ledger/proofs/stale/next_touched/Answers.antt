@@ -1,5 +1,5 @@
 use Rattle.std.proofs.Common.{◌+◌, arith}
-use Rattle.share_ledger.specs.Rounds.{flags_of}
+use Rattle.share_ledger.specs.Arrays.{flags_of}
 use Rattle.share_ledger.proofs.StaleStretches.{untouched-more}
 use Rattle.share_ledger.proofs.stale.next_touched.Goals as goal
 

@@ -1,5 +1,5 @@
 use Rattle.std.proofs.Common.{◌≤◌, ◌-◌}
-use Rattle.share_ledger.specs.Rounds.{flags_of}
+use Rattle.share_ledger.specs.Arrays.{flags_of}
 use Rattle.share_ledger.specs.Stale.{AreUntouched}
 use Rattle.share_ledger.proofs.stale.next_touched.Given as goal
 

@@ -1,7 +1,7 @@
 use Rattle.std.proofs.Common.{◌≡◌, ◌<◌, ◌≤◌, ◌-◌, ◌^◌, ◌&&◌, ◌||◌, ℕ, length, min, nat_eq, if◌then◌else◌}
 use Rattle.std.specs.List.{list_any}
 use Rattle.share_ledger.specs.declared.seats.Seat.{Seat}
-use Rattle.share_ledger.specs.Rounds.{flags_of, numbers_of}
+use Rattle.share_ledger.specs.Arrays.{flags_of, numbers_of}
 use Rattle.share_ledger.specs.Seats.{seats_at, weighed}
 use Rattle.share_ledger.proofs.stale.reshare.Given as goal
 

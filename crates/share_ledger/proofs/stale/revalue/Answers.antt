@@ -1,5 +1,5 @@
 use Rattle.std.proofs.Common.{rules, ◌≡◌, ◌<◌, ℕ, List, false, refl, ap, arith}
-use Rattle.share_ledger.specs.Rounds.{flags_of, numbers_of}
+use Rattle.share_ledger.specs.Arrays.{flags_of, numbers_of}
 use Rattle.share_ledger.specs.Stale.{is_stale}
 use Rattle.share_ledger.specs.declared.stale.Moved.{Moved}
 use Rattle.share_ledger.proofs.NetSteps.{next-small}

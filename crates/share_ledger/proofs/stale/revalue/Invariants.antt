@@ -1,6 +1,6 @@
 use Rattle.std.proofs.Common.{◌≡◌, ◌≤◌, ◌<◌, ℕ, false}
 use Rattle.share_ledger.specs.Ranks.{AreOrdered}
-use Rattle.share_ledger.specs.Rounds.{flags_of, numbers_of}
+use Rattle.share_ledger.specs.Arrays.{flags_of, numbers_of}
 use Rattle.share_ledger.specs.Seats.{AreSmall, weighed}
 use Rattle.share_ledger.specs.Stale.{HaveBits}
 use Rattle.share_ledger.proofs.stale.revalue.Given as goal

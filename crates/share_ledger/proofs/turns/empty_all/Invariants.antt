@@ -1,5 +1,5 @@
 use Rattle.std.proofs.Common.{◌≡◌, ◌<◌, ℕ, length}
-use Rattle.share_ledger.specs.Rounds.{numbers_of}
+use Rattle.share_ledger.specs.Arrays.{numbers_of}
 use Rattle.share_ledger.proofs.turns.empty_all.Given as goal
 
 abbrev pub invariant-loop-place : goal.invariant-loop-place

@@ -1,4 +1,5 @@
-use Rattle.std.proofs.Common.{◌≡◌, ◌≤◌, ◌<◌, ℕ, true, cond, nat_eq, length, take, arith, List, get_or, sum_by, sym, ap, subst, ◌∙◌}
+use Rattle.std.proofs.Common.{◌≡◌, ◌≤◌, ◌<◌, ℕ, true, cond, nat_eq, length, take, arith, List}
+use Rattle.std.proofs.Common.{get_or, sum_by, sym, ap, subst, ◌∙◌}
 use Rattle.std.proofs.lemmas.Bool.Decides.{nat_tests}
 use Rattle.std.proofs.lemmas.List.Sums.{sum_by_more_le}
 use Rattle.share_model.specs.lists.Each.{Each}
@@ -8,7 +9,7 @@ use Rattle.share_ledger.specs.Routes.{IsRouteWithin}
 use Rattle.share_ledger.specs.Seats.{IsSeatWithin, seats_at}
 use Rattle.share_ledger.proofs.NetSeats.{sum-joined_more, each-joined}
 use Rattle.share_ledger.proofs.SeatCounts.{ones}
-use Rattle.share_ledger.proofs.Walks.{Each-at}
+use Rattle.share_ledger.proofs.Lists.{Each-at}
 use Rattle.share_ledger.proofs.turns.fill.Goals as goal
 
 room-next : (routes : List Route) (i : ℕ) (none : Route) (ss : List (List Seat)) → i < length routes

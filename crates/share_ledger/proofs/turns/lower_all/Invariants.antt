@@ -1,5 +1,5 @@
 use Rattle.std.proofs.Common.{◌≡◌, ◌<◌, ℕ, false, length}
-use Rattle.share_ledger.specs.Rounds.{flags_of}
+use Rattle.share_ledger.specs.Arrays.{flags_of}
 use Rattle.share_ledger.proofs.turns.lower_all.Given as goal
 
 abbrev pub invariant-loop-place : goal.invariant-loop-place

@@ -1,5 +1,5 @@
 use Rattle.std.proofs.Common.{◌≡◌, ◌≤◌, ◌+◌, ◌*◌, ◌^◌, ℕ, arith}
-use Rattle.share_ledger.specs.Rounds.{flags_of}
+use Rattle.share_ledger.specs.Arrays.{flags_of}
 use Rattle.share_ledger.specs.Seats.{backs_of, funds_of}
 use Rattle.share_ledger.proofs.NetSeats.{gathered-none}
 use Rattle.share_ledger.proofs.turns.rouse.Goals as goal

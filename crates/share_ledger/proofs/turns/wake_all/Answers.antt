@@ -1,6 +1,6 @@
 use Rattle.std.proofs.Common.{◌+◌, ℕ, List, Bool, sym, ap, ◌∙◌}
 use Rattle.share_ledger.specs.Nets.{activity_of}
-use Rattle.share_ledger.specs.Rounds.{flags_of, numbers_of}
+use Rattle.share_ledger.specs.Arrays.{flags_of, numbers_of}
 use Rattle.share_ledger.specs.Routes.{gathered}
 use Rattle.share_ledger.specs.Seats.{backs_of, funds_of}
 use Rattle.share_ledger.proofs.NetSeats.{activity-here, before-wakes, before-idle}

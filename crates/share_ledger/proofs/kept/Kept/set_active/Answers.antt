@@ -3,7 +3,7 @@ use Rattle.std.proofs.Common.{nat_eq, true≢false}
 use Rattle.std.proofs.Math.Bool.{beq}
 use Rattle.std.proofs.lemmas.Bool.{eqb-true}
 use Rattle.share_ledger.specs.Nets.{activity_of, IsReady}
-use Rattle.share_ledger.specs.Rounds.{flags_of, numbers_of}
+use Rattle.share_ledger.specs.Arrays.{flags_of, numbers_of}
 use Rattle.share_ledger.specs.Seats.{backs_of, funds_of, seats_at, weighed}
 use Rattle.share_ledger.proofs.NetQuiet.{quiet-ready, relit}
 use Rattle.share_ledger.proofs.Settled.{shares-settled}

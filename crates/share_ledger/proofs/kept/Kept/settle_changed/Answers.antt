@@ -5,7 +5,8 @@ pub returns : goal.returns
 returns c =
     let ready = c.settle_changed.ensures.ready in
     record {
-      of_flows = shares-settled c.args.tables.now c.settle_changed.new.self c.settle_changed.new.shares c.is_kept.ensures
+      of_flows = shares-settled c.args.tables.now c.settle_changed.new.self c.settle_changed.new.shares
+          c.is_kept.ensures
           c.settle_changed.ensures.long ready;
       net_ready = ready;
     }

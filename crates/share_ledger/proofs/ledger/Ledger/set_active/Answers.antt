@@ -1,7 +1,7 @@
 use Rattle.std.proofs.Common.{◌≡◌, cond, nat_eq, sym, subst}
 use Rattle.share_model.specs.funding.Graph.{Graph}
 use Rattle.share_ledger.specs.Nets.{activity_of, IsReady}
-use Rattle.share_ledger.specs.Rounds.{flags_of}
+use Rattle.share_ledger.specs.Arrays.{flags_of}
 use Rattle.share_ledger.specs.Seats.{backs_of, funds_of}
 use Rattle.share_ledger.proofs.RoutesLeft.{turned-below, turned-ready, turned-activity}
 use Rattle.share_ledger.proofs.ledger.Ledger.set_active.Goals as goal

@@ -1,5 +1,5 @@
 use Rattle.std.proofs.Common.{◌≡◌, ◌≤◌, ◌+◌, ◌^◌, ◌<◌, ℕ, true, false, cond, nat_eq, List, sym, ap, subst, ◌∙◌, arith}
-use Rattle.share_ledger.specs.Rounds.{flags_of, numbers_of}
+use Rattle.share_ledger.specs.Arrays.{flags_of, numbers_of}
 use Rattle.share_ledger.specs.declared.seats.Seat.{Seat}
 use Rattle.share_ledger.specs.Ranks.{AreRanks, AreListed}
 use Rattle.share_ledger.specs.Seats.{AreSeated, backs_of, funds_of}
@@ -30,7 +30,8 @@ pub renew-requires-clause-seated : goal.renew-requires-clause-seated
 renew-requires-clause-seated c =
     let b = c.requires.begun in
     subst (λ (ss : List (List Seat)). AreSeated (backs_of c.args.tables.now) ss) (sym c.deref.ensures.value)
-    (seated-more b.0 (backs_of c.args.tables.now) c.args.route.now c.args.self.now.backing.items c.seat.new.holders.items
+    (seated-more b.0 (backs_of c.args.tables.now) c.args.route.now c.args.self.now.backing.items
+    c.seat.new.holders.items
     b.1.1.0.backing c.requires.within b.1.1.1 c.seat.ensures.seated c.seat.ensures.places)
 
 pub renew-requires-clause-ranked : goal.renew-requires-clause-ranked

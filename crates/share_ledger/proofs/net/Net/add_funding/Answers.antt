@@ -1,5 +1,5 @@
 use Rattle.std.proofs.Common.{◌≡◌, ◌≤◌, ◌+◌, ◌^◌, ℕ, true, false, cond, nat_eq, List, ap, ◌∙◌, arith}
-use Rattle.share_ledger.specs.Rounds.{flags_of, numbers_of}
+use Rattle.share_ledger.specs.Arrays.{flags_of, numbers_of}
 use Rattle.share_ledger.specs.Seats.{backs_of, funds_of}
 use Rattle.share_ledger.proofs.NetMore.{counted-given, less-bound, seated-more, seated-same, sum-bound}
 use Rattle.share_ledger.proofs.SeatCounts.{room-more}

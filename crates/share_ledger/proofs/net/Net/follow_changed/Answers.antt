@@ -1,5 +1,5 @@
 use Rattle.std.proofs.Common.{rules}
-use Rattle.share_ledger.specs.Rounds.{flags_of, numbers_of}
+use Rattle.share_ledger.specs.Arrays.{flags_of, numbers_of}
 use Rattle.share_ledger.proofs.Settled.{values-there}
 use Rattle.share_ledger.proofs.StaleSteps.{shared-still}
 use Rattle.share_ledger.proofs.net.Net.follow_changed.Goals as goal
@@ -31,5 +31,6 @@ returns-clause-ready c =
 pub revalue-moved-requires-clause-values : goal.revalue-moved-requires-clause-values
 revalue-moved-requires-clause-values c =
     values-there c.args.tables.now c.args.self.now c.spread.new.awake c.deref-2.result.now c.spread.new.weights
-    c.deref-4.result.now c.deref-5.result.now c.deref-6.result.now c.is_kept.ensures c.requires.begun c.spread.ensures.counted
+    c.deref-4.result.now c.deref-5.result.now c.deref-6.result.now c.is_kept.ensures c.requires.begun
+    c.spread.ensures.counted
     c.spread.ensures.awake c.deref-2.ensures c.deref-4.ensures.value c.deref-5.ensures c.deref-6.ensures

@@ -1,6 +1,6 @@
 use Rattle.std.proofs.Common.{◌≡◌, ◌<◌, ◌^◌, ℕ, List, min, sym, subst, refl}
 use Rattle.share_ledger.specs.Nets.{activity_of, IsReady}
-use Rattle.share_ledger.specs.Rounds.{flags_of, numbers_of}
+use Rattle.share_ledger.specs.Arrays.{flags_of, numbers_of}
 use Rattle.share_ledger.specs.Seats.{backs_of, funds_of, weighed}
 use Rattle.share_ledger.specs.Stale.{WasSettled}
 use Rattle.share_ledger.proofs.StaleSteps.{quiet-settled}

@@ -1,5 +1,5 @@
 use Rattle.std.proofs.Common.{◌≡◌, ◌+◌, arith}
-use Rattle.share_ledger.specs.Rounds.{numbers_of}
+use Rattle.share_ledger.specs.Arrays.{numbers_of}
 use Rattle.share_ledger.specs.Seats.{taken, seats_at}
 use Rattle.share_ledger.proofs.NetQuiet.{taken-base}
 use Rattle.share_ledger.proofs.net.Net.turn.Goals as goal

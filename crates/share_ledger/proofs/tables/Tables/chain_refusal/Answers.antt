@@ -1,104 +1,82 @@
-use Rattle.std.proofs.Common.{cond, Option, None, Some, is_some, sym, ap, ◌∙◌, true≢false}
+use Rattle.std.proofs.Common.{◌≡◌, ◌<◌, ℕ, Bool, cond, true, false, nat_eq, Option, None, Some, is_some, option_copied}
+use Rattle.std.proofs.Common.{sym, ap, ◌∙◌, true≢false, arith}
+use Rattle.std.proofs.lemmas.Bool.Decides.{nat_tests}
 use Rattle.share_base.specs.declared.refusal.Refusal.{Refusal}
 use Rattle.share_base.specs.declared.refusal.Refusal.TheVariants.{Cycle, Deep}
-use Rattle.share_model.specs.declared.funding.Holder.TheVariants.{Currency}
-use Rattle.share_model.specs.funding.Graph.{is_deep}
-use Rattle.share_model.specs.funding.Changes.{is_numbered, with_holder}
-use Rattle.share_ledger.specs.declared.rounds.Target.TheVariants.{Asleep}
-use Rattle.share_ledger.specs.declared.rounds.Link.{Link}
-use Rattle.share_ledger.proofs.LinkChains.{chain-within_links, chain-from, chain-meets, chain-long}
-use Rattle.share_ledger.proofs.LinkChains.{chain-written_within}
 use Rattle.share_model.specs.funding.ChangeLaws.{stands}
-use Rattle.share_ledger.proofs.Positions.{find-none, position-first, position-none}
+use Rattle.share_model.specs.funding.Changes.{is_numbered, ticket_of}
+use Rattle.share_model.specs.lists.Laws.{each-find}
+use Rattle.share_ledger.specs.Arrays.{numbers_of}
+use Rattle.share_ledger.proofs.CyclePlaces.{cycle-backs, below-stands, tall-funded}
+use Rattle.share_ledger.proofs.Places.{IsPlaced, placed, place-base}
 use Rattle.share_ledger.proofs.tables.Tables.chain_refusal.Goals as goal
 
-abbrev idle : Link
-idle = record { from = 0; to = Asleep }
+refusal : {cycle deep : Bool} (a b : Bool) → cycle ≡ a → deep ≡ b
+    → cond {A = Option Refusal} a (Some Cycle) (cond b (Some Deep) None)
+    ≡ cond cycle (Some Cycle) (cond deep (Some Deep) None)
+refusal {cycle} {deep} a b e f =
+    ap (λ x. cond {A = Option Refusal} x (Some Cycle) (cond b (Some Deep) None)) (sym e)
+    ∙ ap (λ x. cond {A = Option Refusal} cycle (Some Cycle) (cond x (Some Deep) None)) (sym f)
 
 pub returns-in_default : goal.returns-in_default
 returns-in_default c = λ found.
-    absurd
-    (true≢false
-    (sym found
-    ∙ ap is_some
-    (find-none (is_numbered c.args.number) c.args.self.now.tickets
-    (position-none (is_numbered c.args.number) c.args.self.now.tickets
-    (sym c.place_of_ticket.ensures ∙ c.in_default.is)))))
+    absurd (true≢false (sym found ∙ ap is_some (sym c.ticket.ensures ∙ ap option_copied c.in_default.is)))
+
+pub place_of-from-requires : goal.place_of-from-requires
+place_of-from-requires c =
+    let g = c.args.self.now in
+    (each-find (IsPlaced g) (is_numbered c.args.number) g.tickets c.in-Some.ticket.now
+    (placed g c.is_kept.ensures) (sym c.ticket.ensures ∙ ap option_copied c.in-Some.is)).denomination_known
 
 pub place_of-to-requires : goal.place_of-to-requires
-place_of-to-requires c = stands c.args.self.now c.args.currency c.requires
+place_of-to-requires c = stands c.args.self.now c.args.currency c.requires.known
 
-pub meets-requires-clause-within : goal.meets-requires-clause-within
-meets-requires-clause-within c =
-    chain-within_links c.args.self.now c.is_kept.ensures c.args.number c.args.currency c.requires c.in-Some.place
-    (position-first (is_numbered c.args.number) c.args.self.now.tickets c.in-Some.place
-    (sym c.place_of_ticket.ensures ∙ c.in-Some.is)) c.link_all.new.links c.link_all.ensures
+pub has_ranks-requires-clause-made : goal.has_ranks-requires-clause-made
+has_ranks-requires-clause-made c =
+    above c.place_of-to.result
+    (ap (λ p. nat_eq p 0) c.place_of-to.ensures.value ∙ place-base c.args.self.now c.args.currency ∙ c.requires.made)
+  where
+    above : (p : ℕ) → nat_eq p 0 ≡ false → 0 < p
+    above p e = grind (arith, nat_tests)
 
-pub meets-requires-clause-to_place : goal.meets-requires-clause-to_place
-meets-requires-clause-to_place c =
-    chain-from c.args.self.now c.is_kept.ensures c.args.number c.args.currency c.requires c.in-Some.place
-    (position-first (is_numbered c.args.number) c.args.self.now.tickets c.in-Some.place
-    (sym c.place_of_ticket.ensures ∙ c.in-Some.is)) c.link_all.new.links c.link_all.ensures idle
+pub returns-then-has_ranks : goal.returns-then-has_ranks
+returns-then-has_ranks c = λ found.
+    let none =
+    below-stands c.args.self.now c.is_kept.ensures c.args.net.now.backing.items c.requires.seated.seated
+    (numbers_of c.args.net.now.ranks.value) c.requires.seated.ranked c.args.number c.args.currency c.in-Some.ticket.now
+    c.requires.made (stands c.args.self.now c.args.currency c.requires.known)
+    (sym c.ticket.ensures ∙ ap option_copied c.in-Some.is) c.place_of-from.result c.place_of-to.result
+    c.place_of-from.ensures.value c.place_of-to.ensures.value (c.has_ranks.ensures.below c.if-has_ranks.true) in
+    refusal false false none.0 none.1
 
-pub returns-then-meets : goal.returns-then-meets
-returns-then-meets c = λ found.
-    let met =
-    sym
-    (chain-meets c.args.self.now c.is_kept.ensures c.args.number c.args.currency c.requires c.in-Some.place
-    (position-first (is_numbered c.args.number) c.args.self.now.tickets c.in-Some.place
-    (sym c.place_of_ticket.ensures ∙ c.in-Some.is)) c.link_all.new.links c.link_all.ensures idle
-    c.place_of-to.result c.place_of-to.ensures.value) ∙ sym c.meets.ensures ∙ c.if-meets.true in
-    sym
-    (ap
-    (λ b. cond {A = Option Refusal} b (Some Cycle)
-    (cond (is_deep (with_holder c.args.number (Currency c.args.currency) c.args.self.now.tickets)) (Some Deep) None))
-    met)
-
-pub is_long-requires : goal.is_long-requires
-is_long-requires c =
-    chain-written_within c.args.self.now c.is_kept.ensures c.args.number c.args.currency c.requires c.in-Some.place
-    (position-first (is_numbered c.args.number) c.args.self.now.tickets c.in-Some.place
-    (sym c.place_of_ticket.ensures ∙ c.in-Some.is)) c.link_all.new.links c.link_all.ensures idle c.place_of-to.result
-    c.place_of-to.ensures.value
-
-pub returns-then-is_long : goal.returns-then-is_long
-returns-then-is_long c = λ found.
-    let met =
-    sym
-    (chain-meets c.args.self.now c.is_kept.ensures c.args.number c.args.currency c.requires c.in-Some.place
-    (position-first (is_numbered c.args.number) c.args.self.now.tickets c.in-Some.place
-    (sym c.place_of_ticket.ensures ∙ c.in-Some.is)) c.link_all.new.links c.link_all.ensures idle
-    c.place_of-to.result c.place_of-to.ensures.value) ∙ sym c.meets.ensures ∙ c.if-meets.false in
-    let long =
-    sym
-    (chain-long c.args.self.now c.is_kept.ensures c.args.number c.args.currency c.requires c.in-Some.place
-    (position-first (is_numbered c.args.number) c.args.self.now.tickets c.in-Some.place
-    (sym c.place_of_ticket.ensures ∙ c.in-Some.is)) c.link_all.new.links c.link_all.ensures idle
-    c.place_of-to.result c.place_of-to.ensures.value) ∙ sym c.is_long.ensures ∙ c.if-is_long.true in
-    sym
-    (ap
-    (λ b. cond {A = Option Refusal} b (Some Cycle)
-    (cond (is_deep (with_holder c.args.number (Currency c.args.currency) c.args.self.now.tickets)) (Some Deep) None))
-    met
-    ∙ ap (λ b. cond {A = Option Refusal} b (Some Deep) None) long)
+pub returns-then-backs : goal.returns-then-backs
+returns-then-backs c = λ found.
+    let cycle =
+    cycle-backs c.args.self.now c.is_kept.ensures c.args.net.now.backing.items c.requires.seated.seated
+    (numbers_of c.args.net.now.ranks.value) c.requires.seated.ranked c.args.number c.args.currency c.in-Some.ticket.now
+    c.requires.made (stands c.args.self.now c.args.currency c.requires.known)
+    (sym c.ticket.ensures ∙ ap option_copied c.in-Some.is) c.place_of-from.result c.place_of-to.result
+    c.place_of-from.ensures.value c.place_of-to.ensures.value c.backs.ensures.0 c.backs.ensures.1.0 in
+    let deep = c.has_ranks.ensures.deep c.if-has_ranks.false in
+    refusal true true (cycle ∙ sym c.backs.ensures.1.1 ∙ c.if-backs.true)
+    (tall-funded c.args.self.now c.is_kept.ensures c.args.net.now.backing.items c.requires.seated.seated
+    (numbers_of c.args.net.now.ranks.value) c.requires.seated.ranked c.args.number c.args.currency c.in-Some.ticket.now
+    c.requires.made (stands c.args.self.now c.args.currency c.requires.known)
+    (sym c.ticket.ensures ∙ ap option_copied c.in-Some.is) c.place_of-from.result c.place_of-to.result
+    c.place_of-from.ensures.value c.place_of-to.ensures.value c.requires.free deep.0 deep.1.1.0 deep.1.1.1)
 
 pub returns : goal.returns
 returns c = λ found.
-    let met =
-    sym
-    (chain-meets c.args.self.now c.is_kept.ensures c.args.number c.args.currency c.requires c.in-Some.place
-    (position-first (is_numbered c.args.number) c.args.self.now.tickets c.in-Some.place
-    (sym c.place_of_ticket.ensures ∙ c.in-Some.is)) c.link_all.new.links c.link_all.ensures idle
-    c.place_of-to.result c.place_of-to.ensures.value) ∙ sym c.meets.ensures ∙ c.if-meets.false in
-    let long =
-    sym
-    (chain-long c.args.self.now c.is_kept.ensures c.args.number c.args.currency c.requires c.in-Some.place
-    (position-first (is_numbered c.args.number) c.args.self.now.tickets c.in-Some.place
-    (sym c.place_of_ticket.ensures ∙ c.in-Some.is)) c.link_all.new.links c.link_all.ensures idle
-    c.place_of-to.result c.place_of-to.ensures.value) ∙ sym c.is_long.ensures ∙ c.if-is_long.false in
-    sym
-    (ap
-    (λ b. cond {A = Option Refusal} b (Some Cycle)
-    (cond (is_deep (with_holder c.args.number (Currency c.args.currency) c.args.self.now.tickets)) (Some Deep) None))
-    met
-    ∙ ap (λ b. cond {A = Option Refusal} b (Some Deep) None) long)
+    let cycle =
+    cycle-backs c.args.self.now c.is_kept.ensures c.args.net.now.backing.items c.requires.seated.seated
+    (numbers_of c.args.net.now.ranks.value) c.requires.seated.ranked c.args.number c.args.currency c.in-Some.ticket.now
+    c.requires.made (stands c.args.self.now c.args.currency c.requires.known)
+    (sym c.ticket.ensures ∙ ap option_copied c.in-Some.is) c.place_of-from.result c.place_of-to.result
+    c.place_of-from.ensures.value c.place_of-to.ensures.value c.backs.ensures.0 c.backs.ensures.1.0 in
+    let deep = c.has_ranks.ensures.deep c.if-has_ranks.false in
+    refusal false true (cycle ∙ sym c.backs.ensures.1.1 ∙ c.if-backs.false)
+    (tall-funded c.args.self.now c.is_kept.ensures c.args.net.now.backing.items c.requires.seated.seated
+    (numbers_of c.args.net.now.ranks.value) c.requires.seated.ranked c.args.number c.args.currency c.in-Some.ticket.now
+    c.requires.made (stands c.args.self.now c.args.currency c.requires.known)
+    (sym c.ticket.ensures ∙ ap option_copied c.in-Some.is) c.place_of-from.result c.place_of-to.result
+    c.place_of-from.ensures.value c.place_of-to.ensures.value c.requires.free deep.0 deep.1.1.0 deep.1.1.1)

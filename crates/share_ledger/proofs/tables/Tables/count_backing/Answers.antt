@@ -18,7 +18,8 @@ returns c =
     let inside : p < length c.deref-seats.result.now =
     omega (arith, c.place_of.ensures.within, kept.seated.places, ap length items) in
     c.count.ensures
-    ∙ ap length (at-default c.deref-seats.result.now p c.index-seats-place_of.result [] inside c.index-seats-place_of.is)
+    ∙ ap length (at-default c.deref-seats.result.now p c.index-seats-place_of.result [] inside
+    c.index-seats-place_of.is)
     ∙ ap (λ (ss : List (List Seat)). length (seats_at ss p)) items
     ∙ ap (λ q. length (seats_at c.args.net.now.backing.items q)) c.place_of.ensures.value
     ∙ backing-count g c.is_kept.ensures c.args.net.now.backing.items kept.seated c.args.name

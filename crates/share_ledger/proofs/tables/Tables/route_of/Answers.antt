@@ -2,7 +2,7 @@ use Rattle.std.proofs.Common.{◌≡◌, Some, option_copied, sym, ap, subst, �
 use Rattle.share_model.specs.lists.Laws.{each-find}
 use Rattle.share_model.specs.funding.Changes.{ticket_of, is_numbered}
 use Rattle.share_ledger.specs.Routes.{IsRouteWithin}
-use Rattle.share_ledger.proofs.LinkPlaces.{IsPlaced, placed}
+use Rattle.share_ledger.proofs.Places.{IsPlaced, placed}
 use Rattle.share_ledger.proofs.RouteLists.{route-within}
 use Rattle.share_ledger.proofs.tables.Tables.route_of.Goals as goal
 

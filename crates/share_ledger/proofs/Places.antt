@@ -1,23 +1,16 @@
--- The places of currencies among the links, and the links of tickets within the places.
-use Rattle.std.proofs.Common.{add-one, ◌≡◌, ◌≤◌, ◌<◌, ◌+◌, ◌^◌, ℕ, zero, suc, Bool, true}
-use Rattle.std.proofs.Common.{false, cond, ◌&&◌, ◌||◌, List, [], ◌∷◌, map, sum_by, length, bytes_eq, nat_eq, refl, sym}
-use Rattle.std.proofs.Common.{ap, ◌∙◌, arith}
-use Rattle.std.specs.List.{list_any}
+-- The places of currencies, and the tickets whose denominations and holders have places.
+use Rattle.std.proofs.Common.{add-one, ◌≡◌, ◌≤◌, ◌<◌, ◌+◌, ◌^◌, ℕ, zero, suc, Bool, true, false, cond, List, [], ◌∷◌}
+use Rattle.std.proofs.Common.{map, sum_by, length, bytes_eq, nat_eq, refl, sym, ap, ◌∙◌, arith}
 use Rattle.std.proofs.lemmas.List.Sums.{sum_by-cons}
 use Rattle.std.proofs.lemmas.Bool.Decides.{nat_tests}
-use Rattle.share_model.specs.declared.funding.Holder.{Holder}
-use Rattle.share_model.specs.declared.funding.Holder.TheVariants.{Nobody, Currency, Flow}
 use Rattle.share_model.specs.declared.funding.Ticket.{Ticket}
-use Rattle.share_model.specs.funding.Graph.{NameBytes, base, Graph, is_active_flow}
+use Rattle.share_model.specs.funding.Graph.{NameBytes, base, Graph, is_held_by_currency}
 use Rattle.share_model.specs.lists.Each.{Each}
 use Rattle.share_model.specs.funding.Kept.{names_of, times, IsHolderKnown, IsKept}
 use Rattle.share_model.specs.lists.SumLaws.{same_name, name_same, name_sym}
 use Rattle.share_model.specs.funding.SettleLaws.{none_any}
 use Rattle.share_model.specs.funding.ChangeLaws.{absent}
-use Rattle.share_model.specs.declared.funding.OpenFlow.{OpenFlow}
-use Rattle.share_ledger.specs.declared.rounds.Target.TheVariants.{Asleep, Awake}
-use Rattle.share_ledger.specs.Places.{place, target_of, link_of}
-use Rattle.share_ledger.specs.Rounds.{IsTargetWithin, IsLinkWithin}
+use Rattle.share_ledger.specs.Places.{place}
 use Rattle.share_ledger.proofs.Positions.{IsFirstAt}
 
 -- Places of names
@@ -77,55 +70,37 @@ place-base g c = by (bytes_eq c base)
     by true = refl
     by false = differ (place g.currencies c)
 
-pub any-map : {X Y : Type 0} (f : Y → Bool) (h : X → Y) (xs : List X)
-    → list_any f (map h xs) ≡ list_any (λ x. f (h x)) xs
-any-map f h [] = refl
-any-map f h (x ∷ xs) = ap (λ b. f (h x) || b) (any-map f h xs)
+-- where a name that is not `base` stands
+pub past-base : (g : Graph) (c : NameBytes) → bytes_eq c base ≡ false → 0 < place (names_of g) c
+past-base g c apart = by (place (names_of g) c) (place-base g c ∙ apart)
+  where
+    by : (p : ℕ) → nat_eq p 0 ≡ false → 0 < p
+    by p e = grind (arith, nat_tests)
 
 pub sum_by-map : {X Y : Type 0} (f : Y → ℕ) (h : X → Y) (xs : List X) → sum_by f (map h xs) ≡ sum_by (λ x. f (h x)) xs
 sum_by-map f h [] = refl
 sum_by-map f h (x ∷ xs) =
     sum_by-cons f (h x) (map h xs) ∙ ap (λ n. f (h x) + n) (sum_by-map f h xs) ∙ sym (sum_by-cons (λ x. f (h x)) x xs)
 
--- a ticket whose denomination and holder have places, with a small amount
+-- a ticket whose denomination and holder have places, which does not back `base`, with a small amount
 pub record IsPlaced (g : Graph) (t : Ticket) : Type 0 where
   pub denomination_known : 1 ≤ times t.denomination (names_of g)
   pub holder_known : IsHolderKnown g t.holder
+  pub unbacked : is_held_by_currency base t.holder ≡ false
   pub amount_small : t.amount ≤ 2 ^ 20
 
 pub placed : (g : Graph) → IsKept g → Each (IsPlaced g) g.tickets
-placed g ok = all g.tickets ok.sound.known ok.held ok.amounts
+placed g ok = all g.tickets ok.sound.known ok.held ok.shallow.unbacked ok.amounts
   where
     all : (ts : List Ticket) → Each (λ (t : Ticket). 1 ≤ times t.denomination (names_of g)) ts
         → Each (λ (t : Ticket). IsHolderKnown g t.holder) ts
+        → Each (λ (t : Ticket). is_held_by_currency base t.holder ≡ false) ts
         → Each (λ (t : Ticket). (1 ≤ t.amount) × (t.amount ≤ 2 ^ 20)) ts → Each (IsPlaced g) ts
-    all [] a b c = tt
-    all (t ∷ ts) a b c =
-        (record { denomination_known = a.0; holder_known = b.0; amount_small = c.0.1 }, all ts a.1 b.1 c.1)
-
-pub link-within : (g : Graph) → length g.currencies ≤ 64 → (t : Ticket) → IsPlaced g t → IsLinkWithin (link_of g t)
-link-within g few t ok = record {
-  from_place = let below = place-below t.denomination (names_of g) ok.denomination_known in omega arith;
-  to_place = target t.holder ok.holder_known;
-}
-  where
-    flow : (b : Bool) → IsTargetWithin (cond b Awake Asleep)
-    flow true = tt
-    flow false = tt
-
-    target : (h : Holder) → IsHolderKnown g h → IsTargetWithin (target_of g h)
-    target Nobody known = tt
-    target (Currency c) known = let below = place-below c (names_of g) known in omega arith
-    target (Flow f) known = flow (is_active_flow g f)
-
-pub Each-mapped_to : {X Y : Type 0} (P : X → Type 0) (Q : Y → Type 0) (h : X → Y) (xs : List X) → Each P xs
-    → ((x : X) → P x → Q (h x)) → Each Q (map h xs)
-Each-mapped_to P Q h [] each step = tt
-Each-mapped_to P Q h (x ∷ xs) each step = (step x each.0, Each-mapped_to P Q h xs each.1 step)
-
-pub links-within : (g : Graph) → length g.currencies ≤ 64 → (ts : List Ticket) → Each (IsPlaced g) ts
-    → Each IsLinkWithin (map (link_of g) ts)
-links-within g few ts each = Each-mapped_to (IsPlaced g) IsLinkWithin (link_of g) ts each (link-within g few)
+    all [] a b c d = tt
+    all (t ∷ ts) a b c d = (
+      record { denomination_known = a.0; holder_known = b.0; unbacked = c.0; amount_small = d.0.1 },
+      all ts a.1 b.1 c.1 d.1,
+    )
 
 -- a name that stands neither first nor among the rest has no place
 pub no-place : (g : Graph) (c : NameBytes) → bytes_eq c base ≡ false → Each (λ d. bytes_eq c d ≡ false) g.currencies
@@ -143,9 +118,3 @@ unfolding place
 place-of_made g c i e first =
     sym
     (ap (λ b. cond b 0 (suc (place g.currencies c))) e ∙ ap suc (place-first c g.currencies i first) ∙ sym (add-one i))
-
--- whether a flow is active, read from the values of the map
-pub active-flow : (g : Graph) (f : ℕ)
-    → list_any (λ (o : OpenFlow). nat_eq f o.number && o.active) (map (λ (e : NameBytes × OpenFlow). e.1) g.flows)
-    ≡ is_active_flow g f
-active-flow g f = any-map (λ (o : OpenFlow). nat_eq f o.number && o.active) (λ (e : NameBytes × OpenFlow). e.1) g.flows

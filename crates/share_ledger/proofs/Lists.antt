@@ -1,0 +1,67 @@
+-- Elements of lists, and sums over them.
+use Rattle.std.proofs.Common.{◌≡◌, ◌≤◌, ◌<◌, ◌*◌, ◌+◌, ◌||◌, ◌∙◌, ℕ, zero, suc, Bool, true, false, cond, List, [], ◌∷◌}
+use Rattle.std.proofs.Common.{None, Some, find, sum_by, length, get_or, sym, ap, subst, true≢false, arith}
+use Rattle.std.specs.List.{list_any}
+use Rattle.std.proofs.Math.Bool.{or-true}
+use Rattle.std.proofs.lemmas.Option.{same_Some}
+use Rattle.share_model.specs.lists.Change.{change_first}
+use Rattle.std.proofs.lemmas.List.Sums.{sum_by-cons}
+use Rattle.share_model.specs.lists.Each.{Each}
+
+pub Each-at : {X : Type 0} (P : X → Type 0) (xs : List X) (i : ℕ) (d : X) → Each P xs → i < length xs
+    → P (get_or xs i d)
+Each-at P [] i d each h = absurd (omega arith)
+Each-at P (x ∷ xs) zero d each h = each.0
+Each-at P (x ∷ xs) (suc i) d each h = Each-at P xs i d each.1 (omega arith)
+
+-- where a sum is nothing, each of its terms is
+pub no-term : {X : Type 0} (f : X → ℕ) (xs : List X) → sum_by f xs ≡ 0 → Each (λ x. f x ≡ 0) xs
+no-term f [] none = tt
+no-term f (x ∷ xs) none = let sum = sum_by-cons f x xs in (omega arith, no-term f xs (omega arith))
+
+-- a sum is at most so many terms, each of at most m
+pub sum_by-bound : {X : Type 0} (P : X → Type 0) (f : X → ℕ) (m : ℕ) (xs : List X) → Each P xs
+    → ((x : X) → P x → f x ≤ m) → sum_by f xs ≤ length xs * m
+sum_by-bound P f m [] each small = omega arith
+sum_by-bound P f m (x ∷ xs) each small =
+    let rest = sum_by-bound P f m xs each.1 small in
+    let here = small x each.0 in
+    omega (arith, sum_by-cons f x xs)
+
+-- where the first element that passes a test is changed, and what some element passes
+module _ {X : Type 0} (first : X → Bool) (change : X → X) (test : X → Bool) (t : X) where
+  pub any-changed : (xs : List X) → find first xs ≡ Some t → test (change t) ≡ true
+      → list_any test (change_first first change xs) ≡ true
+  unfolding change_first
+  any-changed [] found e = absurd cc
+  any-changed (x ∷ xs) found e = by (first x) found (any-changed xs)
+    where
+      by : (b : Bool) → cond b (Some x) (find first xs) ≡ Some t
+          → (find first xs ≡ Some t → test (change t) ≡ true → list_any test (change_first first change xs) ≡ true)
+          → list_any test (cond b (change x ∷ xs) (x ∷ change_first first change xs)) ≡ true
+      by true is rest = ap (λ b. b || list_any test xs) (ap (λ y. test (change y)) (same_Some x t is) ∙ e)
+      by false is rest = ap (λ b. test x || b) (rest is e) ∙ or-true (test x)
+
+  pub any-left : (xs : List X) → find first xs ≡ Some t → test t ≡ false → list_any test xs ≡ true
+      → list_any test (change_first first change xs) ≡ true
+  unfolding change_first
+  any-left [] found fails e = absurd (true≢false (sym e))
+  any-left (x ∷ xs) found fails e = by (first x) found (any-left xs)
+    where
+      later : (b : Bool) → b ≡ false → (b || list_any test xs) ≡ true → list_any test xs ≡ true
+      later true is e = absurd (true≢false is)
+      later false is e = e
+
+      either : (b : Bool) → (list_any test xs ≡ true → list_any test (change_first first change xs) ≡ true)
+          → (b || list_any test xs) ≡ true → (b || list_any test (change_first first change xs)) ≡ true
+      either true rest e = e
+      either false rest e = rest e
+
+      by : (b : Bool) → cond b (Some x) (find first xs) ≡ Some t
+          → (find first xs ≡ Some t → test t ≡ false → list_any test xs ≡ true
+          → list_any test (change_first first change xs) ≡ true)
+          → list_any test (cond b (change x ∷ xs) (x ∷ change_first first change xs)) ≡ true
+      by true is rest =
+          let after = later (test x) (ap test (same_Some x t is) ∙ fails) e in
+          ap (λ b. test (change x) || b) after ∙ or-true (test (change x))
+      by false is rest = either (test x) (rest is fails) e

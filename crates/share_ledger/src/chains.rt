@@ -1,0 +1,38 @@
+//! Which currencies one backs, by however many steps.
+ghost use Rattle.std.specs.Prelude.{◌<◌, ◌≡◌, ◌||◌, ℕ, length, nat_eq};
+ghost use Rattle.std.specs.List.{list_any};
+ghost use Rattle.share_model.specs.lists.Each.{Each};
+ghost use Rattle.share_ledger.specs.Arrays.{flags_of, numbers_of};
+ghost use Rattle.share_ledger.specs.Chains.{AreBacked};
+ghost use Rattle.share_ledger.specs.Ranks.{AreOrdered};
+ghost use Rattle.share_ledger.specs.Seats.{IsSeatWithin, seats_at};
+
+use crate::seats::{Seats, come_from};
+use crate::tables::PLACES;
+
+// Whether a place is the first one, or has a seat from a flagged one.
+fn is_backed(backing: &[Seats], flags: &[bool; PLACES], first: usize, place: usize) -> bool
+    requires within { (p : ℕ) → p < 65 → Each IsSeatWithin (seats_at backing.now p) }
+    requires places { length backing.now ≡ 65 }
+    requires place { place < 65 }
+    ensures { result ≡ (nat_eq place first
+        || list_any (λ s. flags_of flags.now s.from) (seats_at backing.now place)) }
+{
+    let holder = &backing[place];
+    place == first || come_from(holder.seats(), flags)
+}
+
+/// The places of the currencies that the one at a place backs, by however many steps, itself among them.
+pub(crate) fn backed_by(backing: &[Seats], order: &[u8; PLACES], first: usize) -> [bool; PLACES]
+    requires within { (p : ℕ) → p < 65 → Each IsSeatWithin (seats_at backing.now p) }
+    requires places { length backing.now ≡ 65 }
+    requires ordered { AreOrdered backing.now (numbers_of order.now) }
+    ensures { AreBacked backing.now first (flags_of result) }
+{
+    let mut flags = [false; PLACES];
+    for i in 1..PLACES {
+        let place = order[i] as usize;
+        flags[place] = is_backed(backing, &flags, first, place);
+    }
+    flags
+}

@@ -1,6 +1,6 @@
 -- The currencies that one backs, by however many steps, and a chain that is too long with one more ticket.
-use Rattle.std.proofs.Common.{◌≡◌, ◌≤◌, ◌<◌, ◌+◌, ◌∙◌, ◌&&◌, ◌||◌, ℕ, zero, suc, Bool, true, false, not, cond}
-use Rattle.std.proofs.Common.{Some, List, find, set, length, bytes_eq, nat_eq, nat_lt, refl, sym, ap, subst, true≢false}
+use Rattle.std.proofs.Common.{◌≡◌, ◌≤◌, ◌<◌, ◌+◌, ◌∙◌, ◌&&◌, ◌||◌, ℕ, zero, suc, Bool, true, false, cond}
+use Rattle.std.proofs.Common.{Some, List, bytes_eq, nat_eq, nat_lt, refl, sym, ap, subst, true≢false}
 use Rattle.std.proofs.Common.{arith}
 use Rattle.std.specs.List.{list_any}
 use Rattle.std.proofs.Math.Bool.{or-true}
@@ -30,7 +30,7 @@ use Rattle.share_ledger.proofs.NetSteps.{not-next, before-next, next-before}
 use Rattle.share_ledger.proofs.Places.{IsPlaced, placed, place-same, past-base}
 use Rattle.share_ledger.proofs.RankChains.{ranks-stand}
 use Rattle.share_ledger.proofs.RouteWorths.{below}
-use Rattle.share_ledger.proofs.SeatChains.{found, backs, seat-ticket, ticket-seat, IsBacker, backer, tall-deep}
+use Rattle.share_ledger.proofs.SeatChains.{found, backs, seat-ticket, ticket-seat, backer, tall-deep}
 
 -- the next place in an order is flagged or not, by what its seats come from
 module _ (ss : List (List Seat)) (order : ℕ → ℕ) (o : AreOrdered ss order) (i : ℕ) (up : 0 < i) (lt : i < 65)

@@ -4,7 +4,7 @@ use Rattle.std.proofs.lemmas.Bool.Decides.{nat_tests}
 use Rattle.share_base.specs.declared.refusal.Refusal.{Refusal}
 use Rattle.share_base.specs.declared.refusal.Refusal.TheVariants.{Cycle, Deep}
 use Rattle.share_model.specs.funding.ChangeLaws.{stands}
-use Rattle.share_model.specs.funding.Changes.{is_numbered, ticket_of}
+use Rattle.share_model.specs.funding.Changes.{is_numbered}
 use Rattle.share_model.specs.lists.Laws.{each-find}
 use Rattle.share_ledger.specs.Arrays.{numbers_of}
 use Rattle.share_ledger.proofs.CyclePlaces.{cycle-backs, below-stands, tall-funded}

@@ -1,7 +1,7 @@
 -- What is left where no weight and no value that seats rest on has changed.
 use Rattle.std.proofs.Common.{zero, suc, ◌≡◌, ◌<◌, ◌≤◌, ◌+◌, ◌*◌, ◌/◌, ◌^◌, ℕ, min, List, [], ◌∷◌}
 use Rattle.std.proofs.Common.{Bool, true, false, cond, not, ◌&&◌, ◌||◌}
-use Rattle.std.proofs.Common.{sum_by, nat_eq, nat_lt, length, set, refl, sym, ap, ◌∙◌, arith}
+use Rattle.std.proofs.Common.{sum_by, nat_eq, nat_lt, refl, sym, ap, subst, ◌∙◌, arith}
 use Rattle.std.specs.List.{list_any}
 use Rattle.std.proofs.lemmas.Bool.Decides.{nat_tests}
 use Rattle.std.proofs.lemmas.Bool.{eqb-true}
@@ -18,7 +18,7 @@ use Rattle.share_ledger.specs.Seats.{IsSeatWithin, seat_worth, seats_at, weighed
 use Rattle.share_ledger.specs.Ranks.{AreOrdered}
 use Rattle.share_ledger.specs.Stale.{is_stale, WereValued, AreMoved, WasSettled, IsLeft}
 use Rattle.share_ledger.proofs.NetQuiet.{weighed-quiet}
-use Rattle.share_ledger.proofs.NetSteps.{array-set, next-spot, next-within, next-above, not-next, next-before}
+use Rattle.share_ledger.proofs.NetSteps.{next-spot, next-within, next-above, not-next, next-before}
 use Rattle.share_ledger.proofs.NetSteps.{valued-more, weighed-before}
 
 -- seats from places that did not move are worth what they were
@@ -272,6 +272,9 @@ ready-was n shares backs funds lit c f ready = record {
       ∙ ap (λ b. cond b (sum_by (seat_worth (numbers_of n.values.value) (numbers_of n.seen.value))
       (seats_at n.backing.items p)) 0)
       (ready.awake_is p up lt ∙ ap (nat_lt 0) (sym (ready.seen_is p up lt)));
+  asleep = λ up lt idle. ready.valued c up lt
+      ∙ ap (λ b. cond b (sum_by (seat_worth (numbers_of n.values.value) (numbers_of n.weights.value))
+      (seats_at n.backing.items c)) 0) idle;
   shared = λ p lt _. ready.shared p lt
       ∙ ap (λ k. min k (2 ^ 20))
       (weighed-quiet n.funding.items (flags_of n.active.value) (numbers_of n.values.value) (numbers_of n.weights.value)
@@ -314,6 +317,10 @@ module _ (old new : Net) (shares : List ℕ) (c f : ℕ) (values : new.values �
         ∙ worth-left old.backing.items new.backing.items (λ k. nat_lt 0 (numbers_of old.seen.value k))
         (λ k. nat_lt 0 (numbers_of new.seen.value k)) p (ap (λ s. nat_lt 0 (numbers_of s.value p)) (sym seen))
         (sym (backing p e));
+    asleep = λ up lt idle. ap (λ v. numbers_of v.value c) values ∙ was.valued c up lt (nought c up)
+        ∙ ap (λ b. cond b (sum_by (seat_worth (numbers_of old.values.value) (numbers_of old.seen.value))
+        (seats_at old.backing.items c)) 0)
+        (sym (was.awake_was c up lt) ∙ sym (ap (λ a. flags_of a.value c) awake) ∙ idle);
     shared = λ p lt e. was.shared p lt (none 64 p lt)
         ∙ ap (λ k. min k (2 ^ 20))
         (worth-left old.funding.items new.funding.items (flags_of old.active.value) (flags_of new.active.value) p
@@ -327,39 +334,65 @@ lefts-was old new shares c f was left =
     left-was old new shares c f left.values left.seen was left.awake left.backing left.funding
     (λ k _. ap (λ a. flags_of a.value k) left.active)
 
--- where no weight but that of `base` is another one, only the flow's own tickets may be
-pub quiet-settled : (n : Net) (shares : List ℕ) (backs funds : List Route) (lit : ℕ → Bool) (f k : ℕ)
-    → IsBegun n backs funds lit → WasSettled n shares 0 f
-    → ((p : ℕ) → 0 < p → p < 65 → numbers_of n.weights.value p ≡ numbers_of n.seen.value p) → f < 64
-    → length shares ≡ 64
-    → k ≡ min (weighed n.funding.items (flags_of n.active.value) (numbers_of n.values.value)
-    (numbers_of n.weights.value) f) (2 ^ 20)
-    → IsReady n (set shares f k) backs funds lit
-quiet-settled n shares backs funds lit f k begun was same below long own = record {
+-- where no weight but that of `base` is another one, and nothing active rests on the currency whose seats may be others,
+-- only the flow's own tickets may be
+pub quiet-settled : (n : Net) (shares next : List ℕ) (backs funds : List Route) (lit : ℕ → Bool) (c f : ℕ)
+    → IsBegun n backs funds lit → WasSettled n shares c f
+    → ((p : ℕ) → 0 < p → p < 65 → numbers_of n.weights.value p ≡ numbers_of n.seen.value p)
+    → (nat_eq c 0 || not (flags_of n.awake.value c)) ≡ true
+    →
+    ((p : ℕ) → p < 64 → numbers_of next p
+    ≡ cond (nat_eq f p) (min (weighed n.funding.items (flags_of n.active.value) (numbers_of n.values.value)
+    (numbers_of n.weights.value) f) (2 ^ 20)) (numbers_of shares p))
+    → IsReady n next backs funds lit
+quiet-settled n shares next backs funds lit c f begun was same asleep wrote = record {
   begun = begun;
   awake_is = awake;
-  valued = λ p up lt. was.valued p up lt (nought p up)
-      ∙ ap (λ b. cond b (sum_by (seat_worth (numbers_of n.values.value) (numbers_of n.seen.value))
-      (seats_at n.backing.items p)) 0) (sym (was.awake_was p up lt))
-      ∙ weighed-quiet n.backing.items (flags_of n.awake.value) (numbers_of n.values.value) (numbers_of n.seen.value)
-      (numbers_of n.weights.value) p (begun.backing.within p lt) same;
-  shared = λ p lt. array-set shares f p k 0 (omega arith) ∙ by p lt (nat_eq f p) refl;
+  valued = λ p up lt. value p up lt (nat_eq c p) refl;
+  shared = λ p lt. wrote p lt ∙ by p lt (nat_eq f p) refl;
   seen_is = λ p up lt. sym (same p up lt);
 }
   where
-    nought : (p : ℕ) → 0 < p → nat_eq 0 p ≡ false
-    nought p up = grind (arith, nat_tests)
-
     awake : (p : ℕ) → 0 < p → p < 65 → flags_of n.awake.value p ≡ nat_lt 0 (numbers_of n.weights.value p)
     awake p up lt = was.awake_was p up lt ∙ ap (nat_lt 0) (sym (same p up lt))
 
+    idle : (p : ℕ) → 0 < p → c ≡ p → flags_of n.awake.value p ≡ false
+    idle p up e =
+        off (nat_eq p 0) (flags_of n.awake.value p) (apart p up)
+        (ap (λ q. nat_eq q 0 || not (flags_of n.awake.value q)) (sym e) ∙ asleep)
+      where
+        apart : (q : ℕ) → 0 < q → nat_eq q 0 ≡ false
+        apart q up = grind (arith, nat_tests)
+
+        off : (a b : Bool) → a ≡ false → (a || not b) ≡ true → b ≡ false
+        off true b e t = absurd cc
+        off false true e t = absurd cc
+        off false false e t = refl
+
+    value : (p : ℕ) → 0 < p → p < 65 → (b : Bool) → nat_eq c p ≡ b
+        → numbers_of n.values.value p
+        ≡ weighed n.backing.items (flags_of n.awake.value) (numbers_of n.values.value) (numbers_of n.weights.value) p
+    value p up lt true e =
+        let is = eqb-true c p e in
+        let off = idle p up is in
+        subst (λ q. flags_of n.awake.value q ≡ false → numbers_of n.values.value q ≡ 0) is
+        (was.asleep (subst (λ q. 0 < q) (sym is) up) (subst (λ q. q < 65) (sym is) lt)) off
+        ∙ sym (ap (λ b. cond b (sum_by (seat_worth (numbers_of n.values.value) (numbers_of n.weights.value))
+        (seats_at n.backing.items p)) 0) off)
+    value p up lt false e =
+        was.valued p up lt e
+        ∙ ap (λ b. cond b (sum_by (seat_worth (numbers_of n.values.value) (numbers_of n.seen.value))
+        (seats_at n.backing.items p)) 0) (sym (was.awake_was p up lt))
+        ∙ weighed-quiet n.backing.items (flags_of n.awake.value) (numbers_of n.values.value) (numbers_of n.seen.value)
+        (numbers_of n.weights.value) p (begun.backing.within p lt) same
+
     by : (p : ℕ) → p < 64 → (b : Bool) → nat_eq f p ≡ b
-        → cond b k (numbers_of shares p)
+        → cond b (min (weighed n.funding.items (flags_of n.active.value) (numbers_of n.values.value)
+        (numbers_of n.weights.value) f) (2 ^ 20)) (numbers_of shares p)
         ≡ min (weighed n.funding.items (flags_of n.active.value) (numbers_of n.values.value)
         (numbers_of n.weights.value) p) (2 ^ 20)
     by p lt true e =
-        own
-        ∙ ap (λ q. min (weighed n.funding.items (flags_of n.active.value) (numbers_of n.values.value)
+        ap (λ q. min (weighed n.funding.items (flags_of n.active.value) (numbers_of n.values.value)
         (numbers_of n.weights.value) q) (2 ^ 20)) (eqb-true f p e)
     by p lt false e =
         was.shared p lt e

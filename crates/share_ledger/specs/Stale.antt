@@ -37,10 +37,13 @@ HaveBits m = (p : ℕ) → p < 65 → flags_of m.flags p ≡ true → bit_at m.b
 abbrev pub AreMoved : (ℕ → Bool) → (ℕ → ℕ) → (ℕ → ℕ) → (ℕ → ℕ) → (ℕ → ℕ) → Type 0
 AreMoved moved old new seen whole = (p : ℕ) → 0 < p → p < 65 → moved p ≡ false → (new p ≡ old p) × (whole p ≡ seen p)
 
--- All followed from the weights that were seen last, but at the place of a currency and at that of a flow.
+-- All followed from the weights that were seen last, but at the place of a currency and at that of a flow. Where
+-- nothing active rests on that currency, it has no value.
 pub record WasSettled (n : Net) (shares : List ℕ) (currency flow : ℕ) : Type 0 where
   pub awake_was : (p : ℕ) → 0 < p → p < 65 → flags_of n.awake.value p ≡ nat_lt 0 (numbers_of n.seen.value p)
   pub valued : WereValued n.backing.items (numbers_of n.values.value) (numbers_of n.seen.value) currency
+  pub asleep : 0 < currency → currency < 65 → flags_of n.awake.value currency ≡ false
+      → numbers_of n.values.value currency ≡ 0
   pub shared : (p : ℕ) → p < 64 → nat_eq flow p ≡ false
       → numbers_of shares p
       ≡ min (weighed n.funding.items (flags_of n.active.value) (numbers_of n.values.value) (numbers_of n.seen.value) p)

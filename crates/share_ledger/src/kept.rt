@@ -123,6 +123,7 @@ impl Kept {
     pub(crate) fn renew(&mut self, tables: &Tables)
         requires places { (length self.old.net.backing.items ≡ 65) × (length self.old.net.funding.items ≡ 65) }
         ensures { AreKept self.new.net self.new.shares.value tables.now }
+        requires place { currency < 65 }
     {
         self.backing.list(tables, true);
         self.funding.list(tables, false);
@@ -167,6 +168,7 @@ impl Kept {
         }
         self.settle_changed(tables, 0, route.to);
     }
+        requires place { route.now.to < 65 }
 
     /// A ticket has come to back a currency, or to fund a flow.
     pub(crate) fn give(&mut self, tables: &Tables, route: &Route, backing: bool)

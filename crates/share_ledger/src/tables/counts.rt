@@ -1,16 +1,16 @@
 //! How many tickets fund a holder, and whether one more would lead back or be too much: by the seats that are kept.
-ghost use Rattle.std.specs.Prelude.{◌≡◌, length, true, false, bytes_eq, [], ◌∷◌, is_some};
+ghost use Rattle.std.specs.Prelude.{◌≡◌, ◌≤◌, length, true, false, bytes_eq, [], ◌∷◌, is_some};
 ghost use Rattle.share_base.specs.Refusal.{first_refusal};
 ghost use Rattle.share_base.specs.declared.refusal.Refusal as Refusal;
 ghost use Rattle.share_model.specs.declared.funding.Holder.TheVariants.{Currency};
 ghost use Rattle.share_model.specs.funding.Graph.{base, backing, funding, chain_within, is_deep};
 ghost use Rattle.share_model.specs.funding.Changes.{is_currency, ticket_of, is_found_held, found_denomination};
 ghost use Rattle.share_model.specs.funding.Changes.{with_holder};
+ghost use Rattle.share_model.specs.funding.Kept.{times_open};
 ghost use Rattle.share_ledger.specs.Ranks.{AreBacking};
 ghost use Rattle.share_ledger.specs.Seats.{AreSeated, funds_of};
 
 use super::Tables;
-use crate::holders;
 use crate::net::Net;
 use crate::seats::Seats;
 use share_base::{FlowNo, Name, Refusal};
@@ -28,27 +28,19 @@ impl Tables {
         holder.count()
     }
 
-    /// How many tickets fund a flow.
+    /// How many tickets fund an open flow.
     pub(super) fn count_funding(&self, flow: FlowNo, net: &Net) -> usize
-        requires { AreSeated (funds_of self.now) net.now.funding.items }
+        requires open { 1 ≤ times_open flow self.now.flows }
+        requires seated { AreSeated (funds_of self.now) net.now.funding.items }
         ensures { result ≡ length (funding self.now.tickets flow) }
     {
         self.is_kept();
         let Some(place) = self.place_of_flow(flow) else {
-            return self.scan_funding(flow);
+            return 0;
         };
         let seats: &[Seats] = &net.funding;
         let holder = &seats[place];
         holder.count()
-    }
-
-    fn scan_funding(&self, flow: FlowNo) -> usize
-        ensures { result ≡ length (funding self.now.tickets flow) }
-    {
-        self.tickets
-            .iter()
-            .filter(|ticket| holders::is_flow(&ticket.holder, flow))
-            .count()
     }
 
     /// Cycle or Deep, where the currency cannot be funded by this ticket for one of them.

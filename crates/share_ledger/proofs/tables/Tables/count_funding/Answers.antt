@@ -2,16 +2,24 @@ use Rattle.std.proofs.Common.{◌≡◌, ◌<◌, List, [], length, sym, ap, ◌
 use Rattle.share_ledger.specs.declared.seats.Seat.{Seat}
 use Rattle.share_ledger.specs.Seats.{seats_at}
 use Rattle.share_ledger.proofs.NetSteps.{at-default}
-use Rattle.share_ledger.proofs.Positions.{position-first, flow-first}
-use Rattle.share_ledger.proofs.RouteLists.{flow-place-first}
+use Rattle.share_ledger.proofs.Positions.{position-first, position-none, flow-first, flow-none}
+use Rattle.share_ledger.proofs.RouteLists.{flow-place-first, unopened}
 use Rattle.share_ledger.proofs.RouteWorths.{flow-place-below}
 use Rattle.share_ledger.proofs.SeatCounts.{first-open, funding-count}
 use Rattle.share_ledger.proofs.tables.Tables.count_funding.Goals as goal
 
+pub returns-in_default : goal.returns-in_default
+returns-in_default c =
+    let none =
+    unopened c.args.flow c.args.self.now.flows
+    (flow-none c.args.flow c.args.self.now.flows
+    (position-none _ _ (sym c.place_of_flow.ensures ∙ c.in_default.is))) in
+    absurd (omega (arith, none, c.requires.open))
+
 pub returns : goal.returns
 returns c =
     let g = c.args.self.now in
-    let kept = c.requires in
+    let kept = c.requires.seated in
     let items : c.deref-seats.result.now ≡ c.args.net.now.funding.items = c.deref-seats.ensures.value in
     let i = c.in-Some.place in
     let first =

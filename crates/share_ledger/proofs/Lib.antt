@@ -1,5 +1,6 @@
 pub mod CyclePlaces
 pub mod FlowShares
+pub mod FlowsClosed
 pub mod Lays
 pub mod Lists
 pub mod NetFunds

@@ -46,10 +46,10 @@ place-removed c d (x ∷ cs) lt = by (bytes_eq d x) (bytes_eq c x) refl lt (plac
 -- what holds of all seats holds of all routes
 module _ (g : Graph) (b : Bool) (ss : List (List Seat)) (seated : AreSeated (routes_of g b g.tickets) ss)
     (Q : ℕ → Seat → Bool) (each : (p : ℕ) → p < 65 → Each (λ s. Q p s ≡ true) (seats_at ss p)) where
-  abbrev fault : ℕ → Seat → ℕ
+  abbrev pub fault : ℕ → Seat → ℕ
   fault p s = cond (Q p s) 0 1
 
-  abbrev ticket-part : ℕ → Ticket → ℕ
+  abbrev pub ticket-part : ℕ → Ticket → ℕ
   ticket-part p t =
       cond (is_kind b t.holder) (cond (nat_eq p (route_of g t).to) (fault p (seat_of (route_of g t))) 0) 0
 

@@ -52,7 +52,7 @@ kept-left net shares g h routes flows same kept = record {
 }
 
 -- routes of the same tickets
-routes-same : (g h : Graph) (b : Bool) (P : Ticket → Type 0) (ts : List Ticket) → Each P ts
+pub routes-same : (g h : Graph) (b : Bool) (P : Ticket → Type 0) (ts : List Ticket) → Each P ts
     → ((t : Ticket) → P t → route_of g t ≡ route_of h t) → routes_of g b ts ≡ routes_of h b ts
 unfolding routes_of
 routes-same g h b P [] each same = refl

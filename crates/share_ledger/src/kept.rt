@@ -2,7 +2,7 @@
 ghost use Rattle.std.specs.Prelude.{◌≡◌, ℕ, ◌<◌, ◌+◌, ◌++◌, ◌∷◌, [], take, length, true, false, nat_eq};
 ghost use Rattle.std.specs.Prelude.{slice_index_or, IfOk, IfSome};
 ghost use Rattle.std.specs.Prelude.{if◌then◌else◌};
-ghost use Rattle.share_ledger.specs.Bounds.{AreBefore};
+ghost use Rattle.share_ledger.specs.Bounds.{AreBefore, AreIdle};
 ghost use Rattle.share_ledger.specs.Nets.{activity_of, ComesToFund, CeasesToFund, IsBegun, IsReady};
 ghost use Rattle.share_ledger.specs.Arrays.{flags_of};
 ghost use Rattle.share_ledger.specs.Routes.{IsRouteWithin, routes_of};
@@ -99,6 +99,17 @@ impl Kept {
         bounds::are_before(&self.net.backing, &self.net.funding, place)
     }
 
+    /// Whether no flow from a place on is active or has a seat.
+    pub(crate) fn is_idle(&self, place: usize) -> bool
+        requires { length self.now.net.funding.items ≡ 65 }
+        ensures idle { result ≡ true
+            → AreIdle self.now.net.funding.items (flags_of self.now.net.active.value) place }
+        ensures long { length self.now.shares.value ≡ 64 }
+    {
+        have_places(&self.shares);
+        bounds::are_idle(&self.net.funding, &self.net.active, place)
+    }
+
     // What follows from the seats and the activity.
     fn settle(&mut self, tables: &Tables)
         requires { IsBegun self.old.net (backs_of tables.now) (funds_of tables.now) (activity_of tables.now) }
@@ -112,6 +123,7 @@ impl Kept {
     fn settle_changed(&mut self, tables: &Tables, currency: usize, flow: usize)
         requires begun { IsBegun self.old.net (backs_of tables.now) (funds_of tables.now) (activity_of tables.now) }
         requires was { WasSettled self.old.net self.old.shares.value currency flow }
+        requires place { currency < 65 }
         ensures { AreKept self.new.net self.new.shares.value tables.now }
     {
         tables.is_kept();
@@ -123,7 +135,6 @@ impl Kept {
     pub(crate) fn renew(&mut self, tables: &Tables)
         requires places { (length self.old.net.backing.items ≡ 65) × (length self.old.net.funding.items ≡ 65) }
         ensures { AreKept self.new.net self.new.shares.value tables.now }
-        requires place { currency < 65 }
     {
         self.backing.list(tables, true);
         self.funding.list(tables, false);
@@ -157,6 +168,7 @@ impl Kept {
 
     // What follows where the seats of the holder of a route have changed at most.
     fn follow(&mut self, tables: &Tables, route: &Route, backing: bool)
+        requires place { route.now.to < 65 }
         requires begun { IsBegun self.old.net (backs_of tables.now) (funds_of tables.now) (activity_of tables.now) }
         requires was { WasSettled self.old.net self.old.shares.value (if backing then route.now.to else 0)
             (if backing then 64 else route.now.to) }
@@ -168,7 +180,6 @@ impl Kept {
         }
         self.settle_changed(tables, 0, route.to);
     }
-        requires place { route.now.to < 65 }
 
     /// A ticket has come to back a currency, or to fund a flow.
     pub(crate) fn give(&mut self, tables: &Tables, route: &Route, backing: bool)

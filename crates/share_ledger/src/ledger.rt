@@ -185,7 +185,14 @@ impl Ledger {
     pub fn remove_flow(&mut self, flow: FlowNo)
         ensures { self.new ≡ remove_flow self.old flow }
     {
+        self.tables.is_kept();
+        let place = self.tables.place_of_flow(flow);
         self.tables.remove_flow(flow);
+        if let Some(place) = place {
+            if self.kept.is_idle(place) {
+                return;
+            }
+        }
         self.kept.renew(&self.tables);
     }
 

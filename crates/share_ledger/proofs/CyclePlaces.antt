@@ -184,7 +184,8 @@ module _ (g : Graph) (ok : IsKept g) (ss : List (List Seat)) (seated : AreSeated
           let two = both (flag q) (nat_lt (rank q) (rank p)) back.passes in
           let same =
           same_name a back.holder
-          (sym (place-same a back.holder (names_of g) there) ∙ ap (λ r. nat_eq r (place (names_of g) back.holder)) back.at
+          (sym (place-same a back.holder (names_of g) there)
+          ∙ ap (λ r. nat_eq r (place (names_of g) back.holder)) back.at
           ∙ self (place (names_of g) back.holder)) in
           rest t.denomination one.1.0.denomination_known (ltb-true (rank q) (rank p) two.1) two.0
           (chain-on t back.holder d k back.held one.1.1.1 (ap (λ b. chain g.tickets k b d) (sym same) ∙ on))

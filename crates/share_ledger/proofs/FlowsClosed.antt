@@ -123,7 +123,8 @@ module _ (g : Graph) (ok : IsKept g) (f i : ℕ) (first : IsFirstAt (is_open_as 
   spot (Currency d) soon = refl
   spot (Flow k) soon = place-left f k g.flows i first (soon refl)
 
-  pub routes-remove_flow : (b : Bool) → routes_of g b g.tickets ≡ routes_of (remove_flow g f) b (remove_flow g f).tickets
+  pub routes-remove_flow : (b : Bool)
+      → routes_of g b g.tickets ≡ routes_of (remove_flow g f) b (remove_flow g f).tickets
   routes-remove_flow b =
       let each = early g.tickets (placed g ok) (seats-tell g false fs funds before seats-before) in
       routes-same g (remove_flow g f) b IsEarly g.tickets each
@@ -132,7 +133,8 @@ module _ (g : Graph) (ok : IsKept g) (f i : ℕ) (first : IsFirstAt (is_open_as 
 
 pub kept-closed : (net : Net) (shares : List ℕ) (g : Graph) (f i : ℕ) → IsKept g → length shares ≡ 64
     → position (λ (o : OpenFlow). nat_eq f o.number) (map (λ (e : NameBytes × OpenFlow). e.1) g.flows) ≡ Some i
-    → AreIdle net.funding.items (flags_of net.active.value) i → AreKept net shares g → AreKept net shares (remove_flow g f)
+    → AreIdle net.funding.items (flags_of net.active.value) i → AreKept net shares g
+    → AreKept net shares (remove_flow g f)
 kept-closed net shares g f i ok long found idle kept = record {
   of_flows = shares-settled h net shares (kept-remove_flow g ok f) long ready;
   net_ready = ready;

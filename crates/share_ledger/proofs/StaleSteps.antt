@@ -334,8 +334,8 @@ lefts-was old new shares c f was left =
     left-was old new shares c f left.values left.seen was left.awake left.backing left.funding
     (λ k _. ap (λ a. flags_of a.value k) left.active)
 
--- where no weight but that of `base` is another one, and nothing active rests on the currency whose seats may be others,
--- only the flow's own tickets may be
+-- where no weight but that of `base` is another one, and nothing active rests on the currency whose seats may be
+-- others, only the flow's own tickets may be
 pub quiet-settled : (n : Net) (shares next : List ℕ) (backs funds : List Route) (lit : ℕ → Bool) (c f : ℕ)
     → IsBegun n backs funds lit → WasSettled n shares c f
     → ((p : ℕ) → 0 < p → p < 65 → numbers_of n.weights.value p ≡ numbers_of n.seen.value p)

@@ -88,8 +88,8 @@ impl Net {
         *self.seen = *self.weights;
     }
 
-    // Whether no weight but that of `base` is another one, and nothing active rests on the currency at a place, or it is
-    // `base`.
+    // Whether no weight but that of `base` is another one, and nothing active rests on the currency at a place, or it
+    // is `base`.
     fn is_quiet(&self, currency: usize) -> bool
         requires { currency < 65 }
         ensures same { result ≡ true → (p : ℕ) → 0 < p → p < 65

@@ -5,8 +5,10 @@ mod clerk;
 mod link;
 mod locked;
 mod running;
+mod threads;
 
 pub use clerk::{Clerk, Receipt};
 pub use link::Link;
 pub use locked::{Admit, Locked, Settled, Unsettled, WhyUnsettled, settle};
 pub use running::{LinkEnd, Port, Stop, run_link};
+pub use threads::serve_while;

@@ -1,4 +1,5 @@
 pub mod Calls
+pub mod Leaves
 pub mod Receipts
 pub mod Settles
 pub mod Views

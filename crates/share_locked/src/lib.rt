@@ -11,4 +11,4 @@ pub use clerk::{Clerk, Receipt};
 pub use link::Link;
 pub use locked::{Admit, Locked, Settled, Unsettled, WhyUnsettled, settle};
 pub use running::{LinkEnd, Port, Stop, run_link};
-pub use threads::serve_while;
+pub use threads::{Closed, Duty, Left, Post, Unclosed, serve_while, settle_all};

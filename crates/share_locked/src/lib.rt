@@ -5,6 +5,8 @@ mod clerk;
 mod link;
 mod locked;
 mod running;
+#[cfg(test)]
+mod tests;
 mod threads;
 
 pub use clerk::{Clerk, Receipt};

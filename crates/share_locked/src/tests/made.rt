@@ -1,0 +1,223 @@
+//! New links; and commands, offers and settlings of which the answers are known.
+ghost use Rattle.std.specs.Prelude.{◌≡◌, [], IfSome};
+ghost use Rattle.share_model.specs.lists.Each.{Each};
+ghost use Rattle.share_journal.specs.Records.{AcceptedNothing};
+
+use crate::{Clerk, Link, Locked, Settled, WhyUnsettled, settle};
+use share_base::{Command, FlowNo, Name, Parcel, Reply, TicketNo};
+use share_core::Engine;
+use share_ingress::{IngressEnd, Intake, Offered, queue};
+use share_journal::{Journal, Recorder};
+use share_model::{Rates, Telling};
+use std::alloc::Global;
+use std::process::Abort;
+use std::sync::Wait;
+
+/// A life that no example here spends.
+pub(super) const LONG: u64 = 65536;
+
+fn linked<W: Telling + Drop, S: Rates + Copy>(
+    rt: &impl Abort,
+    alloc: Global,
+    shelf: S,
+    life: u64,
+    writer: W,
+) -> Engine<W, S>
+    ensures { result.writer ≡ writer }
+{
+    Engine::new(alloc, shelf, life, writer).expect(rt, "a link")
+}
+
+/// A recorder of a new link with this life, over a writer that has accepted nothing.
+pub(super) fn recording<W: Telling + Drop, S: Rates + Copy>(
+    rt: &impl Abort,
+    alloc: Global,
+    shelf: S,
+    life: u64,
+    writer: W,
+) -> Recorder<W, S>
+    requires { IfSome (W.told writer) AcceptedNothing }
+    ensures { result.entries ≡ [] }
+{
+    let engine = linked(rt, alloc, shelf, life, writer);
+    let journal = Journal::new(alloc, life).expect(rt, "a journal");
+    match Recorder::new(engine, journal) {
+        Ok(recorder) => recorder,
+        Err(_) => panic!(rt; "both are new, and of one life"),
+    }
+}
+
+/// A new queue of so many places, with the ends of so many workers.
+pub(super) fn queued(
+    rt: &impl Abort,
+    alloc: Global,
+    capacity: usize,
+    workers: usize,
+) -> (Intake, Vec<IngressEnd>)
+    ensures nothing { result.0.popped ≡ [] }
+    ensures linked { Each (λ e. e.link ≡ result.0.link) result.1.items }
+{
+    queue(alloc, capacity, workers).expect(rt, "a queue")
+}
+
+pub(super) fn name(rt: &impl Abort, text: &str) -> Name {
+    Name::read(text.as_bytes()).expect(rt, "a name")
+}
+
+/// The number of an offer for the flow a, or `None` where it came back.
+pub(super) fn offered<T: Wait + Abort>(
+    rt: &T,
+    alloc: Global,
+    end: &mut IngressEnd,
+    payload: &[u8],
+) -> Option<u64>
+    ensures { end.new.link ≡ end.old.link }
+{
+    let parcel = Parcel::new(alloc, payload).expect(rt, "a payload");
+    match end.offer(rt, name(rt, "a"), parcel) {
+        Offered::Queued(n) => Some(n),
+        Offered::Full(_) => None,
+    }
+}
+
+/// These ends but the last, and that one.
+pub(super) fn without_last<T: Abort, L: Link>(
+    rt: &T,
+    ends: Vec<IngressEnd>,
+) -> (Vec<IngressEnd>, IngressEnd)
+    requires { Each (λ e. e.link ≡ L.link) ends.items }
+    ensures ends { Each (λ e. e.link ≡ L.link) result.0.items }
+    ensures last { result.1.link ≡ L.link }
+{
+    let mut ends = ends;
+    let last = ends.pop().expect(rt, "an end");
+    (ends, last)
+}
+
+/// These ends and one more.
+pub(super) fn with_last<T: Abort, L: Link>(
+    rt: &T,
+    ends: Vec<IngressEnd>,
+    last: IngressEnd,
+) -> Vec<IngressEnd>
+    requires ends { Each (λ e. e.link ≡ L.link) ends.items }
+    requires last { last.link ≡ L.link }
+    ensures { Each (λ e. e.link ≡ L.link) result.items }
+{
+    let mut ends = ends;
+    assert!(rt; ends.push(last).is_ok());
+    ends
+}
+
+/// The ends, of which the last one made an offer, with its answer.
+pub(super) fn offering<T: Wait + Abort, L: Link>(
+    rt: &T,
+    alloc: Global,
+    ends: Vec<IngressEnd>,
+    payload: &[u8],
+    wanted: Option<u64>,
+) -> Vec<IngressEnd>
+    requires { Each (λ e. e.link ≡ L.link) ends.items }
+    ensures { Each (λ e. e.link ≡ L.link) result.items }
+{
+    let (ends, last) = without_last::<T, L>(rt, ends);
+    let mut last = last;
+    assert_eq!(rt; offered(rt, alloc, &mut last, payload), wanted);
+    with_last::<T, L>(rt, ends, last)
+}
+
+/// The one clerk of a link.
+pub(super) fn one<L: Link>(rt: &impl Abort, alloc: Global, clerk: Clerk<L>) -> Vec<Clerk<L>> {
+    let mut clerks = Vec::new(alloc);
+    assert!(rt; clerks.push(clerk).is_ok());
+    clerks
+}
+
+/// What a clerk's command is answered.
+pub(super) fn commanded<W: Telling, S: Rates, L: Link>(
+    rt: &impl Abort,
+    locked: &mut Locked<W, S, L>,
+    clerk: &mut Clerk<L>,
+    command: Command,
+) -> (u64, Reply) {
+    clerk.ready().expect(rt, "memory");
+    locked.command(clerk, command)
+}
+
+/// The commands `open a 4 1`, `mktkt 10 base` and `fund 1 flow a`, the first ones of a link.
+pub(super) fn open_and_fund<W: Telling, S: Rates, L: Link>(
+    rt: &impl Abort,
+    locked: &mut Locked<W, S, L>,
+    clerk: &mut Clerk<L>,
+) {
+    let flow = name(rt, "a");
+    let open = Command::OpenFlow {
+        name: flow,
+        limit: 4,
+        tariff: 1,
+    };
+    let make = Command::MakeTicket {
+        amount: 10,
+        currency: name(rt, "base"),
+    };
+    let fund = Command::FundFlow { ticket: 1, flow };
+    assert_eq!(rt;
+        commanded(rt, locked, clerk, open),
+        (1, Reply::Flow(FlowNo(1)))
+    );
+    assert_eq!(rt;
+        commanded(rt, locked, clerk, make),
+        (2, Reply::Ticket(TicketNo(1)))
+    );
+    assert_eq!(rt; commanded(rt, locked, clerk, fund), (3, Reply::Done));
+}
+
+/// What comes back of a link that is not settled.
+type Back<W, S, L> = (Locked<W, S, L>, Vec<IngressEnd>, Vec<Clerk<L>>);
+
+/// The link is not settled, for this reason.
+pub(super) fn not_settled<W: Telling + Drop, S: Rates + Copy, L: Link>(
+    rt: &impl Abort,
+    alloc: Global,
+    locked: Locked<W, S, L>,
+    ends: Vec<IngressEnd>,
+    clerks: Vec<Clerk<L>>,
+    why: WhyUnsettled,
+) -> Back<W, S, L>
+    requires { Each (λ e. e.link ≡ L.link) ends.items }
+    ensures { Each (λ e. e.link ≡ L.link) result.1.items }
+{
+    match settle(alloc, locked, ends, clerks) {
+        Ok(_) => panic!(rt; "it was settled"),
+        Err(back) => {
+            assert_eq!(rt; back.why, why);
+            (back.locked, back.ends, back.clerks)
+        }
+    }
+}
+
+/// The link is settled, with these tallies, arrivals and commands.
+pub(super) fn settled<W: Telling + Drop, S: Rates + Copy, L: Link>(
+    rt: &impl Abort,
+    alloc: Global,
+    locked: Locked<W, S, L>,
+    ends: Vec<IngressEnd>,
+    clerks: Vec<Clerk<L>>,
+    wanted: (&[u64], u64, u64),
+) -> Recorder<W, S>
+    requires { Each (λ e. e.link ≡ L.link) ends.items }
+{
+    match settle(alloc, locked, ends, clerks) {
+        Err(back) => panic!(rt; "it was not settled: {:?}", back.why),
+        Ok(settled) => {
+            let Settled {
+                recorder,
+                tallies,
+                arrivals,
+                commands,
+            } = settled;
+            assert_eq!(rt; (tallies.as_slice(), arrivals, commands), wanted);
+            recorder
+        }
+    }
+}

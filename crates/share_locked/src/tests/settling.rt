@@ -1,0 +1,218 @@
+//! Settling: what is answered where something is missing, unsent or there.
+ghost use Rattle.std.specs.Prelude.{◌≡◌, []};
+ghost use Rattle.share_model.specs.lists.Each.{Each};
+
+use crate::tests::made::{
+    LONG, not_settled, offering, one, open_and_fund, queued, recording, settled, with_last,
+    without_last,
+};
+use crate::{Admit, Clerk, Link, Locked, WhyUnsettled};
+use share_base::{FlowNo, Refusal, Reply, Turn};
+use share_ingress::{IngressEnd, Intake};
+use share_journal::Recorder;
+use share_model::{Rates, Tape};
+use std::alloc::Global;
+use std::marker::Brand;
+use std::process::Abort;
+use std::sync::Wait;
+
+// A link of which nothing was asked, and which has no clerk.
+fn nothing<T: Abort, S: Rates + Copy, L: Link>(
+    rt: &T,
+    alloc: Global,
+    recorder: Recorder<Tape, S>,
+    intake: Intake,
+    ends: Vec<IngressEnd>,
+)
+    requires empty { recorder.entries ≡ [] }
+    requires link { intake.link ≡ L.link }
+    requires nothing { intake.popped ≡ [] }
+    requires ends { Each (λ e. e.link ≡ L.link) ends.items }
+{
+    let locked: Locked<Tape, S, L> = Locked::new(recorder, intake);
+    let recorder = settled(rt, alloc, locked, ends, Vec::new(alloc), (&[0, 0], 0, 0));
+    assert_eq!(rt; recorder.journal().len(), 0);
+    assert!(rt; recorder.engine().writer().bytes().is_empty());
+}
+
+// Of two workers one end is missing at first.
+fn an_end_is_missing<T: Abort, S: Rates + Copy, L: Link>(
+    rt: &T,
+    alloc: Global,
+    recorder: Recorder<Tape, S>,
+    intake: Intake,
+    ends: Vec<IngressEnd>,
+)
+    requires empty { recorder.entries ≡ [] }
+    requires link { intake.link ≡ L.link }
+    requires nothing { intake.popped ≡ [] }
+    requires ends { Each (λ e. e.link ≡ L.link) ends.items }
+{
+    let locked: Locked<Tape, S, L> = Locked::new(recorder, intake);
+    let (ends, second) = without_last::<T, L>(rt, ends);
+    let clerks = Vec::new(alloc);
+    let (locked, mut ends, clerks) = not_settled(
+        rt,
+        alloc,
+        locked,
+        ends,
+        clerks,
+        WhyUnsettled::Mismatch,
+    );
+    assert_eq!(rt; ends.len(), 1);
+    let ends = with_last::<T, L>(rt, ends, second);
+    let recorder = settled(rt, alloc, locked, ends, clerks, (&[0, 0], 0, 0));
+    drop(recorder);
+}
+
+// Two clerks, of which one made the first commands.
+fn two_clerks<S: Rates + Copy, L: Link>(
+    rt: &impl Abort,
+    alloc: Global,
+    locked: &mut Locked<Tape, S, L>,
+) -> (Clerk<L>, Clerk<L>) {
+    let mut first = locked.clerk(alloc).expect(rt, "a clerk");
+    let second = locked.clerk(alloc).expect(rt, "a clerk");
+    assert_eq!(rt; locked.clerk(alloc).err(), Some(Refusal::TableFull));
+    open_and_fund(rt, locked, &mut first);
+    (first, second)
+}
+
+// The clerk that made no command is missing at first, and then the other one.
+fn a_clerk_is_missing<T: Abort, S: Rates + Copy, L: Link>(
+    rt: &T,
+    alloc: Global,
+    recorder: Recorder<Tape, S>,
+    intake: Intake,
+    ends: Vec<IngressEnd>,
+)
+    requires empty { recorder.entries ≡ [] }
+    requires link { intake.link ≡ L.link }
+    requires nothing { intake.popped ≡ [] }
+    requires ends { Each (λ e. e.link ≡ L.link) ends.items }
+{
+    let mut locked: Locked<Tape, S, L> = Locked::new(recorder, intake);
+    let (first, second) = two_clerks(rt, alloc, &mut locked);
+    let clerks = one(rt, alloc, first);
+    let (locked, ends, clerks) = not_settled(
+        rt,
+        alloc,
+        locked,
+        ends,
+        clerks,
+        WhyUnsettled::Mismatch,
+    );
+    the_other_is_missing(rt, alloc, locked, ends, clerks, second);
+}
+
+// One clerk is missing, and then none.
+fn the_other_is_missing<S: Rates + Copy, L: Link>(
+    rt: &impl Abort,
+    alloc: Global,
+    locked: Locked<Tape, S, L>,
+    ends: Vec<IngressEnd>,
+    first: Vec<Clerk<L>>,
+    second: Clerk<L>,
+)
+    requires { Each (λ e. e.link ≡ L.link) ends.items }
+{
+    let clerks = one(rt, alloc, second);
+    let (locked, ends, clerks) = not_settled(
+        rt,
+        alloc,
+        locked,
+        ends,
+        clerks,
+        WhyUnsettled::Mismatch,
+    );
+    let both = together(rt, first, clerks);
+    let recorder = settled(rt, alloc, locked, ends, both, (&[0], 0, 3));
+    assert_eq!(rt; recorder.journal().len(), 3);
+}
+
+// Two clerks, the second one first.
+fn together<L: Link>(
+    rt: &impl Abort,
+    first: Vec<Clerk<L>>,
+    second: Vec<Clerk<L>>,
+) -> Vec<Clerk<L>> {
+    let mut first = first;
+    let mut both = second;
+    assert!(rt; both.push(first.pop().expect(rt, "a clerk")).is_ok());
+    both
+}
+
+// Admits the one offer of a queue.
+fn admits_one<T: Abort + Wait, S: Rates, L: Link>(rt: &T, locked: &mut Locked<Tape, S, L>) {
+    let admitted = Admit::Admitted {
+        worker: 1,
+        n: 1,
+        reply: Reply::Packet {
+            flow: FlowNo(1),
+            seq: 1,
+        },
+    };
+    assert_eq!(rt; locked.admit(rt), admitted);
+    assert_eq!(rt; locked.admit(rt), Admit::Empty);
+}
+
+fn sends_it<S: Rates, L: Link>(rt: &impl Abort, locked: &mut Locked<Tape, S, L>) {
+    let wrote = Turn::Wrote {
+        flow: FlowNo(1),
+        seq: 1,
+        k: 13,
+        whole: true,
+    };
+    assert_eq!(rt; locked.turn(65535), wrote);
+    assert_eq!(rt; locked.turn(65535), Turn::Idle);
+}
+
+// The frame of the one packet is not sent at first.
+fn a_frame_is_unsent<T: Abort + Wait, S: Rates + Copy, L: Link>(
+    rt: &T,
+    alloc: Global,
+    recorder: Recorder<Tape, S>,
+    intake: Intake,
+    ends: Vec<IngressEnd>,
+)
+    requires empty { recorder.entries ≡ [] }
+    requires link { intake.link ≡ L.link }
+    requires nothing { intake.popped ≡ [] }
+    requires ends { Each (λ e. e.link ≡ L.link) ends.items }
+{
+    let mut locked: Locked<Tape, S, L> = Locked::new(recorder, intake);
+    let mut clerk = locked.clerk(alloc).expect(rt, "a clerk");
+    open_and_fund(rt, &mut locked, &mut clerk);
+    let ends = offering::<T, L>(rt, alloc, ends, b"a", Some(1));
+    admits_one(rt, &mut locked);
+    let clerks = one(rt, alloc, clerk);
+    let (mut locked, ends, clerks) = not_settled(
+        rt,
+        alloc,
+        locked,
+        ends,
+        clerks,
+        WhyUnsettled::Unsent,
+    );
+    assert_eq!(rt; (ends.len(), clerks.len()), (1, 1));
+    sends_it(rt, &mut locked);
+    let recorder = settled(rt, alloc, locked, ends, clerks, (&[1], 1, 3));
+    assert_eq!(rt; recorder.journal().len(), 5);
+    let frame = b"\x4c\x01\0\0\0\x01\0\0\0\x01\0\x01a";
+    assert_eq!(rt; recorder.engine().writer().bytes(), frame.as_slice());
+}
+
+pub(super) fn all<T: Abort + Wait, S: Rates + Copy>(rt: &T, alloc: Global, shelf: S) {
+    let (intake, ends) = queued(rt, alloc, 4, 2);
+    let recorder = recording(rt, alloc, shelf, LONG, Tape::new(alloc));
+    nothing::<T, S, Brand>(rt, alloc, recorder, intake, ends);
+    let (intake, ends) = queued(rt, alloc, 4, 2);
+    let recorder = recording(rt, alloc, shelf, LONG, Tape::new(alloc));
+    an_end_is_missing::<T, S, Brand>(rt, alloc, recorder, intake, ends);
+    let (intake, ends) = queued(rt, alloc, 4, 1);
+    let recorder = recording(rt, alloc, shelf, LONG, Tape::new(alloc));
+    a_clerk_is_missing::<T, S, Brand>(rt, alloc, recorder, intake, ends);
+    let (intake, ends) = queued(rt, alloc, 4, 1);
+    let recorder = recording(rt, alloc, shelf, LONG, Tape::new(alloc));
+    a_frame_is_unsent::<T, S, Brand>(rt, alloc, recorder, intake, ends);
+}

@@ -1,6 +1,6 @@
 -- What workers leave, parted into their ends and all else.
 use Rattle.std.proofs.Common.{◌≡◌, List, [], ◌∷◌, ◌++◌, map, length, arith}
-use Rattle.std.proofs.Common.{refl, sym, ap, ◌∙◌, subst}
+use Rattle.std.proofs.Common.{sym, ap, ◌∙◌, subst}
 use Rattle.std.proofs.lemmas.List.{append_assoc, append-nil, map-append}
 use Rattle.share_model.specs.lists.Each.{Each}
 use Rattle.share_ingress.specs.Ends.{EndView}

@@ -1,8 +1,9 @@
 #!/usr/bin/env python3
 """Measures bin/stridelink beside a plain Rust program of the same lines, and the crates beside plain loops.
 
-`bench.py scripts` runs the scripts alone, `bench.py loops` the loops over the ledger and the stride queue, and without
-a word both are run. A time is the processor time, user and system, of a whole run, the median of ROUNDS rounds in which
+`bench.py scripts` runs the scripts alone, `bench.py loops` the loops over the ledger and the stride queue, and
+`bench.py graphs` counts the instructions of lines over graphs of currencies that are made in several orders (by
+valgrind, whatever else the machine does); without a word all are run. A time is the processor time, user and system, of a whole run, the median of ROUNDS rounds in which
 the programs take turns, and a ratio is the median of the rounds' ratios; machines are noisy, so the ratios of one run
 are what to read. Nothing is written but a folder of scripts and outputs in the system's temporary folder, which is
 removed.
@@ -17,7 +18,7 @@ import sys
 import tempfile
 from dataclasses import dataclass
 
-from scripts import SCRIPTS
+from scripts import SCRIPTS, graphs
 
 ROUNDS = int(os.environ.get("ROUNDS", "15"))
 TOP = os.path.dirname(os.path.dirname(os.path.abspath(__file__)))
@@ -116,6 +117,37 @@ def measure_scripts():
             print_row(row(script, plain, folder))
 
 
+def instructions(command, path, folder):
+    """How many instructions a run takes."""
+    found = os.path.join(folder, "callgrind.out")
+    with open(path, "rb") as source:
+        subprocess.run(["valgrind", "--tool=callgrind", "--callgrind-out-file=" + found, *command], stdin=source,
+                       stdout=subprocess.DEVNULL, stderr=subprocess.DEVNULL, check=True)
+    with open(found) as lines:
+        return next(int(line.split()[1]) for line in lines if line.startswith("totals:"))
+
+
+def instructions_a_line(program, script, folder):
+    """Those of the lines that are repeated: twice as many lines, and the difference by line."""
+    path = os.path.join(folder, "script")
+    counts = []
+    for times in (1, 2):
+        script.write(path, times)
+        counts.append(instructions([program, "run", "--life", str(script.life)], path, folder))
+    return (counts[1] - counts[0]) / (script.length(2) - script.length(1))
+
+
+def measure_graphs():
+    """Prints a row for each graph."""
+    with tempfile.TemporaryDirectory() as folder:
+        plain = build_plain(folder)
+        print_row(("lines", "instructions a line", "plain", "beside plain"))
+        print_row(["---"] * 4)
+        for script in graphs():
+            ours, theirs = (instructions_a_line(program, script, folder) for program in (PROGRAM, plain))
+            print_row((script.name, "%.0f" % ours, "%.0f" % theirs, "%.2f" % (ours / theirs)))
+
+
 LEDGER_LOOPS = (
     ("ledger", "set_active and all tickets by number, deep graph"),
     ("places", "set_active and all tickets by place, deep graph"),
@@ -172,10 +204,10 @@ def measure_loops():
 
 
 def main():
-    parts = {"scripts": measure_scripts, "loops": measure_loops}
+    parts = {"scripts": measure_scripts, "loops": measure_loops, "graphs": measure_graphs}
     words = sys.argv[1:] or list(parts)
     if not set(words) <= set(parts):
-        sys.exit("the words are scripts and loops")
+        sys.exit("the words are scripts, loops and graphs")
     for word in words:
         parts[word]()
 

@@ -99,10 +99,10 @@ def toggling(name, count):
     return Script(name, beginning + heavy, turns_of(line for each in sends for line in (send(1, "heavy"), each)), count)
 
 
-def waking(name, funding, count):
+def waking(name, funding, count, flows=FLOWS):
     """Each packet wakes a flow, and each turn rests one: the flows wake one after the other and are served then."""
-    sends = "".join(send(1, "f%d" % flow) for flow in range(FLOWS))
-    return Script(name, funding.text(), sends + TURN * FLOWS, count)
+    sends = "".join(send(1, "f%d" % flow) for flow in range(flows))
+    return Script(name, funding.text(), sends + TURN * flows, count)
 
 
 def layers():
@@ -124,18 +124,56 @@ def layers():
 def deep_graph():
     """Eight currencies, each backed by the one before through sixteen tickets, and all flows funded by fourteen tickets
     of the last: 1024 tickets, and more paths than can be walked."""
+    return chain(range(8), 16, FLOWS, 14)
+
+
+def chain(order, backing, flows, funding_tickets):
+    """Currencies that are made in this order, each backed by the one before it, of number 0 by base, through so many
+    tickets; and so many flows, each funded by so many tickets of the last."""
     funding = Funding()
-    below = "base"
-    for depth in range(8):
+    for depth in order:
         funding.currency("c%d" % depth)
-        for _ in range(16):
-            funding.ticket(1000, below, "cur c%d" % depth)
-        below = "c%d" % depth
-    for flow in range(FLOWS):
+    for depth in order:
+        for _ in range(backing):
+            funding.ticket(1000, "c%d" % (depth - 1) if depth else "base", "cur c%d" % depth)
+    for flow in range(flows):
         funding.flow(flow)
-        for _ in range(14):
-            funding.ticket(1000, below, "flow f%d" % flow)
+        for _ in range(funding_tickets):
+            funding.ticket(1000, "c%d" % (len(order) - 1), "flow f%d" % flow)
     return funding
+
+
+# In which order the eight currencies of a chain are made: in the last, one alone is made after what it backs.
+ORDERS = {
+    "made in order": tuple(range(8)),
+    "made in reverse": tuple(reversed(range(8))),
+    "shuffled": (3, 0, 6, 1, 7, 4, 2, 5),
+    "one late": (0, 1, 3, 4, 5, 6, 7, 2),
+}
+
+# Tickets of a chain of eight currencies: (of all, of each currency, flows, of each flow).
+SIZES = ((16, 1, 8, 1), (128, 8, 8, 8), (1024, 16, 56, 16))
+
+
+def wide_chain():
+    """A chain with places for more tickets: 1023 tickets, of which the last seven fund nothing, and a flow x."""
+    funding = chain(range(8), 15, 56, 16)
+    funding.lines.append("mktkt 1 c7\n" * 7 + "open x 4 1\n")
+    return funding.text(), funding.tickets + 1
+
+
+def graphs():
+    """Chains of each size in each order, in which flows wake and rest; and single commands among 1023 tickets."""
+    found = [waking("%d tickets, %s" % (size, order), chain(made, backing, flows, each), count=40, flows=flows)
+             for size, backing, flows, each in SIZES for order, made in ORDERS.items()]
+    beginning, spare = wide_chain()
+    found.append(Script("refused as a cycle", beginning, "fund %d cur c0\n" % spare, 2000))
+    found.append(Script("a flow closed and opened", beginning, "close x\nopen x 4 1\n", 1000))
+    found.append(Script("a ticket made and removed", beginning,
+                        lambda number: "mktkt 1 c7\nrmtkt %d\n" % (spare + 7 + number), 1000))
+    found.append(Script("a ticket funds a flow and its end", beginning,
+                        "fund %d flow x\nunfund %d\n" % (spare, spare), 1000))
+    return found
 
 
 def commands(name, count):

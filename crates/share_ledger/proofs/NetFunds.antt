@@ -8,17 +8,18 @@ use Rattle.std.proofs.lemmas.Option.{same_Some}
 use Rattle.share_model.specs.declared.funding.Holder.{Holder}
 use Rattle.share_model.specs.declared.funding.Holder.TheVariants.{Nobody, Currency, Flow}
 use Rattle.share_model.specs.declared.funding.Ticket.{Ticket}
-use Rattle.share_base.specs.declared.refusal.Refusal.TheVariants.{NoTicket, NoCurrency, NoFlow, Base, Funding}
+use Rattle.share_base.specs.declared.refusal.Refusal.TheVariants.{NoTicket, NoCurrency, NoFlow, Base, Funding, Unfunded}
 use Rattle.share_model.specs.funding.Graph.{NameBytes, base, Graph}
 use Rattle.share_model.specs.funding.ChangeLaws.{not-refused}
 use Rattle.share_model.specs.funding.Changes.{is_currency, flow_named, fund_currency_refusal, fund_flow_refusal}
+use Rattle.share_model.specs.funding.Changes.{unfund_refusal}
 use Rattle.share_model.specs.funding.Changes.{ticket_of, is_numbered, is_held, held_by, with_holder, is_found_held}
 use Rattle.share_model.specs.lists.Laws.{find-change_first}
 use Rattle.share_model.specs.lists.Change.{change_first}
 use Rattle.share_ledger.specs.declared.net.Net.{Net}
 use Rattle.share_ledger.specs.declared.routes.Route.{Route}
 use Rattle.share_ledger.specs.Nets.{activity_of, GrowsBy, ComesToFund, CeasesToFund, IsBegun}
-use Rattle.share_ledger.specs.Routes.{is_kind, route_of, routes_of}
+use Rattle.share_ledger.specs.Routes.{is_kind, route_of, routes_of, IsRouted}
 use Rattle.share_ledger.specs.Seats.{backs_of}
 use Rattle.share_ledger.specs.Seats.{funds_of}
 use Rattle.share_ledger.proofs.RouteWorths.{sum-routes}
@@ -100,29 +101,22 @@ other-kind Nobody b held kind = absurd (true≢false (sym held))
 other-kind (Currency c) b held kind = ap not (sym kind)
 other-kind (Flow f) b held kind = ap not (sym kind)
 
--- what is known of a ticket with a holder
-abbrev pub IsRouted : Graph → ℕ → Route → Bool → Type 0
-IsRouted g n r b = (t : Ticket) × ((ticket_of g n ≡ Some t) × (r ≡ route_of g t) × (is_held t.holder ≡ true)
-    × (b ≡ is_kind true t.holder))
+-- a ticket that is there and has no holder
+abbrev pub IsFree : Graph → ℕ → Type 0
+IsFree g n = (not (is_some (ticket_of g n)) ≡ false) × (is_found_held (ticket_of g n) ≡ false)
 
 pub comes-to-fund : (g h : Graph) (n : ℕ) (o : Holder) (net : Net) (r : Route) (b : Bool)
-    → h ≡ record g { tickets = with_holder n o g.tickets } → is_found_held (ticket_of g n) ≡ false
+    → h ≡ record g { tickets = with_holder n o g.tickets } → IsFree g n
     → IsBegun net (backs_of g) (funds_of g) (activity_of g) → IsRouted h n r b → ComesToFund net h r b
-comes-to-fund g h n o net r b e unheld begun routed =
+comes-to-fund g h n o net r b e free begun routed =
     subst (λ h. IsRouted h n r b → ComesToFund net h r b) (sym e) (λ found. by found (ticket_of g n) refl) routed
   where
     by : IsRouted (record g { tickets = with_holder n o g.tickets }) n r b → (w : Option Ticket) → ticket_of g n ≡ w
         → ComesToFund net (record g { tickets = with_holder n o g.tickets }) r b
-    by found None q =
-        absurd (none_some
-        (sym (ap (option_map (held_by o)) q) ∙ sym (find-change_first (is_numbered n) (held_by o) (λ x e. e) g.tickets)
-        ∙ found.1.0))
-      where
-        none_some : {u : Ticket} → None ≡ Some u → ⊥
-        none_some e = cc
+    by found None q = absurd (true≢false (sym (ap (λ w. not (is_some w)) q) ∙ free.0))
     by found (Some t) q =
         let u = found.0 in
-        let free : is_held t.holder ≡ false = sym (ap is_found_held q) ∙ unheld in
+        let unheld : is_held t.holder ≡ false = sym (ap is_found_held q) ∙ free.1 in
         let same : held_by o t ≡ u =
         same_Some (held_by o t) u
         (sym (ap (option_map (held_by o)) q) ∙ sym (find-change_first (is_numbered n) (held_by o) (λ x e. e) g.tickets)
@@ -137,9 +131,9 @@ comes-to-fund g h n o net r b e unheld begun routed =
               begun,
               subst (λ q. GrowsBy b (backs_of g) (backs_of (record g { tickets = with_holder n o g.tickets })) q)
                   (sym found.1.1)
-                  (funded-grows g n o t u true b q free found.1.0 kind),
+                  (funded-grows g n o t u true b q unheld found.1.0 kind),
               subst (λ q. GrowsBy (not b) (funds_of g) (funds_of (record g { tickets = with_holder n o g.tickets })) q)
-                  (sym found.1.1) (funded-grows g n o t u false (not b) q free found.1.0 other),
+                  (sym found.1.1) (funded-grows g n o t u false (not b) q unheld found.1.0 other),
             ),
           ),
         )
@@ -164,18 +158,38 @@ ceases-to-fund g h n net r b e begun found =
       ),
     ))
 
--- a ticket that may fund has no holder yet
-pub unheld-currency : (g : Graph) (n : ℕ) (c : NameBytes) → fund_currency_refusal g n c ≡ None
-    → is_found_held (ticket_of g n) ≡ false
-unheld-currency g n c none =
+-- a ticket that may fund is there and has no holder yet
+pub free-currency : (g : Graph) (n : ℕ) (c : NameBytes) → fund_currency_refusal g n c ≡ None → IsFree g n
+free-currency g n c none =
     let one = not-refused (not (is_some (ticket_of g n))) NoTicket _ none in
     let two = not-refused (not (is_currency g c)) NoCurrency _ one.1 in
     let three = not-refused (bytes_eq c base) Base _ two.1 in
-    (not-refused (is_found_held (ticket_of g n)) Funding _ three.1).0
+    (one.0, (not-refused (is_found_held (ticket_of g n)) Funding _ three.1).0)
 
-pub unheld-flow : (g : Graph) (n : ℕ) (f : NameBytes) → fund_flow_refusal g n f ≡ None
-    → is_found_held (ticket_of g n) ≡ false
-unheld-flow g n f none =
+pub free-flow : (g : Graph) (n : ℕ) (f : NameBytes) → fund_flow_refusal g n f ≡ None → IsFree g n
+free-flow g n f none =
     let one = not-refused (not (is_some (ticket_of g n))) NoTicket _ none in
     let two = not-refused (not (is_some (flow_named g f))) NoFlow _ one.1 in
-    (not-refused (is_found_held (ticket_of g n)) Funding _ two.1).0
+    (one.0, (not-refused (is_found_held (ticket_of g n)) Funding _ two.1).0)
+
+-- and has one then
+pub free-held : (g h : Graph) (n : ℕ) (o : Holder) → h ≡ record g { tickets = with_holder n o g.tickets }
+    → is_held o ≡ true → IsFree g n → is_found_held (ticket_of h n) ≡ true
+free-held g h n o e held free =
+    ap (λ (h : Graph). is_found_held (ticket_of h n)) e
+    ∙ ap is_found_held (find-change_first (is_numbered n) (held_by o) (λ x e. e) g.tickets)
+    ∙ by (ticket_of g n) free.0
+  where
+    by : (w : Option Ticket) → not (is_some w) ≡ false → is_found_held (option_map (held_by o) w) ≡ true
+    by None there = absurd (true≢false there)
+    by (Some t) there = held
+
+-- a ticket that may cease to fund has a holder
+pub held-ticket : (g : Graph) (n : ℕ) → unfund_refusal g n ≡ None → is_found_held (ticket_of g n) ≡ true
+held-ticket g n none =
+    let one = not-refused (not (is_some (ticket_of g n))) NoTicket _ none in
+    on (is_found_held (ticket_of g n)) (not-refused (not (is_found_held (ticket_of g n))) Unfunded _ one.1).0
+  where
+    on : (b : Bool) → not b ≡ false → b ≡ true
+    on true e = refl
+    on false e = absurd (true≢false e)

@@ -5,6 +5,8 @@ use Rattle.std.specs.List.{list_any}
 use Rattle.share_model.specs.funding.Graph.{Graph}
 use Rattle.share_model.specs.lists.Each.{Each}
 use Rattle.share_ledger.specs.declared.net.Net.{Net}
+use Rattle.share_ledger.specs.declared.ranks.Link.{Link}
+use Rattle.share_ledger.specs.declared.ranks.Ranking.{Ranking}
 use Rattle.share_ledger.specs.declared.seats.Seat.{Seat}
 use Rattle.share_ledger.specs.Arrays.{numbers_of}
 use Rattle.share_ledger.specs.Seats.{seats_at, AreSeated, backs_of}
@@ -43,28 +45,31 @@ is_tall ss from to (suc n) p =
 abbrev pub AreLongest : List (List Seat) → ℕ → ℕ → (ℕ → ℕ) → Type 0
 AreLongest ss from to rank = (p n : ℕ) → 0 < p → p < 65 → n < rank p → is_tall ss from to n p ≡ true
 
--- Ranks are given from 1 on: the places of ranks below one are listed, and of this rank itself those before a place.
--- The others have no rank, for which 9 stands.
-pub record AreRankedTo (ss : List (List Seat)) (from to : ℕ) (ranks order : List ℕ) (count most upto : ℕ) : Type 0 where
-  pub ranks_long : length ranks ≡ 65
-  pub order_long : length order ≡ 65
-  pub base_rank : numbers_of ranks 0 ≡ 0
-  pub top : (p : ℕ) → numbers_of ranks p ≤ 9
-  pub low : (p : ℕ) → p < 65 → numbers_of ranks p < 9 → numbers_of ranks p ≤ most
-  pub high : (p : ℕ) → 0 < p → p < 65 → 1 ≤ numbers_of ranks p
-  pub above : (p : ℕ) → 0 < p → p < 65 → numbers_of ranks p < 9
-      → Each (λ (s : Seat). numbers_of ranks s.from < numbers_of ranks p) (seats_at ss p)
-  pub more : 0 < to → numbers_of ranks to < 9 → numbers_of ranks from < numbers_of ranks to
-  pub longest : (p n : ℕ) → 0 < p → p < 65 → n < numbers_of ranks p → n ≤ most → (n ≡ most → p < upto)
-      → is_tall ss from to n p ≡ true
+-- Some places have ranks and are listed, those of lesser ranks first; the others have no rank, for which 9 stands.
+pub record AreGiven (ss : List (List Seat)) (link : Link) (r : Ranking) : Type 0 where
+  pub ranks_long : length r.ranks ≡ 65
+  pub order_long : length r.order ≡ 65
+  pub base_rank : numbers_of r.ranks 0 ≡ 0
+  pub top : (p : ℕ) → numbers_of r.ranks p ≤ 9
+  pub high : (p : ℕ) → 0 < p → p < 65 → 1 ≤ numbers_of r.ranks p
+  pub above : (p : ℕ) → 0 < p → p < 65 → numbers_of r.ranks p < 9
+      → Each (λ (s : Seat). numbers_of r.ranks s.from < numbers_of r.ranks p) (seats_at ss p)
+  pub more : 0 < link.to → numbers_of r.ranks link.to < 9 → numbers_of r.ranks link.from < numbers_of r.ranks link.to
   pub spot : ℕ → ℕ
   pub first : spot 0 ≡ 0
-  pub there : (p : ℕ) → p < 65 → numbers_of ranks p < 9 → (spot p < count) × (numbers_of order (spot p) ≡ p)
-  pub back : (i : ℕ) → i < count
-      → (numbers_of order i < 65) × ((numbers_of ranks (numbers_of order i) < 9) × (spot (numbers_of order i) ≡ i))
-  pub sorted : (a b : ℕ) → a < 65 → b < 65 → numbers_of ranks a < numbers_of ranks b → numbers_of ranks b < 9
+  pub there : (p : ℕ) → p < 65 → numbers_of r.ranks p < 9 → (spot p < r.count) × (numbers_of r.order (spot p) ≡ p)
+  pub back : (i : ℕ) → i < r.count → (numbers_of r.order i < 65)
+      × ((numbers_of r.ranks (numbers_of r.order i) < 9) × (spot (numbers_of r.order i) ≡ i))
+  pub sorted : (a b : ℕ) → a < 65 → b < 65 → numbers_of r.ranks a < numbers_of r.ranks b → numbers_of r.ranks b < 9
       → spot a < spot b
-  pub counted : count ≡ sum_by (λ (r : ℕ). if nat_lt r 9 then 1 else 0) ranks
+  pub counted : r.count ≡ sum_by (λ (n : ℕ). if nat_lt n 9 then 1 else 0) r.ranks
+
+-- Ranks are given from 1 on: the places of ranks below one have theirs, and of this rank itself those before a place.
+pub record AreRankedTo (ss : List (List Seat)) (link : Link) (r : Ranking) (most upto : ℕ) : Type 0 where
+  pub given : AreGiven ss link r
+  pub low : (p : ℕ) → p < 65 → numbers_of r.ranks p < 9 → numbers_of r.ranks p ≤ most
+  pub longest : (p n : ℕ) → 0 < p → p < 65 → n < numbers_of r.ranks p → n ≤ most → (n ≡ most → p < upto)
+      → is_tall ss link.from link.to n p ≡ true
 
 -- there are such ranks, and the one place is below the other
 abbrev pub IsBelow : List (List Seat) → ℕ → ℕ → Type 0

@@ -1,6 +1,6 @@
 -- Routes: what the tickets that have a holder do between places, and rounds over them.
-use Rattle.std.specs.Prelude.{◌≤◌, ◌<◌, ℕ, ◌*◌, ◌/◌, ◌^◌, zero, suc, Bool, false, not, ◌&&◌, List, [], ◌∷◌, map}
-use Rattle.std.specs.Prelude.{filter, sum_by, nat_eq, if◌then◌else◌}
+use Rattle.std.specs.Prelude.{◌≡◌, ◌≤◌, ◌<◌, ℕ, ◌*◌, ◌/◌, ◌^◌, zero, suc, Bool, true, false, not, ◌&&◌, List, []}
+use Rattle.std.specs.Prelude.{◌∷◌, map, Some, filter, sum_by, nat_eq, if◌then◌else◌}
 use Rattle.share_ledger.specs.declared.routes.Route.{Route}
 use Rattle.share_ledger.specs.Places.{place}
 use Rattle.share_model.specs.declared.funding.Holder.{Holder}
@@ -8,6 +8,7 @@ use Rattle.share_model.specs.declared.funding.Holder.TheVariants.{Nobody, Curren
 use Rattle.share_model.specs.declared.funding.Ticket.{Ticket}
 use Rattle.share_model.specs.declared.funding.OpenFlow.{OpenFlow}
 use Rattle.share_model.specs.funding.Graph.{NameBytes, Graph}
+use Rattle.share_model.specs.funding.Changes.{ticket_of, is_held}
 use Rattle.share_model.specs.funding.Kept.{names_of}
 
 -- where the flow of a number stands, or the number of flows
@@ -37,6 +38,11 @@ is_kind backing (Flow f) = not backing
 -- the routes of the tickets that back currencies, or of those that fund flows
 unfoldable pub routes_of : Graph → Bool → List Ticket → List Route
 routes_of g backing ts = map (route_of g) (filter (λ t. is_kind backing t.holder) ts)
+
+-- the route of the ticket of a number, which has a holder, and whether that is a currency
+abbrev pub IsRouted : Graph → ℕ → Route → Bool → Type 0
+IsRouted g n r backing = (t : Ticket) × ((ticket_of g n ≡ Some t) × (r ≡ route_of g t) × (is_held t.holder ≡ true)
+    × (backing ≡ is_kind true t.holder))
 
 -- there are 65 places of currencies, and 64 of flows
 pub record IsRouteWithin (r : Route) : Type 0 where

@@ -11,8 +11,9 @@ ghost use Rattle.share_ledger.specs.Nets.{activity_of, ComesToFund, CeasesToFund
 ghost use Rattle.share_ledger.specs.Stale.{IsLeft};
 
 use crate::net::{self, Net};
+use crate::ranks::Link;
 use crate::routes::Route;
-use crate::tables::{PLACES, Tables};
+use crate::tables::Tables;
 use crate::turns::{counted, seat, unseat};
 use crate::{chains, ranks};
 
@@ -33,9 +34,7 @@ impl Net {
         if self.ranks[from] < self.ranks[to] {
             return true;
         }
-        let mut ranks = [0; PLACES];
-        let mut order = [0; PLACES];
-        ranks::list(&self.backing, from, to, &mut ranks, &mut order)
+        ranks::list(&self.backing, Link { from, to }).is_some()
     }
 
     /// Whether the currency at one place is that at another or backs it, by however many steps.
@@ -63,8 +62,10 @@ impl Net {
         ranks::renew(
             tables,
             &self.backing,
-            route.from,
-            route.to,
+            Link {
+                from: route.from,
+                to: route.to,
+            },
             &mut self.ranks,
             &mut self.order,
         );

@@ -123,10 +123,8 @@ impl Ledger {
     {
         self.tables.is_kept();
         self.tables.fund_currency(ticket, currency, &self.kept.net)?;
-        match self.tables.route_of(ticket) {
-            Some((route, backing)) => self.kept.give(&self.tables, &route, backing),
-            None => self.kept.renew(&self.tables),
-        }
+        let (route, backing) = self.tables.route_of(ticket);
+        self.kept.give(&self.tables, &route, backing);
         Ok(())
     }
 
@@ -140,10 +138,8 @@ impl Ledger {
     {
         self.tables.is_kept();
         self.tables.fund_flow(ticket, flow, &self.kept.net)?;
-        match self.tables.route_of(ticket) {
-            Some((route, backing)) => self.kept.give(&self.tables, &route, backing),
-            None => self.kept.renew(&self.tables),
-        }
+        let (route, backing) = self.tables.route_of(ticket);
+        self.kept.give(&self.tables, &route, backing);
         Ok(())
     }
 
@@ -155,12 +151,12 @@ impl Ledger {
             (λ e. (unfund_refusal self.old ticket ≡ Some e) × (self.new ≡ self.old)) }
     {
         self.tables.is_kept();
-        let found = self.tables.route_of(ticket);
-        self.tables.unfund(ticket)?;
-        match found {
-            Some((route, backing)) => self.kept.take(&self.tables, &route, backing),
-            None => self.kept.renew(&self.tables),
+        if let Some(refusal) = self.tables.unfund_refusal(ticket) {
+            return Err(refusal);
         }
+        let (route, backing) = self.tables.route_of(ticket);
+        self.tables.unfund(ticket);
+        self.kept.take(&self.tables, &route, backing);
         Ok(())
     }
 

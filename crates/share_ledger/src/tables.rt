@@ -150,10 +150,10 @@ impl Tables {
         if is_base(name) {
             return 0;
         }
-        match self.currencies.get_index_of(&name) {
-            Some(place) => place + 1,
-            None => 0,
-        }
+        let Some(place) = self.currencies.get_index_of(&name) else {
+            unreachable!();
+        };
+        place + 1
     }
 
     /// The place of a currency that was made, if it is there.

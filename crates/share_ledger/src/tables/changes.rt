@@ -5,7 +5,7 @@ ghost use Rattle.share_model.specs.funding.Changes.{with_holder, make_currency_r
 ghost use Rattle.share_model.specs.funding.Changes.{remove_currency_refusal, remove_currency, make_ticket_refusal};
 ghost use Rattle.share_model.specs.funding.Changes.{make_ticket, remove_ticket_refusal, remove_ticket};
 ghost use Rattle.share_model.specs.funding.Changes.{fund_currency_refusal, fund_currency, fund_flow_refusal, fund_flow};
-ghost use Rattle.share_model.specs.funding.Changes.{unfund_refusal, unfund, add_flow_refusal, add_flow, released};
+ghost use Rattle.share_model.specs.funding.Changes.{unfund, add_flow_refusal, add_flow, released};
 ghost use Rattle.share_model.specs.funding.Changes.{remove_flow, set_active};
 ghost use Rattle.share_model.specs.declared.funding.OpenFlow.{OpenFlow};
 ghost use Rattle.share_model.specs.funding.Kept.{IsKept};
@@ -139,18 +139,11 @@ impl Tables {
         Ok(())
     }
 
-    pub(crate) fn unfund(&mut self, ticket: u64) -> Result<(), Refusal>
-        ensures done { IfOk result
-            (λ _. (unfund_refusal self.old ticket ≡ None) × (self.new ≡ unfund self.old ticket)) }
-        ensures refused { IfErr result
-            (λ e. (unfund_refusal self.old ticket ≡ Some e) × (self.new ≡ self.old)) }
+    pub(crate) fn unfund(&mut self, ticket: u64)
+        ensures { self.new ≡ unfund self.old ticket }
     {
         self.is_kept();
-        if let Some(refusal) = self.unfund_refusal(ticket) {
-            return Err(refusal);
-        }
         self.give(ticket, &Holder::Nobody);
-        Ok(())
     }
 
     pub(crate) fn add_flow(&mut self, name: Name) -> Result<FlowNo, Refusal>

@@ -36,7 +36,7 @@ impl Tables {
     {
         self.is_kept();
         let Some(place) = self.place_of_flow(flow) else {
-            return 0;
+            unreachable!();
         };
         let seats: &[Seats] = &net.funding;
         let holder = &seats[place];

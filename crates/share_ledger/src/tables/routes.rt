@@ -1,10 +1,8 @@
 //! The routes of the tickets that have a holder.
-ghost use Rattle.std.specs.Prelude.{◌≡◌, ℕ, ◌≤◌, ◌<◌, length, map, take, slice_get, option_map, Some, IfSome, true};
-ghost use Rattle.std.specs.Prelude.{false};
+ghost use Rattle.std.specs.Prelude.{◌≡◌, ℕ, ◌≤◌, ◌<◌, length, map, take, slice_get, option_map, Some, true};
 ghost use Rattle.share_model.specs.funding.Kept.{names_of, times, times_open, IsHolderKnown};
-ghost use Rattle.share_ledger.specs.Routes.{flow_place, holder_place, is_kind, route_of, routes_of, IsRouteWithin};
-ghost use Rattle.share_model.specs.declared.funding.Ticket.{Ticket};
-ghost use Rattle.share_model.specs.funding.Changes.{ticket_of, is_held};
+ghost use Rattle.share_ledger.specs.Routes.{flow_place, holder_place, is_kind, route_of, routes_of, IsRouteWithin, IsRouted};
+ghost use Rattle.share_model.specs.funding.Changes.{ticket_of, is_found_held};
 
 use super::{MAX_TICKETS, Tables};
 use crate::holders;
@@ -22,7 +20,7 @@ impl Tables {
             Holder::Currency(name) => self.place_of(*name),
             Holder::Flow(flow) => match self.place_of_flow(*flow) {
                 Some(place) => place,
-                None => 0,
+                None => unreachable!(),
             },
         }
     }
@@ -40,19 +38,16 @@ impl Tables {
     }
 
     /// The route of a ticket that has a holder, and whether it backs a currency.
-    pub(crate) fn route_of(&self, number: u64) -> Option<(Route, bool)>
-        ensures { IfSome result (λ found. IsRouteWithin found.0
-            × ((t : Ticket) × ((ticket_of self.now number ≡ Some t) × (found.0 ≡ route_of self.now t)
-            × (is_held t.holder ≡ true) × (found.1 ≡ is_kind true t.holder)))) }
+    pub(crate) fn route_of(&self, number: u64) -> (Route, bool)
+        requires { is_found_held (ticket_of self.now number) ≡ true }
+        ensures within { IsRouteWithin result.0 }
+        ensures routed { IsRouted self.now number result.0 result.1 }
     {
         self.is_kept();
         let Some(ticket) = self.ticket(number) else {
-            return None;
+            unreachable!();
         };
-        if !holders::is_held(&ticket.holder) {
-            return None;
-        }
-        Some((self.route(ticket), holders::is_kind(&ticket.holder, true)))
+        (self.route(ticket), holders::is_kind(&ticket.holder, true))
     }
 
     /// Lists the routes of the tickets that back currencies, or of those that fund flows, and says how many they are.

@@ -7,28 +7,23 @@ use Rattle.share_ledger.proofs.ranks.rank_place.Goals as goal
 
 pub returns-then-not-is_due : goal.returns-then-not-is_due
 returns-then-not-is_due c =
-    passed c.args.backing.now c.args.from c.args.to c.args.ranks.now c.args.order.now c.args.count c.args.rank
+    passed c.args.backing.now c.args.link c.args.ranking.now c.args.rank
     c.args.place c.requires.ranked c.requires.first c.requires.made c.requires.place c.requires.from_place
     (each_map IsSeatWithin (λ (s : Seat). s.from < 65) (λ s w. w.from_place) (seats_at c.args.backing.now c.args.place)
     (c.requires.within c.args.place c.requires.place))
     (sym c.is_due.ensures ∙ c.if-not-is_due.true)
 
-pub bounds-order-count : goal.bounds-order-count
-bounds-order-count c =
-    (placed c.args.backing.now c.args.from c.args.to c.args.ranks.now c.args.order.now c.args.count c.args.rank
+pub bounds-ranking-ranking : goal.bounds-ranking-ranking
+bounds-ranking-ranking c =
+    (placed c.args.backing.now c.args.link c.args.ranking.now c.args.rank
     c.args.place c.requires.ranked c.requires.first c.requires.last c.requires.made c.requires.place
     c.requires.from_place (sym c.is_due.ensures ∙ c.if-not-is_due.false)).0
 
-pub overflow_add-result : goal.overflow_add-result
-overflow_add-result c =
-    let room =
-    (placed c.args.backing.now c.args.from c.args.to c.args.ranks.now c.args.order.now c.args.count c.args.rank
-    c.args.place c.requires.ranked c.requires.first c.requires.last c.requires.made c.requires.place
-    c.requires.from_place (sym c.is_due.ensures ∙ c.if-not-is_due.false)).0 in
-    omega arith
+pub overflow_add-ranking : goal.overflow_add-ranking
+overflow_add-ranking c = let room = bounds-ranking-ranking c in omega arith
 
 pub returns : goal.returns
 returns c =
-    (placed c.args.backing.now c.args.from c.args.to c.args.ranks.now c.args.order.now c.args.count c.args.rank
+    (placed c.args.backing.now c.args.link c.args.ranking.now c.args.rank
     c.args.place c.requires.ranked c.requires.first c.requires.last c.requires.made c.requires.place
     c.requires.from_place (sym c.is_due.ensures ∙ c.if-not-is_due.false)).1

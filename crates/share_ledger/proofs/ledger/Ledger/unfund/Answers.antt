@@ -1,15 +1,18 @@
-use Rattle.share_ledger.proofs.NetFunds.{ceases-to-fund}
+use Rattle.std.proofs.Common.{sym, ◌∙◌}
+use Rattle.share_ledger.proofs.NetFunds.{ceases-to-fund, held-ticket}
 use Rattle.share_ledger.proofs.StaleSteps.{ready-was}
 use Rattle.share_ledger.specs.Nets.{activity_of}
 use Rattle.share_ledger.specs.Seats.{backs_of, funds_of}
 use Rattle.share_ledger.proofs.ledger.Ledger.unfund.Goals as goal
 
+pub route_of-backing-requires : goal.route_of-backing-requires
+route_of-backing-requires c =
+    held-ticket c.self.inside.tables c.args.ticket (sym c.unfund_refusal.ensures ∙ c.in_default.is)
+
 pub take-requires-clause-begun : goal.take-requires-clause-begun
 take-requires-clause-begun c =
-    let found = c.in-Some.ensures.1 in
-    ceases-to-fund c.self.inside.tables c.unfund.new.self c.args.ticket c.self.inside.kept.net
-    c.in-Some.route c.in-Some.backing c.in_ok-unfund.ensures.done.1 c.self.invariant.net_ready.begun
-    (found.0, (found.1.0, (cc), found.1.2, (cc)))
+    ceases-to-fund c.self.inside.tables c.unfund.new.self c.args.ticket c.self.inside.kept.net _ _
+    c.unfund.ensures c.self.invariant.net_ready.begun c.route_of-backing.ensures.routed
 
 pub take-requires-clause-was : goal.take-requires-clause-was
 take-requires-clause-was c =

@@ -8,13 +8,13 @@ use Rattle.share_ledger.proofs.RouteWorths.{flow-place-below}
 use Rattle.share_ledger.proofs.SeatCounts.{first-open, funding-count}
 use Rattle.share_ledger.proofs.tables.Tables.count_funding.Goals as goal
 
-pub returns-in_default : goal.returns-in_default
-returns-in_default c =
+pub unreachable-requires : goal.unreachable-requires
+unreachable-requires c =
     let none =
     unopened c.args.flow c.args.self.now.flows
     (flow-none c.args.flow c.args.self.now.flows
     (position-none _ _ (sym c.place_of_flow.ensures ∙ c.in_default.is))) in
-    absurd (omega (arith, none, c.requires.open))
+    omega (arith, none, c.requires.open)
 
 pub returns : goal.returns
 returns c =

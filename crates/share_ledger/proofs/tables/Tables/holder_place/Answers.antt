@@ -12,11 +12,11 @@ returns-in-Some c =
     (position-first _ _ c.in-Some.place (sym c.place_of_flow.ensures ∙ c.in-Some.is)))
     ∙ sym (ap (holder_place c.args.self.now) c.in-Flow.is)
 
-pub returns-in-None : goal.returns-in-None
-returns-in-None c =
+pub unreachable-requires : goal.unreachable-requires
+unreachable-requires c =
     let none =
     unopened c.in-Flow.flow c.args.self.now.flows
     (flow-none c.in-Flow.flow c.args.self.now.flows
     (position-none _ _ (sym c.place_of_flow.ensures ∙ c.in-None.is))) in
     let known = subst (IsHolderKnown c.args.self.now) c.in-Flow.is c.requires in
-    absurd (omega (arith, none, known))
+    omega (arith, none, known)

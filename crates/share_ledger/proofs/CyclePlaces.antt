@@ -44,10 +44,7 @@ module _ (ss : List (List Seat)) (order : ℕ → ℕ) (o : AreOrdered ss order)
 
   still : (xs : List Seat) (m : ℕ) → m ≤ i → Each (λ (s : Seat). (s.from < 65) × (o.spot s.from < m)) xs
       → list_any (λ (s : Seat). flag s.from) xs ≡ list_any (λ (s : Seat). next s.from) xs
-  still xs m le each =
-      any-same (λ (s : Seat). flag s.from) (λ (s : Seat). next s.from) xs
-      (each_map (λ (s : Seat). (s.from < 65) × (o.spot s.from < m)) _
-      (λ s at. left s.from (let lt_s = at.1 in omega arith)) xs each)
+  still xs m le each = grind (arith, nat_tests, any-same, each_map, left)
 
   pub backed-more : (k : ℕ) → 0 < k → k < 65 → o.spot k < i + 1
       → next k ≡ (nat_eq k first || list_any (λ (s : Seat). next s.from) (seats_at ss k))
@@ -126,12 +123,7 @@ module _ (g : Graph) (ok : IsKept g) (ss : List (List Seat)) (seated : AreSeated
       → ((h : Ticket → Bool) → h t ≡ true → list_any h g.tickets ≡ true) → chain g.tickets k e d ≡ true
       → chain g.tickets (suc k) t.denomination d ≡ true
   unfolding chain issued
-  chain-on t e d k held there on =
-      any-filter (λ (u : Ticket). bytes_eq t.denomination u.denomination)
-      (λ (u : Ticket). leads_on (λ a. chain g.tickets k a d) u.holder) g.tickets
-      ∙ there (λ (u : Ticket). bytes_eq t.denomination u.denomination && leads_on (λ a. chain g.tickets k a d) u.holder)
-      (ap (λ b. b && leads_on (λ a. chain g.tickets k a d) t.holder) (name_refl t.denomination)
-      ∙ ap (leads_on (λ a. chain g.tickets k a d)) held ∙ on)
+  chain-on t e d k held there on = grind (arith, nat_tests, any-filter, name_refl)
 
   -- a place is flagged, and of a lower rank
   abbrev nearer : ℕ → ℕ → Bool
@@ -201,10 +193,7 @@ module _ (g : Graph) (ok : IsKept g) (ss : List (List Seat)) (seated : AreSeated
   backs-within d there = by (is_flagged d) refl (chain_within g.tickets 8 c d) refl
     where
       lit : is_flagged c ≡ true
-      lit =
-          backed.step (place (names_of g) c) (past-base g c made) (below g ok c known)
-          ∙ ap (λ b. b || list_any (λ (s : Seat). flag s.from) (seats_at ss (place (names_of g) c)))
-          (self (place (names_of g) c))
+      lit = grind (arith, nat_tests, past-base, below, self)
 
       by : (x : Bool) → is_flagged d ≡ x → (y : Bool) → chain_within g.tickets 8 c d ≡ y
           → is_flagged d ≡ chain_within g.tickets 8 c d
@@ -265,12 +254,4 @@ module _ (g : Graph) (ok : IsKept g) (ss : List (List Seat)) (seated : AreSeated
 
     -- a chain of seats that is too long with one more is one of the graph in which the ticket funds
     pub tall-funded : (p : ℕ) → p < 65 → is_tall ss from to 8 p ≡ true → is_deep funded ≡ true
-    tall-funded p lt tall =
-        let d = place (names_of g) t.denomination in
-        let e = place (names_of g) c in
-        tall-deep g ss seated ok d e funded funded-placed
-        (λ test q. any-left (is_numbered n) (held_by (Currency c)) (backs g ss seated test q) t g.tickets there
-        (never test q t.holder refl (sym (ap is_found_held there) ∙ free)))
-        (λ m q. any-changed (is_numbered n) (held_by (Currency c)) (backs g ss seated (is_tall ss d e m) q) t g.tickets
-        there) p lt
-        (subst (λ q. is_tall ss q e 8 p ≡ true) from_is (subst (λ q. is_tall ss from q 8 p ≡ true) to_is tall))
+    tall-funded p lt tall = grind (arith, nat_tests, tall-deep, funded-placed, any-left, backs, never, any-changed)

@@ -40,10 +40,7 @@ shares-same g h (e ∷ es) same =
 -- they still fit where the flows and their tickets are the same
 pub shares-left : (shares : List ℕ) (g h : Graph) → g.flows ≡ h.flows → ((f : ℕ) → tickets g f ≡ tickets h f)
     → AreShares shares g → AreShares shares h
-shares-left shares g h flows same kept =
-    ap (λ (es : List (NameBytes × OpenFlow)). take (length es) shares) (sym flows) ∙ kept
-    ∙ shares-same g h g.flows same
-    ∙ ap (map (λ (e : NameBytes × OpenFlow). tickets h e.1.number)) flows
+shares-left shares g h flows same kept = grind (arith, nat_tests, shares-same)
 
 -- The place of a flow
 found-share : (share : ℕ → ℕ) (f : ℕ) (es : List (NameBytes × OpenFlow)) (i : ℕ) → IsFirstAt (is_open_as f) es i

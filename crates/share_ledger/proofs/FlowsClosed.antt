@@ -1,6 +1,6 @@
 -- A flow is closed from which on no flow is active or has a seat: what is kept stands as it is.
 use Rattle.std.proofs.Common.{◌≡◌, ◌≤◌, ◌<◌, ℕ, zero, suc, Bool, true, false, cond, List, [], ◌∷◌, map, length, get_or}
-use Rattle.std.proofs.Common.{position, nat_eq, nat_lt, Some, refl, sym, ap, subst, ◌∙◌, arith}
+use Rattle.std.proofs.Common.{position, nat_eq, nat_lt, Some, refl, sym, ap, ◌∙◌, arith}
 use Rattle.std.specs.Set.{remove_key}
 use Rattle.std.proofs.lemmas.Bool.{eqb-true, ltb-true}
 use Rattle.std.proofs.lemmas.Bool.Decides.{nat_tests}
@@ -28,7 +28,7 @@ use Rattle.share_ledger.proofs.Positions.{IsFirstAt, position-first, flow-first}
 use Rattle.share_ledger.proofs.RouteLists.{flow-place-first, route-within}
 use Rattle.share_ledger.proofs.RoutesBefore.{ticket-part, seats-tell, route-tells}
 use Rattle.share_ledger.proofs.RoutesLeft.{routes-same, route-same}
-use Rattle.share_ledger.proofs.Settled.{shares-settled}
+use Rattle.share_ledger.proofs.Settled.{kept-ready}
 
 -- a flow before one that is taken out keeps its place
 place-left : (f k : ℕ) (es : List (NameBytes × OpenFlow)) (i : ℕ) → IsFirstAt (is_open_as f) es i → flow_place es k < i
@@ -36,15 +36,7 @@ place-left : (f k : ℕ) (es : List (NameBytes × OpenFlow)) (i : ℕ) → IsFir
 unfolding flow_place
 place-left f k [] i first lt = absurd first
 place-left f k (e ∷ es) zero first lt = absurd (omega arith)
-place-left f k (e ∷ es) (suc i) first lt =
-    by (nat_eq k e.1.number) lt (place-left f k es i first.1)
-    ∙ sym (ap (λ b. flow_place (cond b es (e ∷ remove_key (is_open_as f) es)) k) first.0)
-  where
-    by : (b : Bool) → cond b 0 (suc (flow_place es k)) < suc i
-        → (flow_place es k < i → flow_place es k ≡ flow_place (remove_key (is_open_as f) es) k)
-        → cond b 0 (suc (flow_place es k)) ≡ cond b 0 (suc (flow_place (remove_key (is_open_as f) es) k))
-    by true lt rest = refl
-    by false lt rest = ap suc (rest (omega arith))
+place-left f k (e ∷ es) (suc i) first lt = grind (arith, nat_tests, place-left f k es i first.1)
 
 -- and its activity, where none that follows is active
 abbrev at : List (NameBytes × OpenFlow) → ℕ → Bool
@@ -101,21 +93,11 @@ module _ (g : Graph) (ok : IsKept g) (f i : ℕ) (first : IsFirstAt (is_open_as 
   other : (h : Holder) → (is_kind false h ≡ true → holder_place g h < i) → is_held_by_flow f h ≡ false
   other Nobody soon = refl
   other (Currency d) soon = refl
-  other (Flow k) soon = by (nat_eq f k) refl
-    where
-      by : (b : Bool) → nat_eq f k ≡ b → nat_eq f k ≡ false
-      by true e =
-          let less = soon refl in
-          let same = ap (flow_place g.flows) (eqb-true f k e) in
-          let here = flow-place-first f g.flows i first in
-          absurd (omega arith)
-      by false e = e
+  other (Flow k) soon = grind (arith, nat_tests, eqb-true, flow-place-first)
 
   none-released : (ts : List Ticket) → Each IsEarly ts → ts ≡ map (released f) ts
   none-released [] each = refl
-  none-released (t ∷ ts) each =
-      ap (λ us. t ∷ us) (none-released ts each.1)
-      ∙ ap (λ b. cond b (record t { holder = Nobody }) t ∷ map (released f) ts) (sym (other t.holder each.0))
+  none-released (t ∷ ts) each = grind (arith, nat_tests, other, none-released ts each.1)
 
   spot : (h : Holder) → (is_kind false h ≡ true → holder_place g h < i)
       → holder_place g h ≡ holder_place (remove_flow g f) h
@@ -135,10 +117,7 @@ pub kept-closed : (net : Net) (shares : List ℕ) (g : Graph) (f i : ℕ) → Is
     → position (λ (o : OpenFlow). nat_eq f o.number) (map (λ (e : NameBytes × OpenFlow). e.1) g.flows) ≡ Some i
     → AreIdle net.funding.items (flags_of net.active.value) i → AreKept net shares g
     → AreKept net shares (remove_flow g f)
-kept-closed net shares g f i ok long found idle kept = record {
-  of_flows = shares-settled h net shares (kept-remove_flow g ok f) long ready;
-  net_ready = ready;
-}
+kept-closed net shares g f i ok long found idle kept = kept-ready h net shares (kept-remove_flow g ok f) long ready
   where
     h : Graph
     h = remove_flow g f
@@ -147,25 +126,11 @@ kept-closed net shares g f i ok long found idle kept = record {
     first = flow-first f g.flows i (position-first _ _ i found)
 
     still : (k : ℕ) → i ≤ k → activity_of g k ≡ false
-    still k le = by (nat_lt k 65) refl
-      where
-        past : nat_lt k 65 ≡ false → 65 ≤ k
-        past e = grind (arith, nat_tests)
-
-        by : (b : Bool) → nat_lt k 65 ≡ b → activity_of g k ≡ false
-        by true e = sym (kept.net_ready.begun.active_is k) ∙ (idle k le (ltb-true k 65 e)).0
-        by false e =
-            let far = past e in
-            let few = ok.few_flows in
-            activity-beyond g k (omega arith)
+    still k le = grind (arith, nat_tests, ltb-true, activity-beyond)
 
     routes : (b : Bool) → routes_of g b g.tickets ≡ routes_of h b h.tickets
     routes =
         routes-remove_flow g ok f i first net.funding.items kept.net_ready.begun.funding (λ p le lt. (idle p le lt).1)
 
     ready : IsReady net shares (backs_of h) (funds_of h) (activity_of h)
-    ready =
-        relit net shares (backs_of h) (funds_of h) (activity_of g) (activity_of h)
-        (subst (λ rs. IsReady net shares (backs_of h) rs (activity_of g)) (routes false)
-        (subst (λ rs. IsReady net shares rs (funds_of g) (activity_of g)) (routes true) kept.net_ready))
-        (activity-left f g.flows i first still)
+    ready = grind (arith, nat_tests, relit, h, routes, activity-left, first, still)

@@ -1,12 +1,13 @@
 -- Elements of lists, and sums over them.
-use Rattle.std.proofs.Common.{◌≡◌, ◌≤◌, ◌<◌, ◌*◌, ◌||◌, ◌∙◌, ℕ, zero, suc, Bool, true, false, cond, List, [], ◌∷◌}
-use Rattle.std.proofs.Common.{Some, find, sum_by, length, get_or, sym, ap, true≢false, arith}
+use Rattle.std.proofs.Common.{◌≡◌, ◌≤◌, ◌<◌, ◌*◌, ℕ, zero, suc, Bool, true, false, List, [], ◌∷◌}
+use Rattle.std.proofs.Common.{Some, find, sum_by, length, get_or, sym, true≢false, arith}
 use Rattle.std.specs.List.{list_any}
 use Rattle.std.proofs.Math.Bool.{or-true}
 use Rattle.std.proofs.lemmas.Option.{same_Some}
 use Rattle.share_model.specs.lists.Change.{change_first}
 use Rattle.std.proofs.lemmas.List.Sums.{sum_by-cons}
 use Rattle.share_model.specs.lists.Each.{Each}
+use Rattle.std.proofs.lemmas.Bool.Decides.{nat_tests}
 
 pub Each-at : {X : Type 0} (P : X → Type 0) (xs : List X) (i : ℕ) (d : X) → Each P xs → i < length xs
     → P (get_or xs i d)
@@ -34,34 +35,10 @@ module _ {X : Type 0} (first : X → Bool) (change : X → X) (test : X → Bool
       → list_any test (change_first first change xs) ≡ true
   unfolding change_first
   any-changed [] found e = absurd cc
-  any-changed (x ∷ xs) found e = by (first x) found (any-changed xs)
-    where
-      by : (b : Bool) → cond b (Some x) (find first xs) ≡ Some t
-          → (find first xs ≡ Some t → test (change t) ≡ true → list_any test (change_first first change xs) ≡ true)
-          → list_any test (cond b (change x ∷ xs) (x ∷ change_first first change xs)) ≡ true
-      by true is rest = ap (λ b. b || list_any test xs) (ap (λ y. test (change y)) (same_Some x t is) ∙ e)
-      by false is rest = ap (λ b. test x || b) (rest is e) ∙ or-true (test x)
+  any-changed (x ∷ xs) found e = grind (arith, nat_tests, same_Some, or-true, any-changed xs)
 
   pub any-left : (xs : List X) → find first xs ≡ Some t → test t ≡ false → list_any test xs ≡ true
       → list_any test (change_first first change xs) ≡ true
   unfolding change_first
   any-left [] found fails e = absurd (true≢false (sym e))
-  any-left (x ∷ xs) found fails e = by (first x) found (any-left xs)
-    where
-      later : (b : Bool) → b ≡ false → (b || list_any test xs) ≡ true → list_any test xs ≡ true
-      later true is e = absurd (true≢false is)
-      later false is e = e
-
-      either : (b : Bool) → (list_any test xs ≡ true → list_any test (change_first first change xs) ≡ true)
-          → (b || list_any test xs) ≡ true → (b || list_any test (change_first first change xs)) ≡ true
-      either true rest e = e
-      either false rest e = rest e
-
-      by : (b : Bool) → cond b (Some x) (find first xs) ≡ Some t
-          → (find first xs ≡ Some t → test t ≡ false → list_any test xs ≡ true
-          → list_any test (change_first first change xs) ≡ true)
-          → list_any test (cond b (change x ∷ xs) (x ∷ change_first first change xs)) ≡ true
-      by true is rest =
-          let after = later (test x) (ap test (same_Some x t is) ∙ fails) e in
-          ap (λ b. test (change x) || b) after ∙ or-true (test (change x))
-      by false is rest = either (test x) (rest is fails) e
+  any-left (x ∷ xs) found fails e = grind (arith, nat_tests, same_Some, or-true, any-left xs)

@@ -1,17 +1,16 @@
 -- A ticket that gets a holder is one route more, one that loses it one route fewer.
 use Rattle.std.proofs.Common.{◌≡◌, ◌+◌, ℕ, Bool, true, false, cond, List, [], ◌∷◌, find}
 use Rattle.std.proofs.Common.{None, Some, Option, option_map, not}
-use Rattle.std.proofs.Common.{bytes_eq, is_some, sum_by, refl, sym, ap, subst, ◌∙◌}
+use Rattle.std.proofs.Common.{is_some, sum_by, refl, sym, ap, subst, ◌∙◌}
 use Rattle.std.proofs.Common.{arith, true≢false}
 use Rattle.std.proofs.lemmas.List.Sums.{sum_by-cons}
 use Rattle.std.proofs.lemmas.Option.{same_Some}
 use Rattle.share_model.specs.declared.funding.Holder.{Holder}
 use Rattle.share_model.specs.declared.funding.Holder.TheVariants.{Nobody, Currency, Flow}
 use Rattle.share_model.specs.declared.funding.Ticket.{Ticket}
-use Rattle.share_base.specs.declared.refusal.Refusal.TheVariants.{NoTicket, NoCurrency, NoFlow, Base, Funding, Unfunded}
-use Rattle.share_model.specs.funding.Graph.{NameBytes, base, Graph}
+use Rattle.share_model.specs.funding.Graph.{NameBytes, Graph}
 use Rattle.share_model.specs.funding.ChangeLaws.{not-refused}
-use Rattle.share_model.specs.funding.Changes.{is_currency, flow_named, fund_currency_refusal, fund_flow_refusal}
+use Rattle.share_model.specs.funding.Changes.{fund_currency_refusal, fund_flow_refusal}
 use Rattle.share_model.specs.funding.Changes.{unfund_refusal}
 use Rattle.share_model.specs.funding.Changes.{ticket_of, is_numbered, is_held, held_by, with_holder, is_found_held}
 use Rattle.share_model.specs.lists.Laws.{find-change_first}
@@ -23,29 +22,15 @@ use Rattle.share_ledger.specs.Routes.{is_kind, route_of, routes_of, IsRouted}
 use Rattle.share_ledger.specs.Seats.{backs_of}
 use Rattle.share_ledger.specs.Seats.{funds_of}
 use Rattle.share_ledger.proofs.RouteWorths.{sum-routes}
+use Rattle.std.proofs.lemmas.Bool.Decides.{nat_tests}
 
 -- the sum over tickets of which the first of a kind is changed
 pub sum-changed : (G : Ticket → ℕ) (p : Ticket → Bool) (change : Ticket → Ticket) (ts : List Ticket) (t : Ticket)
     → find p ts ≡ Some t → sum_by G (change_first p change ts) + G t ≡ sum_by G ts + G (change t)
 unfolding change_first
 sum-changed G p change [] t found = absurd cc
-sum-changed G p change (x ∷ ts) t found = by (p x) found (sum-changed G p change ts t)
-  where
-    by : (b : Bool) → cond b (Some x) (find p ts) ≡ Some t
-        → (find p ts ≡ Some t → sum_by G (change_first p change ts) + G t ≡ sum_by G ts + G (change t))
-        → sum_by G (cond b (change x ∷ ts) (x ∷ change_first p change ts)) + G t ≡ sum_by G (x ∷ ts) + G (change t)
-    by true e rest =
-        let same = same_Some x t e in
-        let one = sum_by-cons G (change x) ts in
-        let two = sum_by-cons G x ts in
-        let gx : G x ≡ G t = ap G same in
-        let gc : G (change x) ≡ G (change t) = ap (λ y. G (change y)) same in
-        omega (arith, one, two, gx, gc)
-    by false e rest =
-        let here = rest e in
-        let one = sum_by-cons G x (change_first p change ts) in
-        let two = sum_by-cons G x ts in
-        omega (arith, one, two, here)
+sum-changed G p change (x ∷ ts) t found =
+    grind (arith, nat_tests, same_Some, sum_by-cons, sum-changed G p change ts t)
 
 -- what a ticket counts for among the routes of a kind
 part : Graph → Bool → (Route → ℕ) → Ticket → ℕ
@@ -90,10 +75,7 @@ module _ (g : Graph) (n : ℕ) where
   pub unfunded-grows : (t : Ticket) (b k : Bool) → ticket_of g n ≡ Some t → is_kind b t.holder ≡ k
       → GrowsBy k (routes_of (record g { tickets = with_holder n Nobody g.tickets }) b
       (with_holder n Nobody g.tickets)) (routes_of g b g.tickets) (route_of g t)
-  unfunded-grows t b k found kind F =
-      let changed = routes-changed g n Nobody t found b F in
-      let more = ap {B = ℕ} (λ x. cond x (F (route_of g t)) 0) kind in
-      omega (arith, changed, more)
+  unfunded-grows t b k found kind F = grind (arith, nat_tests, routes-changed)
 
 -- a route is either of the backing or of what funds flows
 other-kind : (h : Holder) (b : Bool) → is_held h ≡ true → b ≡ is_kind true h → is_kind false h ≡ not b
@@ -160,36 +142,16 @@ ceases-to-fund g h n net r b e begun found =
 
 -- a ticket that may fund is there and has no holder yet
 pub free-currency : (g : Graph) (n : ℕ) (c : NameBytes) → fund_currency_refusal g n c ≡ None → IsFree g n
-free-currency g n c none =
-    let one = not-refused (not (is_some (ticket_of g n))) NoTicket _ none in
-    let two = not-refused (not (is_currency g c)) NoCurrency _ one.1 in
-    let three = not-refused (bytes_eq c base) Base _ two.1 in
-    (one.0, (not-refused (is_found_held (ticket_of g n)) Funding _ three.1).0)
+free-currency g n c none = grind (arith, nat_tests, not-refused)
 
 pub free-flow : (g : Graph) (n : ℕ) (f : NameBytes) → fund_flow_refusal g n f ≡ None → IsFree g n
-free-flow g n f none =
-    let one = not-refused (not (is_some (ticket_of g n))) NoTicket _ none in
-    let two = not-refused (not (is_some (flow_named g f))) NoFlow _ one.1 in
-    (one.0, (not-refused (is_found_held (ticket_of g n)) Funding _ two.1).0)
+free-flow g n f none = grind (arith, nat_tests, not-refused)
 
 -- and has one then
 pub free-held : (g h : Graph) (n : ℕ) (o : Holder) → h ≡ record g { tickets = with_holder n o g.tickets }
     → is_held o ≡ true → IsFree g n → is_found_held (ticket_of h n) ≡ true
-free-held g h n o e held free =
-    ap (λ (h : Graph). is_found_held (ticket_of h n)) e
-    ∙ ap is_found_held (find-change_first (is_numbered n) (held_by o) (λ x e. e) g.tickets)
-    ∙ by (ticket_of g n) free.0
-  where
-    by : (w : Option Ticket) → not (is_some w) ≡ false → is_found_held (option_map (held_by o) w) ≡ true
-    by None there = absurd (true≢false there)
-    by (Some t) there = held
+free-held g h n o e held free = grind (arith, nat_tests, find-change_first)
 
 -- a ticket that may cease to fund has a holder
 pub held-ticket : (g : Graph) (n : ℕ) → unfund_refusal g n ≡ None → is_found_held (ticket_of g n) ≡ true
-held-ticket g n none =
-    let one = not-refused (not (is_some (ticket_of g n))) NoTicket _ none in
-    on (is_found_held (ticket_of g n)) (not-refused (not (is_found_held (ticket_of g n))) Unfunded _ one.1).0
-  where
-    on : (b : Bool) → not b ≡ false → b ≡ true
-    on true e = refl
-    on false e = absurd (true≢false e)
+held-ticket g n none = grind (arith, nat_tests, not-refused)

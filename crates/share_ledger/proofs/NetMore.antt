@@ -14,7 +14,7 @@ use Rattle.share_ledger.specs.declared.seats.Seat.{Seat}
 use Rattle.share_ledger.specs.Nets.{GrowsBy}
 use Rattle.share_ledger.specs.Routes.{IsRouteWithin, gathered}
 use Rattle.share_ledger.specs.Seats.{AreSeated, IsSeatWithin, seat_of, seats_at, AreCounted, backs_of}
-use Rattle.share_ledger.specs.Ranks.{AreRanks, AreListed, AreOrdered}
+use Rattle.share_ledger.specs.Ranks.{AreRanks}
 use Rattle.share_ledger.specs.Seats.{funds_of}
 use Rattle.share_ledger.proofs.RouteLists.{gathered-bound}
 use Rattle.share_ledger.proofs.RoutesDone.{done-within, done-few}
@@ -97,24 +97,7 @@ module _ (rs less : List Route) (r : Route) (ss next : List (List Seat)) (s : Ar
 
   sum-left : (F : Seat → ℕ) (p : ℕ) → p < 65
       → sum_by F (seats_at next p) ≡ sum_by (λ (q : Route). cond (nat_eq p q.to) (F (seat_of q)) 0) less
-  sum-left F p lt = by (nat_eq r.to p) refl
-    where
-      by : (b : Bool) → nat_eq r.to p ≡ b
-          → sum_by F (seats_at next p) ≡ sum_by (λ (q : Route). cond (nat_eq p q.to) (F (seat_of q)) 0) less
-      by true e =
-          let all = s.seated F p lt in
-          let more = grows (λ (q : Route). cond (nat_eq p q.to) (F (seat_of q)) 0) in
-          let at = eqb-true r.to p e in
-          let here = ap {B = ℕ} (λ b. cond b (F (seat_of r)) 0) (other_to p r.to ∙ e) in
-          let gone : sum_by F (seats_at next p) + F (seat_of r) ≡ sum_by F (seats_at ss p) =
-          subst (λ k. sum_by F (seats_at next k) + F (seat_of r) ≡ sum_by F (seats_at ss k)) at (out F) in
-          omega (arith, all, more, here, gone)
-      by false e =
-          let all = s.seated F p lt in
-          let more = grows (λ (q : Route). cond (nat_eq p q.to) (F (seat_of q)) 0) in
-          let here = ap {B = ℕ} (λ b. cond b (F (seat_of r)) 0) (other_to p r.to ∙ e) in
-          let stays = ap (sum_by F) (others p e) in
-          omega (arith, all, more, here, stays)
+  sum-left F p lt = grind (arith, nat_tests, eqb-true, other_to)
 
   pub seated-less : length next ≡ 65 → AreSeated less next
   seated-less long = record {
@@ -129,9 +112,7 @@ module _ (rs less : List Route) (r : Route) (ss next : List (List Seat)) (s : Ar
           ap (λ b. b && nat_le o.amount (2 ^ 20)) (lt-ltb o.from 65 w.from_place) ∙ le-leb o.amount (2 ^ 20) w.small
 
       back : (o : Seat) → (nat_lt o.from 65 && nat_le o.amount (2 ^ 20)) ≡ true → IsSeatWithin o
-      back o e =
-          let two = and_parts (nat_lt o.from 65) (nat_le o.amount (2 ^ 20)) e in
-          record { from_place = ltb-true o.from 65 two.0; small = leb-true o.amount (2 ^ 20) two.1 }
+      back o e = grind (arith, nat_tests, and_parts, ltb-true, leb-true)
 
   pub ranked-less : (rank : ℕ → ℕ) → AreRanks ss rank → AreRanks next rank
   ranked-less rank ranked = record {
@@ -141,47 +122,14 @@ module _ (rs less : List Route) (r : Route) (ss next : List (List Seat)) (s : Ar
         (λ o l. lt-ltb (rank o.from) (rank p) l) (λ o e. ltb-true (rank o.from) (rank p) e) (ranked.above p up lt);
   }
 
--- the order of the ranks is one of the seats
-pub in-order : (ss : List (List Seat)) (rank order : ℕ → ℕ) → ((p : ℕ) → p < 65 → Each IsSeatWithin (seats_at ss p))
-    → AreRanks ss rank → AreListed rank order → AreOrdered ss order
-in-order ss rank order within ranked listed = record {
-  spot = listed.spot;
-  first = listed.first;
-  there = listed.there;
-  back = listed.back;
-  before = λ p up lt. all p lt (seats_at ss p) (within p lt) (ranked.above p up lt);
-}
-  where
-    all : (p : ℕ) → p < 65 → (xs : List Seat) → Each IsSeatWithin xs → Each (λ (s : Seat). rank s.from < rank p) xs
-        → Each (λ (s : Seat). (s.from < 65) × (listed.spot s.from < listed.spot p)) xs
-    all p lt [] inside each = tt
-    all p lt (x ∷ xs) inside each = (
-      (inside.0.from_place, listed.sorted x.from p inside.0.from_place lt each.0),
-      all p lt xs inside.1 each.1,
-    )
-
 -- the same seats for other routes of the same sums
 pub seated-same : (rs more : List Route) (r : Route) (ss : List (List Seat)) → AreSeated rs ss → GrowsBy false rs more r
     → AreSeated more ss
-seated-same rs more r ss s grows = record {
-  seated = λ F p lt.
-      let all = s.seated F p lt in
-      let same = grows (λ (q : Route). cond (nat_eq p q.to) (F (seat_of q)) 0) in
-      omega (arith, all, same);
-  within = s.within;
-  places = s.places;
-}
+seated-same rs more r ss s grows = grind (arith, nat_tests)
 
 pub seated-back : (rs less : List Route) (r : Route) (ss : List (List Seat)) → AreSeated rs ss → GrowsBy false less rs r
     → AreSeated less ss
-seated-back rs less r ss s grows = record {
-  seated = λ F p lt.
-      let all = s.seated F p lt in
-      let same = grows (λ (q : Route). cond (nat_eq p q.to) (F (seat_of q)) 0) in
-      omega (arith, all, same);
-  within = s.within;
-  places = s.places;
-}
+seated-back rs less r ss s grows = grind (arith, nat_tests)
 
 -- what is gathered from routes that grow
 gathered-by : (b : Bool) (rs more : List Route) (r : Route) (on : ℕ → Bool) (x : ℕ) → GrowsBy b rs more r
@@ -201,10 +149,7 @@ module _ (backs funds more_backs more_funds : List Route) (r : Route) (a b : Boo
 
   all-gathered : (x : ℕ) → gathered more_backs on x + gathered more_funds active x
       ≡ gathered backs on x + gathered funds active x + gain x
-  all-gathered x =
-      let one = gathered-by a backs more_backs r on x gb in
-      let two = gathered-by b funds more_funds r active x gf in
-      omega (arith, one, two)
+  all-gathered x = grind (arith, nat_tests, gathered-by)
 
   pub counted-given : (whole next : ℕ → ℕ) → AreCounted backs funds on active whole
       → ((x : ℕ) → x < 65 → next x ≡ whole x + gain x) → AreCounted more_backs more_funds on active next

@@ -1,6 +1,6 @@
 -- A flow that wakes or rests where its seats come from `base` alone: nothing else changes.
 use Rattle.std.proofs.Common.{◌≡◌, ◌<◌, ◌*◌, ◌/◌, ◌^◌, ℕ, zero, suc, Bool, true, false, cond, min, List, [], ◌∷◌, map}
-use Rattle.std.proofs.Common.{true≢false, ◌&&◌, nat_eq, nat_lt, set, get_or, sum_by, length, refl, sym, ap, ◌∙◌, arith}
+use Rattle.std.proofs.Common.{nat_eq, nat_lt, set, get_or, sum_by, length, refl, sym, ap, ◌∙◌, arith}
 use Rattle.std.specs.List.{list_all}
 use Rattle.std.proofs.lemmas.Bool.Decides.{nat_tests}
 use Rattle.std.proofs.lemmas.List.Sums.{sum_by-cons}
@@ -23,22 +23,7 @@ use Rattle.share_ledger.proofs.Positions.{IsFirstAt}
 -- seats of `base` count for no other place
 pub taken-base : (ss : List Seat) (k : ℕ) → list_all (λ (s : Seat). nat_eq s.from 0) ss ≡ true → 0 < k → taken ss k ≡ 0
 taken-base [] k all above = refl
-taken-base (s ∷ ss) k all above = by (nat_eq s.from 0) refl all (taken-base ss k)
-  where
-    zero_of : (n : ℕ) → nat_eq n 0 ≡ true → n ≡ 0
-    zero_of n e = grind (arith, nat_tests)
-
-    apart : (a b : ℕ) → b < a → nat_eq a b ≡ false
-    apart a b lt = grind (arith, nat_tests)
-
-    by : (b : Bool) → nat_eq s.from 0 ≡ b → (b && list_all (λ (s : Seat). nat_eq s.from 0) ss) ≡ true
-        → (list_all (λ (s : Seat). nat_eq s.from 0) ss ≡ true → 0 < k → taken ss k ≡ 0) → taken (s ∷ ss) k ≡ 0
-    by true e all rest =
-        let none = zero_of s.from e in
-        let here = ap {B = ℕ} (λ b. cond b s.amount 0) (apart k s.from (omega arith)) in
-        let others = rest all above in
-        sum_by-cons (λ (s : Seat). cond (nat_eq k s.from) s.amount 0) s ss ∙ omega arith
-    by false e all rest = absurd (true≢false (sym all))
+taken-base (s ∷ ss) k all above = grind (arith, nat_tests, sum_by-cons, taken-base ss k)
 
 -- weights of other places than that of `base` alone matter to what seats are worth
 pub weighed-quiet : (ss : List (List Seat)) (on : ℕ → Bool) (v w u : ℕ → ℕ) (p : ℕ)

@@ -25,19 +25,7 @@ module _ (ss next : List (List Seat)) (r : Route)
     (joined : (k : ℕ) → seats_at next k ≡ cond (nat_eq r.to k) (seats_at ss k ++ seat_of r ∷ []) (seats_at ss k)) where
   pub sum-joined : (F : Seat → ℕ) (p : ℕ)
       → sum_by F (seats_at next p) ≡ sum_by F (seats_at ss p) + cond (nat_eq p r.to) (F (seat_of r)) 0
-  sum-joined F p = ap (sum_by F) (joined p) ∙ by (nat_eq r.to p) (turned p r.to)
-    where
-      none_more : (n : ℕ) → n ≡ n + 0
-      none_more n = omega arith
-
-      by : (b : Bool) → nat_eq p r.to ≡ b
-          → sum_by F (cond b (seats_at ss p ++ seat_of r ∷ []) (seats_at ss p))
-          ≡ sum_by F (seats_at ss p) + cond (nat_eq p r.to) (F (seat_of r)) 0
-      by true e =
-          sum_by_push F (seats_at ss p) (seat_of r)
-          ∙ ap (λ b. sum_by F (seats_at ss p) + cond b (F (seat_of r)) 0) (sym e)
-      by false e =
-          none_more (sum_by F (seats_at ss p)) ∙ ap (λ b. sum_by F (seats_at ss p) + cond b (F (seat_of r)) 0) (sym e)
+  sum-joined F p = grind (arith, nat_tests, turned, sum_by_push)
 
   pub each-joined : (P : ℕ → Seat → Type 0) (p : ℕ) → Each (P p) (seats_at ss p)
       → (r.to ≡ p → P p (seat_of r)) → Each (P p) (seats_at next p)

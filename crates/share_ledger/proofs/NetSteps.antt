@@ -59,19 +59,7 @@ module _ (on more : ℕ → Bool) (p : ℕ) (off : on p ≡ false)
 
   wakes-at : (a : Bool) (to n : ℕ)
       → cond (a && on to) n 0 + cond (nat_eq p to) (cond a n 0) 0 ≡ cond (a && more to) n 0
-  wakes-at a to n = by (nat_eq p to) refl ∙ sym (ap (λ b. cond (a && b) n 0) (wakes to))
-    where
-      by : (b : Bool) → nat_eq p to ≡ b
-          → cond (a && on to) n 0 + cond (nat_eq p to) (cond a n 0) 0 ≡ cond (a && cond (nat_eq p to) true (on to)) n 0
-      by true e =
-          ap (λ b. cond (a && on to) n 0 + cond b (cond a n 0) 0) e
-          ∙ ap (λ b. cond (a && b) n 0 + cond a n 0) (ap on (same_number p to e) ∙ off)
-          ∙ idle_more a n
-          ∙ sym (ap (λ b. cond (a && cond b true (on to)) n 0) e)
-      by false e =
-          ap (λ b. cond (a && on to) n 0 + cond b (cond a n 0) 0) e
-          ∙ none_more (cond (a && on to) n 0)
-          ∙ sym (ap (λ b. cond (a && cond b true (on to)) n 0) e)
+  wakes-at a to n = grind (arith, nat_tests, same_number, idle_more, none_more)
 
   pub gathered-more : (rs : List Route) (ss : List Seat) (x : ℕ)
       → ((F : Seat → ℕ) → sum_by F ss ≡ sum_by (λ (r : Route). cond (nat_eq p r.to) (F (seat_of r)) 0) rs)
@@ -123,17 +111,7 @@ taken-none spot n x (s ∷ ss) le before =
     same_number a b e = grind (arith, nat_tests)
 
     apart : (a b : ℕ) → (b ≡ a → ⊥) → nat_eq a b ≡ false
-    apart a b differs = by (nat_eq a b) refl
-      where
-        by : (x : Bool) → nat_eq a b ≡ x → nat_eq a b ≡ false
-        by true e = absurd (differs (same_number a b e))
-        by false e = e
-
--- what is read at a place that is there does not depend on what is read beyond
-pub at-default : {X : Type 0} (xs : List X) (p : ℕ) (y d : X) → p < length xs → y ≡ get_or xs p y → y ≡ get_or xs p d
-at-default [] p y d lt e = absurd (omega arith)
-at-default (x ∷ xs) zero y d lt e = e
-at-default (x ∷ xs) (suc p) y d lt e = at-default xs p y d (omega arith) e
+    apart a b differs = grind (arith, nat_tests, same_number)
 
 -- A currency that wakes or rests
 module _ (backs funds : List Route) (bs : List (List Seat)) (seated : AreSeated backs bs) (p : ℕ) (lt : p < 65)
@@ -258,39 +236,15 @@ module _ (bs : List (List Seat)) (order : ℕ → ℕ) (o : AreOrdered bs order)
   next-within = (o.back i lt).0
 
   pub next-above : 0 < order i
-  next-above = by (order i) next-spot
-    where
-      by : (p : ℕ) → o.spot p ≡ i → 0 < p
-      by zero e = let first = o.first in absurd (omega arith)
-      by (suc p) e = omega arith
+  next-above = grind (arith, nat_tests, next-spot)
 
   -- no other place is at its spot
   pub not-next : (k : ℕ) → k < 65 → nat_eq (order i) k ≡ false → o.spot k < i + 1 → o.spot k < i
-  not-next k below e under = by (nat_eq (o.spot k) i) refl
-    where
-      same : (a b : ℕ) → nat_eq a b ≡ true → a ≡ b
-      same a b e = eqb-true a b e
-
-      less : (a b : ℕ) → nat_eq a b ≡ false → a < b + 1 → a < b
-      less a b e l = grind (arith, nat_tests)
-
-      clash : (a b : ℕ) → nat_eq a b ≡ false → a ≡ b → ⊥
-      clash a b e is = grind (arith, nat_tests)
-
-      by : (b : Bool) → nat_eq (o.spot k) i ≡ b → o.spot k < i
-      by true f = absurd (clash (order i) k e (ap order (sym (same (o.spot k) i f)) ∙ (o.there k below).1))
-      by false f = less (o.spot k) i f under
+  not-next k below e under = grind (arith, nat_tests, eqb-true)
 
   -- one that is before it is another one
   pub before-next : (k : ℕ) → o.spot k < i → nat_eq (order i) k ≡ false
-  before-next k under = by (nat_eq (order i) k) refl
-    where
-      by : (b : Bool) → nat_eq (order i) k ≡ b → nat_eq (order i) k ≡ false
-      by true e =
-          let is = ap o.spot (eqb-true (order i) k e) in
-          let own = next-spot in
-          absurd (omega arith)
-      by false e = e
+  before-next k under = grind (arith, nat_tests, eqb-true, next-spot)
 
   -- its seats come from before it
   pub next-before : Each (λ (s : Seat). (s.from < 65) × (o.spot s.from < i)) (seats_at bs (order i))

@@ -72,10 +72,7 @@ module _ {X : Type 0} (number : X → ℕ) where
         other m (inr more) = grind (arith, nat_tests)
 
         by : (k : ℕ) → k < length xs → (number (get_or xs k d) < n) ⊎ (n < number (get_or xs k d))
-        by k inside = elim (cases_lt k i) [
-          | inl before ↦ inl (less k before)
-          | inr after ↦ inr (greater k after inside)
-        ]
+        by k inside = grind (arith, nat_tests, cases_lt)
 
     -- what a search by halves finds
     comparisons-rise : (d : X) → IsNonDecreasingBy (λ x. ordering_index (nat_cmp (number x) n)) xs

@@ -1,5 +1,5 @@
 -- The places of currencies, and the tickets whose denominations and holders have places.
-use Rattle.std.proofs.Common.{add-one, ◌≡◌, ◌≤◌, ◌<◌, ◌+◌, ◌^◌, ℕ, zero, suc, Bool, true, false, cond, List, [], ◌∷◌}
+use Rattle.std.proofs.Common.{◌≡◌, ◌≤◌, ◌<◌, ◌+◌, ◌^◌, ℕ, zero, suc, Bool, true, false, cond, List, [], ◌∷◌}
 use Rattle.std.proofs.Common.{map, sum_by, length, bytes_eq, nat_eq, refl, sym, ap, ◌∙◌, arith}
 use Rattle.std.proofs.lemmas.List.Sums.{sum_by-cons}
 use Rattle.std.proofs.lemmas.Bool.Decides.{nat_tests}
@@ -15,9 +15,7 @@ use Rattle.share_ledger.proofs.Positions.{IsFirstAt}
 
 -- Places of names
 times-other : (c x : NameBytes) (cs : List NameBytes) → bytes_eq c x ≡ false → times c (x ∷ cs) ≡ times c cs
-times-other c x cs e =
-    let here = ap {B = ℕ} (λ b. cond b 1 0) (name_sym x c ∙ e) in
-    sum_by-cons (λ d. cond (bytes_eq d c) 1 0) x cs ∙ omega arith
+times-other c x cs e = grind (arith, nat_tests, name_sym, sum_by-cons)
 
 pub place-below : (c : NameBytes) (cs : List NameBytes) → 1 ≤ times c cs → place cs c < length cs
 unfolding place
@@ -40,35 +38,12 @@ pub place-same : (c d : NameBytes) (cs : List NameBytes) → 1 ≤ times c cs
     → nat_eq (place cs c) (place cs d) ≡ bytes_eq c d
 unfolding place
 place-same c d [] known = absurd (omega arith)
-place-same c d (x ∷ cs) known = by (bytes_eq c x) (bytes_eq d x) refl refl (place-same c d cs)
-  where
-    differ : (n : ℕ) → nat_eq 0 (suc n) ≡ false
-    differ n = grind (arith, nat_tests)
-
-    differ_too : (n : ℕ) → nat_eq (suc n) 0 ≡ false
-    differ_too n = grind (arith, nat_tests)
-
-    both : (n m : ℕ) → nat_eq (suc n) (suc m) ≡ nat_eq n m
-    both n m = grind (arith, nat_tests)
-
-    by : (a b : Bool) → bytes_eq c x ≡ a → bytes_eq d x ≡ b
-        → (1 ≤ times c cs → nat_eq (place cs c) (place cs d) ≡ bytes_eq c d)
-        → nat_eq (cond a 0 (suc (place cs c))) (cond b 0 (suc (place cs d))) ≡ bytes_eq c d
-    by true true e f rest = sym (name_same c d (same_name c x e ∙ sym (same_name d x f)))
-    by true false e f rest = differ (place cs d) ∙ sym (name_sym c d ∙ ap (bytes_eq d) (same_name c x e) ∙ f)
-    by false true e f rest = differ_too (place cs c) ∙ sym (ap (bytes_eq c) (same_name d x f) ∙ e)
-    by false false e f rest = both (place cs c) (place cs d) ∙ rest (let more = times-other c x cs e in omega arith)
+place-same c d (x ∷ cs) known =
+    grind (arith, nat_tests, name_same, same_name, name_sym, times-other, place-same c d cs)
 
 pub place-base : (g : Graph) (c : NameBytes) → nat_eq (place (names_of g) c) 0 ≡ bytes_eq c base
 unfolding place
-place-base g c = by (bytes_eq c base)
-  where
-    differ : (n : ℕ) → nat_eq (suc n) 0 ≡ false
-    differ n = grind (arith, nat_tests)
-
-    by : (b : Bool) → nat_eq (cond b 0 (suc (place g.currencies c))) 0 ≡ b
-    by true = refl
-    by false = differ (place g.currencies c)
+place-base g c = grind (arith, nat_tests)
 
 -- where a name that is not `base` stands
 pub past-base : (g : Graph) (c : NameBytes) → bytes_eq c base ≡ false → 0 < place (names_of g) c
@@ -115,6 +90,4 @@ place-of_base g c e = sym (ap (λ b. cond b 0 (suc (place g.currencies c))) e)
 pub place-of_made : (g : Graph) (c : NameBytes) (i : ℕ) → bytes_eq c base ≡ false
     → IsFirstAt (bytes_eq c) g.currencies i → i + 1 ≡ place (names_of g) c
 unfolding place
-place-of_made g c i e first =
-    sym
-    (ap (λ b. cond b 0 (suc (place g.currencies c))) e ∙ ap suc (place-first c g.currencies i first) ∙ sym (add-one i))
+place-of_made g c i e first = grind (arith, nat_tests, place-first)

@@ -1,8 +1,8 @@
 -- The first element that passes a test, and lists that are changed there.
-use Rattle.std.proofs.Common.{◌≡◌, ℕ, ◌+◌, ◌≤◌, ◌<◌, zero, suc, Bool, true, false, not, cond, List, [], ◌∷◌, ◌++◌, map}
-use Rattle.std.proofs.Common.{length, get_or, set, find, position, nat_lt, nat_eq}
+use Rattle.std.proofs.Common.{◌≡◌, ℕ, ◌≤◌, ◌<◌, zero, suc, Bool, true, false, cond, List, [], ◌∷◌, ◌++◌, map}
+use Rattle.std.proofs.Common.{length, get_or, set, find, position, nat_eq}
 use Rattle.std.proofs.Common.{None, Some}
-use Rattle.std.proofs.Common.{refl, sym, ap, subst, ◌∙◌, arith, bytes_eq, if◌then◌else◌, remove}
+use Rattle.std.proofs.Common.{refl, sym, ap, ◌∙◌, arith, bytes_eq, if◌then◌else◌, remove}
 use Rattle.std.specs.List.{list_any}
 use Rattle.std.specs.List.{position_or_len}
 use Rattle.std.specs.Set.{remove_key}
@@ -24,45 +24,17 @@ IsFirstAt p (x ∷ xs) (suc i) = (p x ≡ false) × IsFirstAt p xs i
 module _ {X : Type 0} (p : X → Bool) where
   place-first : (xs : List X) (i : ℕ) → position_or_len p xs ≡ i → i < length xs → IsFirstAt p xs i
   place-first [] i e h = omega arith
-  place-first (x ∷ xs) i e h = by (p x) refl i e h (place-first xs)
-    where
-      by : (b : Bool) → p x ≡ b → (i : ℕ) → cond (not b) (1 + position_or_len p xs) 0 ≡ i → i < length (x ∷ xs)
-          → ((i : ℕ) → position_or_len p xs ≡ i → i < length xs → IsFirstAt p xs i) → IsFirstAt p (x ∷ xs) i
-      by true q zero e h rest = q
-      by true q (suc i) e h rest = absurd (omega arith)
-      by false q zero e h rest = absurd (omega arith)
-      by false q (suc i) e h rest = (q, rest i (omega arith) (omega arith))
+  place-first (x ∷ xs) i e h = grind (arith, nat_tests, place-first xs)
 
   place-none : (xs : List X) → length xs ≤ position_or_len p xs → Each (λ x. p x ≡ false) xs
   place-none [] h = tt
-  place-none (x ∷ xs) h = by (p x) refl h (place-none xs)
-    where
-      by : (b : Bool) → p x ≡ b → length (x ∷ xs) ≤ cond (not b) (1 + position_or_len p xs) 0
-          → (length xs ≤ position_or_len p xs → Each (λ x. p x ≡ false) xs)
-          → (p x ≡ false) × Each (λ x. p x ≡ false) xs
-      by true q h rest = absurd (omega arith)
-      by false q h rest = (q, rest (omega arith))
+  place-none (x ∷ xs) h = grind (arith, nat_tests, place-none xs)
 
   pub position-first : (xs : List X) (i : ℕ) → position p xs ≡ Some i → IsFirstAt p xs i
-  position-first xs i e = by (nat_lt (position_or_len p xs) (length xs)) refl e
-    where
-      by : (b : Bool) → nat_lt (position_or_len p xs) (length xs) ≡ b
-          → cond b (Some (position_or_len p xs)) None ≡ Some i → IsFirstAt p xs i
-      by true lt e =
-          let same : position_or_len p xs ≡ i = cc in
-          place-first xs i same (subst (λ k. k < length xs) same (ltb-true (position_or_len p xs) (length xs) lt))
-      by false lt e = absurd cc
+  position-first xs i e = grind (arith, nat_tests, place-first, ltb-true)
 
   pub position-none : (xs : List X) → position p xs ≡ None → Each (λ x. p x ≡ false) xs
-  position-none xs e = by (nat_lt (position_or_len p xs) (length xs)) refl e
-    where
-      above : (n m : ℕ) → nat_lt n m ≡ false → m ≤ n
-      above n m e = grind (arith, nat_tests)
-
-      by : (b : Bool) → nat_lt (position_or_len p xs) (length xs) ≡ b → cond b (Some (position_or_len p xs)) None ≡ None
-          → Each (λ x. p x ≡ false) xs
-      by true lt e = absurd cc
-      by false lt e = place-none xs (above (position_or_len p xs) (length xs) lt)
+  position-none xs e = grind (arith, nat_tests, place-none)
 
   -- what stands at the first place that passes is found
   pub find-first : (xs : List X) (i : ℕ) (x : X) → IsFirstAt p xs i → x ≡ get_or xs i x → find p xs ≡ Some x

@@ -1,33 +1,31 @@
 -- Ranks of the places, and what they say of chains.
-use Rattle.std.proofs.Common.{◌≡◌, ◌<◌, ◌≤◌, ◌+◌, ℕ, zero, suc, Bool, true, false, cond, ◌&&◌, ◌||◌, not, List, [], ◌∷◌}
-use Rattle.std.proofs.Common.{sum_by, find, bytes_eq, nat_eq, nat_lt, Some, refl, sym, ap}
+use Rattle.std.proofs.Common.{◌≡◌, ◌<◌, ◌≤◌, ◌+◌, ℕ, zero, suc, Bool, true, false, ◌&&◌, ◌||◌, List, [], ◌∷◌}
+use Rattle.std.proofs.Common.{find, bytes_eq, nat_eq, nat_lt, Some, refl, sym, ap}
 use Rattle.std.proofs.Common.{subst, ◌∙◌, arith}
-use Rattle.std.proofs.lemmas.List.Sums.{sum_by-cons}
 use Rattle.std.proofs.lemmas.Bool.Decides.{nat_tests}
 use Rattle.std.proofs.lemmas.Option.{same_Some}
-use Rattle.std.proofs.lemmas.Bool.{lt-ltb, ltb-true}
+use Rattle.std.proofs.lemmas.Bool.{lt-ltb}
 use Rattle.share_model.specs.declared.funding.Holder.{Holder}
 use Rattle.share_model.specs.declared.funding.Holder.TheVariants.{Nobody, Currency, Flow}
 use Rattle.share_model.specs.declared.funding.Ticket.{Ticket}
-use Rattle.share_model.specs.funding.Graph.{NameBytes, base, Graph, is_held_by_currency, issued, leads_on, chain}
+use Rattle.share_model.specs.funding.Graph.{NameBytes, base, Graph, issued, leads_on, chain}
 use Rattle.share_model.specs.funding.Graph.{chain_within, runs, is_deep}
 use Rattle.share_model.specs.funding.Changes.{is_numbered, held_by, ticket_of, with_holder}
-use Rattle.share_model.specs.funding.Kept.{names_of, IsHolderKnown, IsKept}
+use Rattle.share_model.specs.funding.Kept.{names_of, IsKept}
 use Rattle.share_model.specs.funding.SettleLaws.{none_any}
 use Rattle.share_model.specs.lists.Change.{change_first}
 use Rattle.share_model.specs.lists.CountLaws.{any-filter}
 use Rattle.share_model.specs.lists.Each.{Each}
 use Rattle.share_model.specs.lists.Laws.{each_map, each-change_first}
 use Rattle.share_model.specs.lists.SumLaws.{same_name, name_sym}
-use Rattle.share_ledger.specs.declared.routes.Route.{Route}
 use Rattle.share_ledger.specs.declared.seats.Seat.{Seat}
 use Rattle.share_ledger.specs.Ranks.{AreRanks}
 use Rattle.share_ledger.specs.Places.{place}
-use Rattle.share_ledger.specs.Routes.{is_kind, holder_place, route_of}
-use Rattle.share_ledger.specs.Seats.{seats_at, seat_of, AreSeated, backs_of}
+use Rattle.share_ledger.specs.Seats.{seats_at, AreSeated, backs_of}
 use Rattle.share_ledger.proofs.Places.{past-base, IsPlaced, placed}
-use Rattle.share_ledger.proofs.RouteWorths.{sum-routes, below}
-use Rattle.share_ledger.proofs.Lists.{no-term}
+use Rattle.share_ledger.proofs.RouteLists.{route-within}
+use Rattle.share_ledger.proofs.RouteWorths.{below}
+use Rattle.share_ledger.proofs.RoutesBefore.{ticket-part, seats-tell, route-tells}
 
 -- The ranks of the names of a graph rise along its chains
 abbrev Rises : Graph → (ℕ → ℕ) → ℕ → Holder → Type 0
@@ -78,9 +76,7 @@ module _ (g : Graph) (rank : ℕ → ℕ) where
       → rank_of g rank b < rank_of g rank a → chain_within ts n a b ≡ false
   unfolding chain_within
   within-none ts each zero a b less = chain-none ts each 0 a b (omega arith)
-  within-none ts each (suc n) a b less =
-      ap (λ x. x || chain ts (suc n) a b) (within-none ts each n a b less)
-      ∙ chain-none ts each (suc n) a b (omega arith)
+  within-none ts each (suc n) a b less = grind (arith, nat_tests, chain-none, within-none ts each n a b less)
 
   -- and ranks are at most eight
   runs-none : (ts : List Ticket) → Each (RisesBy g rank) ts → ((p : ℕ) → rank p ≤ 8) → (n : ℕ) (a : NameBytes)
@@ -112,18 +108,7 @@ module _ (g : Graph) (rank : ℕ → ℕ) where
       → Each (λ (t : Ticket). bytes_eq t.denomination base ≡ false → 1 ≤ rank_of g rank t.denomination) ts
       → is_deep ts ≡ false
   unfolding is_deep
-  deep-none ts each low high =
-      none_any (λ (t : Ticket). not (bytes_eq t.denomination base) && runs ts 8 t.denomination) ts
-      (each_map (λ (t : Ticket). bytes_eq t.denomination base ≡ false → 1 ≤ rank_of g rank t.denomination) _
-      (λ t up. by (bytes_eq t.denomination base) t refl up) ts high)
-    where
-      by : (x : Bool) (t : Ticket) → bytes_eq t.denomination base ≡ x
-          → (bytes_eq t.denomination base ≡ false → 1 ≤ rank_of g rank t.denomination)
-          → (not (bytes_eq t.denomination base) && runs ts 8 t.denomination) ≡ false
-      by true t e up = ap (λ x. not x && runs ts 8 t.denomination) e
-      by false t e up =
-          let some = up e in
-          ap (λ x. not x && runs ts 8 t.denomination) e ∙ runs-none ts each low 8 t.denomination (omega arith)
+  deep-none ts each low high = grind (arith, nat_tests, none_any, each_map, runs-none)
 
   -- the first ticket of a number gets a holder at a higher rank
   rises-written : (n : ℕ) (c : NameBytes) (ts : List Ticket) (t : Ticket) → find (is_numbered n) ts ≡ Some t
@@ -131,18 +116,7 @@ module _ (g : Graph) (rank : ℕ → ℕ) where
       → Each (RisesBy g rank) (with_holder n (Currency c) ts)
   unfolding change_first
   rises-written n c [] t found less each = tt
-  rises-written n c (x ∷ ts) t found less each = by (is_numbered n x) found (rises-written n c ts t)
-    where
-      by : (b : Bool) → cond b (Some x) (find (is_numbered n) ts) ≡ Some t
-          → (find (is_numbered n) ts ≡ Some t → rank_of g rank t.denomination < rank_of g rank c
-          → Each (RisesBy g rank) ts → Each (RisesBy g rank) (with_holder n (Currency c) ts))
-          → Each (RisesBy g rank) (cond b (held_by (Currency c) x ∷ ts) (x ∷ with_holder n (Currency c) ts))
-      by true e rest = (
-        subst (λ (y : Ticket). rank_of g rank y.denomination < rank_of g rank c) (sym (same_Some x t e))
-            less,
-        each.1,
-      )
-      by false e rest = (each.0, rest e less each.1)
+  rises-written n c (x ∷ ts) t found less each = grind (arith, nat_tests, same_Some, rises-written n c ts t)
 
   high-written : (n : ℕ) (c : NameBytes) (P : NameBytes → Type 0) (ts : List Ticket)
       → Each (λ (t : Ticket). P t.denomination) ts
@@ -154,66 +128,22 @@ module _ (g : Graph) (rank : ℕ → ℕ) where
 -- The seats of a graph that have ranks
 module _ (g : Graph) (ok : IsKept g) (ss : List (List Seat)) (seated : AreSeated (backs_of g) ss) (rank : ℕ → ℕ)
     (ranks : AreRanks ss rank) where
-  -- what counts against a seat at a place
-  abbrev fault : ℕ → Seat → ℕ
-  fault p s = cond (nat_lt (rank s.from) (rank p)) 0 1
+  -- a seat is below the place of its holder, unless that is `base`
+  abbrev is_low : ℕ → Seat → Bool
+  is_low p s = nat_eq p 0 || nat_lt (rank s.from) (rank p)
 
-  no-faults : (p : ℕ) (xs : List Seat) → Each (λ (s : Seat). rank s.from < rank p) xs → sum_by (fault p) xs ≡ 0
-  no-faults p [] each = refl
-  no-faults p (x ∷ xs) each =
-      let rest = no-faults p xs each.1 in
-      let less = lt-ltb (rank x.from) (rank p) each.0 in
-      let here = ap {B = ℕ} (λ b. cond b 0 1) less in
-      sum_by-cons (fault p) x xs ∙ omega arith
+  low-seats : (p : ℕ) → p < 65 → Each (λ s. is_low p s ≡ true) (seats_at ss p)
+  low-seats p lt = grind (arith, nat_tests, each_map, lt-ltb)
 
-  abbrev ticket-part : ℕ → Ticket → ℕ
-  ticket-part p t =
-      cond (is_kind true t.holder) (cond (nat_eq p (route_of g t).to) (fault p (seat_of (route_of g t))) 0) 0
-
-  no-ticket_faults : (p : ℕ) → 0 < p → p < 65 → sum_by (ticket-part p) g.tickets ≡ 0
-  no-ticket_faults p up lt =
-      sym
-      (sym (no-faults p (seats_at ss p) (ranks.above p up lt)) ∙ seated.seated (fault p) p lt
-      ∙ sum-routes g (λ (r : Route). cond (nat_eq p r.to) (fault p (seat_of r)) 0) true)
-
-  at-place : (p : ℕ) → 0 < p → p < 65 → Each (λ t. ticket-part p t ≡ 0) g.tickets
-  at-place p up lt = no-term (ticket-part p) g.tickets (no-ticket_faults p up lt)
-
-  each-swap : (Q : ℕ → Ticket → Type 0) (ts : List Ticket) → ((p : ℕ) → 0 < p → p < 65 → Each (Q p) ts)
-      → Each (λ t. (p : ℕ) → 0 < p → p < 65 → Q p t) ts
-  each-swap Q [] all = tt
-  each-swap Q (t ∷ ts) all = (λ p up lt. (all p up lt).0, each-swap Q ts (λ p up lt. (all p up lt).1))
-
-  rises-at : (n : ℕ) (h : Holder) → IsHolderKnown g h → is_held_by_currency base h ≡ false
-      → ((p : ℕ) → 0 < p → p < 65
-      → ◌≡◌ {A = ℕ}
-      (cond (is_kind true h) (cond (nat_eq p (holder_place g h)) (cond (nat_lt (rank n) (rank p)) 0 1) 0) 0) 0)
-      → Rises g rank (rank n) h
-  rises-at n Nobody known unbacked none = tt
-  rises-at n (Flow f) known unbacked none = tt
-  rises-at n (Currency c) known unbacked none =
-      let p = place (names_of g) c in
-      by (rank n) (rank p) p (nat_lt (rank n) (rank p)) refl
-      (none p (past-base g c (name_sym c base ∙ unbacked)) (below g ok c known))
-    where
-      itself : (p : ℕ) → nat_eq p p ≡ true
-      itself p = grind (arith, nat_tests)
-
-      by : (a b p : ℕ) (x : Bool) → nat_lt a b ≡ x → ◌≡◌ {A = ℕ} (cond (nat_eq p p) (cond (nat_lt a b) 0 1) 0) 0 → a < b
-      by a b p true e none = ltb-true a b e
-      by a b p false e none =
-          let here : ◌≡◌ {A = ℕ} (cond (nat_eq p p) (cond (nat_lt a b) 0 1) 0) 1 =
-          ap {B = ℕ} (λ x. cond x (cond (nat_lt a b) 0 1) 0) (itself p) ∙ ap {B = ℕ} (λ x. cond x 0 1) e in
-          absurd (omega arith)
+  rises-at : (t : Ticket) → IsPlaced g t → ((p : ℕ) → p < 65 → ticket-part g true ss seated is_low low-seats p t ≡ 0)
+      → RisesBy g rank t
+  rises-at t at none = grind (arith, nat_tests, route-tells, low-seats, route-within, past-base, name_sym)
 
   rises-each : (ts : List Ticket) → Each (IsPlaced g) ts
-      → Each (λ (t : Ticket). is_held_by_currency base t.holder ≡ false) ts
-      → Each (λ t. (p : ℕ) → 0 < p → p < 65 → ticket-part p t ≡ 0) ts → Each (RisesBy g rank) ts
-  rises-each [] known unbacked none = tt
-  rises-each (t ∷ ts) known unbacked none = (
-    rises-at (place (names_of g) t.denomination) t.holder known.0.holder_known unbacked.0 none.0,
-    rises-each ts known.1 unbacked.1 none.1,
-  )
+      → Each (λ t. (p : ℕ) → p < 65 → ticket-part g true ss seated is_low low-seats p t ≡ 0) ts
+      → Each (RisesBy g rank) ts
+  rises-each [] known none = tt
+  rises-each (t ∷ ts) known none = (rises-at t known.0 none.0, rises-each ts known.1 none.1)
 
   -- a ticket that would lead to a higher rank makes no chain too long, and none that leads back
   pub ranks-stand : (n : ℕ) (c : NameBytes) (t : Ticket) → ticket_of g n ≡ Some t
@@ -221,8 +151,7 @@ module _ (g : Graph) (ok : IsKept g) (ss : List (List Seat)) (seated : AreSeated
       → (chain_within g.tickets 8 c t.denomination ≡ false) × (is_deep (with_holder n (Currency c) g.tickets) ≡ false)
   ranks-stand n c t found less =
       let rises =
-      rises-each g.tickets (placed g ok) ok.shallow.unbacked
-      (each-swap (λ p t. ticket-part p t ≡ 0) g.tickets at-place) in
+      rises-each g.tickets (placed g ok) (seats-tell g true ss seated is_low low-seats) in
       let high =
       each_map (IsPlaced g) (λ (t : Ticket). bytes_eq t.denomination base ≡ false → 1 ≤ rank_of g rank t.denomination)
       (λ t known apart. ranks.high (place (names_of g) t.denomination) (past-base g t.denomination apart)

@@ -78,6 +78,12 @@ one-fails test (x ∷ xs) d no-all =
         (suc found.0, ((let lt = found.1.0 in omega arith), found.1.1))
     by false off rest none = (0, (omega arith, off))
 
+-- a place has no rank yet, and what its seats come from is below this one
+abbrev is_due : List (List Seat) → Link → Ranking → ℕ → ℕ → Bool
+is_due ss link r most p =
+    nat_eq (numbers_of r.ranks p) 9 && (not (nat_eq p link.to) || nat_lt (numbers_of r.ranks link.from) most)
+    && list_all (λ (s : Seat). nat_lt (numbers_of r.ranks s.from) most) (seats_at ss p)
+
 -- a place gets the rank that it is due
 module _ (ss : List (List Seat)) (link : Link) (r : Ranking) (most p : ℕ)
     (was : AreRankedTo ss link r most p) (some : 1 ≤ most) (few : most ≤ 8) (up : 0 < p) (lt : p < 65)
@@ -180,16 +186,16 @@ module _ (ss : List (List Seat)) (link : Link) (r : Ranking) (most p : ℕ)
     }
 
   -- the place is due
-  pub placed : (nat_eq (numbers_of r.ranks p) 9 && (not (nat_eq p link.to) || nat_lt (numbers_of r.ranks link.from) most)
-      && list_all (λ (s : Seat). nat_lt (numbers_of r.ranks s.from) most) (seats_at ss p)) ≡ true
+  pub placed : is_due ss link r most p ≡ true
       → (r.count < 65) × AreRankedTo ss link next most (p + 1)
   placed e =
-      by (nat_eq (numbers_of r.ranks p) 9) (nat_eq p link.to) (nat_lt (numbers_of r.ranks link.from) most) refl refl refl
-      e
+      by (nat_eq (numbers_of r.ranks p) 9) (nat_eq p link.to) (nat_lt (numbers_of r.ranks link.from) most)
+      refl refl refl e
     where
       by : (a b c : Bool) → nat_eq (numbers_of r.ranks p) 9 ≡ a → nat_eq p link.to ≡ b
           → nat_lt (numbers_of r.ranks link.from) most ≡ c
-          → (a && (not b || c) && list_all (λ (s : Seat). nat_lt (numbers_of r.ranks s.from) most) (seats_at ss p)) ≡ true
+          → (a && (not b || c) && list_all (λ (s : Seat). nat_lt (numbers_of r.ranks s.from) most) (seats_at ss p))
+          ≡ true
           → (r.count < 65) × AreRankedTo ss link next most (p + 1)
       by true b c x y z e =
           let free = eqb-true (numbers_of r.ranks p) 9 x in
@@ -253,8 +259,7 @@ module _ (ss : List (List Seat)) (link : Link) (r : Ranking) (most p : ℕ)
       rw (tall-seats m e (seats_at ss p) within none)
       (or_true (nat_eq p link.to && is_tall ss link.from link.to m link.from))
 
-  pub passed : (nat_eq (numbers_of r.ranks p) 9 && (not (nat_eq p link.to) || nat_lt (numbers_of r.ranks link.from) most)
-      && list_all (λ (s : Seat). nat_lt (numbers_of r.ranks s.from) most) (seats_at ss p)) ≡ false
+  pub passed : is_due ss link r most p ≡ false
       → AreRankedTo ss link r most (p + 1)
   passed none = record {
     given = was.given;

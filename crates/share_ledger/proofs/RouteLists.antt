@@ -8,16 +8,14 @@ use Rattle.std.proofs.lemmas.List.{append-nil}
 use Rattle.std.proofs.lemmas.List.Sums.{sum_by-cons}
 use Rattle.std.proofs.lemmas.Bool.Decides.{nat_tests}
 use Rattle.share_model.specs.declared.funding.Ticket.{Ticket}
-use Rattle.share_model.specs.declared.funding.Holder.{Holder}
-use Rattle.share_model.specs.declared.funding.Holder.TheVariants.{Nobody, Currency, Flow}
 use Rattle.share_model.specs.declared.funding.OpenFlow.{OpenFlow}
 use Rattle.share_model.specs.funding.Graph.{NameBytes, Graph, tickets}
 use Rattle.share_model.specs.funding.Changes.{is_open_as}
 use Rattle.share_model.specs.funding.Laws.{uncapped}
-use Rattle.share_model.specs.funding.Kept.{names_of, times_open, IsHolderKnown, IsKept}
+use Rattle.share_model.specs.funding.Kept.{times_open, IsKept}
 use Rattle.share_model.specs.lists.Each.{Each}
 use Rattle.share_ledger.specs.declared.routes.Route.{Route}
-use Rattle.share_ledger.specs.Routes.{flow_place, holder_place, route_of, is_kind, routes_of, IsRouteWithin, gathered}
+use Rattle.share_ledger.specs.Routes.{flow_place, route_of, is_kind, routes_of, IsRouteWithin, gathered}
 use Rattle.share_ledger.proofs.Positions.{IsFirstAt}
 use Rattle.share_ledger.proofs.Lists.{sum_by-bound}
 use Rattle.share_ledger.proofs.Places.{place-below, IsPlaced, placed}
@@ -27,34 +25,13 @@ use Rattle.share_ledger.proofs.RouteWorths.{flow-place-below}
 pub routes-cons : (g : Graph) (b : Bool) (t : Ticket) (ts : List Ticket)
     → routes_of g b (t ∷ ts) ≡ cond (is_kind b t.holder) (route_of g t ∷ []) [] ++ routes_of g b ts
 unfolding routes_of
-routes-cons g b t ts = by (is_kind b t.holder)
-  where
-    by : (k : Bool)
-        → map (route_of g) (cond k (t ∷ filter (λ (t : Ticket). is_kind b t.holder) ts)
-        (filter (λ (t : Ticket). is_kind b t.holder) ts))
-        ≡ cond k (route_of g t ∷ []) [] ++ map (route_of g) (filter (λ (t : Ticket). is_kind b t.holder) ts)
-    by true = refl
-    by false = refl
+routes-cons g b t ts = grind (arith, nat_tests)
 
 pub routes-append : (g : Graph) (b : Bool) (ts : List Ticket) (t : Ticket)
     → routes_of g b (ts ++ t ∷ []) ≡ routes_of g b ts ++ cond (is_kind b t.holder) (route_of g t ∷ []) []
 unfolding routes_of
-routes-append g b [] t = routes-cons g b t [] ∙ by (is_kind b t.holder)
-  where
-    by : (k : Bool)
-        → cond k (route_of g t ∷ []) [] ++ routes_of g b [] ≡ routes_of g b [] ++ cond k (route_of g t ∷ []) []
-    by true = refl
-    by false = refl
-routes-append g b (x ∷ ts) t =
-    routes-cons g b x (ts ++ t ∷ [])
-    ∙ ap (λ rs. cond (is_kind b x.holder) (route_of g x ∷ []) [] ++ rs) (routes-append g b ts t)
-    ∙ by (is_kind b x.holder) (routes_of g b ts) (cond (is_kind b t.holder) (route_of g t ∷ []) [])
-    ∙ ap (λ rs. rs ++ cond (is_kind b t.holder) (route_of g t ∷ []) []) (sym (routes-cons g b x ts))
-  where
-    by : (k : Bool) (rs qs : List Route) → cond k (route_of g x ∷ []) [] ++ (rs ++ qs)
-        ≡ (cond k (route_of g x ∷ []) [] ++ rs) ++ qs
-    by true rs qs = refl
-    by false rs qs = refl
+routes-append g b [] t = grind (arith, nat_tests, routes-cons)
+routes-append g b (x ∷ ts) t = grind (arith, nat_tests, routes-cons, routes-append g b ts t)
 
 take-more : (ts : List Ticket) (i : ℕ) (t : Ticket) → i < length ts → t ≡ get_or ts i t
     → take (suc i) ts ≡ take i ts ++ t ∷ []
@@ -87,20 +64,7 @@ listed-skip g b ts rs i n t lt at kind so_far =
 
 -- Routes are within the places, and few
 pub route-within : (g : Graph) → IsKept g → (t : Ticket) → IsPlaced g t → IsRouteWithin (route_of g t)
-route-within g ok t at = record {
-  from_place =
-      let below = place-below t.denomination (names_of g) at.denomination_known in
-      let few = ok.few_currencies in omega arith;
-  to_place = spot t.holder at.holder_known;
-  small = at.amount_small;
-}
-  where
-    spot : (h : Holder) → IsHolderKnown g h → holder_place g h < 65
-    spot Nobody known = omega arith
-    spot (Currency c) known =
-        let below = place-below c (names_of g) known in let few = ok.few_currencies in omega arith
-    spot (Flow f) known =
-        let below = flow-place-below f g.flows known in let few = ok.few_flows in omega arith
+route-within g ok t at = grind (arith, nat_tests, place-below, flow-place-below)
 
 pub routes-within : (g : Graph) (b : Bool) → IsKept g → Each IsRouteWithin (routes_of g b g.tickets)
 unfolding routes_of
@@ -119,13 +83,7 @@ routes-within g b ok = all g.tickets (placed g ok)
 pub routes-few : (g : Graph) (b : Bool) (ts : List Ticket) → length (routes_of g b ts) ≤ length ts
 unfolding routes_of
 routes-few g b [] = omega arith
-routes-few g b (t ∷ ts) = by (is_kind b t.holder) (routes-few g b ts)
-  where
-    by : (k : Bool) → length (routes_of g b ts) ≤ length ts
-        → length (map (route_of g) (cond k (t ∷ filter (λ (t : Ticket). is_kind b t.holder) ts)
-        (filter (λ (t : Ticket). is_kind b t.holder) ts))) ≤ length (t ∷ ts)
-    by true rest = omega arith
-    by false rest = omega arith
+routes-few g b (t ∷ ts) = grind (arith, nat_tests, routes-few g b ts)
 
 pub gathered-bound : (rs : List Route) (flag : ℕ → Bool) (p : ℕ) → Each IsRouteWithin rs → length rs ≤ 1024
     → gathered rs flag p ≤ 2 ^ 30
@@ -249,14 +207,7 @@ at-place share (e ∷ es) (suc i) k held lt once same =
 
     behind : (f : ℕ) → 1 ≤ times_open f es
         → cond (nat_eq f e.1.number) 0 (suc (flow_place es f)) ≡ suc (flow_place es f)
-    behind f known = by (nat_eq f e.1.number) refl
-      where
-        by : (b : Bool) → nat_eq f e.1.number ≡ b → cond b 0 (suc (flow_place es f)) ≡ suc (flow_place es f)
-        by false x = refl
-        by true x =
-            let here = ap {B = ℕ} (λ b. cond b 1 0) (turned f x) in
-            let all = once f in
-            absurd (omega (arith, more f))
+    behind f known = grind (arith, nat_tests, turned, more)
 
 pub share-at : (g : Graph) (i n : ℕ) (held : ℕ → ℕ) → IsKept g → i < length g.flows
     → ((f : ℕ) → 1 ≤ times_open f g.flows → held (flow_place g.flows f) ≡ uncapped g f) → n ≡ min (held i) (2 ^ 20)

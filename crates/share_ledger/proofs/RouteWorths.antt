@@ -1,6 +1,6 @@
 -- Sums over the routes of the tickets give the values and the worths of the definitions.
 use Rattle.std.proofs.Common.{◌≡◌, ◌≤◌, ◌<◌, ◌+◌, ◌*◌, ◌/◌, ◌^◌, ℕ, zero, suc, Bool, true, false, cond, ◌&&◌}
-use Rattle.std.proofs.Common.{List, [], ◌∷◌, filter, sum_by, length, bytes_eq, nat_eq, refl, sym, ap, ◌∙◌, arith}
+use Rattle.std.proofs.Common.{List, [], ◌∷◌, sum_by, length, bytes_eq, nat_eq, refl, sym, ap, ◌∙◌, arith}
 use Rattle.std.specs.List.{list_any}
 use Rattle.std.proofs.lemmas.List.Sums.{sum_by-cons}
 use Rattle.std.proofs.lemmas.Bool.Decides.{nat_tests}
@@ -27,10 +27,7 @@ use Rattle.share_ledger.proofs.Places.{place-below, place-same, place-base, sum_
 two-sum : (P : Ticket → Type 0) (v w u : Ticket → ℕ) (ts : List Ticket) → Each P ts
     → ((t : Ticket) → P t → v t + w t ≡ u t) → sum_by v ts + sum_by w ts ≡ sum_by u ts
 two-sum P v w u [] each same = refl
-two-sum P v w u (t ∷ ts) each same =
-    let rest = two-sum P v w u ts each.1 same in
-    let here = same t each.0 in
-    omega (arith, sum_by-cons v t ts, sum_by-cons w t ts, sum_by-cons u t ts)
+two-sum P v w u (t ∷ ts) each same = grind (arith, nat_tests, sum_by-cons, two-sum P v w u ts each.1 same)
 
 cond_nothing : (b : Bool) → ◌≡◌ {A = ℕ} (cond b 0 0) 0
 cond_nothing true = refl
@@ -46,53 +43,19 @@ pub flow-place-same : (f k : ℕ) (es : List (NameBytes × OpenFlow)) → 1 ≤ 
     → nat_eq (flow_place es f) (flow_place es k) ≡ nat_eq f k
 unfolding flow_place
 flow-place-same f k [] known = absurd (omega arith)
-flow-place-same f k (e ∷ es) known =
-    by (nat_eq f e.1.number) (nat_eq k e.1.number) refl refl (flow-place-same f k es)
-  where
-    more : times_open f (e ∷ es) ≡ cond (nat_eq e.1.number f) 1 0 + times_open f es
-    more = sum_by-cons (λ (x : NameBytes × OpenFlow). cond (nat_eq x.1.number f) 1 0) e es
-
-    turned : nat_eq f e.1.number ≡ false → nat_eq e.1.number f ≡ false
-    turned o = grind (arith, nat_tests)
-
-    by : (a b : Bool) → nat_eq f e.1.number ≡ a → nat_eq k e.1.number ≡ b
-        → (1 ≤ times_open f es → nat_eq (flow_place es f) (flow_place es k) ≡ nat_eq f k)
-        → nat_eq (cond a 0 (suc (flow_place es f))) (cond b 0 (suc (flow_place es k))) ≡ nat_eq f k
-    by true true x y rest = grind (arith, nat_tests)
-    by true false x y rest = grind (arith, nat_tests)
-    by false true x y rest = grind (arith, nat_tests)
-    by false false x y rest =
-        let here = ap {B = ℕ} (λ b. cond b 1 0) (turned x) in
-        let same = rest (omega (arith, more)) in
-        grind (arith, nat_tests)
+flow-place-same f k (e ∷ es) known = grind (arith, nat_tests, sum_by-cons, flow-place-same f k es)
 
 pub flow-place-below : (f : ℕ) (es : List (NameBytes × OpenFlow)) → 1 ≤ times_open f es → flow_place es f < length es
 unfolding flow_place
 flow-place-below f [] known = absurd (omega arith)
-flow-place-below f (e ∷ es) known = by (nat_eq f e.1.number) refl (flow-place-below f es)
-  where
-    more : times_open f (e ∷ es) ≡ cond (nat_eq e.1.number f) 1 0 + times_open f es
-    more = sum_by-cons (λ (x : NameBytes × OpenFlow). cond (nat_eq x.1.number f) 1 0) e es
-
-    turned : nat_eq f e.1.number ≡ false → nat_eq e.1.number f ≡ false
-    turned o = grind (arith, nat_tests)
-
-    by : (a : Bool) → nat_eq f e.1.number ≡ a → (1 ≤ times_open f es → flow_place es f < length es)
-        → cond a 0 (suc (flow_place es f)) < length (e ∷ es)
-    by true x rest = omega arith
-    by false x rest =
-        let here = ap {B = ℕ} (λ b. cond b 1 0) (turned x) in
-        let inside = rest (omega (arith, more)) in
-        omega arith
+flow-place-below f (e ∷ es) known = grind (arith, nat_tests, sum_by-cons, flow-place-below f es)
 
 module _ (g : Graph) where
   pub sum-routes : (F : Route → ℕ) (b : Bool)
       → sum_by F (routes_of g b g.tickets)
       ≡ sum_by (λ (t : Ticket). cond (is_kind b t.holder) (F (route_of g t)) 0) g.tickets
   unfolding routes_of
-  sum-routes F b =
-      sum_by-map F (route_of g) (filter (λ (t : Ticket). is_kind b t.holder) g.tickets)
-      ∙ sum_by-filter (λ (t : Ticket). F (route_of g t)) (λ (t : Ticket). is_kind b t.holder) g.tickets
+  sum-routes F b = grind (arith, nat_tests, sum_by-map, sum_by-filter)
 
   pub below : IsKept g → (c : NameBytes) → 1 ≤ times c (names_of g) → place (names_of g) c < 65
   below ok c known = let under = place-below c (names_of g) known in let few = ok.few_currencies in omega arith

@@ -1,5 +1,5 @@
 -- Routes are the same where a currency behind all of them is removed.
-use Rattle.std.proofs.Common.{◌≡◌, ◌≤◌, ◌<◌, ℕ, suc, Bool, true, false, cond, not, ◌&&◌, List, [], ◌∷◌, ◌++◌}
+use Rattle.std.proofs.Common.{◌≡◌, ◌≤◌, ◌<◌, ℕ, Bool, true, false, cond, not, ◌&&◌, List, [], ◌∷◌}
 use Rattle.std.proofs.Common.{length, sum_by, bytes_eq, nat_eq, nat_lt, None, refl, sym, ap, ◌∙◌, arith}
 use Rattle.std.proofs.Common.{true≢false}
 use Rattle.std.specs.List.{list_all}
@@ -33,15 +33,7 @@ place-removed : (c d : NameBytes) (cs : List NameBytes) → place cs d < place c
     → place cs d ≡ place (remove_key (bytes_eq c) cs) d
 unfolding place
 place-removed c d [] lt = absurd (omega arith)
-place-removed c d (x ∷ cs) lt = by (bytes_eq d x) (bytes_eq c x) refl lt (place-removed c d cs)
-  where
-    by : (a b : Bool) → bytes_eq d x ≡ a → cond a 0 (suc (place cs d)) < cond b 0 (suc (place cs c))
-        → (place cs d < place cs c → place cs d ≡ place (remove_key (bytes_eq c) cs) d)
-        → cond a 0 (suc (place cs d)) ≡ place (cond b cs (x ∷ remove_key (bytes_eq c) cs)) d
-    by a true e lt rest = absurd (omega arith)
-    by true false e lt rest = sym (ap (λ k. cond k 0 (suc (place (remove_key (bytes_eq c) cs) d))) e)
-    by false false e lt rest =
-        ap suc (rest (omega arith)) ∙ sym (ap (λ k. cond k 0 (suc (place (remove_key (bytes_eq c) cs) d))) e)
+place-removed c d (x ∷ cs) lt = grind (arith, nat_tests, place-removed c d cs)
 
 -- what holds of all seats holds of all routes
 module _ (g : Graph) (b : Bool) (ss : List (List Seat)) (seated : AreSeated (routes_of g b g.tickets) ss)
@@ -55,10 +47,7 @@ module _ (g : Graph) (b : Bool) (ss : List (List Seat)) (seated : AreSeated (rou
 
   no-faults : (p : ℕ) (xs : List Seat) → Each (λ s. Q p s ≡ true) xs → sum_by (fault p) xs ≡ 0
   no-faults p [] each = refl
-  no-faults p (x ∷ xs) each =
-      let rest = no-faults p xs each.1 in
-      let here = ap {B = ℕ} (λ b. cond b 0 1) each.0 in
-      sum_by-cons (fault p) x xs ∙ omega arith
+  no-faults p (x ∷ xs) each = grind (arith, nat_tests, sum_by-cons, no-faults p xs each.1)
 
   each-swap : (R : ℕ → Ticket → Type 0) (ts : List Ticket) → ((p : ℕ) → p < 65 → Each (R p) ts)
       → Each (λ t. (p : ℕ) → p < 65 → R p t) ts
@@ -78,17 +67,7 @@ module _ (g : Graph) (b : Bool) (ss : List (List Seat)) (seated : AreSeated (rou
 
   pub route-tells : (t : Ticket) → (route_of g t).to < 65 → is_kind b t.holder ≡ true
       → ((p : ℕ) → p < 65 → ticket-part p t ≡ 0) → Q (route_of g t).to (seat_of (route_of g t)) ≡ true
-  route-tells t inside kind none =
-      let p = (route_of g t).to in
-      let s = seat_of (route_of g t) in
-      let part : ◌≡◌ {A = ℕ} (ticket-part p t) (cond (Q p s) 0 1) =
-      ap {B = ℕ} (λ k. cond k (cond (nat_eq p p) (fault p s) 0) 0) kind
-      ∙ ap {B = ℕ} (λ k. cond k (fault p s) 0) (itself p) in
-      by (Q p s) (sym part ∙ none p inside)
-    where
-      by : (a : Bool) → ◌≡◌ {A = ℕ} (cond a 0 1) 0 → a ≡ true
-      by true e = refl
-      by false e = absurd (omega arith)
+  route-tells t inside kind none = grind (arith, nat_tests, itself)
 
 all-each : {X : Type 0} (p : X → Bool) (xs : List X) → list_all p xs ≡ true → Each (λ x. p x ≡ true) xs
 all-each p [] e = tt
@@ -130,19 +109,7 @@ module _ (g : Graph) (ok : IsKept g) (c : NameBytes) (unused : remove_currency_r
       → routes_of g b ts ≡ routes_of (remove_currency g c) b ts
   early-routes b [] each = routes-none g (remove_currency g c) b
   early-routes b (t ∷ ts) each =
-      routes-cons g b t ts
-      ∙ by (is_kind b t.holder) refl
-      ∙ ap (λ rs. cond (is_kind b t.holder) (route_of (remove_currency g c) t ∷ []) [] ++ rs) (early-routes b ts each.1)
-      ∙ sym (routes-cons (remove_currency g c) b t ts)
-    where
-      by : (k : Bool) → is_kind b t.holder ≡ k
-          → cond k (route_of g t ∷ []) [] ++ routes_of g b ts
-          ≡ cond k (route_of (remove_currency g c) t ∷ []) [] ++ routes_of g b ts
-      by true e =
-          let early = each.0 e in
-          ap (λ r. r ∷ routes_of g b ts)
-          (route-same g (remove_currency g c) t (stays t.denomination early.0) (early-holder b t.holder e early.1))
-      by false e = refl
+      grind (arith, nat_tests, routes-cons, route-same, stays, early-holder, early-routes b ts each.1)
 
   module _ (bs fs : List (List Seat)) (backs : AreSeated (backs_of g) bs) (funds : AreSeated (funds_of g) fs)
       (before : AreBefore bs fs (place (names_of g) c)) where

@@ -1,7 +1,7 @@
 -- What leaves the routes of the tickets.
 use Rattle.std.proofs.Common.{◌≡◌, ◌≤◌, ◌+◌, ℕ, suc, Bool, true, false, not, cond, List, [], ◌∷◌, ◌++◌, take, find}
-use Rattle.std.proofs.Common.{None, Some, length, bytes_eq, nat_eq, is_some, refl, sym, ap, ◌∙◌, arith, subst, map}
-use Rattle.std.proofs.Common.{◌<◌, ◌^◌, zero, get_or, min, sum_by, position}
+use Rattle.std.proofs.Common.{None, Some, length, nat_eq, is_some, refl, sym, ap, ◌∙◌, arith, subst, map}
+use Rattle.std.proofs.Common.{◌<◌, zero, get_or, position}
 use Rattle.std.specs.Set.{remove_key}
 use Rattle.std.proofs.lemmas.List.{append-nil}
 use Rattle.std.proofs.lemmas.List.Sums.{sum_by-cons}
@@ -13,21 +13,20 @@ use Rattle.share_model.specs.declared.funding.Holder.TheVariants.{Nobody, Curren
 use Rattle.share_model.specs.declared.funding.Ticket.{Ticket}
 use Rattle.share_model.specs.declared.funding.OpenFlow.{OpenFlow}
 use Rattle.share_model.specs.funding.Graph.{NameBytes, Graph, tickets}
-use Rattle.share_model.specs.funding.Changes.{is_numbered, ticket_of, is_held, is_found_held, is_open_as, active_as}
-use Rattle.share_model.specs.funding.Changes.{with_activity, added_flow, make_currency, make_ticket, made_ticket}
+use Rattle.share_model.specs.funding.Changes.{is_numbered, ticket_of, is_held, is_found_held, is_open_as}
+use Rattle.share_model.specs.funding.Changes.{with_activity, make_currency, make_ticket, made_ticket}
 use Rattle.share_model.specs.funding.Changes.{remove_ticket_refusal, remove_ticket, add_flow, set_active}
 use Rattle.share_model.specs.lists.Change.{change_first}
 use Rattle.share_model.specs.lists.Each.{Each}
 use Rattle.share_model.specs.funding.Kept.{names_of, times, times_open, IsHolderKnown, IsKept}
 use Rattle.share_model.specs.lists.SumLaws.{name_sym}
 use Rattle.share_model.specs.funding.ChangeLaws.{not-refused}
-use Rattle.share_ledger.specs.declared.routes.Route.{Route}
 use Rattle.share_ledger.specs.Places.{place}
 use Rattle.share_ledger.specs.Routes.{flow_place, holder_place, route_of, is_kind, routes_of}
 use Rattle.share_ledger.specs.declared.net.Net.{Net}
 use Rattle.share_ledger.specs.Nets.{IsReady, activity_of}
-use Rattle.share_ledger.specs.Arrays.{flags_of, numbers_of}
-use Rattle.share_ledger.specs.Seats.{backs_of, funds_of, seats_at, seat_worth, weighed}
+use Rattle.share_ledger.specs.Arrays.{flags_of}
+use Rattle.share_ledger.specs.Seats.{backs_of, funds_of}
 use Rattle.share_ledger.specs.Shares.{AreKept}
 use Rattle.share_ledger.proofs.NetQuiet.{relit, activity-turned}
 use Rattle.share_ledger.proofs.Positions.{position-first, flow-first}
@@ -41,80 +40,36 @@ use Rattle.share_ledger.proofs.RouteLists.{routes-cons, routes-append}
 pub kept-left : (net : Net) (shares : List ℕ) (g h : Graph)
     → ((b : Bool) → routes_of g b g.tickets ≡ routes_of h b h.tickets) → g.flows ≡ h.flows
     → ((f : ℕ) → tickets g f ≡ tickets h f) → AreKept net shares g → AreKept net shares h
-kept-left net shares g h routes flows same kept = record {
-  of_flows = shares-left shares g h flows same kept.of_flows;
-  net_ready = relit net shares (backs_of h) (funds_of h) (activity_of g) (activity_of h)
-      (subst (λ rs. IsReady net shares (backs_of h) rs (activity_of g)) (routes false)
-      (subst (λ rs. IsReady net shares rs (funds_of g) (activity_of g)) (routes true) (kept.net_ready)))
-      (λ k. ap (λ (es : List (NameBytes × OpenFlow)). get_or (map
-      (λ (e : NameBytes × OpenFlow). e.1.active) es) k false)
-      flows);
-}
+kept-left net shares g h routes flows same kept = grind (arith, nat_tests, shares-left, relit)
 
 -- routes of the same tickets
 pub routes-same : (g h : Graph) (b : Bool) (P : Ticket → Type 0) (ts : List Ticket) → Each P ts
     → ((t : Ticket) → P t → route_of g t ≡ route_of h t) → routes_of g b ts ≡ routes_of h b ts
 unfolding routes_of
 routes-same g h b P [] each same = refl
-routes-same g h b P (t ∷ ts) each same =
-    routes-cons g b t ts
-    ∙ ap (λ r. cond (is_kind b t.holder) (r ∷ []) [] ++ routes_of g b ts) (same t each.0)
-    ∙ ap (λ rs. cond (is_kind b t.holder) (route_of h t ∷ []) [] ++ rs) (routes-same g h b P ts each.1 same)
-    ∙ sym (routes-cons h b t ts)
+routes-same g h b P (t ∷ ts) each same = grind (arith, nat_tests, routes-cons, routes-same g h b P ts each.1 same)
 
 pub route-same : (g h : Graph) (t : Ticket) → place (names_of g) t.denomination ≡ place (names_of h) t.denomination
     → holder_place g t.holder ≡ holder_place h t.holder → route_of g t ≡ route_of h t
-route-same g h t from to =
-    ap {B = Route} (λ p. record { from = p; to = holder_place g t.holder; amount = t.amount }) from
-    ∙ ap {B = Route} (λ p. record { from = place (names_of h) t.denomination; to = p; amount = t.amount }) to
+route-same g h t from to = grind (arith, nat_tests)
 
 -- a name keeps its place where others are put behind
 place-append : (c : NameBytes) (cs ds : List NameBytes) → 1 ≤ times c cs → place cs c ≡ place (cs ++ ds) c
 unfolding place
 place-append c [] ds known = absurd (omega arith)
-place-append c (x ∷ cs) ds known = by (bytes_eq c x) refl (place-append c cs ds)
-  where
-    more : times c (x ∷ cs) ≡ cond (bytes_eq x c) 1 0 + times c cs
-    more = sum_by-cons (λ d. cond (bytes_eq d c) 1 0) x cs
-
-    by : (b : Bool) → bytes_eq c x ≡ b → (1 ≤ times c cs → place cs c ≡ place (cs ++ ds) c)
-        → cond b 0 (suc (place cs c)) ≡ cond b 0 (suc (place (cs ++ ds) c))
-    by true e rest = refl
-    by false e rest =
-        let here = ap {B = ℕ} (λ b. cond b 1 0) (name_sym x c ∙ e) in
-        ap suc (rest (omega (arith, more)))
+place-append c (x ∷ cs) ds known = grind (arith, nat_tests, sum_by-cons, name_sym, place-append c cs ds)
 
 flow-place-append : (f : ℕ) (es ds : List (NameBytes × OpenFlow)) → 1 ≤ times_open f es
     → flow_place es f ≡ flow_place (es ++ ds) f
 unfolding flow_place
 flow-place-append f [] ds known = absurd (omega arith)
-flow-place-append f (e ∷ es) ds known = by (nat_eq f e.1.number) refl (flow-place-append f es ds)
-  where
-    more : times_open f (e ∷ es) ≡ cond (nat_eq e.1.number f) 1 0 + times_open f es
-    more = sum_by-cons (λ (x : NameBytes × OpenFlow). cond (nat_eq x.1.number f) 1 0) e es
-
-    turned : nat_eq f e.1.number ≡ false → nat_eq e.1.number f ≡ false
-    turned o = grind (arith, nat_tests)
-
-    by : (b : Bool) → nat_eq f e.1.number ≡ b
-        → (1 ≤ times_open f es → flow_place es f ≡ flow_place (es ++ ds) f)
-        → cond b 0 (suc (flow_place es f)) ≡ cond b 0 (suc (flow_place (es ++ ds) f))
-    by true x rest = refl
-    by false x rest =
-        let here = ap {B = ℕ} (λ b. cond b 1 0) (turned x) in
-        ap suc (rest (omega (arith, more)))
+flow-place-append f (e ∷ es) ds known = grind (arith, nat_tests, sum_by-cons, flow-place-append f es ds)
 
 flow-place-changed : (f : ℕ) (a : Bool) (k : ℕ) (es : List (NameBytes × OpenFlow))
     → flow_place es k ≡ flow_place (with_activity f a es) k
 unfolding flow_place change_first
 flow-place-changed f a k [] = refl
-flow-place-changed f a k (e ∷ es) = by (is_open_as f e) (flow-place-changed f a k es)
-  where
-    by : (b : Bool) → flow_place es k ≡ flow_place (with_activity f a es) k
-        → cond (nat_eq k e.1.number) 0 (suc (flow_place es k))
-        ≡ flow_place (cond b (active_as a e ∷ es) (e ∷ with_activity f a es)) k
-    by true rest = refl
-    by false rest = ap (λ n. cond (nat_eq k e.1.number) 0 (suc n)) rest
+flow-place-changed f a k (e ∷ es) = grind (arith, nat_tests, flow-place-changed f a k es)
 
 -- Commands
 pub routes-make_currency : (g : Graph) → IsKept g → (c : NameBytes) (b : Bool)
@@ -131,25 +86,11 @@ routes-make_currency g ok c b =
 
 pub routes-add_flow : (g : Graph) → IsKept g → (name : NameBytes) (b : Bool)
     → routes_of g b g.tickets ≡ routes_of (add_flow g name) b g.tickets
-routes-add_flow g ok name b =
-    routes-same g (add_flow g name) b (IsPlaced g) g.tickets (placed g ok)
-    (λ t at. route-same g (add_flow g name) t refl (spot t.holder at.holder_known))
-  where
-    spot : (h : Holder) → IsHolderKnown g h → holder_place g h ≡ holder_place (add_flow g name) h
-    spot Nobody known = refl
-    spot (Currency d) known = refl
-    spot (Flow f) known = flow-place-append f g.flows ((name, added_flow g) ∷ []) known
+routes-add_flow g ok name b = grind (arith, nat_tests, routes-same, IsPlaced, placed, route-same, flow-place-append)
 
 pub routes-set_active : (g : Graph) → IsKept g → (f : ℕ) (a b : Bool)
     → routes_of g b g.tickets ≡ routes_of (set_active g f a) b g.tickets
-routes-set_active g ok f a b =
-    routes-same g (set_active g f a) b (IsPlaced g) g.tickets (placed g ok)
-    (λ t at. route-same g (set_active g f a) t refl (spot t.holder))
-  where
-    spot : (h : Holder) → holder_place g h ≡ holder_place (set_active g f a) h
-    spot Nobody = refl
-    spot (Currency d) = refl
-    spot (Flow k) = flow-place-changed f a k g.flows
+routes-set_active g ok f a b = grind (arith, nat_tests, routes-same, IsPlaced, placed, route-same, flow-place-changed)
 
 pub routes-make_ticket : (g : Graph) (amount : ℕ) (c : NameBytes) (b : Bool)
     → routes_of g b g.tickets ≡ routes_of (make_ticket g amount c) b (make_ticket g amount c).tickets
@@ -212,24 +153,7 @@ kept-opened net before after g name n ok at wrote more kept = record {
   where
     opened : IsReady net before (backs_of g) (funds_of g) (activity_of g)
         → IsReady net after (backs_of g) (funds_of g) (activity_of g)
-    opened ready = record {
-      begun = ready.begun;
-      awake_is = ready.awake_is;
-      valued = ready.valued;
-      shared = λ p lt. wrote p ∙ by p (nat_eq n p) refl lt;
-      seen_is = ready.seen_is;
-    }
-      where
-        by : (p : ℕ) (b : Bool) → nat_eq n p ≡ b → p < 64
-            → cond b 0 (get_or before p 0)
-            ≡ min (weighed net.funding.items (flags_of net.active.value) (numbers_of net.values.value)
-            (numbers_of net.weights.value) p) (2 ^ 20)
-        by p true e lt =
-            let idle : flags_of net.active.value p ≡ false =
-            ready.begun.active_is p ∙ activity-beyond g p (let same = eqb-true n p e in omega arith) in
-            ap (λ b. min (cond b (sum_by (seat_worth (numbers_of net.values.value) (numbers_of net.weights.value))
-            (seats_at net.funding.items p)) 0) (2 ^ 20)) (sym idle)
-        by p false e lt = ready.shared p lt
+    opened ready = grind (arith, nat_tests, activity-beyond, eqb-true)
 
 -- A flow that becomes active or idle leaves the routes
 module _ (g : Graph) (ok : IsKept g) (net : Net) (shares : List ℕ) (f : ℕ) (a : Bool) (i : ℕ)
@@ -242,13 +166,7 @@ module _ (g : Graph) (ok : IsKept g) (net : Net) (shares : List ℕ) (f : ℕ) (
 
     pub turned-ready : IsReady net shares (backs_of g) (funds_of g) (activity_of g)
         → IsReady net shares (backs_of (set_active g f a)) (funds_of (set_active g f a)) (flags_of net.active.value)
-    turned-ready ready =
-        relit net shares (backs_of (set_active g f a)) (funds_of (set_active g f a)) (activity_of g)
-        (flags_of net.active.value)
-        (subst (λ rs. IsReady net shares (backs_of (set_active g f a)) rs (activity_of g))
-        (routes-set_active g ok f a false)
-        (subst (λ rs. IsReady net shares rs (funds_of g) (activity_of g)) (routes-set_active g ok f a true) ready))
-        (λ k. sym (ready.begun.active_is k))
+    turned-ready ready = grind (arith, nat_tests, relit, routes-set_active)
 
     pub turned-activity : IsReady net shares (backs_of g) (funds_of g) (activity_of g) → (k : ℕ)
         → activity_of (set_active g f a) k ≡ cond (nat_eq i k) a (flags_of net.active.value k)

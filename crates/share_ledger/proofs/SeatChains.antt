@@ -8,7 +8,7 @@ use Rattle.std.proofs.lemmas.List.Sums.{sum_by-cons}
 use Rattle.share_model.specs.declared.funding.Holder.{Holder}
 use Rattle.share_model.specs.declared.funding.Holder.TheVariants.{Nobody, Currency, Flow}
 use Rattle.share_model.specs.declared.funding.Ticket.{Ticket}
-use Rattle.share_model.specs.funding.Graph.{NameBytes, base, Graph, is_held_by_currency, issued, leads_on, runs}
+use Rattle.share_model.specs.funding.Graph.{NameBytes, base, Graph, issued, leads_on, runs}
 use Rattle.share_model.specs.funding.Graph.{is_deep}
 use Rattle.share_model.specs.funding.SettleLaws.{runs-none}
 use Rattle.share_model.specs.funding.Kept.{names_of, times, IsKept}
@@ -145,16 +145,7 @@ module _ (g : Graph) (ss : List (List Seat)) (seated : AreSeated (backs_of g) ss
     last-step : (m p : ℕ) → p < 65 → is_tall ss from to (suc m) p ≡ true
         → list_any (backs (is_tall ss from to m) p) ts ≡ true
     unfolding is_tall
-    last-step m p lt e =
-        by (nat_eq p to && is_tall ss from to m from) refl
-        (list_any (λ (s : Seat). is_tall ss from to m s.from) (seats_at ss p)) refl e
-      where
-        by : (a : Bool) → (nat_eq p to && is_tall ss from to m from) ≡ a → (b : Bool)
-            → list_any (λ (s : Seat). is_tall ss from to m s.from) (seats_at ss p) ≡ b → (a || b) ≡ true
-            → list_any (backs (is_tall ss from to m) p) ts ≡ true
-        by true x b y e = extra m p x
-        by false x true y e = kept (is_tall ss from to m) p (seat-ticket (is_tall ss from to m) p lt y)
-        by false x false y e = absurd (true≢false (sym e))
+    last-step m p lt e = grind (arith, nat_tests, seat-ticket)
 
     itself : (c : NameBytes) → bytes_eq c c ≡ true
     itself c = name_same c c refl
@@ -163,12 +154,7 @@ module _ (g : Graph) (ss : List (List Seat)) (seated : AreSeated (backs_of g) ss
         → ((h : Ticket → Bool) → h t ≡ true → list_any h ts ≡ true) → runs ts k d ≡ true
         → runs ts (suc k) t.denomination ≡ true
     unfolding runs issued
-    runs-on t d k held there on =
-        any-filter (λ (u : Ticket). bytes_eq t.denomination u.denomination)
-        (λ (u : Ticket). leads_on (runs ts k) u.holder)
-        ts
-        ∙ there (λ (u : Ticket). bytes_eq t.denomination u.denomination && leads_on (runs ts k) u.holder)
-        (ap (λ b. b && leads_on (runs ts k) t.holder) (itself t.denomination) ∙ ap (leads_on (runs ts k)) held ∙ on)
+    runs-on t d k held there on = grind (arith, nat_tests, any-filter, itself)
 
     -- a chain that runs on from a currency besides `base`
     abbrev runs-from : ℕ → Bool
@@ -188,23 +174,14 @@ module _ (g : Graph) (ss : List (List Seat)) (seated : AreSeated (backs_of g) ss
       where
         left : (u : Ticket) → (bytes_eq a u.denomination && leads_on (runs ts k) u.holder) ≡ true
             → bytes_eq a u.denomination ≡ true
-        left u e = by (bytes_eq a u.denomination) e
-          where
-            by : (b : Bool) → (b && leads_on (runs ts k) u.holder) ≡ true → b ≡ true
-            by true e = refl
-            by false e = e
+        left u e = grind (arith, nat_tests)
 
     -- a chain that ends at a currency, and one that begins there
     tall-runs : (m k : ℕ) (a : NameBytes) → 1 ≤ times a (names_of g)
         → is_tall ss from to m (place (names_of g) a) ≡ true → runs ts (suc k) a ≡ true
         → runs-from (m + suc k) ≡ true
     unfolding is_tall
-    tall-runs zero k a there tall on =
-        subst (λ n. runs-from n ≡ true) (omega arith) (runs-begun k a (other (bytes_eq a base) refl) on)
-      where
-        other : (b : Bool) → bytes_eq a base ≡ b → bytes_eq a base ≡ false
-        other true e = absurd (true≢false (sym tall ∙ ap not (place-base g a ∙ e)))
-        other false e = e
+    tall-runs zero k a there tall on = grind (arith, nat_tests, runs-begun, place-base)
     tall-runs (suc m) k a there tall on =
         let p = place (names_of g) a in
         let one = found (IsPlaced g) (backs (is_tall ss from to m) p) ts known
@@ -234,18 +211,7 @@ module _ (g : Graph) (ss : List (List Seat)) (seated : AreSeated (backs_of g) ss
     no-base test = by (list_any (λ (s : Seat). test s.from) (seats_at ss 0)) refl
       where
         none : list_any (backs test 0) g.tickets ≡ true → ⊥
-        none e =
-            let one =
-            found (λ (t : Ticket). is_held_by_currency base t.holder ≡ false) (backs test 0) g.tickets
-            ok.shallow.unbacked e in
-            let back = backer test 0 one.0 one.1.1.0 in
-            let is : bytes_eq back.holder base ≡ true =
-            sym (place-base g back.holder) ∙ ap (λ n. nat_eq n 0) (sym back.at) ∙ zero_self in
-            true≢false
-            (sym (name_sym base back.holder ∙ is) ∙ sym (ap (is_held_by_currency base) back.held) ∙ one.1.0)
-          where
-            zero_self : nat_eq 0 0 ≡ true
-            zero_self = refl
+        none e = grind (arith, nat_tests, found, backer, place-base, name_sym)
 
         by : (b : Bool) → list_any (λ (s : Seat). test s.from) (seats_at ss 0) ≡ b
             → list_any (λ (s : Seat). test s.from) (seats_at ss 0) ≡ false

@@ -9,7 +9,7 @@ use Rattle.share_model.specs.declared.funding.Holder.{Holder}
 use Rattle.share_model.specs.declared.funding.Holder.TheVariants.{Nobody, Currency, Flow}
 use Rattle.share_model.specs.declared.funding.Ticket.{Ticket}
 use Rattle.share_model.specs.declared.funding.OpenFlow.{OpenFlow}
-use Rattle.share_model.specs.funding.Graph.{NameBytes, Graph, is_held_by_currency, is_held_by_flow, backing, funding}
+use Rattle.share_model.specs.funding.Graph.{NameBytes, Graph, backing, funding}
 use Rattle.share_model.specs.funding.Changes.{is_open_as}
 use Rattle.share_model.specs.funding.Kept.{names_of, times, times_open, IsHolderKnown, IsKept}
 use Rattle.share_model.specs.lists.SumLaws.{sum_by-same, sum_by-same_of}
@@ -37,20 +37,7 @@ pub backing-routes : (g : Graph) → IsKept g → (c : NameBytes) → 1 ≤ time
     → sum_by (λ (r : Route). cond (nat_eq (place (names_of g) c) r.to) 1 0) (backs_of g) ≡ length (backing g.tickets c)
 unfolding backing
 backing-routes g ok c known =
-    let p = place (names_of g) c in
-    sum-routes g (λ (r : Route). cond (nat_eq p r.to) 1 0) true
-    ∙ sum_by-same_of (IsPlaced g)
-    (λ (t : Ticket). cond (is_kind true t.holder) (cond (nat_eq p (holder_place g t.holder)) 1 0) 0)
-    (λ (t : Ticket). cond (is_held_by_currency c t.holder) 1 0) g.tickets (placed g ok)
-    (λ t at. by t.holder at.holder_known)
-    ∙ sym (length-filter (λ (t : Ticket). is_held_by_currency c t.holder) g.tickets)
-  where
-    by : (h : Holder) → IsHolderKnown g h
-        → ◌≡◌ {A = ℕ} (cond (is_kind true h) (cond (nat_eq (place (names_of g) c) (holder_place g h)) 1 0) 0)
-        (cond (is_held_by_currency c h) 1 0)
-    by Nobody there = refl
-    by (Flow f) there = refl
-    by (Currency d) there = ap {B = ℕ} (λ b. cond b 1 0) (place-same c d (names_of g) known)
+    grind (arith, nat_tests, sum-routes, sum_by-same_of, IsPlaced, placed, length-filter, place-same)
 
 pub backing-count : (g : Graph) → IsKept g → (ss : List (List Seat)) → AreSeated (backs_of g) ss → (c : NameBytes)
     → 1 ≤ times c (names_of g) → length (seats_at ss (place (names_of g) c)) ≡ length (backing g.tickets c)
@@ -79,20 +66,7 @@ pub funding-routes : (g : Graph) → IsKept g → (f : ℕ) → 1 ≤ times_open
     → sum_by (λ (r : Route). cond (nat_eq (flow_place g.flows f) r.to) 1 0) (funds_of g) ≡ length (funding g.tickets f)
 unfolding funding
 funding-routes g ok f known =
-    sum-routes g (λ (r : Route). cond (nat_eq (flow_place g.flows f) r.to) 1 0) false
-    ∙ sum_by-same_of (IsPlaced g)
-    (λ (t : Ticket). cond (is_kind false t.holder)
-    (cond (nat_eq (flow_place g.flows f) (holder_place g t.holder)) 1 0) 0)
-    (λ (t : Ticket). cond (is_held_by_flow f t.holder) 1 0) g.tickets (placed g ok)
-    (λ t at. by t.holder at.holder_known)
-    ∙ sym (length-filter (λ (t : Ticket). is_held_by_flow f t.holder) g.tickets)
-  where
-    by : (h : Holder) → IsHolderKnown g h
-        → ◌≡◌ {A = ℕ} (cond (is_kind false h) (cond (nat_eq (flow_place g.flows f) (holder_place g h)) 1 0) 0)
-        (cond (is_held_by_flow f h) 1 0)
-    by Nobody there = refl
-    by (Currency d) there = refl
-    by (Flow k) there = ap {B = ℕ} (λ b. cond b 1 0) (flow-place-same f k g.flows known)
+    grind (arith, nat_tests, sum-routes, sum_by-same_of, IsPlaced, placed, length-filter, flow-place-same)
 
 pub funding-count : (g : Graph) → IsKept g → (ss : List (List Seat)) → AreSeated (funds_of g) ss → (f i : ℕ)
     → IsFirstAt (is_open_as f) g.flows i → length (seats_at ss i) ≡ length (funding g.tickets f)
@@ -105,10 +79,7 @@ funding-count g ok ss seated f i first =
     at = flow-place-first f g.flows i first
 
     inside : i < 65
-    inside =
-        let under = flow-place-below f g.flows (first-open f g.flows i first) in
-        let few = ok.few_flows in
-        omega (arith, at)
+    inside = grind (arith, nat_tests, flow-place-below, first-open, at)
 
 -- no holder has more than sixteen
 pub routes-few_at : (g : Graph) → IsKept g → (b : Bool) (p : ℕ)
@@ -125,13 +96,7 @@ routes-few_at g ok b p =
 
     one : (b : Bool) → 0 < sum_by (λ (r : Route). cond (nat_eq p r.to) 1 0) (routes_of g b g.tickets)
         → list_any (λ (t : Ticket). is_kind b t.holder && nat_eq p (holder_place g t.holder)) g.tickets ≡ true
-    one b some =
-        let same =
-        sum-routes g (λ (r : Route). cond (nat_eq p r.to) 1 0) b
-        ∙ sum_by-same (λ (t : Ticket). cond (is_kind b t.holder) (cond (nat_eq p (holder_place g t.holder)) 1 0) 0)
-        (λ (t : Ticket). cond (is_kind b t.holder && nat_eq p (holder_place g t.holder)) 1 0) g.tickets
-        (λ t. both (is_kind b t.holder) (nat_eq p (holder_place g t.holder))) in
-        any-sum (λ (t : Ticket). is_kind b t.holder && nat_eq p (holder_place g t.holder)) g.tickets (omega arith)
+    one b some = grind (arith, nat_tests, sum-routes, sum_by-same, both, any-sum)
 
     at-holder : (b : Bool) (h : Holder) → IsHolderKnown g h → (is_kind b h && nat_eq p (holder_place g h)) ≡ true
         → sum_by (λ (r : Route). cond (nat_eq p r.to) 1 0) (routes_of g b g.tickets) ≤ 16
@@ -153,11 +118,7 @@ routes-few_at g ok b p =
 
     by : (b : Bool) → 0 < sum_by (λ (r : Route). cond (nat_eq p r.to) 1 0) (routes_of g b g.tickets)
         → sum_by (λ (r : Route). cond (nat_eq p r.to) 1 0) (routes_of g b g.tickets) ≤ 16
-    by b some =
-        let t =
-        found (IsPlaced g) (λ (t : Ticket). is_kind b t.holder && nat_eq p (holder_place g t.holder)) g.tickets
-        (placed g ok) (one b some) in
-        at-holder b t.0.holder t.1.0.holder_known t.1.1.0
+    by b some = grind (arith, nat_tests, found, IsPlaced, placed, one, at-holder)
 
 -- there is room for one seat more where that is so with it
 pub room-more : (g : Graph) → IsKept g → (b : Bool) (rs : List Route) (r : Route) (ss : List (List Seat))
@@ -176,14 +137,4 @@ room-more g ok b rs r ss seated lt grows =
 -- the seat of a route is there
 pub seat-there : (rs less : List Route) (r : Route) (ss : List (List Seat)) → AreSeated rs ss → r.to < 65
     → GrowsBy true less rs r → list_any (is_like (seat_of r)) (seats_at ss r.to) ≡ true
-seat-there rs less r ss seated lt grows =
-    let all = seated.seated (λ (s : Seat). cond (is_like (seat_of r) s) 1 0) r.to lt in
-    let more = grows (λ (q : Route). cond (nat_eq r.to q.to) (cond (is_like (seat_of r) (seat_of q)) 1 0) 0) in
-    let here =
-    ap {B = ℕ} (λ b. cond b (cond (is_like (seat_of r) (seat_of r)) 1 0) 0) (self r.to)
-    ∙ ap {B = ℕ} (λ b. cond (b && nat_eq r.amount r.amount) 1 0) (self r.from)
-    ∙ ap {B = ℕ} (λ b. cond b 1 0) (self r.amount) in
-    any-sum (is_like (seat_of r)) (seats_at ss r.to) (omega arith)
-  where
-    self : (n : ℕ) → nat_eq n n ≡ true
-    self n = grind (arith, nat_tests)
+seat-there rs less r ss seated lt grows = grind (arith, nat_tests, any-sum)

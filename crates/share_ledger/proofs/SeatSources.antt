@@ -1,6 +1,6 @@
 -- The bits of the places that seats come from.
 use Rattle.std.proofs.Common.{◌≡◌, ◌<◌, ◌^◌, ◌%◌, ◌∙◌, ◌||◌, ℕ, Bool, true, false, List, [], ◌∷◌, ◌++◌, bit_and, bit_or}
-use Rattle.std.proofs.Common.{refl, sym, ap, set, replicate, inl, inr, arith}
+use Rattle.std.proofs.Common.{refl, ap, set, replicate, arith}
 use Rattle.std.specs.Int.{bit_at}
 use Rattle.std.specs.List.{list_any}
 use Rattle.std.proofs.lemmas.Bool.Decides.{eqb_tells}
@@ -10,6 +10,7 @@ use Rattle.share_model.specs.lists.Each.{Each}
 use Rattle.share_ledger.specs.declared.seats.Seat.{Seat}
 use Rattle.share_ledger.specs.Arrays.{flags_of}
 use Rattle.share_ledger.specs.Seats.{ComesFrom, IsSeatWithin}
+use Rattle.std.proofs.lemmas.Bool.Decides.{nat_tests}
 
 left_bit : (a b i : ℕ) → bit_at a i ≡ 1 → bit_at (bit_or a b) i ≡ 1
 left_bit a b i is = omega (arith, bit_at_or a b i, bit_at-lt b i, is)
@@ -34,9 +35,7 @@ one_more a (t ∷ ts) s all one = (all.0, one_more a ts s all.1 one)
 -- one seat more, and its bit
 pub bits-more : (a b : ℕ) (ss : List Seat) (s : Seat) → b ≡ 2 ^ (s.from % 64) → Each (ComesFrom a) ss
     → Each (ComesFrom (bit_or a b)) (ss ++ s ∷ [])
-bits-more a b ss s is all =
-    let own = ap (λ n. bit_at n (s.from % 64)) is ∙ bit_at-pow_same (s.from % 64) in
-    one_more (bit_or a b) ss s (bits-left a b ss all) (right_bit a b (s.from % 64) own)
+bits-more a b ss s is all = grind (arith, nat_tests, bit_at-pow_same, one_more, bits-left, right_bit)
 
 false_unless : (b : Bool) → (b ≡ true → b ≡ false) → b ≡ false
 false_unless true not = not refl
@@ -64,12 +63,8 @@ none-touched bits moved flag (s ∷ ss) apart is within all =
 pub bits-flagged : (flags : List Bool) (place bits b : ℕ) → b ≡ 2 ^ (place % 64)
     → ((p : ℕ) → p < 65 → flags_of flags p ≡ true → bit_at bits (p % 64) ≡ 1)
     → (p : ℕ) → p < 65 → flags_of (set flags place true) p ≡ true → bit_at (bit_or bits b) (p % 64) ≡ 1
-bits-flagged flags place bits b is were p few on = elim (eqb_tells p place) [
-  | inl same ↦ right_bit bits b (p % 64)
-      (ap (λ n. bit_at n (p % 64)) (is ∙ ap (λ q. 2 ^ (q % 64)) (sym same.1)) ∙ bit_at-pow_same (p % 64))
-  | inr other ↦ left_bit bits b (p % 64)
-      (were p few (sym (get_or-set_other flags place p true false other.1) ∙ on))
-]
+bits-flagged flags place bits b is were p few on =
+    grind (arith, nat_tests, eqb_tells, right_bit, bit_at-pow_same, left_bit, get_or-set_other)
 
 -- where no place is flagged, no bit has to be there
 pub none-flagged : (p : ℕ) → p < 65 → flags_of (replicate 65 false) p ≡ true → bit_at 0 (p % 64) ≡ 1

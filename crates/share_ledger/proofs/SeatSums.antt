@@ -1,6 +1,6 @@
 -- Sums over the seats of one holder.
-use Rattle.std.proofs.Common.{◌≡◌, Fits, w32, ◌≤◌, ◌<◌, ◌^◌, ◌+◌, ◌-◌, ℕ, zero, suc, Bool, true, false, cond, ◌&&◌}
-use Rattle.std.proofs.Common.{nat_eq, List, [], ◌∷◌, take, set, sum_by, length, get_or, ap, ◌∙◌, arith, refl}
+use Rattle.std.proofs.Common.{◌≡◌, Fits, w32, ◌≤◌, ◌<◌, ◌^◌, ◌+◌, ◌-◌, ℕ, zero, suc, Bool, true, false, cond}
+use Rattle.std.proofs.Common.{nat_eq, List, [], ◌∷◌, take, set, sum_by, length, get_or, ap, arith, refl}
 use Rattle.std.proofs.lemmas.Bool.Decides.{nat_tests}
 use Rattle.std.proofs.lemmas.List.{get_or-take, get_or-set_other, length-take, length-set}
 use Rattle.std.proofs.lemmas.Grind.{get_or-set_at}
@@ -71,23 +71,7 @@ first-below p (x ∷ xs) zero first = omega arith
 first-below p (x ∷ xs) (suc i) first = let rest = first-below p xs i first.1 in omega arith
 
 pub like-same : (s o : Seat) → is_like s o ≡ true → o ≡ s
-like-same s o e =
-    ap {B = Seat} (λ n. record { from = n; amount = o.amount }) (left s.from o.from (nat_eq s.amount o.amount) e)
-    ∙ ap {B = Seat} (λ n. record { from = s.from; amount = n }) (right (nat_eq s.from o.from) s.amount o.amount e)
-  where
-    same : (a b : ℕ) → nat_eq a b ≡ true → b ≡ a
-    same a b e = grind (arith, nat_tests)
-
-    left : (a b : ℕ) (y : Bool) → (nat_eq a b && y) ≡ true → b ≡ a
-    left a b y e = by (nat_eq a b) refl e
-      where
-        by : (x : Bool) → nat_eq a b ≡ x → (x && y) ≡ true → b ≡ a
-        by true q e = same a b q
-        by false q e = absurd cc
-
-    right : (x : Bool) (a b : ℕ) → (x && nat_eq a b) ≡ true → b ≡ a
-    right true a b e = same a b e
-    right false a b e = absurd cc
+like-same s o e = grind (arith, nat_tests)
 
 -- what is last takes the place of what is taken out
 pub sum-taken_out : {X : Type 0} (F : X → ℕ) (xs : List X) (n i : ℕ) (d : X) → n ≤ length xs → i < n

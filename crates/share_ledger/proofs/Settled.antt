@@ -1,5 +1,5 @@
 -- Weights, values and tickets that meet the equations of one step, place by place, are those of the definition.
-use Rattle.std.proofs.Common.{◌≡◌, ◌≤◌, ◌<◌, ◌+◌, ◌*◌, ◌/◌, ◌^◌, ℕ, zero, suc, Bool, true, false, cond, ◌&&◌}
+use Rattle.std.proofs.Common.{◌≡◌, ◌≤◌, ◌<◌, ◌+◌, ◌^◌, ℕ, zero, suc, Bool, true, false, cond, ◌&&◌}
 use Rattle.std.proofs.Common.{List, [], ◌∷◌, map, take, sum_by, length, bytes_eq, nat_eq, nat_lt, get_or}
 use Rattle.std.proofs.Common.{Some, option_map, slice_get, refl, sym, ap, subst, ◌∙◌, arith}
 use Rattle.std.specs.List.{list_any}
@@ -30,7 +30,7 @@ use Rattle.share_ledger.specs.Seats.{AreShared, HaveValues, IsSeatWithin, backs_
 use Rattle.share_ledger.specs.Ranks.{AreRanks}
 use Rattle.share_ledger.specs.declared.net.Net.{Net}
 use Rattle.share_ledger.specs.Nets.{IsBegun, IsReady, activity_of}
-use Rattle.share_ledger.specs.Shares.{shares_of}
+use Rattle.share_ledger.specs.Shares.{shares_of, AreKept}
 use Rattle.share_ledger.proofs.Places.{place-base}
 use Rattle.share_ledger.proofs.NetSteps.{weighed-above}
 use Rattle.share_ledger.proofs.RouteLists.{share-at, activity-at}
@@ -80,14 +80,7 @@ backs-apart : (g : Graph) (ts : List Ticket)
     → Each (λ (r : Route). nat_eq r.to 0 ≡ false) (routes_of g true ts)
 unfolding routes_of
 backs-apart g [] each = tt
-backs-apart g (t ∷ ts) each = by (t.holder) each.0 (backs-apart g ts each.1)
-  where
-    by : (h : Holder) → is_held_by_currency base h ≡ false
-        → Each (λ (r : Route). nat_eq r.to 0 ≡ false) (routes_of g true ts)
-        → Each (λ (r : Route). nat_eq r.to 0 ≡ false) (routes_of g true (record t { holder = h } ∷ ts))
-    by Nobody e rest = rest
-    by (Flow f) e rest = rest
-    by (Currency c) e rest = (place-base g c ∙ name_sym c base ∙ e, rest)
+backs-apart g (t ∷ ts) each = grind (arith, nat_tests, place-base, name_sym, backs-apart g ts each.1)
 
 module _ (g : Graph) (ok : IsKept g) (lit on : ℕ → Bool) (whole value : ℕ → ℕ)
     (flows : (f : ℕ) → 1 ≤ times_open f g.flows → lit (flow_place g.flows f) ≡ is_active_flow g f)
@@ -103,14 +96,7 @@ module _ (g : Graph) (ok : IsKept g) (lit on : ℕ → Bool) (whole value : ℕ 
   counted-held : (p : ℕ) → p < 65
       → whole p ≡ gathered (routes_of g true g.tickets) held p + gathered (routes_of g false g.tickets) lit p
   unfolding gathered
-  counted-held p lt =
-      counted p lt
-      ∙ ap (λ n. n + gathered (routes_of g false g.tickets) lit p)
-      (sum_by-same_of (λ (r : Route). nat_eq r.to 0 ≡ false)
-      (λ (r : Route). cond (nat_eq p r.from && on r.to) r.amount 0)
-      (λ (r : Route). cond (nat_eq p r.from && held r.to) r.amount 0) (routes_of g true g.tickets)
-      (backs-apart g g.tickets ok.shallow.unbacked)
-      (λ r e. ap (λ b. cond (nat_eq p r.from && b) r.amount 0) (sym (held-apart r.to e))))
+  counted-held p lt = grind (arith, nat_tests, sum_by-same_of, held, backs-apart, held-apart)
 
   -- what is said to be active by name
   said : NameBytes → Bool
@@ -168,19 +154,13 @@ module _ (g : Graph) (ok : IsKept g) (lit on : ℕ → Bool) (whole value : ℕ 
   saying-step Nobody = refl
   saying-step (Flow f) = refl
   saying-step (Currency c) =
-      any-same (λ (t : Ticket). lead g on t.holder) (λ (t : Ticket). saying t.holder) (issued g.tickets c)
-      (each_map _ (λ (t : Ticket). lead g on t.holder ≡ saying t.holder)
-      (λ t e. lead-saying t.holder e.0.place_known e.0.unbacked) (issued g.tickets c)
-      (Each-filter IsSaid (λ (t : Ticket). bytes_eq c t.denomination) g.tickets all-said))
+      grind (arith, nat_tests, any-same, lead, saying, each_map, lead-saying, Each-filter, all-said)
 
   held-are : (c : NameBytes) → 1 ≤ times c (names_of g)
       → held (place (names_of g) c) ≡ list_any (act g 8) (issued g.tickets c)
   unfolding held saying is_active act
   held-are c known = by (bytes_eq c base) refl
     where
-      some : Ticket
-      some = record { number = 0; amount = 0; denomination = c; holder = Currency c }
-
       by : (b : Bool) → bytes_eq c base ≡ b
           → held (place (names_of g) c) ≡ list_any (act g 8) (issued g.tickets c)
       by true e =
@@ -212,13 +192,7 @@ module _ (g : Graph) (ok : IsKept g) (lit on : ℕ → Bool) (whole value : ℕ 
   valued-apart p e = ap (λ b. cond b (val g 9 base) (value p)) e
 
   carried-same : (r : Route) → carried value whole r ≡ carried valued_as whole r
-  carried-same r = by (nat_eq r.from 0) refl
-    where
-      by : (b : Bool) → nat_eq r.from 0 ≡ b
-          → cond b r.amount (value r.from * r.amount / whole r.from)
-          ≡ cond b r.amount (valued_as r.from * r.amount / whole r.from)
-      by true e = refl
-      by false e = ap (λ n. n * r.amount / whole r.from) (sym (valued-apart r.from e))
+  carried-same r = grind (arith, nat_tests, valued_as, valued-apart)
 
   poured-same : (rs : List Route) (flag : ℕ → Bool) (p : ℕ)
       → poured rs flag (carried value whole) p ≡ poured rs flag (carried valued_as whole) p
@@ -231,12 +205,7 @@ module _ (g : Graph) (ok : IsKept g) (lit on : ℕ → Bool) (whole value : ℕ 
   poured-held : (p : ℕ) (carry : Route → ℕ)
       → poured (routes_of g true g.tickets) on carry p ≡ poured (routes_of g true g.tickets) held carry p
   unfolding poured
-  poured-held p carry =
-      sum_by-same_of (λ (r : Route). nat_eq r.to 0 ≡ false)
-      (λ (r : Route). cond (nat_eq p r.to && on r.to) (carry r) 0)
-      (λ (r : Route). cond (nat_eq p r.to && held r.to) (carry r) 0) (routes_of g true g.tickets)
-      (backs-apart g g.tickets ok.shallow.unbacked)
-      (λ r e. ap (λ b. cond (nat_eq p r.to && b) (carry r) 0) (sym (held-apart r.to e)))
+  poured-held p carry = grind (arith, nat_tests, sum_by-same_of, held, backs-apart, held-apart)
 
   -- the values of so many rounds are those of one more
   round-values : (bs : List (List Seat)) (rank : ℕ → ℕ) → AreSeated (backs_of g) bs → AreRanks bs rank → (n p : ℕ)
@@ -298,25 +267,11 @@ module _ (g : Graph) (ok : IsKept g) (lit on : ℕ → Bool) (whole value : ℕ 
 
     worth-worthy : (t : Ticket) → 1 ≤ times t.denomination (names_of g) → worth_by g named t ≡ worth_by g worthy t
     unfolding worth_by
-    worth-worthy t known = by (bytes_eq t.denomination base) refl
-      where
-        by : (b : Bool) → bytes_eq t.denomination base ≡ b
-            → cond (is_active g t) (cond b t.amount (named t.denomination * t.amount / active g t.denomination)) 0
-            ≡ cond (is_active g t) (cond b t.amount (worthy t.denomination * t.amount / active g t.denomination)) 0
-        by true e = refl
-        by false e =
-            ap (λ n. cond (is_active g t) (n * t.amount / active g t.denomination) 0)
-            (named-worthy t.denomination known e)
+    worth-worthy t known = grind (arith, nat_tests, named, worthy, named-worthy)
 
     worthy-step : (c : NameBytes) → worthy c ≡ sum_by (worth_by g worthy) (backing g.tickets c)
     unfolding worthy backing
-    worthy-step c =
-        sum_by-same_of
-        (λ (t : Ticket). (1 ≤ times t.denomination (names_of g)) × (is_held_by_currency c t.holder ≡ true))
-        (worth_by g named) (worth_by g worthy) (backing g.tickets c)
-        (Each-filter (λ (t : Ticket). 1 ≤ times t.denomination (names_of g))
-        (λ (t : Ticket). is_held_by_currency c t.holder) g.tickets ok.sound.known)
-        (λ t e. worth-worthy t e.0)
+    worthy-step c = grind (arith, nat_tests, sum_by-same_of, named, worthy, Each-filter, worth-worthy)
 
     values : (c : NameBytes) → 1 ≤ times c (names_of g) → valued_as (place (names_of g) c) ≡ val g 9 c
     values c known = by (bytes_eq c base) refl
@@ -352,7 +307,7 @@ take-parts part (x ∷ xs) (y ∷ ys) d le at =
     ∙ ap (λ zs. part x ∷ zs) (take-parts part xs ys d (omega arith) (λ i lt. at (suc i) (omega arith)))
 
 -- what has settled gives the tickets of all flows
-pub shares-settled : (g : Graph) (net : Net) (shares : List ℕ) → IsKept g → length shares ≡ 64
+shares-settled : (g : Graph) (net : Net) (shares : List ℕ) → IsKept g → length shares ≡ 64
     → IsReady net shares (backs_of g) (funds_of g) (activity_of g)
     → take (length g.flows) shares ≡ shares_of g
 shares-settled g net shares ok long ready =
@@ -365,6 +320,12 @@ shares-settled g net shares ok long ready =
     ∙ activity-at f g.flows known (ok.sound.numbers f)) begun.counted
     ready.awake_is net.backing.items begun.backing ready.valued net.funding.items (numbers_of shares) begun.funding
     ready.shared)
+
+-- so it is what is kept
+pub kept-ready : (g : Graph) (net : Net) (shares : List ℕ) → IsKept g → length shares ≡ 64
+    → IsReady net shares (backs_of g) (funds_of g) (activity_of g) → AreKept net shares g
+kept-ready g net shares ok long ready =
+    record { of_flows = shares-settled g net shares ok long ready; net_ready = ready }
 
 -- what is counted and awake has values
 values-of : (g : Graph) (net : Net) (awake : ℕ → Bool) (whole : ℕ → ℕ) → IsKept g

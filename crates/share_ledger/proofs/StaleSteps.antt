@@ -69,15 +69,10 @@ module _ (moved : ℕ → Bool) (v w s u : ℕ → ℕ) where
     all : (nat_eq changed p ≡ false) × ((not (nat_eq (u p) (s p)) ≡ false)
         × (list_any (λ (x : Seat). moved x.from) (seats_at ss p) ≡ false))
     unfolding p
-    all =
-        parts (nat_eq changed p) (not (nat_eq (u p) (s p)))
-        (list_any (λ (x : Seat). moved x.from) (seats_at ss p)) fresh
+    all = grind (arith, nat_tests, parts, p)
 
     weight : u p ≡ s p
-    weight = by (u p) (s p) all.1.0
-      where
-        by : (a b : ℕ) → not (nat_eq a b) ≡ false → a ≡ b
-        by a b e = grind (arith, nat_tests)
+    weight = grind (arith, nat_tests, p, all)
 
     here-left : w p ≡ v p
     unfolding p
@@ -86,13 +81,7 @@ module _ (moved : ℕ → Bool) (v w s u : ℕ → ℕ) where
 
     pub fresh-same : (k : ℕ) → 0 < k → k < 65 → o.spot k < i + 1 → moved k ≡ false → (w k ≡ v k) × (u k ≡ s k)
     unfolding p
-    fresh-same k above below under still = by (nat_eq p k) refl
-      where
-        by : (b : Bool) → nat_eq p k ≡ b → (w k ≡ v k) × (u k ≡ s k)
-        by true e =
-            let at = sym (eqb-true p k e) in
-            (ap w at ∙ here-left ∙ ap v (sym at), ap u at ∙ weight ∙ ap s (sym at))
-        by false e = same k above below (not-next ss order o i up lt k below e under) still
+    fresh-same k above below under still = grind (arith, nat_tests, p, eqb-true, here-left, weight, not-next)
 
     pub fresh-valued : ((k : ℕ) → 0 < k → k < 65 → o.spot k < i → w k ≡ weighed ss awake w u k)
         → (k : ℕ) → 0 < k → k < 65 → o.spot k < i + 1 → w k ≡ weighed ss awake w u k
@@ -136,48 +125,10 @@ module _ (ss : List (List Seat)) (order : ℕ → ℕ) (o : AreOrdered ss order)
     (left : (k : ℕ) → k < 65 → i ≤ o.spot k → w k ≡ v k)
     (same : (k : ℕ) → 0 < k → k < 65 → o.spot k < i → moved k ≡ false → (w k ≡ v k) × (u k ≡ s k)) where
   pub stale-left : (k : ℕ) → k < 65 → i + 1 ≤ o.spot k → x k ≡ v k
-  stale-left k below past =
-      wrote k ∙ ap (λ b. cond b n (w k)) (apart (nat_eq (order i) k) refl) ∙ left k below (omega arith)
-    where
-      apart : (b : Bool) → nat_eq (order i) k ≡ b → nat_eq (order i) k ≡ false
-      apart true e =
-          let is = ap o.spot (eqb-true (order i) k e) in
-          let own = next-spot ss order o i up lt in
-          absurd (omega arith)
-      apart false e = e
+  stale-left k below past = grind (arith, nat_tests, eqb-true, next-spot)
 
   pub stale-same : (k : ℕ) → 0 < k → k < 65 → o.spot k < i + 1 → next k ≡ false → (x k ≡ v k) × (u k ≡ s k)
-  stale-same k above below under still = by (nat_eq (order i) k) refl
-    where
-      neither : (a b c d : ℕ) → (not (nat_eq a b) || not (nat_eq c d)) ≡ false → (a ≡ b) × (c ≡ d)
-      neither a b c d e = both (nat_eq a b) (nat_eq c d) refl refl e
-        where
-          both : (f g : Bool) → nat_eq a b ≡ f → nat_eq c d ≡ g → (not f || not g) ≡ false → (a ≡ b) × (c ≡ d)
-          both true true i j e = (eqb-true a b i, eqb-true c d j)
-          both true false i j e = absurd (cc)
-          both false g i j e = absurd (cc)
-
-      by : (b : Bool) → nat_eq (order i) k ≡ b → (x k ≡ v k) × (u k ≡ s k)
-      by true e =
-          let at = eqb-true (order i) k e in
-          let two =
-          neither (u (order i)) (s (order i)) (x (order i)) (w (order i))
-          (sym (flagged k
-          ∙ ap (λ b. cond b (not (nat_eq (u (order i)) (s (order i))) || not (nat_eq (x (order i)) (w (order i))))
-          (moved k)) e)
-          ∙ still) in
-          let own = next-spot ss order o i up lt in (
-            ap x (sym at) ∙ two.1 ∙ left (order i) (next-within ss order o i up lt) (omega arith) ∙ ap v at,
-            ap u (sym at) ∙ two.0 ∙ ap s at,
-          )
-      by false e =
-          let old =
-          same k above below (not-next ss order o i up lt k below e under)
-          (sym (flagged k
-          ∙ ap (λ b. cond b (not (nat_eq (u (order i)) (s (order i))) || not (nat_eq (x (order i)) (w (order i))))
-          (moved k)) e)
-          ∙ still) in
-          (wrote k ∙ ap (λ b. cond b n (w k)) e ∙ old.0, old.1)
+  stale-same k above below under still = grind (arith, nat_tests, eqb-true, next-spot, next-within, not-next)
 
 -- the next place, whether or not it is stale
 module _ (ss : List (List Seat)) (order : ℕ → ℕ) (o : AreOrdered ss order) (i : ℕ) (up : 0 < i) (lt : i < 65)
@@ -193,13 +144,7 @@ module _ (ss : List (List Seat)) (order : ℕ → ℕ) (o : AreOrdered ss order)
     (left : (k : ℕ) → k < 65 → i ≤ o.spot k → w k ≡ v k)
     (same : (k : ℕ) → 0 < k → k < 65 → o.spot k < i → moved k ≡ false → (w k ≡ v k) × (u k ≡ s k)) where
   pub next-left : (k : ℕ) → k < 65 → i + 1 ≤ o.spot k → x k ≡ v k
-  next-left k below past = by (is_stale ss moved u s changed (order i)) refl
-    where
-      by : (b : Bool) → is_stale ss moved u s changed (order i) ≡ b → x k ≡ v k
-      by true e =
-          stale-left ss order o i up lt moved next v w x s u (weighed ss awake w u (order i)) (wrote e) (flagged e) left
-          same k below past
-      by false e = (fresh e).1 k ∙ left k below (omega arith)
+  next-left k below past = grind (arith, nat_tests, stale-left)
 
   pub next-same : (k : ℕ) → 0 < k → k < 65 → o.spot k < i + 1 → next k ≡ false → (x k ≡ v k) × (u k ≡ s k)
   next-same k above below under still = by (is_stale ss moved u s changed (order i)) refl
@@ -310,29 +255,12 @@ module _ (old new : Net) (shares : List ℕ) (c f : ℕ) (values : new.values �
       → ((k : ℕ) → nat_eq f k ≡ false → seats_at new.funding.items k ≡ seats_at old.funding.items k)
       → ((k : ℕ) → nat_eq f k ≡ false → flags_of new.active.value k ≡ flags_of old.active.value k)
       → WasSettled new shares c f
-  left-was awake backing funding active = record {
-    awake_was = λ p up lt. ap (λ a. flags_of a.value p) awake ∙ was.awake_was p up lt
-        ∙ ap (λ s. nat_lt 0 (numbers_of s.value p)) (sym seen);
-    valued = λ p up lt e. ap (λ v. numbers_of v.value p) values ∙ was.valued p up lt (nought p up)
-        ∙ worth-left old.backing.items new.backing.items (λ k. nat_lt 0 (numbers_of old.seen.value k))
-        (λ k. nat_lt 0 (numbers_of new.seen.value k)) p (ap (λ s. nat_lt 0 (numbers_of s.value p)) (sym seen))
-        (sym (backing p e));
-    asleep = λ up lt idle. ap (λ v. numbers_of v.value c) values ∙ was.valued c up lt (nought c up)
-        ∙ ap (λ b. cond b (sum_by (seat_worth (numbers_of old.values.value) (numbers_of old.seen.value))
-        (seats_at old.backing.items c)) 0)
-        (sym (was.awake_was c up lt) ∙ sym (ap (λ a. flags_of a.value c) awake) ∙ idle);
-    shared = λ p lt e. was.shared p lt (none 64 p lt)
-        ∙ ap (λ k. min k (2 ^ 20))
-        (worth-left old.funding.items new.funding.items (flags_of old.active.value) (flags_of new.active.value) p
-        (sym (active p e)) (sym (funding p e)));
-  }
+  left-was awake backing funding active = grind (arith, nat_tests, nought, worth-left, none)
 
 -- the same of a net that is the other but for the weights and the seats of one holder
 pub lefts-was : (old new : Net) (shares : List ℕ) (c f : ℕ) → WasSettled old shares 0 64 → IsLeft old new c f
     → WasSettled new shares c f
-lefts-was old new shares c f was left =
-    left-was old new shares c f left.values left.seen was left.awake left.backing left.funding
-    (λ k _. ap (λ a. flags_of a.value k) left.active)
+lefts-was old new shares c f was left = grind (arith, nat_tests)
 
 -- where no weight but that of `base` is another one, and nothing active rests on the currency whose seats may be
 -- others, only the flow's own tickets may be
@@ -357,17 +285,7 @@ quiet-settled n shares next backs funds lit c f begun was same asleep wrote = re
     awake p up lt = was.awake_was p up lt ∙ ap (nat_lt 0) (sym (same p up lt))
 
     idle : (p : ℕ) → 0 < p → c ≡ p → flags_of n.awake.value p ≡ false
-    idle p up e =
-        off (nat_eq p 0) (flags_of n.awake.value p) (apart p up)
-        (ap (λ q. nat_eq q 0 || not (flags_of n.awake.value q)) (sym e) ∙ asleep)
-      where
-        apart : (q : ℕ) → 0 < q → nat_eq q 0 ≡ false
-        apart q up = grind (arith, nat_tests)
-
-        off : (a b : Bool) → a ≡ false → (a || not b) ≡ true → b ≡ false
-        off true b e t = absurd cc
-        off false true e t = absurd cc
-        off false false e t = refl
+    idle p up e = grind (arith, nat_tests)
 
     value : (p : ℕ) → 0 < p → p < 65 → (b : Bool) → nat_eq c p ≡ b
         → numbers_of n.values.value p

@@ -1,7 +1,7 @@
 -- Stretches of places, looked at together.
-use Rattle.std.proofs.Common.{◌≡◌, ◌<◌, ◌≤◌, ◌+◌, ◌-◌, ◌%◌, ◌∙◌, ◌⊎◌, ◌&&◌, ℕ, Bool, true, false, List}
-use Rattle.std.proofs.Common.{[], length, get_or, nat_eq, nat_lt}
-use Rattle.std.proofs.Common.{refl, sym, ap, subst, bit_and, bit_or, inl, inr, arith}
+use Rattle.std.proofs.Common.{◌≡◌, ◌<◌, ◌≤◌, ◌+◌, ◌%◌, ◌∙◌, ◌⊎◌, ◌&&◌, ℕ, Bool, true, false, List}
+use Rattle.std.proofs.Common.{length, get_or, nat_eq, nat_lt}
+use Rattle.std.proofs.Common.{refl, ap, bit_and, bit_or, inl, inr, arith}
 use Rattle.std.specs.Int.{bit_at}
 use Rattle.std.specs.List.{list_any}
 use Rattle.std.proofs.Math.Bool.{and-false}
@@ -27,14 +27,8 @@ pub sources-more : (ss : List (List Seat)) (from i a b : ℕ) (own : List Seat)
     → ((k : ℕ) → k < i → Each (ComesFrom a) (seats_at ss (from + k)))
     → own ≡ get_or ss (from + i) own → from + i < length ss → Each (ComesFrom b) own
     → (k : ℕ) → k < i + 1 → Each (ComesFrom (bit_or a b)) (seats_at ss (from + k))
-sources-more ss from i a b own before at inside all k under = by (nat_eq k i) refl
-  where
-    by : (same : Bool) → nat_eq k i ≡ same → Each (ComesFrom (bit_or a b)) (seats_at ss (from + k))
-    by true e =
-        subst (λ n. Each (ComesFrom (bit_or a b)) (seats_at ss (from + n))) (sym (eqb-true k i e))
-        (bits-right a b (seats_at ss (from + i))
-        (subst (Each (ComesFrom b)) (at ∙ get_or_default ss (from + i) own [] inside) all))
-    by false e = bits-left a b (seats_at ss (from + k)) (before k (less k i e under))
+sources-more ss from i a b own before at inside all k under =
+    grind (arith, nat_tests, eqb-true, bits-right, get_or_default, bits-left, less)
 
 module _ (ss : List (List Seat)) (flag : ℕ → Bool) (sources bits changed from : ℕ)
     (within : (p : ℕ) → p < 65 → Each IsSeatWithin (seats_at ss p))
@@ -43,10 +37,7 @@ module _ (ss : List (List Seat)) (flag : ℕ → Bool) (sources bits changed fro
     (outer : (changed < from) ⊎ (from + 8 ≤ changed))
     (all : (k : ℕ) → k < 8 → Each (ComesFrom sources) (seats_at ss (from + k))) where
   none : (p : ℕ) → from ≤ p → p < from + 8 → list_any (λ (s : Seat). flag s.from) (seats_at ss p) ≡ false
-  none p past under =
-      none-touched sources bits flag (seats_at ss p) apart have (within p (omega (arith, under, end)))
-      (subst (λ n. Each (ComesFrom sources) (seats_at ss n)) (omega (arith, past))
-      (all (p - from) (omega (arith, past, under))))
+  none p past under = grind (arith, nat_tests, none-touched)
 
   pub untouched-stretch : (active : ℕ → Bool) → AreUntouched ss active flag changed from (from + 8)
   untouched-stretch active p past under =

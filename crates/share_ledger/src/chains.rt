@@ -7,7 +7,7 @@ ghost use Rattle.share_ledger.specs.Chains.{AreBacked};
 ghost use Rattle.share_ledger.specs.Ranks.{AreOrdered};
 ghost use Rattle.share_ledger.specs.Seats.{IsSeatWithin, seats_at};
 
-use crate::seats::{Seats, come_from};
+use crate::seats::{Seats, come_from, seats_at};
 use crate::tables::PLACES;
 
 // Whether a place is the first one, or has a seat from a flagged one.
@@ -18,8 +18,7 @@ fn is_backed(backing: &[Seats], flags: &[bool; PLACES], first: usize, place: usi
     ensures { result ≡ (nat_eq place first
         || list_any (λ s. flags_of flags.now s.from) (seats_at backing.now place)) }
 {
-    let holder = &backing[place];
-    place == first || come_from(holder.seats(), flags)
+    place == first || come_from(seats_at(backing, place), flags)
 }
 
 /// The places of the currencies that the one at a place backs, by however many steps, itself among them.

@@ -11,7 +11,7 @@ ghost use Rattle.share_ledger.specs.Seats.{IsSeatWithin, taken, seat_worth, seat
 ghost use Rattle.share_ledger.specs.Seats.{AreCounted, AreAwake, AreValued, AreSmall, HaveValues, AreShared};
 ghost use Rattle.share_ledger.specs.Seats.{weighed, backs_of, funds_of};
 
-use crate::seats::{Seat, Seats};
+use crate::seats::{Seat, Seats, seats_at};
 use crate::tables::{MAX_AMOUNT, MAX_FLOWS, PLACES, Tables};
 
 /// The seats of the currencies and of the flows by their places, which flows are active and which currencies awake,
@@ -141,9 +141,8 @@ pub(crate) fn wake(
         → numbers_of weights.new p ≡ numbers_of weights.old p + taken (seats_at funding.now place) p }
 {
     tables.is_kept();
-    let seats = &funding[place];
     active[place] = true;
-    raise(seats.seats(), weights);
+    raise(seats_at(funding, place), weights);
 }
 
 /// A flow rests.
@@ -167,9 +166,8 @@ pub(crate) fn rest(
         → numbers_of weights.new p + taken (seats_at funding.now place) p ≡ numbers_of weights.old p }
 {
     tables.is_kept();
-    let seats = &funding[place];
     active[place] = false;
-    lower(seats.seats(), weights);
+    lower(seats_at(funding, place), weights);
 }
 
 // A currency wakes or rests.
@@ -193,14 +191,14 @@ fn flip(
         → numbers_of weights.new k ≡ numbers_of weights.old k }
 {
     tables.is_kept();
-    let seats = &backing[place];
+    let seats = seats_at(backing, place);
     if awake[place] {
         awake[place] = false;
-        lower(seats.seats(), weights);
+        lower(seats, weights);
         return;
     }
     awake[place] = true;
-    raise(seats.seats(), weights);
+    raise(seats, weights);
 }
 
 // A currency is awake where its weight is not zero.
@@ -300,8 +298,7 @@ pub(crate) fn value_at(
     if !awake[place] {
         return 0;
     }
-    let seats = &holders[place];
-    weigh(seats.seats(), values, weights)
+    weigh(seats_at(holders, place), values, weights)
 }
 
 /// Computes the values of the currencies, from the least rank to the greatest.

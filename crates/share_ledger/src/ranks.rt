@@ -10,7 +10,7 @@ ghost use Rattle.share_ledger.specs.Arrays.{numbers_of};
 ghost use Rattle.share_ledger.specs.Seats.{IsSeatWithin, seats_at, AreSeated, backs_of};
 ghost use Rattle.share_ledger.specs.Ranks.{AreRanks, AreListed, AreLongest, AreRankedTo, is_tall};
 
-use crate::seats::{Seat, Seats};
+use crate::seats::{Seat, Seats, seats_at};
 use crate::tables::{PLACES, Tables};
 
 /// One more than the greatest rank: what stands for the rank of a place that has none yet.
@@ -54,10 +54,9 @@ fn is_due(backing: &[Seats], link: Link, ranking: &Ranking, rank: u8, place: usi
         && (not (nat_eq place link.to) || nat_lt (numbers_of ranking.now.ranks link.from) rank)
         && list_all (λ s. nat_lt (numbers_of ranking.now.ranks s.from) rank) (seats_at backing.now place)) }
 {
-    let holder = &backing[place];
     ranking.ranks[place] == NO_RANK
         && (place != link.to || ranking.ranks[link.from] < rank)
-        && are_below(holder.seats(), &ranking.ranks, rank)
+        && are_below(seats_at(backing, place), &ranking.ranks, rank)
 }
 
 // Gives a place this rank and lists it, if it is due.

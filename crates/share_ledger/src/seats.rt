@@ -5,7 +5,7 @@ ghost use Rattle.std.specs.List.{list_any};
 ghost use Rattle.share_model.specs.lists.Each.{Each};
 ghost use Rattle.share_ledger.specs.declared.seats.Seat.{Seat};
 ghost use Rattle.share_ledger.specs.Arrays.{flags_of};
-ghost use Rattle.share_ledger.specs.Seats.{is_like, ComesFrom, IsSeatWithin};
+ghost use Rattle.share_ledger.specs.Seats.{is_like, ComesFrom, IsSeatWithin, seats_at};
 
 use crate::tables::{MAX_FUNDING, PLACES};
 use std::marker::Model;
@@ -113,6 +113,17 @@ impl Seats {
     {
         self.sources
     }
+}
+
+/// The seats of the holder at a place.
+pub(crate) fn seats_at(holders: &[Seats], place: usize) -> &[Seat]
+    requires places { length holders.now ≡ 65 }
+    requires place { place < 65 }
+    ensures value { result.now ≡ seats_at holders.now place }
+    ensures few { length result.now ≤ 16 }
+{
+    let holder = &holders[place];
+    holder.seats()
 }
 
 // The bits of the places that some seats come from.

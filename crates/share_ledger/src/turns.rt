@@ -14,7 +14,7 @@ ghost use Rattle.share_ledger.specs.Nets.{activity_of, IsBegun};
 use crate::net::{self, Net};
 use crate::ranks;
 use crate::routes::Route;
-use crate::seats::{Seat, Seats};
+use crate::seats::{Seat, Seats, seats_at};
 use crate::tables::{MAX_FLOWS, PLACES, Tables};
 use std::alloc::{AllocError, Global};
 
@@ -221,8 +221,7 @@ impl Net {
         requires places { length self.now.funding.items ≡ 65 }
         ensures { result ≡ list_all (λ s. nat_eq s.from 0) (seats_at self.now.funding.items place) }
     {
-        let holder = &self.funding[place];
-        net::are_of_base(holder.seats())
+        net::are_of_base(seats_at(&self.funding, place))
     }
 
     /// The tickets of the flow at a place.

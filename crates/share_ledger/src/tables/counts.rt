@@ -12,7 +12,7 @@ ghost use Rattle.share_ledger.specs.Seats.{AreSeated, funds_of};
 
 use super::Tables;
 use crate::net::Net;
-use crate::seats::Seats;
+use crate::seats::seats_at;
 use share_base::{FlowNo, Name, Refusal};
 
 impl Tables {
@@ -23,9 +23,7 @@ impl Tables {
         ensures { result ≡ length (backing self.now.tickets name) }
     {
         self.is_kept();
-        let seats: &[Seats] = &net.backing;
-        let holder = &seats[self.place_of(name)];
-        holder.count()
+        seats_at(&net.backing, self.place_of(name)).len()
     }
 
     /// How many tickets fund an open flow.
@@ -38,9 +36,7 @@ impl Tables {
         let Some(place) = self.place_of_flow(flow) else {
             unreachable!();
         };
-        let seats: &[Seats] = &net.funding;
-        let holder = &seats[place];
-        holder.count()
+        seats_at(&net.funding, place).len()
     }
 
     /// Cycle or Deep, where the currency cannot be funded by this ticket for one of them.

@@ -1,4 +1,3 @@
-use Rattle.std.proofs.Common.{sym}
 use Rattle.share_ledger.proofs.SeatChains.{never-tall}
 use Rattle.share_ledger.proofs.ranks.list_all.Goals as goal
 

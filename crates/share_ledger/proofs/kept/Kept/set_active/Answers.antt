@@ -6,7 +6,7 @@ use Rattle.share_ledger.specs.Nets.{activity_of, IsReady}
 use Rattle.share_ledger.specs.Arrays.{flags_of, numbers_of}
 use Rattle.share_ledger.specs.Seats.{backs_of, funds_of, seats_at, weighed}
 use Rattle.share_ledger.proofs.NetQuiet.{quiet-ready, relit}
-use Rattle.share_ledger.proofs.Settled.{shares-settled}
+use Rattle.share_ledger.proofs.Settled.{kept-ready}
 use Rattle.share_ledger.proofs.StaleSteps.{ready-was, left-was}
 use Rattle.share_ledger.proofs.kept.Kept.set_active.Goals as goal
 
@@ -30,10 +30,7 @@ returns-then-is_funded_by_base c =
     c.requires.place long refl in
     let ready =
     subst (λ (shares : List ℕ). IsReady net shares (backs_of g) (funds_of g) (activity_of g)) (sym same) here in
-    record {
-      of_flows = shares-settled g net c.share.new.shares c.is_kept.ensures c.share.ensures.long.1 ready;
-      net_ready = ready;
-    }
+    kept-ready g net c.share.new.shares c.is_kept.ensures c.share.ensures.long.1 ready
 
 pub settle_changed-requires-clause-was : goal.settle_changed-requires-clause-was
 settle_changed-requires-clause-was c =
@@ -77,8 +74,5 @@ returns-then-deref-place c =
     let ready =
     relit old.net old.shares.value (backs_of g) (funds_of g) (flags_of old.net.active.value) (activity_of g)
     c.requires.ready still in
-    record {
-      of_flows = shares-settled g old.net old.shares.value c.is_kept.ensures
-          (sym (ap length c.deref.ensures) ∙ c.have_places.ensures) ready;
-      net_ready = ready;
-    }
+    kept-ready g old.net old.shares.value c.is_kept.ensures (sym (ap length c.deref.ensures) ∙ c.have_places.ensures)
+    ready

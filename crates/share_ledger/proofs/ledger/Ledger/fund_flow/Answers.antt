@@ -3,8 +3,6 @@ use Rattle.share_model.specs.declared.funding.Holder.TheVariants.{Flow}
 use Rattle.share_model.specs.funding.Changes.{flow_number, flow_named}
 use Rattle.share_ledger.proofs.NetFunds.{comes-to-fund, free-flow, free-held}
 use Rattle.share_ledger.proofs.StaleSteps.{ready-was}
-use Rattle.share_ledger.specs.Nets.{activity_of}
-use Rattle.share_ledger.specs.Seats.{backs_of, funds_of}
 use Rattle.share_ledger.proofs.ledger.Ledger.fund_flow.Goals as goal
 
 pub route_of-backing-requires : goal.route_of-backing-requires
@@ -23,7 +21,4 @@ give-requires-clause-begun c =
     c.route_of-backing.ensures.routed
 
 pub give-requires-clause-was : goal.give-requires-clause-was
-give-requires-clause-was c =
-    let g = c.self.inside.tables in
-    ready-was c.self.inside.kept.net c.self.inside.kept.shares.value (backs_of g) (funds_of g) (activity_of g) 0 64
-    c.self.invariant.net_ready
+give-requires-clause-was c = ready-was _ _ _ _ _ _ _ c.self.invariant.net_ready

@@ -1,4 +1,5 @@
-use Rattle.std.proofs.Common.{◌≡◌, ◌≤◌, ◌+◌, ◌^◌, ◌<◌, ℕ, true, false, cond, nat_eq, List, sym, ap, subst, ◌∙◌, arith}
+use Rattle.std.proofs.Common.{◌≡◌, ◌≤◌, ◌^◌, ◌<◌, ℕ, true, false, List, sym, ap, subst, arith}
+use Rattle.std.proofs.lemmas.Bool.Decides.{nat_tests}
 use Rattle.share_ledger.specs.Arrays.{flags_of, numbers_of}
 use Rattle.share_ledger.specs.declared.seats.Seat.{Seat}
 use Rattle.share_ledger.specs.Ranks.{AreRanks, AreListed}
@@ -13,8 +14,7 @@ grow-requires-clause-small c = λ p lt.
     let old = c.args.self.now in
     let b = c.requires.begun in
     let bound : numbers_of old.weights.value p ≤ 2 ^ 31 =
-    less-bound b.0 b.1.0 (backs_of g) (funds_of g) c.args.route.now true false (flags_of old.awake.value)
-    (flags_of old.active.value) b.1.1.1 b.1.1.2 (numbers_of old.weights.value) b.1.1.0.counted p (2 ^ 31) lt
+    less-bound _ _ _ _ _ true false _ _ b.1.1.1 b.1.1.2 _ b.1.1.0.counted p (2 ^ 31) lt
     (sum-bound g (flags_of old.awake.value) (flags_of old.active.value) c.is_kept.ensures p) in
     let same : numbers_of c.deref_mut-3.result.now p ≡ numbers_of old.weights.value p =
     ap (λ (ws : List ℕ). numbers_of ws p) c.deref_mut-3.ensures.value in
@@ -52,9 +52,6 @@ renew-requires-clause-listed c =
     (subst (λ (order : List ℕ). AreListed (numbers_of c.args.self.now.ranks.value) (numbers_of order))
     (sym c.deref_mut-2.ensures.value) c.requires.begun.1.1.0.listed)
 
-either_more : (w n : ℕ) → w + n ≡ w + (n + 0)
-either_more w n = omega arith
-
 pub returns-clause-begun : goal.returns-clause-begun
 returns-clause-begun c =
     let g = c.args.tables.now in
@@ -76,17 +73,9 @@ returns-clause-begun c =
           c.renew.ensures.ranked;
       listed = c.renew.ensures.listed;
       active_is = was.active_is;
-      counted = counted-given backs funds (backs_of g) (funds_of g) r true false (flags_of old.awake.value)
-          (flags_of old.active.value) gb gf (numbers_of old.weights.value) (numbers_of c.grow.new.weights) was.counted
-          (λ p lt.
+      counted = counted-given _ _ _ _ r true false _ _ gb gf _ _ was.counted (λ p lt.
           let grew = c.grow.ensures p lt in
-          let amount : c.counted-amount.result ≡ cond (flags_of old.awake.value r.to) r.amount 0 =
-          let own = c.counted-amount.ensures in cc in
-          let same : numbers_of c.grow.new.weights p
-          ≡ numbers_of old.weights.value p + cond (nat_eq p r.from) c.counted-amount.result 0 = cc in
-          same
-          ∙ ap (λ n. numbers_of old.weights.value p + cond (nat_eq p r.from) n 0) amount
-          ∙ either_more (numbers_of old.weights.value p)
-          (cond (nat_eq p r.from) (cond (flags_of old.awake.value r.to) r.amount 0) 0));
+          let amount = c.counted-amount.ensures in
+          grind (arith, nat_tests));
       small = was.small;
     }

@@ -1,16 +1,10 @@
-use Rattle.std.proofs.Common.{◌≡◌, ◌+◌, ℕ, true, false, cond, nat_eq, List, sym, ap, ◌∙◌, arith}
+use Rattle.std.proofs.Common.{ℕ, true, false, List, ap, arith}
 use Rattle.std.proofs.lemmas.Bool.Decides.{nat_tests}
-use Rattle.share_ledger.specs.Arrays.{flags_of, numbers_of}
+use Rattle.share_ledger.specs.Arrays.{numbers_of}
 use Rattle.share_ledger.specs.Seats.{backs_of, funds_of}
 use Rattle.share_ledger.proofs.NetMore.{gain-held, counted-taken, seated-less, seated-back}
 use Rattle.share_ledger.proofs.SeatCounts.{seat-there}
 use Rattle.share_ledger.proofs.net.Net.take_funding.Goals as goal
-
-self_from : (n : ℕ) → nat_eq n n ≡ true
-self_from n = grind (arith, nat_tests)
-
-either_less : (w n : ℕ) → w + (0 + n) ≡ w + n
-either_less w n = omega arith
 
 pub unseat-requires-clause-has : goal.unseat-requires-clause-has
 unseat-requires-clause-has c =
@@ -21,18 +15,14 @@ unseat-requires-clause-has c =
 pub shrink-requires-clause-held : goal.shrink-requires-clause-held
 shrink-requires-clause-held c =
     let g = c.args.tables.now in
-    let old = c.args.self.now in
     let r = c.args.route.now in
     let b = c.requires.begun in
     let held =
-    gain-held (backs_of g) (funds_of g) b.0 b.1.0 r false true (flags_of old.awake.value) (flags_of old.active.value)
-    b.1.1.1 b.1.1.2 (numbers_of old.weights.value) b.1.1.0.counted r.from c.requires.within.from_place in
-    let amount : c.counted-amount.result ≡ cond (flags_of old.active.value r.to) r.amount 0 =
-    let own = c.counted-amount.ensures in cc in
-    let here = ap (λ b. cond b (cond (flags_of old.active.value r.to) r.amount 0) 0) (self_from r.from) in
-    let same : numbers_of c.deref_mut.result.now r.from ≡ numbers_of old.weights.value r.from =
-    ap (λ (ws : List ℕ). numbers_of ws r.from) c.deref_mut.ensures.value in
-    omega (arith, held, amount, here, same)
+    gain-held (backs_of g) (funds_of g) _ _ r false true _ _ b.1.1.1 b.1.1.2 _ b.1.1.0.counted r.from
+    c.requires.within.from_place in
+    let amount = c.counted-amount.ensures in
+    let same = ap (λ (ws : List ℕ). numbers_of ws r.from) c.deref_mut.ensures.value in
+    grind (arith, nat_tests)
 
 pub returns-clause-begun : goal.returns-clause-begun
 returns-clause-begun c =
@@ -54,16 +44,9 @@ returns-clause-begun c =
       ranked = was.ranked;
       listed = was.listed;
       active_is = was.active_is;
-      counted = counted-taken (backs_of g) (funds_of g) backs funds r false true (flags_of old.awake.value)
-          (flags_of old.active.value) gb gf (numbers_of old.weights.value) (numbers_of c.shrink.new.weights) was.counted
-          (λ p lt.
+      counted = counted-taken _ _ _ _ r false true _ _ gb gf _ _ was.counted (λ p lt.
           let shrank = c.shrink.ensures p lt in
-          let amount : c.counted-amount.result ≡ cond (flags_of old.active.value r.to) r.amount 0 =
-          let own = c.counted-amount.ensures in cc in
-          let same : numbers_of c.shrink.new.weights p + cond (nat_eq p r.from) c.counted-amount.result 0
-          ≡ numbers_of old.weights.value p = cc in
-          either_less (numbers_of c.shrink.new.weights p)
-          (cond (nat_eq p r.from) (cond (flags_of old.active.value r.to) r.amount 0) 0)
-          ∙ ap (λ n. numbers_of c.shrink.new.weights p + cond (nat_eq p r.from) n 0) (sym amount) ∙ same);
+          let amount = c.counted-amount.ensures in
+          grind (arith, nat_tests));
       small = was.small;
     }

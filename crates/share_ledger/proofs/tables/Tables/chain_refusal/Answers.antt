@@ -6,7 +6,6 @@ use Rattle.share_base.specs.declared.refusal.Refusal.TheVariants.{Cycle, Deep}
 use Rattle.share_model.specs.funding.ChangeLaws.{stands}
 use Rattle.share_model.specs.funding.Changes.{is_numbered}
 use Rattle.share_model.specs.lists.Laws.{each-find}
-use Rattle.share_ledger.specs.Arrays.{numbers_of}
 use Rattle.share_ledger.proofs.CyclePlaces.{cycle-backs, below-stands, tall-funded}
 use Rattle.share_ledger.proofs.Places.{IsPlaced, placed, place-base}
 use Rattle.share_ledger.proofs.tables.Tables.chain_refusal.Goals as goal
@@ -42,41 +41,36 @@ has_ranks-requires-clause-made c =
 pub returns-then-has_ranks : goal.returns-then-has_ranks
 returns-then-has_ranks c = λ found.
     let none =
-    below-stands c.args.self.now c.is_kept.ensures c.args.net.now.backing.items c.requires.seated.seated
-    (numbers_of c.args.net.now.ranks.value) c.requires.seated.ranked c.args.number c.args.currency c.in-Some.ticket.now
-    c.requires.made (stands c.args.self.now c.args.currency c.requires.known)
-    (sym c.ticket.ensures ∙ ap option_copied c.in-Some.is) c.place_of-from.result c.place_of-to.result
-    c.place_of-from.ensures.value c.place_of-to.ensures.value (c.has_ranks.ensures.below c.if-has_ranks.true) in
+    below-stands _ c.is_kept.ensures _ c.requires.seated.seated _ c.requires.seated.ranked c.args.number c.args.currency
+    _ c.requires.made (stands c.args.self.now c.args.currency c.requires.known)
+    (sym c.ticket.ensures ∙ ap option_copied c.in-Some.is) _ _ c.place_of-from.ensures.value
+    c.place_of-to.ensures.value (c.has_ranks.ensures.below c.if-has_ranks.true) in
     refusal false false none.0 none.1
 
 pub returns-then-backs : goal.returns-then-backs
 returns-then-backs c = λ found.
     let cycle =
-    cycle-backs c.args.self.now c.is_kept.ensures c.args.net.now.backing.items c.requires.seated.seated
-    (numbers_of c.args.net.now.ranks.value) c.requires.seated.ranked c.args.number c.args.currency c.in-Some.ticket.now
-    c.requires.made (stands c.args.self.now c.args.currency c.requires.known)
-    (sym c.ticket.ensures ∙ ap option_copied c.in-Some.is) c.place_of-from.result c.place_of-to.result
-    c.place_of-from.ensures.value c.place_of-to.ensures.value c.backs.ensures.0 c.backs.ensures.1.0 in
+    cycle-backs _ c.is_kept.ensures _ c.requires.seated.seated _ c.requires.seated.ranked c.args.number c.args.currency
+    _ c.requires.made (stands c.args.self.now c.args.currency c.requires.known)
+    (sym c.ticket.ensures ∙ ap option_copied c.in-Some.is) _ _ c.place_of-from.ensures.value
+    c.place_of-to.ensures.value c.backs.ensures.0 c.backs.ensures.1.0 in
     let deep = c.has_ranks.ensures.deep c.if-has_ranks.false in
     refusal true true (cycle ∙ sym c.backs.ensures.1.1 ∙ c.if-backs.true)
-    (tall-funded c.args.self.now c.is_kept.ensures c.args.net.now.backing.items c.requires.seated.seated
-    (numbers_of c.args.net.now.ranks.value) c.requires.seated.ranked c.args.number c.args.currency c.in-Some.ticket.now
-    c.requires.made (stands c.args.self.now c.args.currency c.requires.known)
-    (sym c.ticket.ensures ∙ ap option_copied c.in-Some.is) c.place_of-from.result c.place_of-to.result
-    c.place_of-from.ensures.value c.place_of-to.ensures.value c.requires.free deep.0 deep.1.1.0 deep.1.1.1)
+    (tall-funded _ c.is_kept.ensures _ c.requires.seated.seated _ c.requires.seated.ranked c.args.number c.args.currency
+    _ c.requires.made (stands c.args.self.now c.args.currency c.requires.known)
+    (sym c.ticket.ensures ∙ ap option_copied c.in-Some.is) _ _ c.place_of-from.ensures.value
+    c.place_of-to.ensures.value c.requires.free deep.0 deep.1.1.0 deep.1.1.1)
 
 pub returns : goal.returns
 returns c = λ found.
     let cycle =
-    cycle-backs c.args.self.now c.is_kept.ensures c.args.net.now.backing.items c.requires.seated.seated
-    (numbers_of c.args.net.now.ranks.value) c.requires.seated.ranked c.args.number c.args.currency c.in-Some.ticket.now
-    c.requires.made (stands c.args.self.now c.args.currency c.requires.known)
-    (sym c.ticket.ensures ∙ ap option_copied c.in-Some.is) c.place_of-from.result c.place_of-to.result
-    c.place_of-from.ensures.value c.place_of-to.ensures.value c.backs.ensures.0 c.backs.ensures.1.0 in
+    cycle-backs _ c.is_kept.ensures _ c.requires.seated.seated _ c.requires.seated.ranked c.args.number c.args.currency
+    _ c.requires.made (stands c.args.self.now c.args.currency c.requires.known)
+    (sym c.ticket.ensures ∙ ap option_copied c.in-Some.is) _ _ c.place_of-from.ensures.value
+    c.place_of-to.ensures.value c.backs.ensures.0 c.backs.ensures.1.0 in
     let deep = c.has_ranks.ensures.deep c.if-has_ranks.false in
     refusal false true (cycle ∙ sym c.backs.ensures.1.1 ∙ c.if-backs.false)
-    (tall-funded c.args.self.now c.is_kept.ensures c.args.net.now.backing.items c.requires.seated.seated
-    (numbers_of c.args.net.now.ranks.value) c.requires.seated.ranked c.args.number c.args.currency c.in-Some.ticket.now
-    c.requires.made (stands c.args.self.now c.args.currency c.requires.known)
-    (sym c.ticket.ensures ∙ ap option_copied c.in-Some.is) c.place_of-from.result c.place_of-to.result
-    c.place_of-from.ensures.value c.place_of-to.ensures.value c.requires.free deep.0 deep.1.1.0 deep.1.1.1)
+    (tall-funded _ c.is_kept.ensures _ c.requires.seated.seated _ c.requires.seated.ranked c.args.number c.args.currency
+    _ c.requires.made (stands c.args.self.now c.args.currency c.requires.known)
+    (sym c.ticket.ensures ∙ ap option_copied c.in-Some.is) _ _ c.place_of-from.ensures.value
+    c.place_of-to.ensures.value c.requires.free deep.0 deep.1.1.0 deep.1.1.1)

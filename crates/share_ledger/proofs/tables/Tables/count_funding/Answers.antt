@@ -1,7 +1,6 @@
-use Rattle.std.proofs.Common.{◌≡◌, ◌<◌, List, [], length, sym, ap, ◌∙◌, arith}
+use Rattle.std.proofs.Common.{List, length, sym, ap, ◌∙◌, arith}
 use Rattle.share_ledger.specs.declared.seats.Seat.{Seat}
 use Rattle.share_ledger.specs.Seats.{seats_at}
-use Rattle.share_ledger.proofs.NetSteps.{at-default}
 use Rattle.share_ledger.proofs.Positions.{position-first, position-none, flow-first, flow-none}
 use Rattle.share_ledger.proofs.RouteLists.{flow-place-first, unopened}
 use Rattle.share_ledger.proofs.RouteWorths.{flow-place-below}
@@ -16,20 +15,20 @@ unreachable-requires c =
     (position-none _ _ (sym c.place_of_flow.ensures ∙ c.in_default.is))) in
     omega (arith, none, c.requires.open)
 
+pub seats_at-requires-clause-place : goal.seats_at-requires-clause-place
+seats_at-requires-clause-place c =
+    let g = c.args.self.now in
+    let first = flow-first c.args.flow g.flows c.in-Some.place
+    (position-first _ _ c.in-Some.place (sym c.place_of_flow.ensures ∙ c.in-Some.is)) in
+    let under = flow-place-below c.args.flow g.flows (first-open c.args.flow g.flows c.in-Some.place first) in
+    let at = flow-place-first c.args.flow g.flows c.in-Some.place first in
+    omega (arith, c.is_kept.ensures.few_flows)
+
 pub returns : goal.returns
 returns c =
     let g = c.args.self.now in
-    let kept = c.requires.seated in
-    let items : c.deref-seats.result.now ≡ c.args.net.now.funding.items = c.deref-seats.ensures.value in
-    let i = c.in-Some.place in
-    let first =
-    flow-first c.args.flow g.flows i
-    (position-first _ _ i (sym c.place_of_flow.ensures ∙ c.in-Some.is)) in
-    let under = flow-place-below c.args.flow g.flows (first-open c.args.flow g.flows i first) in
-    let at = flow-place-first c.args.flow g.flows i first in
-    let inside : i < length c.deref-seats.result.now =
-    omega (arith, under, at, c.is_kept.ensures.few_flows, kept.places, ap length items) in
-    c.count.ensures
-    ∙ ap length (at-default c.deref-seats.result.now i c.index-seats-place.result [] inside c.index-seats-place.is)
-    ∙ ap (λ (ss : List (List Seat)). length (seats_at ss i)) items
-    ∙ funding-count g c.is_kept.ensures c.args.net.now.funding.items kept c.args.flow i first
+    ap length c.seats_at.ensures.value
+    ∙ ap (λ (ss : List (List Seat)). length (seats_at ss c.in-Some.place)) c.deref.ensures.value
+    ∙ funding-count g c.is_kept.ensures c.args.net.now.funding.items c.requires.seated c.args.flow c.in-Some.place
+    (flow-first c.args.flow g.flows c.in-Some.place
+    (position-first _ _ c.in-Some.place (sym c.place_of_flow.ensures ∙ c.in-Some.is)))

@@ -1,5 +1,4 @@
-use Rattle.std.proofs.Common.{◌≡◌, Option, Some, true, true≢false, option_copied, sym, ap, subst, ◌∙◌}
-use Rattle.share_model.specs.declared.funding.Ticket.{Ticket}
+use Rattle.std.proofs.Common.{◌≡◌, Some, true≢false, option_copied, sym, ap, subst, ◌∙◌}
 use Rattle.share_model.specs.lists.Laws.{each-find}
 use Rattle.share_model.specs.funding.Changes.{ticket_of, is_numbered, is_found_held}
 use Rattle.share_ledger.specs.Routes.{IsRouteWithin}

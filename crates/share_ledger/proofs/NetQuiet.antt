@@ -1,10 +1,9 @@
 -- A flow that wakes or rests where its seats come from `base` alone: nothing else changes.
-use Rattle.std.proofs.Common.{◌≡◌, ◌<◌, ◌*◌, ◌/◌, ◌^◌, ℕ, zero, suc, Bool, true, false, cond, min, List, [], ◌∷◌, map}
-use Rattle.std.proofs.Common.{nat_eq, nat_lt, set, get_or, sum_by, length, refl, sym, ap, ◌∙◌, arith}
+use Rattle.std.proofs.Common.{◌≡◌, ◌<◌, ◌*◌, ◌/◌, ℕ, zero, suc, Bool, true, false, cond, List, [], ◌∷◌, map}
+use Rattle.std.proofs.Common.{nat_eq, get_or, refl, sym, ap, ◌∙◌, arith}
 use Rattle.std.specs.List.{list_all}
 use Rattle.std.proofs.lemmas.Bool.Decides.{nat_tests}
 use Rattle.std.proofs.lemmas.List.Sums.{sum_by-cons}
-use Rattle.std.proofs.lemmas.Bool.{eqb-true}
 use Rattle.share_model.specs.declared.funding.OpenFlow.{OpenFlow}
 use Rattle.share_model.specs.funding.Graph.{NameBytes}
 use Rattle.share_model.specs.funding.Changes.{is_open_as, active_as, with_activity}
@@ -14,10 +13,8 @@ use Rattle.share_model.specs.lists.SumLaws.{sum_by-same_of}
 use Rattle.share_ledger.specs.declared.net.Net.{Net}
 use Rattle.share_ledger.specs.declared.routes.Route.{Route}
 use Rattle.share_ledger.specs.declared.seats.Seat.{Seat}
-use Rattle.share_ledger.specs.Arrays.{flags_of, numbers_of}
-use Rattle.share_ledger.specs.Nets.{IsBegun, IsReady}
+use Rattle.share_ledger.specs.Nets.{IsReady}
 use Rattle.share_ledger.specs.Seats.{IsSeatWithin, seat_worth, seats_at, taken, weighed}
-use Rattle.share_ledger.proofs.NetSteps.{array-set}
 use Rattle.share_ledger.proofs.Positions.{IsFirstAt}
 
 -- seats of `base` count for no other place
@@ -41,57 +38,6 @@ weighed-quiet ss on v w u p within same =
         → cond b s.amount (v s.from * s.amount / w s.from) ≡ cond b s.amount (v s.from * s.amount / u s.from)
     by true s e lt = refl
     by false s e lt = ap (λ n. v s.from * s.amount / n) (sym (same s.from (above s.from e) lt))
-
--- what is kept stands but for the activity and the tickets of this flow
-pub quiet-ready : (old new : Net) (shares : List ℕ) (backs funds : List Route) (lit : ℕ → Bool) (place n : ℕ) (b : Bool)
-    → IsReady old shares backs funds (flags_of old.active.value) → IsBegun new backs funds lit
-    → new.backing ≡ old.backing → new.funding ≡ old.funding → new.awake ≡ old.awake → new.values ≡ old.values
-    → new.seen ≡ old.seen → ((k : ℕ) → 0 < k → k < 65 → numbers_of new.weights.value k ≡ numbers_of old.weights.value k)
-    → ((k : ℕ) → lit k ≡ cond (nat_eq place k) b (flags_of old.active.value k)) → place < 64 → length shares ≡ 64
-    → n ≡ min (weighed new.funding.items (flags_of new.active.value) (numbers_of new.values.value)
-    (numbers_of new.weights.value) place) (2 ^ 20)
-    → IsReady new (set shares place n) backs funds lit
-quiet-ready old new shares backs funds lit place n b ready begun backing funding awake values seen still turned lt long
-    own =
-    record {
-      begun = begun;
-      awake_is = λ p above below. ap (λ a. flags_of a.value p) awake ∙ ready.awake_is p above below
-          ∙ ap (nat_lt 0) (sym (still p above below));
-      valued = λ p above below. ap (λ v. numbers_of v.value p) values ∙ ready.valued p above below
-          ∙ weighed-quiet old.backing.items (flags_of old.awake.value) (numbers_of old.values.value)
-          (numbers_of old.weights.value) (numbers_of new.weights.value) p (ready.begun.backing.within p below) still
-          ∙ ap (λ bs. weighed bs.items (flags_of old.awake.value) (numbers_of old.values.value)
-          (numbers_of new.weights.value) p) (sym backing)
-          ∙ ap (λ a. weighed new.backing.items (flags_of a.value) (numbers_of old.values.value)
-          (numbers_of new.weights.value) p) (sym awake)
-          ∙ ap (λ v. weighed new.backing.items (flags_of new.awake.value) (numbers_of v.value)
-          (numbers_of new.weights.value) p) (sym values);
-      shared = λ p below. array-set shares place p n 0 (omega arith) ∙ shared p below (nat_eq place p) refl;
-      seen_is = λ p above below. ap (λ w. numbers_of w.value p) seen ∙ ready.seen_is p above below
-          ∙ sym (still p above below);
-    }
-  where
-    shared : (p : ℕ) → p < 64 → (a : Bool) → nat_eq place p ≡ a
-        → cond a n (numbers_of shares p)
-        ≡ min (weighed new.funding.items (flags_of new.active.value) (numbers_of new.values.value)
-        (numbers_of new.weights.value) p) (2 ^ 20)
-    shared p below true e =
-        own ∙ ap (λ k. min (weighed new.funding.items (flags_of new.active.value) (numbers_of new.values.value)
-        (numbers_of new.weights.value) k) (2 ^ 20)) (eqb-true place p e)
-    shared p below false e =
-        let stands : flags_of old.active.value p ≡ flags_of new.active.value p =
-        sym (begun.active_is p ∙ turned p ∙ ap (λ a. cond a b (flags_of old.active.value p)) e) in
-        ready.shared p below
-        ∙ ap (λ k. min k (2 ^ 20))
-        (weighed-quiet old.funding.items (flags_of old.active.value) (numbers_of old.values.value)
-        (numbers_of old.weights.value) (numbers_of new.weights.value) p
-        (ready.begun.funding.within p (omega arith)) still
-        ∙ ap (λ a. cond a (sum_by (seat_worth (numbers_of old.values.value) (numbers_of new.weights.value))
-        (seats_at old.funding.items p)) 0) stands
-        ∙ ap (λ fs. weighed fs.items (flags_of new.active.value) (numbers_of old.values.value)
-        (numbers_of new.weights.value) p) (sym funding)
-        ∙ ap (λ v. weighed new.funding.items (flags_of new.active.value) (numbers_of v.value)
-        (numbers_of new.weights.value) p) (sym values))
 
 -- the activity of the flow at a place is set
 pub activity-turned : (f : ℕ) (a : Bool) (es : List (NameBytes × OpenFlow)) (i k : ℕ) → IsFirstAt (is_open_as f) es i

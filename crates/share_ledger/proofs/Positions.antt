@@ -1,8 +1,8 @@
 -- The first element that passes a test, and lists that are changed there.
 use Rattle.std.proofs.Common.{◌≡◌, ℕ, ◌≤◌, ◌<◌, zero, suc, Bool, true, false, cond, List, [], ◌∷◌, ◌++◌, map}
 use Rattle.std.proofs.Common.{length, get_or, set, find, position, nat_eq}
-use Rattle.std.proofs.Common.{None, Some}
-use Rattle.std.proofs.Common.{refl, sym, ap, ◌∙◌, arith, bytes_eq, if◌then◌else◌, remove}
+use Rattle.std.proofs.Common.{None, Some, Option}
+use Rattle.std.proofs.Common.{refl, sym, ap, subst, ◌∙◌, arith, bytes_eq, if◌then◌else◌, remove}
 use Rattle.std.specs.List.{list_any}
 use Rattle.std.specs.List.{position_or_len}
 use Rattle.std.specs.Set.{remove_key}
@@ -10,8 +10,8 @@ use Rattle.std.proofs.lemmas.Bool.Decides.{nat_tests}
 use Rattle.std.proofs.lemmas.Bool.{ltb-true}
 use Rattle.indexmap.specs.IndexMap.{set_value_at}
 use Rattle.share_model.specs.declared.funding.OpenFlow.{OpenFlow}
-use Rattle.share_model.specs.funding.Graph.{NameBytes}
-use Rattle.share_model.specs.funding.Changes.{is_open_as, active_as, with_activity}
+use Rattle.share_model.specs.funding.Graph.{NameBytes, Graph}
+use Rattle.share_model.specs.funding.Changes.{is_numbered, is_open_as, active_as, with_activity}
 use Rattle.share_model.specs.lists.Change.{change_first}
 use Rattle.share_model.specs.lists.Each.{Each}
 
@@ -90,6 +90,31 @@ pub flow-none : (f : ℕ) (es : List (NameBytes × OpenFlow))
     → Each (λ (e : NameBytes × OpenFlow). is_open_as f e ≡ false) es
 flow-none f [] h = tt
 flow-none f (e ∷ es) h = (h.0, flow-none f es h.1)
+
+-- what a place or none says of a graph, said of what it is the view of
+module _ (g h : Graph) (n : ℕ) (r : Option ℕ) (view : g ≡ h) where
+  abbrev at-number : OpenFlow → Bool
+  at-number o = nat_eq n o.number
+
+  pub found-flow : (i : ℕ) → r ≡ position at-number (map (λ (e : NameBytes × OpenFlow). e.1) h.flows) → r ≡ Some i
+      → IsFirstAt (is_open_as n) g.flows i
+  found-flow i told is =
+      flow-first n g.flows i (position-first at-number _ i
+      (subst (λ (k : Graph). position at-number (map (λ (e : NameBytes × OpenFlow). e.1) k.flows) ≡ Some i) (sym view)
+      (sym told ∙ is)))
+
+  pub no-flow : r ≡ position at-number (map (λ (e : NameBytes × OpenFlow). e.1) h.flows) → r ≡ None
+      → Each (λ (e : NameBytes × OpenFlow). is_open_as n e ≡ false) g.flows
+  no-flow told is =
+      flow-none n g.flows (position-none at-number _
+      (subst (λ (k : Graph). position at-number (map (λ (e : NameBytes × OpenFlow). e.1) k.flows) ≡ None) (sym view)
+      (sym told ∙ is)))
+
+  pub found-ticket : (i : ℕ) → r ≡ position (is_numbered n) h.tickets → r ≡ Some i
+      → IsFirstAt (is_numbered n) g.tickets i
+  found-ticket i told is =
+      position-first (is_numbered n) g.tickets i
+      (subst (λ (k : Graph). position (is_numbered n) k.tickets ≡ Some i) (sym view) (sym told ∙ is))
 
 pub activity-first : (f : ℕ) (b : Bool) (es : List (NameBytes × OpenFlow)) (i : ℕ) (w : OpenFlow)
     → IsFirstAt (is_open_as f) es i → w ≡ get_or (map (λ (e : NameBytes × OpenFlow). e.1) es) i w

@@ -112,26 +112,13 @@ module _ (ss : List (List Seat)) (link : Link) (r : Ranking) (most p : ℕ)
     keeps : (n m : ℕ) → n ≤ 9 → n ≤ m → (xs : List Seat) → Each (λ (s : Seat). numbers_of r.ranks s.from < n) xs
         → Each (λ (s : Seat). numbers_of (set r.ranks p most) s.from < m) xs
     keeps n m le more [] each = tt
-    keeps n m le more (x ∷ xs) each = (here x.from each.0, keeps n m le more xs each.1)
-      where
-        here : (k : ℕ) → numbers_of r.ranks k < n → numbers_of (set r.ranks p most) k < m
-        here k less = let w = wrote k in let f = free in grind (arith, nat_tests)
+    keeps n m le more (x ∷ xs) each = grind (arith, nat_tests, wrote, keeps n m le more xs each.1)
 
     counts : r.count + 1 ≡ passing (λ (n : ℕ). nat_lt n 9) (set r.ranks p most)
-    counts =
-        let more =
-        count-more (λ (n : ℕ). nat_lt n 9) r.ranks p most 0 (let long = was.given.ranks_long in omega arith)
-        (ap (λ n. nat_lt n 9) free) (lt-ltb most 9 (omega arith)) in
-        let own_count = was.given.counted in
-        omega arith
+    counts = grind (arith, nat_tests, count-more, lt-ltb)
 
     room : r.count < 65
-    room =
-        let most_of = passing-few (λ (n : ℕ). nat_lt n 9) (set r.ranks p most) in
-        let long = length-set r.ranks p most in
-        let own_long = was.given.ranks_long in
-        let count = counts in
-        omega arith
+    room = grind (arith, nat_tests, passing-few, length-set, counts)
 
     at : (k : ℕ) → numbers_of (set r.order r.count p) k ≡ cond (nat_eq r.count k) p (numbers_of r.order k)
     at k = array-set r.order r.count k p 0 (let long = was.given.order_long in let few_more = room in omega arith)
@@ -177,13 +164,7 @@ module _ (ss : List (List Seat)) (link : Link) (r : Ranking) (most p : ℕ)
             (seats_at ss k) (was.given.above k above_k below_k (omega arith))
 
     ranked-place : AreRankedTo ss link next most (p + 1)
-    ranked-place = record {
-      given = given;
-      low = λ k below_k less. let w = wrote k in let le = was.low k below_k in grind (arith, nat_tests);
-      longest = λ k n above_k below_k less le end.
-          was.longest k n above_k below_k (let w = wrote k in let f = free in grind (arith, nat_tests)) le
-          (λ full. let w = wrote k in let last = end full in grind (arith, nat_tests));
-    }
+    ranked-place = grind (arith, nat_tests, given, wrote)
 
   -- the place is due
   pub placed : is_due ss link r most p ≡ true
@@ -220,16 +201,7 @@ module _ (ss : List (List Seat)) (link : Link) (r : Ranking) (most p : ℕ)
   -- a chain of one step fewer ends where the rank is no lower
   tall-from : (k m : ℕ) → most ≡ m + 1 → k < 65 → nat_lt (numbers_of r.ranks k) most ≡ false
       → is_tall ss link.from link.to m k ≡ true
-  tall-from k m e below high =
-      let reach : most ≤ numbers_of r.ranks k = not-lt (numbers_of r.ranks k) most high in
-      was.longest k m (above k reach) below (omega arith) (omega arith) (λ full. absurd (omega arith))
-    where
-      not-lt : (a b : ℕ) → nat_lt a b ≡ false → b ≤ a
-      not-lt a b e = grind (arith, nat_tests)
-
-      above : (k : ℕ) → most ≤ numbers_of r.ranks k → 0 < k
-      above zero reach = let base = was.given.base_rank in absurd (omega arith)
-      above (suc k) reach = omega arith
+  tall-from k m e below high = grind (arith, nat_tests)
 
   tall-seats : (m : ℕ) → most ≡ m + 1 → (xs : List Seat) → Each (λ (s : Seat). s.from < 65) xs
       → list_all (λ (s : Seat). nat_lt (numbers_of r.ranks s.from) most) xs ≡ false
@@ -348,11 +320,7 @@ ranks-begun ss link to_lt = record {
 -- from one round to the next
 pub next-round : (ss : List (List Seat)) (link : Link) (r : Ranking) (most : ℕ)
     → AreRankedTo ss link r most 65 → AreRankedTo ss link r (most + 1) 1
-next-round ss link r most was = record {
-  given = was.given;
-  low = λ p lt less. let le = was.low p lt less in omega arith;
-  longest = λ p n up lt less le end. was.longest p n up lt less (grind arith) (λ full. lt);
-}
+next-round ss link r most was = grind (arith, nat_tests)
 
 -- where all places are listed
 module _ (ss : List (List Seat)) (link : Link) (r : Ranking) (most : ℕ) (all : AreRankedTo ss link r most 65)
@@ -364,14 +332,7 @@ module _ (ss : List (List Seat)) (link : Link) (r : Ranking) (most : ℕ) (all :
       (let long = all.given.ranks_long in omega arith))
 
   pub all-ranks : AreRanks ss (numbers_of r.ranks)
-  all-ranks = record {
-    low = λ p. elim (cases_lt p 65) [
-      | inl inside ↦ let less = ranked-all p inside in omega arith
-      | inr past ↦ let n = get_or_past r.ranks p 0 (let long = all.given.ranks_long in omega arith) in omega arith
-    ];
-    high = all.given.high;
-    above = λ p up lt. all.given.above p up lt (ranked-all p lt);
-  }
+  all-ranks = grind (arith, nat_tests, cases_lt, ranked-all, get_or_past)
 
   pub all-longest : AreLongest ss link.from link.to (numbers_of r.ranks)
   all-longest p n up lt less =
@@ -381,13 +342,7 @@ module _ (ss : List (List Seat)) (link : Link) (r : Ranking) (most : ℕ) (all :
   all-more lt up = all.given.more up (ranked-all link.to lt)
 
   pub all-listed : AreListed (numbers_of r.ranks) (numbers_of r.order)
-  all-listed = record {
-    spot = all.given.spot;
-    first = all.given.first;
-    there = λ p lt. let there = all.given.there p lt (ranked-all p lt) in grind arith;
-    back = λ i lt. let back = all.given.back i in grind arith;
-    sorted = λ a b a_lt b_lt less. all.given.sorted a b a_lt b_lt less (ranked-all b b_lt);
-  }
+  all-listed = grind (arith, nat_tests, ranked-all)
 
 -- where one place is not, a chain of eight steps ends there
 pub some-deep : (ss : List (List Seat)) (link : Link) (r : Ranking) → AreRankedTo ss link r 9 1 → (r.count ≡ 65 → ⊥)

@@ -1,7 +1,7 @@
 -- What is left where no weight and no value that seats rest on has changed.
 use Rattle.std.proofs.Common.{zero, suc, ◌≡◌, ◌<◌, ◌≤◌, ◌+◌, ◌*◌, ◌/◌, ◌^◌, ℕ, min, List, [], ◌∷◌}
 use Rattle.std.proofs.Common.{Bool, true, false, cond, not, ◌&&◌, ◌||◌}
-use Rattle.std.proofs.Common.{sum_by, nat_eq, nat_lt, refl, sym, ap, subst, ◌∙◌, arith}
+use Rattle.std.proofs.Common.{set, length, sum_by, nat_eq, nat_lt, refl, sym, ap, subst, ◌∙◌, arith}
 use Rattle.std.specs.List.{list_any}
 use Rattle.std.proofs.lemmas.Bool.Decides.{nat_tests}
 use Rattle.std.proofs.lemmas.Bool.{eqb-true}
@@ -19,7 +19,7 @@ use Rattle.share_ledger.specs.Ranks.{AreOrdered}
 use Rattle.share_ledger.specs.Stale.{is_stale, WereValued, AreMoved, WasSettled, IsLeft}
 use Rattle.share_ledger.proofs.NetQuiet.{weighed-quiet}
 use Rattle.share_ledger.proofs.NetSteps.{next-spot, next-within, next-above, not-next, next-before}
-use Rattle.share_ledger.proofs.NetSteps.{valued-more, weighed-before}
+use Rattle.share_ledger.proofs.NetSteps.{array-set, valued-more, weighed-before}
 
 -- seats from places that did not move are worth what they were
 module _ (moved : ℕ → Bool) (v w s u : ℕ → ℕ) where
@@ -317,3 +317,28 @@ quiet-settled n shares next backs funds lit c f begun was same asleep wrote = re
         ∙ ap (λ q. min q (2 ^ 20))
         (weighed-quiet n.funding.items (flags_of n.active.value) (numbers_of n.values.value) (numbers_of n.seen.value)
         (numbers_of n.weights.value) p (begun.funding.within p (omega arith)) same)
+
+-- a flow that wakes or rests leaves the seats and the values
+module _ (old new : Net) (shares : List ℕ) (backs funds : List Route) (lit : ℕ → Bool) (place : ℕ) (b : Bool)
+    (ready : IsReady old shares backs funds (flags_of old.active.value)) (begun : IsBegun new backs funds lit)
+    (left : (new.backing ≡ old.backing) × (new.funding ≡ old.funding) × (new.awake ≡ old.awake)
+    × (new.values ≡ old.values) × (new.seen ≡ old.seen))
+    (turned : (k : ℕ) → lit k ≡ cond (nat_eq place k) b (flags_of old.active.value k)) where
+  pub turned-was : WasSettled new shares 0 place
+  turned-was =
+      left-was old new shares 0 place left.3 left.4 (ready-was _ _ _ _ _ 0 64 ready) left.2
+      (λ k _. ap (λ ss. seats_at ss.items k) left.0) (λ k _. ap (λ ss. seats_at ss.items k) left.1)
+      (λ k e. begun.active_is k ∙ turned k ∙ ap (λ a. cond a b (flags_of old.active.value k)) e)
+
+  pub turned-quiet : (n : ℕ)
+      → ((k : ℕ) → 0 < k → k < 65 → numbers_of new.weights.value k ≡ numbers_of old.weights.value k)
+      → place < 64 → length shares ≡ 64
+      → n ≡ min (weighed new.funding.items (flags_of new.active.value) (numbers_of new.values.value)
+      (numbers_of new.weights.value) place) (2 ^ 20)
+      → IsReady new (set shares place n) backs funds lit
+  turned-quiet n still lt long own =
+      quiet-settled new shares (set shares place n) backs funds lit 0 place begun turned-was
+      (λ p up below. still p up below ∙ sym (ready.seen_is p up below) ∙ ap (λ s. numbers_of s.value p) (sym left.4))
+      refl
+      (λ p below. array-set shares place p n 0 (omega arith)
+      ∙ ap (λ m. cond (nat_eq place p) m (numbers_of shares p)) own)

@@ -1,4 +1,4 @@
-use Rattle.std.proofs.Common.{rules, ◌<◌, ◌≡◌, ℕ, false, cond, nat_eq, set, ap, ◌∙◌, arith}
+use Rattle.std.proofs.Common.{◌<◌, ◌≡◌, ℕ, false, cond, nat_eq, set, ap, ◌∙◌, arith}
 use Rattle.std.proofs.lemmas.Bool.Decides.{nat_tests}
 use Rattle.std.proofs.lemmas.List.{length-set}
 use Rattle.share_ledger.specs.Arrays.{flags_of, numbers_of}
@@ -8,12 +8,7 @@ use Rattle.share_ledger.proofs.StaleSteps.{order-above}
 use Rattle.share_ledger.proofs.chains.backed_by.Goals as goal
 
 pub loop-i-init : goal.loop-i-init
-loop-i-init c = record {
-  long = search rules;
-  base = search rules;
-  step = λ o k up lt under. absurd (let spot = order-above c.args.backing.now (numbers_of c.args.order.now) o k up lt in
-      omega arith);
-}
+loop-i-init c = grind (arith, nat_tests, order-above)
 
 pub loop-i-preserved : goal.loop-i-preserved
 loop-i-preserved c =

@@ -1,8 +1,8 @@
-use Rattle.std.proofs.Common.{true, false, ap, ◌∙◌, arith}
+use Rattle.std.proofs.Common.{true, false, arith}
 use Rattle.share_ledger.specs.Arrays.{numbers_of}
-use Rattle.share_ledger.specs.Seats.{taken}
 use Rattle.share_ledger.proofs.NetSteps.{array-set, woken, rested-held, rested, counted-bound}
 use Rattle.share_ledger.proofs.net.flip.Goals as goal
+use Rattle.std.proofs.lemmas.Bool.Decides.{nat_tests}
 
 pub lower-requires-clause-held : goal.lower-requires-clause-held
 lower-requires-clause-held c =
@@ -20,10 +20,7 @@ returns-then-awake-place-clause-counted c =
     c.lower.ensures
 
 pub returns-then-awake-place-clause-left : goal.returns-then-awake-place-clause-left
-returns-then-awake-place-clause-left c = λ k lt none.
-    let same = ap (λ s. taken s k) c.seats_at-seats.ensures.value ∙ none in
-    let less = c.lower.ensures k lt in
-    omega arith
+returns-then-awake-place-clause-left c = grind (arith, nat_tests)
 
 pub raise-requires-clause-small : goal.raise-requires-clause-small
 raise-requires-clause-small c = counted-bound _ _ _ _ c.is_kept.ensures c.requires.counted
@@ -37,7 +34,4 @@ returns-clause-counted c =
     c.raise.ensures
 
 pub returns-clause-left : goal.returns-clause-left
-returns-clause-left c = λ k lt none.
-    let same = ap (λ s. taken s k) c.seats_at-seats.ensures.value ∙ none in
-    let more = c.raise.ensures k lt in
-    omega arith
+returns-clause-left c = grind (arith, nat_tests)

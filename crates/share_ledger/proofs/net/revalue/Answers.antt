@@ -1,21 +1,17 @@
-use Rattle.std.proofs.Common.{rules, ◌≤◌, ◌*◌, ◌^◌, ℕ, Bool, true, false, cond, nat_eq, set, sym, subst, ◌∙◌, arith}
+use Rattle.std.proofs.Common.{◌≤◌, ◌*◌, ◌^◌, ℕ, Bool, true, false, cond, nat_eq, set, sym, subst, ◌∙◌, arith}
 use Rattle.std.proofs.lemmas.List.{length-set}
 use Rattle.share_ledger.specs.Arrays.{flags_of, numbers_of}
 use Rattle.share_ledger.proofs.NetSteps.{array-set, valued-more, next-small}
 use Rattle.share_ledger.proofs.StaleSteps.{order-above}
 use Rattle.share_ledger.proofs.net.revalue.Goals as goal
+use Rattle.std.proofs.lemmas.Bool.Decides.{nat_tests}
 
 either_small : (b : Bool) (n m : ℕ) → n ≤ 9 * 2 ^ 30 → m ≤ 9 * 2 ^ 30 → cond b n m ≤ 9 * 2 ^ 30
 either_small true n m p q = p
 either_small false n m p q = q
 
 pub loop-i-init : goal.loop-i-init
-loop-i-init c = record {
-  long = search rules;
-  small = c.requires.small;
-  valued = λ o k up lt under. absurd (let spot = order-above c.args.backing.now (numbers_of c.args.order.now) o k up lt
-      in omega arith);
-}
+loop-i-init c = grind (arith, nat_tests, order-above)
 
 pub loop-i-preserved : goal.loop-i-preserved
 loop-i-preserved c =

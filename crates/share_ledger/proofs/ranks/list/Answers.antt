@@ -2,6 +2,7 @@ use Rattle.std.proofs.Common.{◌≡◌, subst, arith}
 use Rattle.share_ledger.specs.Ranks.{AreRankedTo}
 use Rattle.share_ledger.proofs.RankSteps.{next-round, all-ranks, all-longest, all-more, all-listed, some-deep}
 use Rattle.share_ledger.proofs.ranks.list.Goals as goal
+use Rattle.std.proofs.lemmas.Bool.Decides.{nat_tests}
 
 pub loop-rank-init : goal.loop-rank-init
 loop-rank-init c = record {
@@ -10,10 +11,7 @@ loop-rank-init c = record {
 }
 
 pub loop-rank-preserved : goal.loop-rank-preserved
-loop-rank-preserved c = record {
-  ranked = next-round c.args.backing.now c.args.link c.rank_places.new.ranking c.loop-rank.rank c.rank_places.ensures;
-  some_left = c.if-ranking-eq-PLACES.false;
-}
+loop-rank-preserved c = grind (arith, nat_tests, next-round)
 
 pub returns-then-ranking-eq-PLACES-clause-ranked : goal.returns-then-ranking-eq-PLACES-clause-ranked
 returns-then-ranking-eq-PLACES-clause-ranked c =

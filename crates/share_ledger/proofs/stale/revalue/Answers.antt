@@ -1,21 +1,14 @@
-use Rattle.std.proofs.Common.{rules, ◌≡◌, ◌<◌, ℕ, List, false, refl, ap, arith}
+use Rattle.std.proofs.Common.{◌≡◌, ◌<◌, ℕ, List, false, ap, arith}
 use Rattle.share_ledger.specs.Arrays.{flags_of, numbers_of}
 use Rattle.share_ledger.specs.Stale.{is_stale}
 use Rattle.share_ledger.specs.declared.stale.Moved.{Moved}
 use Rattle.share_ledger.proofs.NetSteps.{next-small}
 use Rattle.share_ledger.proofs.StaleSteps.{next-left, next-same, next-valued, order-above}
 use Rattle.share_ledger.proofs.stale.revalue.Goals as goal
+use Rattle.std.proofs.lemmas.Bool.Decides.{nat_tests}
 
 pub loop-i-init : goal.loop-i-init
-loop-i-init c = record {
-  bits = search rules;
-  small = c.requires.small;
-  left = λ o k lt past. refl;
-  same = λ o k up lt under. absurd (let spot = order-above c.args.backing.now (numbers_of c.args.order.now) o k up lt in
-      omega arith);
-  valued = λ o k up lt under. absurd (let spot = order-above c.args.backing.now (numbers_of c.args.order.now) o k up lt
-      in omega arith);
-}
+loop-i-init c = grind (arith, nat_tests, order-above)
 
 pub loop-i-preserved : goal.loop-i-preserved
 loop-i-preserved c =

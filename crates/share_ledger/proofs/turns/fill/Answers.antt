@@ -1,8 +1,7 @@
-use Rattle.std.proofs.Common.{◌≡◌, ◌≤◌, ◌<◌, ℕ, true, cond, nat_eq, length, take, arith, List}
-use Rattle.std.proofs.Common.{get_or, sum_by, sym, ap, subst, ◌∙◌}
+use Rattle.std.proofs.Common.{◌≡◌, ◌≤◌, ◌<◌, ℕ, cond, nat_eq, length, take, arith, List}
+use Rattle.std.proofs.Common.{get_or, sum_by}
 use Rattle.std.proofs.lemmas.Bool.Decides.{nat_tests}
 use Rattle.std.proofs.lemmas.List.Sums.{sum_by_more_le}
-use Rattle.share_model.specs.lists.Each.{Each}
 use Rattle.share_ledger.specs.declared.routes.Route.{Route}
 use Rattle.share_ledger.specs.declared.seats.Seat.{Seat}
 use Rattle.share_ledger.specs.Routes.{IsRouteWithin}
@@ -17,22 +16,10 @@ room-next : (routes : List Route) (i : ℕ) (none : Route) (ss : List (List Seat
     ≡ sum_by (λ (r : Route). cond (nat_eq (get_or routes i none).to r.to) 1 0) (take i routes)
     → sum_by (λ (r : Route). cond (nat_eq (get_or routes i none).to r.to) 1 0) routes ≤ 16
     → length (seats_at ss (get_or routes i none).to) < 16
-room-next routes i none ss lt seated room =
-    let to = (get_or routes i none).to in
-    let more = sum_by_more_le (λ (r : Route). cond (nat_eq to r.to) 1 0) routes i none lt in
-    let here = ap {B = ℕ} (λ b. cond b 1 0) (self to) in
-    let own = ones (seats_at ss to) in
-    omega arith
-  where
-    self : (n : ℕ) → nat_eq n n ≡ true
-    self n = grind (arith, nat_tests)
+room-next routes i none ss lt seated room = grind (arith, nat_tests, sum_by_more_le, ones)
 
 pub loop-route-init : goal.loop-route-init
-loop-route-init c = record {
-  places = c.clear.ensures.places ∙ c.requires.places;
-  seated = λ F p lt. ap (sum_by F) (c.clear.ensures.none p);
-  within = λ p lt. subst (Each IsSeatWithin) (sym (c.clear.ensures.none p)) tt;
-}
+loop-route-init c = grind (arith, nat_tests)
 
 pub loop-route-preserved : goal.loop-route-preserved
 loop-route-preserved c =

@@ -2,7 +2,7 @@ use Rattle.std.proofs.Common.{◌≡◌, ◌≤◌, ◌^◌, ◌<◌, ℕ, true,
 use Rattle.std.proofs.lemmas.Bool.Decides.{nat_tests}
 use Rattle.share_ledger.specs.Arrays.{flags_of, numbers_of}
 use Rattle.share_ledger.specs.declared.seats.Seat.{Seat}
-use Rattle.share_ledger.specs.Ranks.{AreRanks, AreListed}
+use Rattle.share_ledger.specs.Ranks.{AreRanks}
 use Rattle.share_ledger.specs.Seats.{AreSeated, backs_of, funds_of}
 use Rattle.share_ledger.proofs.NetMore.{counted-given, less-bound, seated-more, seated-same, ranked-more, sum-bound}
 use Rattle.share_ledger.proofs.SeatCounts.{room-more}
@@ -46,11 +46,7 @@ renew-requires-clause-ranked c =
     (numbers_of c.args.self.now.ranks.value) b.1.1.0.ranked below c.seat.ensures.seated))
 
 pub renew-requires-clause-listed : goal.renew-requires-clause-listed
-renew-requires-clause-listed c =
-    subst (λ (ranks : List ℕ). AreListed (numbers_of ranks) (numbers_of c.deref_mut-2.result.now))
-    (sym c.deref_mut.ensures.value)
-    (subst (λ (order : List ℕ). AreListed (numbers_of c.args.self.now.ranks.value) (numbers_of order))
-    (sym c.deref_mut-2.ensures.value) c.requires.begun.1.1.0.listed)
+renew-requires-clause-listed c = grind (arith, nat_tests)
 
 pub returns-clause-begun : goal.returns-clause-begun
 returns-clause-begun c =

@@ -1,4 +1,4 @@
-use Rattle.std.proofs.Common.{◌≡◌, ◌+◌, ◌<◌, ◌-◌, List, sum_by, take, length, sym, ap, ◌∙◌, true≢false, arith}
+use Rattle.std.proofs.Common.{◌≡◌, ◌+◌, ◌<◌, ◌-◌, List, sum_by, take, length, sym, ap, ◌∙◌, arith}
 use Rattle.std.proofs.Common.{get_or, set}
 use Rattle.std.proofs.lemmas.List.{get_or-take, length-take}
 use Rattle.share_model.specs.funding.SettleLaws.{none_any}
@@ -7,6 +7,7 @@ use Rattle.share_ledger.specs.Seats.{is_like}
 use Rattle.share_ledger.proofs.Positions.{position-first, position-none}
 use Rattle.share_ledger.proofs.SeatSums.{first-passes, first-below, like-same, sum-taken_out}
 use Rattle.share_ledger.proofs.seats.Seats.remove.Goals as goal
+use Rattle.std.proofs.lemmas.Bool.Decides.{nat_tests}
 
 pub returns : goal.returns
 returns c = λ F.
@@ -29,7 +30,4 @@ returns c = λ F.
     ∙ ap (sum_by F) c.self.view_is
 
 pub returns-in_default : goal.returns-in_default
-returns-in_default c =
-    absurd (true≢false (sym c.requires
-    ∙ none_any (is_like c.args.seat) c.args.self.now
-    (position-none (is_like c.args.seat) c.args.self.now (sym c.place_of.ensures ∙ c.in_default.is))))
+returns-in_default c = grind (arith, nat_tests, none_any, position-none)

@@ -4,7 +4,6 @@ use Rattle.std.proofs.lemmas.Bool.Decides.{nat_tests}
 use Rattle.share_base.specs.declared.refusal.Refusal.{Refusal}
 use Rattle.share_base.specs.declared.refusal.Refusal.TheVariants.{Cycle, Deep}
 use Rattle.share_model.specs.funding.ChangeLaws.{stands}
-use Rattle.share_model.specs.funding.Changes.{is_numbered}
 use Rattle.share_model.specs.lists.Laws.{each-find}
 use Rattle.share_ledger.proofs.CyclePlaces.{cycle-backs, below-stands, tall-funded}
 use Rattle.share_ledger.proofs.Places.{IsPlaced, placed, place-base}
@@ -22,10 +21,7 @@ returns-in_default c = λ found.
     absurd (true≢false (sym found ∙ ap is_some (sym c.ticket.ensures ∙ ap option_copied c.in_default.is)))
 
 pub place_of-from-requires : goal.place_of-from-requires
-place_of-from-requires c =
-    let g = c.args.self.now in
-    (each-find (IsPlaced g) (is_numbered c.args.number) g.tickets c.in-Some.ticket.now
-    (placed g c.is_kept.ensures) (sym c.ticket.ensures ∙ ap option_copied c.in-Some.is)).denomination_known
+place_of-from-requires c = grind (arith, nat_tests, each-find, IsPlaced, placed)
 
 pub place_of-to-requires : goal.place_of-to-requires
 place_of-to-requires c = stands c.args.self.now c.args.currency c.requires.known

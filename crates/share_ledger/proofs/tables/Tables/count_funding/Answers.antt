@@ -1,11 +1,10 @@
-use Rattle.std.proofs.Common.{List, length, sym, ap, ◌∙◌, arith}
-use Rattle.share_ledger.specs.declared.seats.Seat.{Seat}
-use Rattle.share_ledger.specs.Seats.{seats_at}
+use Rattle.std.proofs.Common.{sym, ◌∙◌, arith}
 use Rattle.share_ledger.proofs.Positions.{position-first, position-none, flow-first, flow-none}
 use Rattle.share_ledger.proofs.RouteLists.{flow-place-first, unopened}
 use Rattle.share_ledger.proofs.RouteWorths.{flow-place-below}
 use Rattle.share_ledger.proofs.SeatCounts.{first-open, funding-count}
 use Rattle.share_ledger.proofs.tables.Tables.count_funding.Goals as goal
+use Rattle.std.proofs.lemmas.Bool.Decides.{nat_tests}
 
 pub unreachable-requires : goal.unreachable-requires
 unreachable-requires c =
@@ -25,10 +24,4 @@ seats_at-requires-clause-place c =
     omega (arith, c.is_kept.ensures.few_flows)
 
 pub returns : goal.returns
-returns c =
-    let g = c.args.self.now in
-    ap length c.seats_at.ensures.value
-    ∙ ap (λ (ss : List (List Seat)). length (seats_at ss c.in-Some.place)) c.deref.ensures.value
-    ∙ funding-count g c.is_kept.ensures c.args.net.now.funding.items c.requires.seated c.args.flow c.in-Some.place
-    (flow-first c.args.flow g.flows c.in-Some.place
-    (position-first _ _ c.in-Some.place (sym c.place_of_flow.ensures ∙ c.in-Some.is)))
+returns c = grind (arith, nat_tests, funding-count, flow-first, position-first)

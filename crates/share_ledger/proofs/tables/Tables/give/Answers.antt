@@ -1,10 +1,10 @@
-use Rattle.std.proofs.Common.{◌≡◌, List, Some, position, sym, ap, subst, ◌∙◌}
+use Rattle.std.proofs.Common.{List, sym, ap, subst, ◌∙◌}
 use Rattle.share_model.specs.declared.funding.Ticket.{Ticket}
 use Rattle.share_model.specs.funding.Graph.{Graph}
 use Rattle.share_model.specs.funding.Changes.{is_numbered, held_by, with_holder}
 use Rattle.share_model.specs.funding.Kept.{IsKept}
 use Rattle.share_ledger.proofs.Lays.{lay}
-use Rattle.share_ledger.proofs.Positions.{position-first, position-none, changed-first, changed-none}
+use Rattle.share_ledger.proofs.Positions.{position-none, found-ticket, changed-first, changed-none}
 use Rattle.share_ledger.proofs.tables.Tables.give.Goals as goal
 
 pub invariant_of-self : goal.invariant_of-self
@@ -12,10 +12,8 @@ invariant_of-self c =
     let tables =
     lay c.self.inside.currencies.keys c.self.inside.tickets.items c.self.inside.next_ticket
     c.self.inside.flows.entries c.self.inside.next_flow in
-    let found =
-    subst (λ (g : Graph). position (is_numbered c.args.number) g.tickets ≡ Some c.in-Some.place)
-    (sym c.self.view_is) (sym c.place_of_ticket.ensures ∙ c.in-Some.is) in
-    let first = position-first (is_numbered c.args.number) c.self.inside.tickets.items c.in-Some.place found in
+    let first =
+    found-ticket tables _ c.args.number _ c.self.view_is c.in-Some.place c.place_of_ticket.ensures c.in-Some.is in
     let written =
     changed-first (is_numbered c.args.number)
     (held_by c.args.holder.now) c.self.inside.tickets.items c.in-Some.place c.index_mut.result.now first
@@ -29,10 +27,8 @@ returns-in-Some c =
     let tables =
     lay c.self.inside.currencies.keys c.self.inside.tickets.items c.self.inside.next_ticket
     c.self.inside.flows.entries c.self.inside.next_flow in
-    let found =
-    subst (λ (g : Graph). position (is_numbered c.args.number) g.tickets ≡ Some c.in-Some.place)
-    (sym c.self.view_is) (sym c.place_of_ticket.ensures ∙ c.in-Some.is) in
-    let first = position-first (is_numbered c.args.number) c.self.inside.tickets.items c.in-Some.place found in
+    let first =
+    found-ticket tables _ c.args.number _ c.self.view_is c.in-Some.place c.place_of_ticket.ensures c.in-Some.is in
     let written =
     changed-first (is_numbered c.args.number)
     (held_by c.args.holder.now) c.self.inside.tickets.items c.in-Some.place c.index_mut.result.now first

@@ -1,11 +1,9 @@
-use Rattle.std.proofs.Common.{◌≡◌, map, nat_eq, None, Some, position, sym, ap, subst, ◌∙◌}
-use Rattle.share_model.specs.declared.funding.OpenFlow.{OpenFlow}
-use Rattle.share_model.specs.funding.Graph.{NameBytes, Graph}
+use Rattle.std.proofs.Common.{map, sym, ap, subst, ◌∙◌}
 use Rattle.share_model.specs.funding.Changes.{is_open_as, released, remove_flow}
 use Rattle.share_model.specs.funding.Kept.{IsKept}
 use Rattle.share_model.specs.funding.FlowLaws.{kept-remove_flow}
 use Rattle.share_ledger.proofs.Lays.{lay, written-whole}
-use Rattle.share_ledger.proofs.Positions.{position-first, position-none, flow-first, flow-none, remove-first}
+use Rattle.share_ledger.proofs.Positions.{found-flow, no-flow, remove-first}
 use Rattle.share_ledger.proofs.Positions.{remove-none}
 use Rattle.share_ledger.proofs.tables.Tables.remove_flow.Goals as goal
 
@@ -14,13 +12,8 @@ invariant_of-self c =
     let tables =
     lay c.self.inside.currencies.keys c.self.inside.tickets.items c.self.inside.next_ticket
     c.self.inside.flows.entries c.self.inside.next_flow in
-    let test = λ (o : OpenFlow). nat_eq c.args.flow o.number in
-    let found =
-    subst (λ (g : Graph). position test (map (λ (e : NameBytes × OpenFlow). e.1) g.flows) ≡ Some c.in-Some.place)
-    (sym c.self.view_is) (sym c.place_of_flow-place.ensures ∙ c.in-Some.is) in
-    let first =
-    flow-first c.args.flow c.self.inside.flows.entries c.in-Some.place
-    (position-first test _ c.in-Some.place found) in
+    let first = found-flow tables _ c.args.flow _ c.self.view_is c.in-Some.place c.place_of_flow-place.ensures
+    c.in-Some.is in
     let left =
     c.shift_remove_index.ensures.entries
     ∙ remove-first (is_open_as c.args.flow) c.self.inside.flows.entries c.in-Some.place first in
@@ -41,11 +34,7 @@ invariant_of-self-in_default c =
     let tables =
     lay c.self.inside.currencies.keys c.self.inside.tickets.items c.self.inside.next_ticket
     c.self.inside.flows.entries c.self.inside.next_flow in
-    let test = λ (o : OpenFlow). nat_eq c.args.flow o.number in
-    let missing =
-    subst (λ (g : Graph). position test (map (λ (e : NameBytes × OpenFlow). e.1) g.flows) ≡ None)
-    (sym c.self.view_is) (sym c.place_of_flow-place.ensures ∙ c.in_default.is) in
-    let none = flow-none c.args.flow c.self.inside.flows.entries (position-none test _ missing) in
+    let none = no-flow tables _ c.args.flow _ c.self.view_is c.place_of_flow-place.ensures c.in_default.is in
     let left = sym (remove-none (is_open_as c.args.flow) c.self.inside.flows.entries none) in
     let tickets =
     written-whole
@@ -63,13 +52,8 @@ returns-in-Some c =
     let tables =
     lay c.self.inside.currencies.keys c.self.inside.tickets.items c.self.inside.next_ticket
     c.self.inside.flows.entries c.self.inside.next_flow in
-    let test = λ (o : OpenFlow). nat_eq c.args.flow o.number in
-    let found =
-    subst (λ (g : Graph). position test (map (λ (e : NameBytes × OpenFlow). e.1) g.flows) ≡ Some c.in-Some.place)
-    (sym c.self.view_is) (sym c.place_of_flow-place.ensures ∙ c.in-Some.is) in
-    let first =
-    flow-first c.args.flow c.self.inside.flows.entries c.in-Some.place
-    (position-first test _ c.in-Some.place found) in
+    let first = found-flow tables _ c.args.flow _ c.self.view_is c.in-Some.place c.place_of_flow-place.ensures
+    c.in-Some.is in
     let left =
     c.shift_remove_index.ensures.entries
     ∙ remove-first (is_open_as c.args.flow) c.self.inside.flows.entries c.in-Some.place first in
@@ -88,11 +72,7 @@ returns-in_default c =
     let tables =
     lay c.self.inside.currencies.keys c.self.inside.tickets.items c.self.inside.next_ticket
     c.self.inside.flows.entries c.self.inside.next_flow in
-    let test = λ (o : OpenFlow). nat_eq c.args.flow o.number in
-    let missing =
-    subst (λ (g : Graph). position test (map (λ (e : NameBytes × OpenFlow). e.1) g.flows) ≡ None)
-    (sym c.self.view_is) (sym c.place_of_flow-place.ensures ∙ c.in_default.is) in
-    let none = flow-none c.args.flow c.self.inside.flows.entries (position-none test _ missing) in
+    let none = no-flow tables _ c.args.flow _ c.self.view_is c.place_of_flow-place.ensures c.in_default.is in
     let left = sym (remove-none (is_open_as c.args.flow) c.self.inside.flows.entries none) in
     let tickets =
     written-whole

@@ -1,10 +1,9 @@
-use Rattle.std.proofs.Common.{◌≡◌, Some, position, sym, ap, subst, ◌∙◌}
-use Rattle.share_model.specs.funding.Graph.{Graph}
+use Rattle.std.proofs.Common.{sym, ap, subst, ◌∙◌}
 use Rattle.share_model.specs.funding.Changes.{is_numbered, remove_ticket}
 use Rattle.share_model.specs.funding.Kept.{IsKept}
 use Rattle.share_model.specs.funding.TicketLaws.{kept-remove_ticket}
 use Rattle.share_ledger.proofs.Lays.{lay}
-use Rattle.share_ledger.proofs.Positions.{position-first, position-none, remove-first, remove-none}
+use Rattle.share_ledger.proofs.Positions.{position-none, found-ticket, remove-first, remove-none}
 use Rattle.share_ledger.proofs.tables.Tables.remove_ticket.Goals as goal
 
 pub invariant_of-self : goal.invariant_of-self
@@ -12,14 +11,12 @@ invariant_of-self c =
     let tables =
     lay c.self.inside.currencies.keys c.self.inside.tickets.items c.self.inside.next_ticket
     c.self.inside.flows.entries c.self.inside.next_flow in
-    let found =
-    subst (λ (g : Graph). position (is_numbered c.args.number) g.tickets ≡ Some c.in-Some-place_of_ticket.place)
-    (sym c.self.view_is) (sym c.place_of_ticket.ensures ∙ c.in-Some-place_of_ticket.is) in
+    let first =
+    found-ticket tables _ c.args.number _ c.self.view_is c.in-Some-place_of_ticket.place
+    c.place_of_ticket.ensures c.in-Some-place_of_ticket.is in
     let left =
     c.remove.ensures.items
-    ∙ remove-first (is_numbered c.args.number) c.self.inside.tickets.items c.in-Some-place_of_ticket.place
-    (position-first (is_numbered c.args.number) c.self.inside.tickets.items c.in-Some-place_of_ticket.place found)
-    in
+    ∙ remove-first (is_numbered c.args.number) c.self.inside.tickets.items c.in-Some-place_of_ticket.place first in
     subst (λ ts. IsKept (record tables { tickets = ts })) (sym left)
     (kept-remove_ticket _ c.self.invariant c.args.number)
 
@@ -28,14 +25,12 @@ returns-in-Some-place_of_ticket-clause-done c =
     let tables =
     lay c.self.inside.currencies.keys c.self.inside.tickets.items c.self.inside.next_ticket
     c.self.inside.flows.entries c.self.inside.next_flow in
-    let found =
-    subst (λ (g : Graph). position (is_numbered c.args.number) g.tickets ≡ Some c.in-Some-place_of_ticket.place)
-    (sym c.self.view_is) (sym c.place_of_ticket.ensures ∙ c.in-Some-place_of_ticket.is) in
+    let first =
+    found-ticket tables _ c.args.number _ c.self.view_is c.in-Some-place_of_ticket.place
+    c.place_of_ticket.ensures c.in-Some-place_of_ticket.is in
     let left =
     c.remove.ensures.items
-    ∙ remove-first (is_numbered c.args.number) c.self.inside.tickets.items c.in-Some-place_of_ticket.place
-    (position-first (is_numbered c.args.number) c.self.inside.tickets.items c.in-Some-place_of_ticket.place found)
-    in (
+    ∙ remove-first (is_numbered c.args.number) c.self.inside.tickets.items c.in-Some-place_of_ticket.place first in (
       sym c.remove_ticket_refusal.ensures ∙ c.in_default.is,
       ap (λ ts. record tables { tickets = ts }) left
           ∙ ap (λ g. remove_ticket g c.args.number) c.self.view_is,

@@ -1,15 +1,14 @@
-use Rattle.std.proofs.Common.{◌≡◌, ℕ, Bool, true, false, map, nat_eq, None, Some, position, refl, sym, ap, subst}
+use Rattle.std.proofs.Common.{◌≡◌, ℕ, Bool, true, false, nat_eq, None, refl, sym, ap, subst}
 use Rattle.std.proofs.Common.{◌∙◌}
 use Rattle.std.specs.Bool.{then_some}
 use Rattle.std.proofs.lemmas.Option.{get_or_from_slice_get}
 use Rattle.share_model.specs.declared.funding.OpenFlow.{OpenFlow}
-use Rattle.share_model.specs.funding.Graph.{NameBytes, Graph}
 use Rattle.share_model.specs.funding.Changes.{is_open_as, active_as, set_active}
 use Rattle.share_model.specs.funding.Kept.{IsKept}
 use Rattle.share_model.specs.funding.FlowLaws.{kept-set_active}
 use Rattle.share_ledger.proofs.FlowShares.{stands-so, activity-left}
 use Rattle.share_ledger.proofs.Lays.{lay}
-use Rattle.share_ledger.proofs.Positions.{position-first, position-none, flow-first, flow-none, activity-first}
+use Rattle.share_ledger.proofs.Positions.{position-none, flow-none, found-flow, activity-first}
 use Rattle.share_ledger.proofs.Positions.{changed-none}
 use Rattle.share_ledger.proofs.tables.Tables.set_active.Goals as goal
 
@@ -18,22 +17,12 @@ invariant_of-self c =
     let tables =
     lay c.self.inside.currencies.keys c.self.inside.tickets.items c.self.inside.next_ticket
     c.self.inside.flows.entries c.self.inside.next_flow in
-    let test = λ (o : OpenFlow). nat_eq c.args.flow o.number in
-    let found =
-    subst (λ (g : Graph). position test (map (λ (e : NameBytes × OpenFlow). e.1) g.flows) ≡ Some c.in-Some.place)
-    (sym c.self.view_is) (sym c.place_of_flow.ensures ∙ c.in-Some.is) in
-    let first =
-    flow-first c.args.flow c.self.inside.flows.entries c.in-Some.place
-    (position-first test _ c.in-Some.place found) in
-    let source =
-    sym
-    (get_or_from_slice_get
-    (map (λ (e : NameBytes × OpenFlow). e.1) c.self.inside.flows.entries) c.in-Some.place
-    c.in-Some-get_index_mut.open.now c.in-Some-get_index_mut.open.now (sym c.in-Some-get_index_mut.ensures.value))
-    in
+    let first = found-flow tables _ c.args.flow _ c.self.view_is c.in-Some.place c.place_of_flow.ensures c.in-Some.is in
+    let open_flow = c.in-Some-get_index_mut.open.now in
+    let source = sym (get_or_from_slice_get _ c.in-Some.place open_flow open_flow
+    (sym c.in-Some-get_index_mut.ensures.value)) in
     let written =
-    activity-first c.args.flow c.args.active c.self.inside.flows.entries c.in-Some.place
-    c.in-Some-get_index_mut.open.now first source in
+    activity-first c.args.flow c.args.active c.self.inside.flows.entries c.in-Some.place open_flow first source in
     subst (λ es. IsKept (record tables { flows = es })) (sym written)
     (kept-set_active _ c.self.invariant c.args.flow c.args.active)
 
@@ -42,22 +31,12 @@ returns-in-Some-get_index_mut-clause-change c =
     let tables =
     lay c.self.inside.currencies.keys c.self.inside.tickets.items c.self.inside.next_ticket
     c.self.inside.flows.entries c.self.inside.next_flow in
-    let test = λ (o : OpenFlow). nat_eq c.args.flow o.number in
-    let found =
-    subst (λ (g : Graph). position test (map (λ (e : NameBytes × OpenFlow). e.1) g.flows) ≡ Some c.in-Some.place)
-    (sym c.self.view_is) (sym c.place_of_flow.ensures ∙ c.in-Some.is) in
-    let first =
-    flow-first c.args.flow c.self.inside.flows.entries c.in-Some.place
-    (position-first test _ c.in-Some.place found) in
-    let source =
-    sym
-    (get_or_from_slice_get
-    (map (λ (e : NameBytes × OpenFlow). e.1) c.self.inside.flows.entries) c.in-Some.place
-    c.in-Some-get_index_mut.open.now c.in-Some-get_index_mut.open.now (sym c.in-Some-get_index_mut.ensures.value))
-    in
+    let first = found-flow tables _ c.args.flow _ c.self.view_is c.in-Some.place c.place_of_flow.ensures c.in-Some.is in
+    let open_flow = c.in-Some-get_index_mut.open.now in
+    let source = sym (get_or_from_slice_get _ c.in-Some.place open_flow open_flow
+    (sym c.in-Some-get_index_mut.ensures.value)) in
     let written =
-    activity-first c.args.flow c.args.active c.self.inside.flows.entries c.in-Some.place
-    c.in-Some-get_index_mut.open.now first source in
+    activity-first c.args.flow c.args.active c.self.inside.flows.entries c.in-Some.place open_flow first source in
     ap (λ es. record tables { flows = es }) written
     ∙ ap (λ g. set_active g c.args.flow c.args.active) c.self.view_is
 
@@ -80,22 +59,11 @@ returns-in-Some-get_index_mut-clause-still c = λ still.
     let tables =
     lay c.self.inside.currencies.keys c.self.inside.tickets.items c.self.inside.next_ticket
     c.self.inside.flows.entries c.self.inside.next_flow in
-    let test = λ (o : OpenFlow). nat_eq c.args.flow o.number in
-    let found =
-    subst (λ (g : Graph). position test (map (λ (e : NameBytes × OpenFlow). e.1) g.flows) ≡ Some c.in-Some.place)
-    (sym c.self.view_is) (sym c.place_of_flow.ensures ∙ c.in-Some.is) in
-    let first =
-    flow-first c.args.flow c.self.inside.flows.entries c.in-Some.place
-    (position-first test _ c.in-Some.place found) in
-    let source =
-    sym
-    (get_or_from_slice_get
-    (map (λ (e : NameBytes × OpenFlow). e.1) c.self.inside.flows.entries) c.in-Some.place
-    c.in-Some-get_index_mut.open.now c.in-Some-get_index_mut.open.now (sym c.in-Some-get_index_mut.ensures.value))
-    in
+    let first = found-flow tables _ c.args.flow _ c.self.view_is c.in-Some.place c.place_of_flow.ensures c.in-Some.is in
+    let open_flow = c.in-Some-get_index_mut.open.now in
+    let source = sym (get_or_from_slice_get _ c.in-Some.place open_flow open_flow
+    (sym c.in-Some-get_index_mut.ensures.value)) in
     ap (λ es. record tables { flows = es })
-    (activity-left c.self.inside.flows.entries c.in-Some.place c.in-Some-get_index_mut.open.now (is_open_as c.args.flow)
-    c.args.active first source
-    (stands-so c.in-Some-get_index_mut.open.now.active c.args.active
-    (still-so _ _ (sym c.then_some.ensures ∙ still))))
+    (activity-left c.self.inside.flows.entries c.in-Some.place open_flow (is_open_as c.args.flow) c.args.active first
+    source (stands-so open_flow.active c.args.active (still-so _ _ (sym c.then_some.ensures ∙ still))))
     ∙ c.self.view_is

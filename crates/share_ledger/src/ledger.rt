@@ -279,4 +279,9 @@ impl Ledger {
     {
         &self.tables
     }
+
+    #[cfg(test)]
+    pub(crate) fn kept(&self) -> &Kept {
+        &self.kept
+    }
 }

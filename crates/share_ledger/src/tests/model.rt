@@ -1,50 +1,88 @@
-//! A plain model of the ledger: lists, and values by one pass over the currencies in an order in which each
-//! stands behind those that back it.
+//! A plain model of the ledger: lists, and all else computed of them from nothing, by the rules as they stand.
 
+mod chains;
 mod commands;
+mod worths;
 
 use share_base::Name;
 use std::alloc::{AllocError, Global};
+use worths::Worths;
 
-/// Whom a ticket of the model funds, by places in the lists.
+/// `base`, and 64 currencies more.
+pub(super) const CURRENCIES: usize = 65;
+
+/// The most flows.
+pub(super) const FLOWS: usize = 64;
+
+/// The slot of `base`.
+const BASE: usize = 0;
+
+/// What a ticket of the model funds, by its slot.
 #[derive(Clone, Copy)]
 enum Funds {
     Nothing,
-    Currency(Name),
-    Flow(u32),
+    Currency(usize),
+    Flow(usize),
 }
 
 #[derive(Clone, Copy)]
 struct Issued {
     number: u32,
     amount: u64,
-    currency: Name,
+    currency: usize,
     funds: Funds,
+}
+
+/// A currency. It has a slot of its own for as long as it is there, and so has a flow.
+#[derive(Clone, Copy)]
+struct Made {
+    name: Name,
+    slot: usize,
 }
 
 #[derive(Clone, Copy)]
 struct Opened {
     name: Name,
+    slot: usize,
     number: u32,
     active: bool,
 }
 
-/// A currency with what is computed of it: the longest chain that ends at it, and sums.
+/// What a model tells of a currency: its active amount, its value, and how many tickets fund it.
 #[derive(Clone, Copy)]
-struct Account {
-    name: Name,
-    rank: u64,
-    active: u64,
-    value: u64,
+pub(super) struct Currency {
+    pub(super) active: u64,
+    pub(super) value: u64,
+    pub(super) backing: usize,
 }
 
+/// What a model tells of a flow: its tickets, and how many tickets fund it, among the rest.
+#[derive(Clone, Copy)]
+pub(super) struct Flow {
+    pub(super) name: Name,
+    pub(super) number: u32,
+    pub(super) active: bool,
+    pub(super) tickets: u64,
+    pub(super) funding: usize,
+}
+
+/// A ticket that uses a currency, and whether it funds anything.
+#[derive(Clone, Copy)]
+pub(super) struct User {
+    pub(super) ticket: u64,
+    pub(super) is_held: bool,
+}
+
+/// The currencies in the order of making, `base` first, the tickets in the order of issuing, and the flows in that of
+/// opening.
 #[derive(Drop)]
-pub(crate) struct Model {
-    accounts: Vec<Account>,
+pub(super) struct Model {
+    made: Vec<Made>,
     issued: Vec<Issued>,
     opened: Vec<Opened>,
     next_ticket: u32,
     next_flow: u32,
+    worths: Worths,
 }
 
 fn is_held(funds: Funds) -> bool {
@@ -55,78 +93,66 @@ fn is_held(funds: Funds) -> bool {
     }
 }
 
-fn funds_currency(ticket: &Issued, name: Name) -> bool {
+fn funds_currency(ticket: &Issued, currency: usize) -> bool {
     let funds = ticket.funds;
     match funds {
-        Funds::Currency(currency) => currency == name,
+        Funds::Currency(slot) => slot == currency,
         _ => false,
     }
 }
 
-fn funds_flow(ticket: &Issued, flow: u32) -> bool {
+fn funds_flow(ticket: &Issued, flow: usize) -> bool {
     let funds = ticket.funds;
     match funds {
-        Funds::Flow(number) => number == flow,
+        Funds::Flow(slot) => slot == flow,
         _ => false,
     }
+}
+
+fn uses(ticket: &Issued, currency: usize) -> bool {
+    ticket.currency == currency || funds_currency(ticket, currency)
 }
 
 impl Model {
-    /// A model with `base` alone, which is the first account.
-    pub(crate) fn new(alloc: Global, base: Name) -> Result<Model, AllocError> {
-        let mut accounts = Vec::new(alloc);
-        accounts.push(Account {
+    /// A model with `base` alone.
+    pub(super) fn new(alloc: Global, base: Name) -> Result<Model, AllocError> {
+        let mut made = Vec::new(alloc);
+        made.push(Made {
             name: base,
-            rank: 0,
-            active: 0,
-            value: 0,
+            slot: BASE,
         })?;
         Ok(Model {
-            accounts,
+            made,
             issued: Vec::new(alloc),
             opened: Vec::new(alloc),
             next_ticket: 1,
             next_flow: 1,
+            worths: worths::NOTHING,
         })
     }
 
-    fn has_currency(&self, name: Name) -> bool {
-        for account in &self.accounts {
-            if account.name == name {
-                return true;
-            }
-        }
-        false
+    /// Computes all that the tickets come to.
+    pub(super) fn settle(&mut self) {
+        self.worths = worths::of(&self.issued, &self.opened);
     }
 
-    fn is_base(&self, name: Name) -> bool {
-        match self.accounts.first() {
-            Some(account) => account.name == name,
-            None => false,
-        }
-    }
-
-    /// The number of an open flow.
-    pub(crate) fn flow(&self, name: Name) -> Option<u32> {
-        for open in &self.opened {
-            if open.name == name {
-                return Some(open.number);
+    // The slot of a currency.
+    fn currency(&self, name: Name) -> Option<usize> {
+        for made in &self.made {
+            if made.name == name {
+                return Some(made.slot);
             }
         }
         None
     }
 
-    /// How many flows are open.
-    pub(crate) fn flow_count(&self) -> usize {
-        self.opened.len()
-    }
-
-    /// The name, the number and the activity of the flow at a place in the order of opening.
-    pub(crate) fn flow_at(&self, place: usize) -> Option<(Name, u32, bool)> {
-        match self.opened.get(place) {
-            None => None,
-            Some(open) => Some((open.name, open.number, open.active)),
+    fn open_flow(&self, name: Name) -> Option<Opened> {
+        for open in &self.opened {
+            if open.name == name {
+                return Some(*open);
+            }
         }
+        None
     }
 
     fn ticket(&self, number: u64) -> Option<Issued> {
@@ -138,194 +164,107 @@ impl Model {
         None
     }
 
-    fn hold(&mut self, number: u64, funds: &Funds) {
-        for ticket in self.issued.iter_mut() {
-            if u64::from(ticket.number) == number {
-                ticket.funds = *funds;
+    /// The number of an open flow.
+    pub(super) fn flow(&self, name: Name) -> Option<u32> {
+        match self.open_flow(name) {
+            Some(open) => Some(open.number),
+            None => None,
+        }
+    }
+
+    pub(super) fn next_ticket(&self) -> u32 {
+        self.next_ticket
+    }
+
+    pub(super) fn next_flow(&self) -> u32 {
+        self.next_flow
+    }
+
+    pub(super) fn flow_count(&self) -> usize {
+        self.opened.len()
+    }
+
+    pub(super) fn ticket_count(&self) -> usize {
+        self.issued.len()
+    }
+
+    /// The number of the ticket that was issued at a place among those that are there.
+    pub(super) fn ticket_at(&self, place: usize) -> Option<u64> {
+        match self.issued.get(place) {
+            Some(ticket) => Some(u64::from(ticket.number)),
+            None => None,
+        }
+    }
+
+    /// The first ticket from a place on that funds nothing.
+    pub(super) fn free_from(&self, place: usize) -> Option<u64> {
+        for ticket in self.issued.iter().skip(place) {
+            if !is_held(ticket.funds) {
+                return Some(u64::from(ticket.number));
             }
         }
+        None
     }
 
-    fn rank_of(&self, name: Name) -> u64 {
-        for account in &self.accounts {
-            if account.name == name {
-                return account.rank;
+    /// The place of a currency in the order of making, from 0 for `base`.
+    pub(super) fn place_of(&self, name: Name) -> Option<usize> {
+        self.made.iter().position(|made| made.name == name)
+    }
+
+    pub(super) fn currency_count(&self) -> usize {
+        self.made.len()
+    }
+
+    pub(super) fn currency_named_at(&self, place: usize) -> Option<Name> {
+        match self.made.get(place) {
+            Some(made) => Some(made.name),
+            None => None,
+        }
+    }
+
+    /// The currency at a place, as last settled.
+    pub(super) fn currency_at(&self, place: usize) -> Option<Currency> {
+        match self.made.get(place) {
+            Some(made) => self.worths.currency(made.slot),
+            None => None,
+        }
+    }
+
+    /// The flow at a place in the order of opening, as last settled.
+    pub(super) fn flow_at(&self, place: usize) -> Option<Flow> {
+        let open = self.opened.get(place).copied()?;
+        let (tickets, funding) = self.worths.flow(open.slot)?;
+        Some(Flow {
+            name: open.name,
+            number: open.number,
+            active: open.active,
+            tickets,
+            funding,
+        })
+    }
+
+    /// The denomination of a ticket.
+    pub(super) fn denomination(&self, number: u64) -> Option<Name> {
+        let ticket = self.ticket(number)?;
+        for made in &self.made {
+            if made.slot == ticket.currency {
+                return Some(made.name);
             }
         }
-        0
+        None
     }
 
-    // `base` is worth something before all others.
-    fn step_of(&self, name: Name) -> u64 {
-        if self.is_base(name) {
-            return 0;
-        }
-        self.rank_of(name).saturating_add(1)
-    }
-
-    // Lifts the currency that a ticket backs to this rank at least. Whether it rose.
-    fn lift(&mut self, ticket: &Issued, rank: u64) -> bool {
-        let mut risen = false;
-        for account in self.accounts.iter_mut() {
-            if funds_currency(ticket, account.name) && account.rank < rank {
-                account.rank = rank;
-                risen = true;
-            }
-        }
-        risen
-    }
-
-    // Lifts each currency above those that back it. Whether any rose.
-    fn lift_all(&mut self) -> bool {
-        let mut risen = false;
-        for k in 0..self.issued.len() {
-            let Some(ticket) = self.issued.get(k).copied() else {
-                break;
-            };
-            if !self.is_base(ticket.currency) {
-                let above = self.rank_of(ticket.currency).saturating_add(1);
-                risen |= self.lift(&ticket, above);
-            }
-        }
-        risen
-    }
-
-    // The longest chain of currencies that ends at each, `base` not counted. The run has eleven currencies, so a
-    // rank of 12 is met in a cycle alone.
-    fn rank(&mut self) {
-        for account in self.accounts.iter_mut() {
-            account.rank = 0;
-        }
-        for _ in 0..20 {
-            if !self.lift_all() {
-                return;
-            }
-        }
-    }
-
-    fn greatest_rank(&mut self) -> u64 {
-        self.rank();
-        let mut greatest = 0;
-        for account in &self.accounts {
-            if account.rank > greatest {
-                greatest = account.rank;
-            }
-        }
-        greatest
-    }
-
-    fn is_active_flow(&self, flow: u32) -> bool {
-        for open in &self.opened {
-            if open.number == flow {
-                return open.active;
-            }
-        }
-        false
-    }
-
-    fn is_active_currency(&self, name: Name) -> bool {
-        for account in &self.accounts {
-            if account.name == name {
-                return account.active > 0;
-            }
-        }
-        false
-    }
-
-    fn is_active(&self, ticket: &Issued) -> bool {
-        let funds = ticket.funds;
-        match funds {
-            Funds::Nothing => false,
-            Funds::Flow(flow) => self.is_active_flow(flow),
-            Funds::Currency(name) => self.is_active_currency(name),
-        }
-    }
-
-    fn add_to_active(&mut self, ticket: &Issued) {
-        if !self.is_active(ticket) {
-            return;
-        }
-        for account in self.accounts.iter_mut() {
-            if account.name == ticket.currency {
-                account.active = account.active.saturating_add(ticket.amount);
-            }
-        }
-    }
-
-    fn worth(&self, ticket: &Issued) -> u64 {
-        if !self.is_active(ticket) {
-            return 0;
-        }
-        if self.is_base(ticket.currency) {
-            return ticket.amount;
-        }
-        for account in &self.accounts {
-            if account.name == ticket.currency {
-                let product = account.value.saturating_mul(ticket.amount);
-                return product.checked_div(account.active).unwrap_or(0);
-            }
-        }
-        0
-    }
-
-    fn add_to_value(&mut self, ticket: &Issued) {
-        let worth = self.worth(ticket);
-        for account in self.accounts.iter_mut() {
-            if funds_currency(ticket, account.name) {
-                account.value = account.value.saturating_add(worth);
-            }
-        }
-    }
-
-    fn clear(&mut self) {
-        for account in self.accounts.iter_mut() {
-            account.active = 0;
-            account.value = 0;
-        }
-    }
-
-    fn add_active_of(&mut self, rank: u64) {
-        for k in 0..self.issued.len() {
-            let Some(ticket) = self.issued.get(k).copied() else {
-                return;
-            };
-            if self.rank_of(ticket.currency) == rank && !self.is_base(ticket.currency) {
-                self.add_to_active(&ticket);
-            }
-        }
-    }
-
-    fn add_values_of(&mut self, step: u64) {
-        for k in 0..self.issued.len() {
-            let Some(ticket) = self.issued.get(k).copied() else {
-                return;
-            };
-            if self.step_of(ticket.currency) == step {
-                self.add_to_value(&ticket);
-            }
-        }
-    }
-
-    /// Active amounts from the ends of chains backwards, and then values from their beginnings on.
-    pub(crate) fn settle(&mut self) {
-        self.rank();
-        self.clear();
-        for step in 0..10_u64 {
-            self.add_active_of(9 - step);
-        }
-        for step in 0..10_u64 {
-            self.add_values_of(step);
-        }
-    }
-
-    /// The tickets of a flow, as last settled.
-    pub(crate) fn tickets(&self, flow: u32) -> u64 {
-        let mut sum: u64 = 0;
+    /// A ticket that is denominated in a currency or funds it.
+    pub(super) fn user(&self, name: Name) -> Option<User> {
+        let slot = self.currency(name)?;
         for ticket in &self.issued {
-            if funds_flow(ticket, flow) {
-                sum = sum.saturating_add(self.worth(ticket));
+            if uses(ticket, slot) {
+                return Some(User {
+                    ticket: u64::from(ticket.number),
+                    is_held: is_held(ticket.funds),
+                });
             }
         }
-        sum.min(1048576)
+        None
     }
 }

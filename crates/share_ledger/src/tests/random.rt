@@ -1,115 +1,139 @@
-//! A long run of changes, drawn by a generator, of a ledger and of the model beside it.
+//! Long runs of changes, drawn by a generator, of a ledger and of the model beside it.
+
+mod agrees;
+mod draws;
 
 use super::model::Model;
-use super::{Change, apply, empty, name, number_of, numbered};
+use super::{Change, apply, empty, name, number_of};
 use crate::Ledger;
+use draws::{Draws, Scene};
 use share_base::{FlowNo, Name, Refusal, Reply};
 use std::alloc::Global;
 use std::process::Abort;
 
-/// The steps of each run.
-const STEPS: u32 = 12500;
+/// What each command is refused for, but for want of memory and of numbers: a full table last.
+const REFUSALS: [&[Refusal]; 8] = [
+    &[Refusal::Taken, Refusal::TableFull],
+    &[Refusal::NoCurrency, Refusal::Base, Refusal::InUse],
+    &[Refusal::Range, Refusal::NoCurrency, Refusal::TableFull],
+    &[Refusal::NoTicket, Refusal::Funding],
+    &[
+        Refusal::NoTicket,
+        Refusal::NoCurrency,
+        Refusal::Base,
+        Refusal::Funding,
+        Refusal::Crowded,
+        Refusal::Cycle,
+        Refusal::Deep,
+    ],
+    &[
+        Refusal::NoTicket,
+        Refusal::NoFlow,
+        Refusal::Funding,
+        Refusal::Crowded,
+    ],
+    &[Refusal::NoTicket, Refusal::Unfunded],
+    &[Refusal::Taken, Refusal::TableFull],
+];
 
-// The next number of an xorshift generator.
-fn next(state: &mut u64) -> u64 {
-    let mut x = *state;
-    x ^= x << 13;
-    x ^= x >> 7;
-    x ^= x << 17;
-    *state = x;
-    x >> 16
-}
-
-// `base`, or one of eleven currencies. Every other ticket is denominated by its number, so that long chains come
-// about where such a ticket funds the next currency.
-fn currency(rt: &impl Abort, k: u64) -> Name {
-    if k % 12 == 0 {
-        return name(rt, "base");
+// The place of a command among those of `REFUSALS`.
+fn kind_of(change: &Change) -> usize {
+    match change {
+        Change::MakeCurrency(_) => 0,
+        Change::RemoveCurrency(_) => 1,
+        Change::MakeTicket(_, _) => 2,
+        Change::RemoveTicket(_) => 3,
+        Change::FundCurrency(_, _) => 4,
+        Change::FundFlow(_, _) => 5,
+        Change::Unfund(_) => 6,
+        Change::Open(_) => 7,
     }
-    numbered(rt, b'c', (k % 12) as usize)
-}
-
-fn flow(rt: &impl Abort, k: u64) -> Name {
-    numbered(rt, b'f', (k % 5) as usize)
-}
-
-// One of the tickets issued last, as often as not.
-fn ticket(state: &mut u64, issued: u32) -> u64 {
-    let back = next(state) % 40;
-    u64::from(issued).saturating_sub(back)
-}
-
-// The least amount and the greatest, one too small and one too great, as often as one between.
-fn amount(k: u64) -> u64 {
-    match k % 16 {
-        0 | 1 | 2 => 1,
-        3 | 4 | 5 => 1048576,
-        6 => 0,
-        7 => 1048577,
-        _ => k / 16 % 1500,
-    }
-}
-
-fn drawn(rt: &impl Abort, state: &mut u64, issued: u32) -> Change {
-    let kind = next(state) % 100;
-    let k = next(state);
-    if kind < 6 {
-        return Change::MakeCurrency(currency(rt, k));
-    }
-    if kind < 9 {
-        return Change::RemoveCurrency(currency(rt, k));
-    }
-    if kind < 15 {
-        return Change::MakeTicket(amount(k), currency(rt, next(state)));
-    }
-    if kind < 24 {
-        return Change::MakeTicket(amount(k), currency(rt, u64::from(issued)));
-    }
-    if kind < 40 {
-        return Change::RemoveTicket(ticket(state, issued));
-    }
-    if kind < 50 {
-        return Change::FundCurrency(ticket(state, issued), currency(rt, k));
-    }
-    if kind < 65 {
-        let row = ticket(state, issued);
-        return Change::FundCurrency(row, currency(rt, row.saturating_add(1)));
-    }
-    if kind < 80 {
-        return Change::FundFlow(ticket(state, issued), flow(rt, k));
-    }
-    if kind < 92 {
-        return Change::Unfund(ticket(state, issued));
-    }
-    Change::Open(flow(rt, k))
 }
 
 fn bit_of(refusal: &Refusal) -> u64 {
     1_u64.wrapping_shl(refusal.number())
 }
 
-fn met_in(reply: Reply) -> u64 {
-    match reply {
-        Reply::Refused(refusal) => bit_of(&refusal),
-        _ => 0,
+/// What a run met: the refusals of each command, how often a currency came to be backed by one that was made after it,
+/// how many currencies were removed before others that were made after them, and how many flows were closed.
+#[derive(Clone, Copy)]
+struct Met {
+    refusals: [u64; 8],
+    late: u32,
+    middle: u32,
+    closed: u32,
+}
+
+const NOTHING: Met = Met {
+    refusals: [0; 8],
+    late: 0,
+    middle: 0,
+    closed: 0,
+};
+
+/// What is seen of a change before it is made.
+#[derive(Clone, Copy)]
+struct Noted {
+    kind: usize,
+    late: bool,
+    middle: bool,
+}
+
+impl Met {
+    fn add_refusal(&mut self, kind: usize, refusal: &Refusal) {
+        if let Some(met) = self.refusals.get_mut(kind) {
+            *met |= bit_of(refusal);
+        }
+    }
+
+    fn add(&mut self, noted: &Noted, answer: Reply) {
+        if let Reply::Refused(refusal) = answer {
+            self.add_refusal(noted.kind, &refusal);
+            return;
+        }
+        self.late = self.late.saturating_add(u32::from(noted.late));
+        self.middle = self.middle.saturating_add(u32::from(noted.middle));
+    }
+
+    fn has(&self, kind: usize, refusal: &Refusal) -> bool {
+        match self.refusals.get(kind) {
+            Some(met) => met & bit_of(refusal) != 0,
+            None => false,
+        }
     }
 }
 
-/// The refusals that a long run has to meet.
-const REFUSALS: [Refusal; 12] = [
-    Refusal::Range,
-    Refusal::NoCurrency,
-    Refusal::NoTicket,
-    Refusal::NoFlow,
-    Refusal::Taken,
-    Refusal::Base,
-    Refusal::InUse,
-    Refusal::Funding,
-    Refusal::Unfunded,
-    Refusal::Crowded,
-    Refusal::Cycle,
-    Refusal::Deep,
-];
+// Whether a ticket is denominated in a currency that was made after another one.
+fn is_late(model: &Model, ticket: u64, currency: Name) -> bool {
+    match model.denomination(ticket) {
+        Some(denomination) => model.place_of(denomination) > model.place_of(currency),
+        None => false,
+    }
+}
+
+// Whether other currencies were made after one.
+fn is_in_the_middle(model: &Model, name: Name) -> bool {
+    match model.place_of(name) {
+        Some(place) => place.saturating_add(1) < model.currency_count(),
+        None => false,
+    }
+}
+
+fn seen(model: &Model, change: &Change) -> Noted {
+    let late = match change {
+        Change::FundCurrency(ticket, currency) => is_late(model, *ticket, *currency),
+        _ => false,
+    };
+    let middle = match change {
+        Change::RemoveCurrency(name) => is_in_the_middle(model, *name),
+        _ => false,
+    };
+    Noted {
+        kind: kind_of(change),
+        late,
+        middle,
+    }
+}
 
 // The number of an open flow, which both give.
 fn number_in_both(rt: &impl Abort, ledger: &Ledger, model: &Model, name: Name) -> Option<u32> {
@@ -118,128 +142,169 @@ fn number_in_both(rt: &impl Abort, ledger: &Ledger, model: &Model, name: Name) -
     number
 }
 
+fn is_taken(rt: &impl Abort, ledger: &Ledger, model: &Model, name: Name) {
+    let refusal = ledger.add_flow_refusal(name);
+    let refused = model.flow(name).is_some() || model.flow_count() == 64;
+    assert_eq!(rt; refusal.is_some(), refused);
+}
+
+// Asks both for a change, compares the answers, and keeps what was met.
+fn ask(
+    rt: &impl Abort,
+    draws: &mut Draws,
+    scene: &Scene,
+    ledger: &mut Ledger,
+    model: &mut Model,
+    met: &mut Met,
+) {
+    let asked = draws::drawn(rt, draws, scene, model);
+    let noted = seen(model, &asked);
+    let same = asked;
+    let wanted = model.apply(same).expect(rt, "memory");
+    assert_eq!(rt; apply(ledger, asked), wanted);
+    met.add(&noted, wanted);
+}
+
 fn set_active(ledger: &mut Ledger, model: &mut Model, flow: u32, active: bool) {
     ledger.set_active(FlowNo(flow), active);
     model.set_active(flow, active);
 }
 
-fn close(ledger: &mut Ledger, model: &mut Model, flow: u32) {
+fn close(ledger: &mut Ledger, model: &mut Model, flow: u32, name: Name) {
     ledger.remove_flow(FlowNo(flow));
-    model.close(flow);
+    model.close(name);
 }
 
-fn is_taken(rt: &impl Abort, ledger: &Ledger, name: Name, taken: bool) {
-    assert_eq!(rt; ledger.add_flow_refusal(name).is_some(), taken);
-}
-
-// Asks both for a change, and compares the answers.
-fn ask(rt: &impl Abort, state: &mut u64, ledger: &mut Ledger, model: &mut Model) -> Reply {
-    let asked = drawn(rt, state, ledger.next_ticket());
-    let same = asked;
-    let wanted = model.apply(same).expect(rt, "memory");
-    assert_eq!(rt; apply(ledger, asked), wanted);
-    wanted
-}
-
-// Makes one step on both: a flow turns active or idle, or is removed, or a change is asked of both. Gives the answer
-// to the change, if it was one.
-fn step(rt: &impl Abort, state: &mut u64, ledger: &mut Ledger, model: &mut Model) -> Reply {
-    let k = next(state);
-    let name = flow(rt, k);
+// Makes one step on both: a flow turns active or idle, or is removed, or a change is asked of both.
+fn step(
+    rt: &impl Abort,
+    draws: &mut Draws,
+    scene: &Scene,
+    ledger: &mut Ledger,
+    model: &mut Model,
+    met: &mut Met,
+) {
+    let k = draws.next();
+    let name = draws::flow(rt, draws, scene);
     match number_in_both(rt, ledger, model, name) {
-        Some(number) if k % 64 < 30 => set_active(ledger, model, number, k % 3 > 0),
-        Some(number) if k % 64 == 30 => close(ledger, model, number),
-        number => {
-            is_taken(rt, ledger, name, number.is_some());
-            return ask(rt, state, ledger, model);
+        Some(number) if k % 64 < 24 => set_active(ledger, model, number, k % 3 > 0),
+        Some(number) if k % 128 == 127 => {
+            close(ledger, model, number, name);
+            met.closed = met.closed.saturating_add(1);
+        }
+        _ => {
+            is_taken(rt, ledger, model, name);
+            ask(rt, draws, scene, ledger, model, met);
         }
     }
-    Reply::Done
-}
-
-// Whether both have the same flows open, in the same order, with the same tickets by place.
-fn agree_by_place(rt: &impl Abort, ledger: &Ledger, model: &Model) -> bool {
-    let count = model.flow_count();
-    if ledger.flow_count() != count || ledger.flow_at(count).is_some() {
-        return false;
-    }
-    for place in 0..ledger.flow_count() {
-        let (name, flow) = ledger.flow_at(place).expect(rt, "an open flow");
-        if model.flow_at(place) != Some((name, flow.number.number(), flow.active)) {
-            return false;
-        }
-        if u64::from(ledger.tickets_at(place)) != model.tickets(flow.number.number()) {
-            return false;
-        }
-    }
-    true
-}
-
-// Whether both give each open flow the same tickets.
-fn agree(rt: &impl Abort, ledger: &Ledger, model: &Model) -> bool {
-    for k in 0..5 {
-        if let Some(number) = model.flow(flow(rt, k)) {
-            if u64::from(ledger.tickets(FlowNo(number))) != model.tickets(number) {
-                return false;
-            }
-        }
-    }
-    true
 }
 
 fn compare(rt: &impl Abort, ledger: &Ledger, model: &Model, count: u32) {
-    assert!(rt; agree(rt, ledger, model), "after step {count}");
-    assert!(rt;
-        agree_by_place(rt, ledger, model),
-        "by place after step {count}"
-    );
-}
-
-fn met_all(rt: &impl Abort, met: u64) {
-    for refusal in REFUSALS {
-        assert!(rt;
-            met & bit_of(&refusal) != 0,
-            "the run never met {refusal:?}"
-        );
+    if let Some(what) = agrees::difference(ledger, model) {
+        assert!(rt; false, "they differ in {what} after step {count}");
     }
 }
 
-// A run from a state of the generator.
-fn run(rt: &impl Abort, ledger: &mut Ledger, model: &mut Model, seed: u64) {
-    let mut state = seed;
-    let mut met: u64 = 0;
-    for count in 0..STEPS {
-        met |= met_in(step(rt, &mut state, ledger, model));
+// The refusals of full tables are met where the tables are to be full.
+fn is_wanted(scene: &Scene, refusal: &Refusal) -> bool {
+    scene.tickets >= 1024 || bit_of(refusal) != bit_of(&Refusal::TableFull)
+}
+
+fn met_all(rt: &impl Abort, scene: &Scene, met: &Met) {
+    for kind in 0..REFUSALS.len() {
+        for refusal in REFUSALS[kind] {
+            assert!(rt;
+                !is_wanted(scene, refusal) || met.has(kind, refusal),
+                "the run never met {refusal:?} of command {kind}"
+            );
+        }
+    }
+    assert!(rt; met.late >= 100, "few backings were late");
+    assert!(rt; met.middle >= 10, "few were removed in the middle");
+    assert!(rt; met.closed >= 50, "few flows were closed");
+}
+
+fn run(rt: &impl Abort, ledger: &mut Ledger, model: &mut Model, scene: &Scene) {
+    let mut draws = Draws::new(scene.seed);
+    let mut met = NOTHING;
+    for count in 0..scene.steps {
+        step(rt, &mut draws, scene, ledger, model, &mut met);
         model.settle();
         compare(rt, ledger, model, count);
     }
-    met_all(rt, met);
+    met_all(rt, scene, &met);
 }
 
-fn runs_from_the_start(rt: &impl Abort, alloc: Global, seed: u64) {
+fn plays(rt: &impl Abort, alloc: Global, scene: &Scene) {
     let mut model = Model::new(alloc, name(rt, "base")).expect(rt, "memory");
     let mut ledger = empty(rt, alloc);
-    run(rt, &mut ledger, &mut model, seed);
+    run(rt, &mut ledger, &mut model, scene);
     drop(ledger);
     drop(model);
 }
 
-#[test]
-fn long_run_beside_a_plain_model(rt: HostRuntime) {
-    runs_from_the_start(&rt, rt.alloc(), 88172645463325252);
+// Few names, so that most tickets meet again.
+fn few(seed: u64) -> Scene {
+    Scene {
+        seed,
+        steps: 45000,
+        currencies: 12,
+        flows: 5,
+        tickets: 120,
+        keeping: 1,
+    }
+}
+
+// So many names that no table is full, and chains of all lengths.
+fn many(seed: u64) -> Scene {
+    Scene {
+        seed,
+        steps: 40000,
+        currencies: 30,
+        flows: 20,
+        tickets: 300,
+        keeping: 1,
+    }
+}
+
+// More names than the tables have places, and as many tickets as there can be.
+fn full(seed: u64) -> Scene {
+    Scene {
+        seed,
+        steps: 20000,
+        currencies: 80,
+        flows: 90,
+        tickets: 1024,
+        keeping: 4,
+    }
 }
 
 #[test]
-fn second_run_beside_a_plain_model(rt: HostRuntime) {
-    runs_from_the_start(&rt, rt.alloc(), 3935559000370003845);
+fn few_names_beside_a_plain_model(rt: HostRuntime) {
+    plays(&rt, rt.alloc(), &few(88172645463325252));
 }
 
 #[test]
-fn third_run_beside_a_plain_model(rt: HostRuntime) {
-    runs_from_the_start(&rt, rt.alloc(), 2685821657736338717);
+fn few_names_once_more(rt: HostRuntime) {
+    plays(&rt, rt.alloc(), &few(3935559000370003845));
 }
 
 #[test]
-fn fourth_run_beside_a_plain_model(rt: HostRuntime) {
-    runs_from_the_start(&rt, rt.alloc(), 1181783497276652981);
+fn many_names_beside_a_plain_model(rt: HostRuntime) {
+    plays(&rt, rt.alloc(), &many(2685821657736338717));
+}
+
+#[test]
+fn many_names_once_more(rt: HostRuntime) {
+    plays(&rt, rt.alloc(), &many(1181783497276652981));
+}
+
+#[test]
+fn full_tables_beside_a_plain_model(rt: HostRuntime) {
+    plays(&rt, rt.alloc(), &full(1442695040888963407));
+}
+
+#[test]
+fn full_tables_once_more(rt: HostRuntime) {
+    plays(&rt, rt.alloc(), &full(6364136223846793005));
 }

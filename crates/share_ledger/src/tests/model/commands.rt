@@ -1,11 +1,42 @@
 //! The commands of the plain model.
 
-use super::{Account, Funds, Issued, Model, Opened, funds_currency, funds_flow, is_held};
+use super::{
+    BASE, CURRENCIES, FLOWS, Funds, Issued, Made, Model, Opened, chains, funds_currency,
+    funds_flow, is_held, uses,
+};
 use crate::tests::Change;
 use share_base::{FlowNo, Name, Refusal, Reply, TicketNo};
 use std::alloc::AllocError;
 
 impl Model {
+    fn hold(&mut self, number: u64, funds: &Funds) {
+        for ticket in self.issued.iter_mut() {
+            if u64::from(ticket.number) == number {
+                ticket.funds = *funds;
+            }
+        }
+    }
+
+    // A slot that no currency has.
+    fn free_currency(&self) -> Option<usize> {
+        for slot in 0..CURRENCIES {
+            if !self.made.iter().any(|made| made.slot == slot) {
+                return Some(slot);
+            }
+        }
+        None
+    }
+
+    // A slot that no flow has.
+    fn free_flow(&self) -> Option<usize> {
+        for slot in 0..FLOWS {
+            if !self.opened.iter().any(|open| open.slot == slot) {
+                return Some(slot);
+            }
+        }
+        None
+    }
+
     pub(crate) fn set_active(&mut self, flow: u32, active: bool) {
         for open in self.opened.iter_mut() {
             if open.number == flow {
@@ -14,79 +45,87 @@ impl Model {
         }
     }
 
-    pub(crate) fn close(&mut self, flow: u32) {
+    // The tickets that fund a flow fund nothing any more.
+    fn release(&mut self, flow: usize) {
         for ticket in self.issued.iter_mut() {
             if funds_flow(ticket, flow) {
                 ticket.funds = Funds::Nothing;
             }
         }
-        self.opened.retain(|open| open.number != flow);
+    }
+
+    pub(crate) fn close(&mut self, name: Name) {
+        if let Some(closed) = self.open_flow(name) {
+            self.release(closed.slot);
+            self.opened.retain(|open| open.slot != closed.slot);
+        }
+    }
+
+    fn count_backing(&self, currency: usize) -> usize {
+        self.issued
+            .iter()
+            .filter(|ticket| funds_currency(ticket, currency))
+            .count()
+    }
+
+    fn count_funding(&self, flow: usize) -> usize {
+        self.issued
+            .iter()
+            .filter(|ticket| funds_flow(ticket, flow))
+            .count()
     }
 
     fn fund_currency(&mut self, number: u64, name: Name) -> Option<Refusal> {
         let Some(ticket) = self.ticket(number) else {
             return Some(Refusal::NoTicket);
         };
-        if !self.has_currency(name) {
+        let Some(slot) = self.currency(name) else {
             return Some(Refusal::NoCurrency);
-        }
-        if self.is_base(name) {
+        };
+        if slot == BASE {
             return Some(Refusal::Base);
         }
         if is_held(ticket.funds) {
             return Some(Refusal::Funding);
         }
-        if self
-            .issued
-            .iter()
-            .filter(|other| funds_currency(other, name))
-            .count()
-            >= 16
-        {
+        if self.count_backing(slot) >= 16 {
             return Some(Refusal::Crowded);
         }
-        self.hold(number, &Funds::Currency(name));
-        let greatest = self.greatest_rank();
-        if greatest < 8 {
-            return None;
-        }
-        self.hold(number, &Funds::Nothing);
-        if greatest >= 12 {
+        if chains::leads(&self.issued, slot, ticket.currency) {
             return Some(Refusal::Cycle);
         }
-        Some(Refusal::Deep)
+        self.hold(number, &Funds::Currency(slot));
+        if chains::longest(&self.issued) > 8 {
+            self.hold(number, &Funds::Nothing);
+            return Some(Refusal::Deep);
+        }
+        None
     }
 
     fn fund_flow(&mut self, number: u64, name: Name) -> Option<Refusal> {
         let Some(ticket) = self.ticket(number) else {
             return Some(Refusal::NoTicket);
         };
-        let Some(flow) = self.flow(name) else {
+        let Some(flow) = self.open_flow(name) else {
             return Some(Refusal::NoFlow);
         };
         if is_held(ticket.funds) {
             return Some(Refusal::Funding);
         }
-        if self
-            .issued
-            .iter()
-            .filter(|other| funds_flow(other, flow))
-            .count()
-            >= 16
-        {
+        if self.count_funding(flow.slot) >= 16 {
             return Some(Refusal::Crowded);
         }
-        self.hold(number, &Funds::Flow(flow));
+        self.hold(number, &Funds::Flow(flow.slot));
         None
     }
 
-    fn make_ticket(&mut self, amount: u64, currency: Name) -> Result<Reply, AllocError> {
+    fn make_ticket(&mut self, amount: u64, name: Name) -> Result<Reply, AllocError> {
         if amount < 1 || amount > 1048576 {
             return Ok(Reply::Refused(Refusal::Range));
         }
-        if !self.has_currency(currency) {
+        let Some(currency) = self.currency(name) else {
             return Ok(Reply::Refused(Refusal::NoCurrency));
-        }
+        };
         if self.issued.len() >= 1024 {
             return Ok(Reply::Refused(Refusal::TableFull));
         }
@@ -102,15 +141,16 @@ impl Model {
     }
 
     fn open(&mut self, name: Name) -> Result<Reply, AllocError> {
-        if self.flow(name).is_some() {
+        if self.open_flow(name).is_some() {
             return Ok(Reply::Refused(Refusal::Taken));
         }
-        if self.opened.len() >= 64 {
+        let Some(slot) = self.free_flow() else {
             return Ok(Reply::Refused(Refusal::TableFull));
-        }
+        };
         let number = self.next_flow;
         self.opened.push(Opened {
             name,
+            slot,
             number,
             active: false,
         })?;
@@ -119,34 +159,27 @@ impl Model {
     }
 
     fn make_currency(&mut self, name: Name) -> Result<Reply, AllocError> {
-        if self.has_currency(name) {
+        if self.currency(name).is_some() {
             return Ok(Reply::Refused(Refusal::Taken));
         }
-        if self.accounts.len() >= 65 {
+        let Some(slot) = self.free_currency() else {
             return Ok(Reply::Refused(Refusal::TableFull));
-        }
-        self.accounts.push(Account {
-            name,
-            rank: 0,
-            active: 0,
-            value: 0,
-        })?;
+        };
+        self.made.push(Made { name, slot })?;
         Ok(Reply::Done)
     }
 
     fn remove_currency(&mut self, name: Name) -> Option<Refusal> {
-        if !self.has_currency(name) {
+        let Some(slot) = self.currency(name) else {
             return Some(Refusal::NoCurrency);
-        }
-        if self.is_base(name) {
+        };
+        if slot == BASE {
             return Some(Refusal::Base);
         }
-        if self.issued.iter().any(|ticket| ticket.currency == name
-            || funds_currency(ticket, name))
-        {
+        if self.issued.iter().any(|ticket| uses(ticket, slot)) {
             return Some(Refusal::InUse);
         }
-        self.accounts.retain(|account| account.name != name);
+        self.made.retain(|made| made.slot != slot);
         None
     }
 

@@ -247,7 +247,7 @@ fn plays(rt: &impl Abort, alloc: Global, scene: &Scene) {
 fn few(seed: u64) -> Scene {
     Scene {
         seed,
-        steps: 45000,
+        steps: 60000,
         currencies: 12,
         flows: 5,
         tickets: 120,
@@ -259,7 +259,7 @@ fn few(seed: u64) -> Scene {
 fn many(seed: u64) -> Scene {
     Scene {
         seed,
-        steps: 40000,
+        steps: 60000,
         currencies: 30,
         flows: 20,
         tickets: 300,
@@ -271,7 +271,7 @@ fn many(seed: u64) -> Scene {
 fn full(seed: u64) -> Scene {
     Scene {
         seed,
-        steps: 20000,
+        steps: 40000,
         currencies: 80,
         flows: 90,
         tickets: 1024,

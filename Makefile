@@ -25,6 +25,7 @@ test:
 	.ci/layers
 	RT_JOBS=$$(.ci/jobs) rt ci
 	.ci/memory
+	.ci/places
 	mkdir -p bin
 	cp crates/stridelink/out/stridelink bin/stridelink
 	examples/compare.sh

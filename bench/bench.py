@@ -3,10 +3,10 @@
 
 `bench.py scripts` runs the scripts alone, `bench.py loops` the loops over the ledger and the stride queue, and
 `bench.py graphs` counts the instructions of lines over graphs of currencies that are made in several orders (by
-valgrind, whatever else the machine does); without a word all are run. A time is the processor time, user and system, of a whole run, the median of ROUNDS rounds in which
-the programs take turns, and a ratio is the median of the rounds' ratios; machines are noisy, so the ratios of one run
-are what to read. Nothing is written but a folder of scripts and outputs in the system's temporary folder, which is
-removed.
+valgrind, whatever else the machine does); without a word all are run. A time is the processor time, user and system,
+of a whole run, the median of ROUNDS rounds in which the programs take turns, and a ratio is the median of the rounds'
+ratios; machines are noisy, so the ratios of one run are what to read. Nothing is written but a folder of scripts and
+outputs in the system's temporary folder, which is removed.
 """
 import filecmp
 import os

@@ -37,7 +37,8 @@ pub fn audits_replay<W: Telling, S: Rates>(recorder: &Recorder<W, S>)
     ensures ample { (life : ℕ) (lacks : List Bool) → recorder.now.link.life ≤ life → IsAmple lacks
         → IsReplayOf W.told recorder.now.link recorder.now.entries life lacks }
     ensures answered { (life : ℕ) (lacks : List Bool) → recorder.now.link.life ≤ life
-        → FoundMemory (talk life recorder.now.link.rates start lacks (lines_of (audit (events_of recorder.now.entries))))
+        → FoundMemory (talk life recorder.now.link.rates start lacks
+            (lines_of (audit (events_of recorder.now.entries))))
         → IsReplayOf W.told recorder.now.link recorder.now.entries life lacks }
 {
     // What `journal` answers is not used: its contract says that the entries are a run.

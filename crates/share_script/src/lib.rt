@@ -1,5 +1,5 @@
-//! Scripts: their lines, read from bytes, and whole scripts, run on a link from a reader to a writer. Connections: their
-//! lines, as they come.
+//! Scripts: their lines, read from bytes, and whole scripts, run on a link from a reader to a writer. Connections:
+//! their lines, as they come.
 #![tactic(auto)]
 
 mod answers;

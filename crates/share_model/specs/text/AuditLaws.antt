@@ -31,7 +31,8 @@ use Rattle.share_model.specs.text.EventsLaws.{after-state, talk-texts}
 use Rattle.share_model.specs.text.FeedLaws.{lines-all}
 use Rattle.share_model.specs.text.Lines.{hex, spelled, line_by, reading, is_in_range, IsName, IsNumber, HasFields}
 use Rattle.share_model.specs.text.LinesLaws.{reading-line}
-use Rattle.share_model.specs.text.Talk.{Progress, start, onward, stepped, line_event, read_event, answered, answer, first_flag}
+use Rattle.share_model.specs.text.Talk.{Progress, start, onward, stepped, line_event, read_event, answered, answer}
+use Rattle.share_model.specs.text.Talk.{first_flag}
 use Rattle.share_model.specs.text.Talk.{talk, after, lines_of}
 use Rattle.share_model.specs.text.Texts.{line_text}
 use Rattle.share_model.specs.text.WordLaws.{length-hex}

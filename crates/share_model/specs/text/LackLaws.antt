@@ -25,15 +25,17 @@ use Rattle.share_model.specs.text.FeedLaws.{lines-feed}
 use Rattle.share_model.specs.text.Lines.{reading}
 use Rattle.share_model.specs.text.Report.{report, report_text, totals_text, flow_line, flow_shown}
 use Rattle.share_model.specs.text.Talk.{Progress, refused, is_syntax, finds_none, line_event, read_event, answered}
-use Rattle.share_model.specs.text.Talk.{unless_over, write_event, fault_event, audit_event, is_first, answer, first_flag}
-use Rattle.share_model.specs.text.Talk.{talk, after, is_feed, lines_of, FoundMemory}
+use Rattle.share_model.specs.text.Talk.{unless_over, write_event, fault_event, audit_event, is_first, answer}
+use Rattle.share_model.specs.text.Talk.{first_flag, talk, after, is_feed, lines_of, FoundMemory}
 use Rattle.share_model.specs.text.Texts.{outcome_text, line_text}
 
 -- The lines of a text that a line feed ends
 
 clean-all : (bs : List ℕ) → list_all (λ b. not (is_feed b)) bs ≡ true → All (λ b. is_feed b ≡ false) bs
 clean-all [] h = λ k d z. absurd (omega arith)
-clean-all (b ∷ bs) h = let both = and_parts _ _ h in All-cons (λ c. is_feed c ≡ false) b bs (no_feed b both.0) (clean-all bs both.1)
+clean-all (b ∷ bs) h =
+    let both = and_parts _ _ h in
+    All-cons (λ c. is_feed c ≡ false) b bs (no_feed b both.0) (clean-all bs both.1)
   where
     no_feed : (c : ℕ) → not (is_feed c) ≡ true → is_feed c ≡ false
     no_feed c h = grind (arith, nat_tests)

@@ -1,8 +1,8 @@
 //! What the plain writer and the plain reader make of each answer of what they wrap, how often they call it, and with
-//! how many bytes. std's traits tell nothing of an error's kind, and no contract counts calls. So bodies like these meet
-//! every clause, and a test here sees each of them: an interruption told as a failure, and a failure, also of one kind
-//! alone, as an interruption; an end, or 0 accepted bytes, told as a failure or as an interruption; no call where there
-//! are more than 4096 or 40000 bytes, or none; half of the bytes handed on; a second call after one that was
+//! how many bytes. std's traits tell nothing of an error's kind, and no contract counts calls. So bodies like these
+//! meet every clause, and a test here sees each of them: an interruption told as a failure, and a failure, also of one
+//! kind alone, as an interruption; an end, or 0 accepted bytes, told as a failure or as an interruption; no call where
+//! there are more than 4096 or 40000 bytes, or none; half of the bytes handed on; a second call after one that was
 //! interrupted, failed or accepted nothing; a flush.
 ghost use Rattle.std.specs.Prelude.{◌≤◌, IfOk};
 

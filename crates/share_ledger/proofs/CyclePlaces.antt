@@ -4,7 +4,7 @@ use Rattle.std.proofs.Common.{Some, List, bytes_eq, nat_eq, nat_lt, refl, sym, a
 use Rattle.std.proofs.Common.{arith}
 use Rattle.std.specs.List.{list_any}
 use Rattle.std.proofs.Math.Bool.{or-true}
-use Rattle.std.proofs.lemmas.Bool.{eqb-true, lt-ltb, ltb-true}
+use Rattle.std.proofs.lemmas.Bool.{eq-eqb, eqb-true, lt-ltb, ltb-true}
 use Rattle.std.proofs.lemmas.Bool.Decides.{nat_tests}
 use Rattle.share_model.specs.declared.funding.Holder.{Holder}
 use Rattle.share_model.specs.declared.funding.Holder.TheVariants.{Nobody, Currency, Flow}
@@ -70,9 +70,6 @@ module _ (g : Graph) (ok : IsKept g) (ss : List (List Seat)) (seated : AreSeated
   abbrev is_flagged : NameBytes → Bool
   is_flagged a = flag (place (names_of g) a)
 
-  self : (n : ℕ) → nat_eq n n ≡ true
-  self n = grind (arith, nat_tests)
-
   itself : (d : NameBytes) → chain g.tickets 0 d d ≡ true
   unfolding chain
   itself d = name_refl d
@@ -111,7 +108,7 @@ module _ (g : Graph) (ok : IsKept g) (ss : List (List Seat)) (seated : AreSeated
           let up = past-base g d (name_sym d base ∙ sym (ap (is_held_by_currency base) held) ∙ at.unbacked) in
           let ticket : backs g ss seated flag p t ≡ true =
           ap (λ h. leads_on (λ e. nat_eq p (place (names_of g) e)) h && is_flagged t.denomination) held
-          ∙ ap (λ b. b && is_flagged t.denomination) (self p) ∙ from in
+          ∙ ap (λ b. b && is_flagged t.denomination) (eq-eqb p p refl) ∙ from in
           rest d
           (backed.step p up lt
           ∙ ap (λ b. nat_eq p (place (names_of g) c) || b)
@@ -178,7 +175,7 @@ module _ (g : Graph) (ok : IsKept g) (ss : List (List Seat)) (seated : AreSeated
           same_name a back.holder
           (sym (place-same a back.holder (names_of g) there)
           ∙ ap (λ r. nat_eq r (place (names_of g) back.holder)) back.at
-          ∙ self (place (names_of g) back.holder)) in
+          ∙ eq-eqb (place (names_of g) back.holder) (place (names_of g) back.holder) refl) in
           rest t.denomination one.1.0.denomination_known (ltb-true (rank q) (rank p) two.1) two.0
           (chain-on t back.holder d k back.held one.1.1.1 (ap (λ b. chain g.tickets k b d) (sym same) ∙ on))
 
@@ -193,7 +190,7 @@ module _ (g : Graph) (ok : IsKept g) (ss : List (List Seat)) (seated : AreSeated
   backs-within d there = by (is_flagged d) refl (chain_within g.tickets 8 c d) refl
     where
       lit : is_flagged c ≡ true
-      lit = grind (arith, nat_tests, past-base, below, self)
+      lit = grind (arith, nat_tests, past-base, below, eq-eqb)
 
       by : (x : Bool) → is_flagged d ≡ x → (y : Bool) → chain_within g.tickets 8 c d ≡ y
           → is_flagged d ≡ chain_within g.tickets 8 c d

@@ -2,7 +2,7 @@
 use Rattle.std.proofs.Common.{◌≡◌, ◌≤◌, ◌<◌, ℕ, zero, suc, Bool, true, false, cond, List, [], ◌∷◌, map, length, get_or}
 use Rattle.std.proofs.Common.{position, nat_eq, nat_lt, Some, refl, sym, ap, ◌∙◌, arith}
 use Rattle.std.specs.Set.{remove_key}
-use Rattle.std.proofs.lemmas.Bool.{eqb-true, ltb-true}
+use Rattle.std.proofs.lemmas.Bool.{ltb-false, eqb-true, ltb-true}
 use Rattle.std.proofs.lemmas.Bool.Decides.{nat_tests}
 use Rattle.share_model.specs.declared.funding.Holder.{Holder}
 use Rattle.share_model.specs.declared.funding.Holder.TheVariants.{Nobody, Currency, Flow}
@@ -70,12 +70,9 @@ module _ (g : Graph) (ok : IsKept g) (f i : ℕ) (first : IsFirstAt (is_open_as 
       none [] e = tt
       none (x ∷ xs) e = absurd (omega arith)
 
-      past : (m n : ℕ) → nat_lt m n ≡ false → n ≤ m
-      past m n e = grind (arith, nat_tests)
-
       by : (b : Bool) → nat_lt p i ≡ b → Each (λ s. before p s ≡ true) (seats_at fs p)
       by true e = all e (seats_at fs p)
-      by false e = none (seats_at fs p) (empty p (past p i e) lt)
+      by false e = none (seats_at fs p) (empty p (ltb-false p i e) lt)
 
   -- a ticket that funds a flow funds one before it
   abbrev IsEarly : Ticket → Type 0

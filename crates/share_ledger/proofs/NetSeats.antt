@@ -101,9 +101,7 @@ length-parts [] = refl
 length-parts (e ∷ es) = let rest = length-parts es in omega arith
 
 pub activity-beyond : (g : Graph) (k : ℕ) → length g.flows ≤ k → activity_of g k ≡ false
-activity-beyond g k le =
-    beyond (map (λ (e : NameBytes × OpenFlow). e.1.active) g.flows) false k
-    (let same = length-parts g.flows in omega arith)
+activity-beyond g k le = grind (arith, nat_tests, length-parts g.flows, beyond)
 
 -- the activity of the flow at a place
 pub activity-here : (g : Graph) (i : ℕ) (b : Bool)

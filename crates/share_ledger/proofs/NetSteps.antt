@@ -24,17 +24,10 @@ use Rattle.share_ledger.proofs.RoutesDone.{done-within, done-few}
 -- an array that is written at one place
 pub array-set : {X : Type 0} (xs : List X) (p k : ℕ) (y d : X) → p < length xs
     → get_or (set xs p y) k d ≡ cond (nat_eq p k) y (get_or xs k d)
-array-set xs p k y d lt = by (nat_eq p k) refl
-  where
-    same : (a b : ℕ) → nat_eq a b ≡ true → b ≡ a
-    same a b e = grind (arith, nat_tests)
-
-    apart : (a b : ℕ) → nat_eq a b ≡ false → b ≡ a → ⊥
-    apart a b e = grind (arith, nat_tests)
-
-    by : (b : Bool) → nat_eq p k ≡ b → get_or (set xs p y) k d ≡ cond b y (get_or xs k d)
-    by true e = get_or-set_at xs p k y d (same p k e) lt
-    by false e = get_or-set_other xs p k y d (apart p k e)
+array-set xs p k y d lt =
+    let at = λ (e : k ≡ p). get_or-set_at xs p k y d e lt in
+    let past = λ (e : k ≡ p → ⊥). get_or-set_other xs p k y d e in
+    grind (arith, nat_tests)
 
 pub sum_two : {X : Type 0} (v w u : X → ℕ) (xs : List X) → ((x : X) → v x + w x ≡ u x)
     → sum_by v xs + sum_by w xs ≡ sum_by u xs
@@ -76,15 +69,7 @@ module _ (on more : ℕ → Bool) (p : ℕ) (off : on p ≡ false)
 -- one place fewer is awake: the others are as they were
 pub rests : (on less : ℕ → Bool) (p : ℕ) → on p ≡ true → ((k : ℕ) → less k ≡ cond (nat_eq p k) false (on k))
     → (k : ℕ) → on k ≡ cond (nat_eq p k) true (less k)
-rests on less p lit off k = by (nat_eq p k) refl
-  where
-    same : (a b : ℕ) → nat_eq a b ≡ true → b ≡ a
-    same a b e = grind (arith, nat_tests)
-
-    by : (b : Bool) → nat_eq p k ≡ b → on k ≡ cond (nat_eq p k) true (less k)
-    by true e = ap on (same p k e) ∙ lit ∙ sym (ap (λ b. cond b true (less k)) e)
-    by false e =
-        sym (off k ∙ ap (λ b. cond b false (on k)) e) ∙ sym (ap (λ b. cond b true (less k)) e)
+rests on less p lit off k = let here = off k in grind (arith, nat_tests)
 
 -- weights are small
 pub counted-bound : (g : Graph) (awake active : ℕ → Bool) (whole : ℕ → ℕ) → IsKept g
@@ -113,93 +98,20 @@ taken-none spot n x (s ∷ ss) le before =
     apart : (a b : ℕ) → (b ≡ a → ⊥) → nat_eq a b ≡ false
     apart a b differs = grind (arith, nat_tests, same_number)
 
--- A currency that wakes or rests
-module _ (backs funds : List Route) (bs : List (List Seat)) (seated : AreSeated backs bs) (p : ℕ) (lt : p < 65)
-    (ss : List Seat) (own : ss ≡ seats_at bs p) (on other active : ℕ → Bool) (whole next : ℕ → ℕ)
-    (counted : AreCounted backs funds on active whole) where
-  pub woken : on p ≡ false → ((k : ℕ) → other k ≡ cond (nat_eq p k) true (on k))
-      → ((x : ℕ) → x < 65 → next x ≡ whole x + taken ss x) → AreCounted backs funds other active next
-  woken off wakes more x below =
-      let was = counted x below in
-      let now = more x below in
-      let gain = gathered-more on other p off wakes backs (seats_at bs p) x (λ F. seated.seated F p lt) in
-      let same = ap (λ s. taken s x) own in
-      omega arith
+-- what is gathered where a holder wakes, and where it rests
+module _ (rs : List Route) (hs : List (List Seat)) (seated : AreSeated rs hs) (p : ℕ) (lt : p < 65) (ss : List Seat)
+    (own : ss ≡ seats_at hs p) (on other : ℕ → Bool) where
+  pub gathered-woken : on p ≡ false → ((k : ℕ) → other k ≡ cond (nat_eq p k) true (on k)) → (x : ℕ)
+      → gathered rs other x ≡ gathered rs on x + taken ss x
+  gathered-woken off wakes x =
+      rw own (gathered-more on other p off wakes rs (seats_at hs p) x (λ F. seated.seated F p lt))
 
-  pub rested-held : on p ≡ true → ((k : ℕ) → other k ≡ cond (nat_eq p k) false (on k)) → (x : ℕ) → x < 65
-      → taken ss x ≤ whole x
-  rested-held lit rest x below =
-      let was = counted x below in
-      let loss = gathered-more other on p (gone p) (rests on other p lit rest) backs (seats_at bs p) x
-      (λ F. seated.seated F p lt) in
-      let same = ap (λ s. taken s x) own in
-      omega arith
-    where
-      self : nat_eq p p ≡ true
-      self = grind (arith, nat_tests)
-
-      gone : (k : ℕ) → other p ≡ false
-      gone k = rest p ∙ ap (λ b. cond b false (on p)) self
-
-  pub rested : on p ≡ true → ((k : ℕ) → other k ≡ cond (nat_eq p k) false (on k))
-      → ((x : ℕ) → x < 65 → next x + taken ss x ≡ whole x) → AreCounted backs funds other active next
-  rested lit rest less x below =
-      let was = counted x below in
-      let now = less x below in
-      let loss = gathered-more other on p (gone p) (rests on other p lit rest) backs (seats_at bs p) x
-      (λ F. seated.seated F p lt) in
-      let same = ap (λ s. taken s x) own in
-      omega arith
-    where
-      self : nat_eq p p ≡ true
-      self = grind (arith, nat_tests)
-
-      gone : (k : ℕ) → other p ≡ false
-      gone k = rest p ∙ ap (λ b. cond b false (on p)) self
-
--- A flow that wakes or rests
-module _ (backs funds : List Route) (fs : List (List Seat)) (seated : AreSeated funds fs) (p : ℕ) (lt : p < 65)
-    (ss : List Seat) (own : ss ≡ seats_at fs p) (on other awake : ℕ → Bool) (whole next : ℕ → ℕ)
-    (counted : AreCounted backs funds awake on whole) where
-  pub flow-woken : on p ≡ false → ((k : ℕ) → other k ≡ cond (nat_eq p k) true (on k))
-      → ((x : ℕ) → x < 65 → next x ≡ whole x + taken ss x) → AreCounted backs funds awake other next
-  flow-woken off wakes more x below =
-      let was = counted x below in
-      let now = more x below in
-      let gain = gathered-more on other p off wakes funds (seats_at fs p) x (λ F. seated.seated F p lt) in
-      let same = ap (λ s. taken s x) own in
-      omega arith
-
-  pub flow-rested_held : on p ≡ true → ((k : ℕ) → other k ≡ cond (nat_eq p k) false (on k)) → (x : ℕ) → x < 65
-      → taken ss x ≤ whole x
-  flow-rested_held lit rest x below =
-      let was = counted x below in
-      let loss = gathered-more other on p (gone p) (rests on other p lit rest) funds (seats_at fs p) x
-      (λ F. seated.seated F p lt) in
-      let same = ap (λ s. taken s x) own in
-      omega arith
-    where
-      self : nat_eq p p ≡ true
-      self = grind (arith, nat_tests)
-
-      gone : (k : ℕ) → other p ≡ false
-      gone k = rest p ∙ ap (λ b. cond b false (on p)) self
-
-  pub flow-rested : on p ≡ true → ((k : ℕ) → other k ≡ cond (nat_eq p k) false (on k))
-      → ((x : ℕ) → x < 65 → next x + taken ss x ≡ whole x) → AreCounted backs funds awake other next
-  flow-rested lit rest less x below =
-      let was = counted x below in
-      let now = less x below in
-      let loss = gathered-more other on p (gone p) (rests on other p lit rest) funds (seats_at fs p) x
-      (λ F. seated.seated F p lt) in
-      let same = ap (λ s. taken s x) own in
-      omega arith
-    where
-      self : nat_eq p p ≡ true
-      self = grind (arith, nat_tests)
-
-      gone : (k : ℕ) → other p ≡ false
-      gone k = rest p ∙ ap (λ b. cond b false (on p)) self
+  pub gathered-rested : on p ≡ true → ((k : ℕ) → other k ≡ cond (nat_eq p k) false (on k)) → (x : ℕ)
+      → gathered rs on x ≡ gathered rs other x + taken ss x
+  gathered-rested lit rest x =
+      rw own
+      (gathered-more other on p (let gone = rest p in grind (arith, nat_tests)) (rests on other p lit rest) rs
+      (seats_at hs p) x (λ F. seated.seated F p lt))
 
 -- what seats are worth depends on the places that they come from alone
 pub weighed-before : (bs : List (List Seat)) (awake : ℕ → Bool) (v w whole : ℕ → ℕ) (p : ℕ) (P : Seat → Type 0)

@@ -47,10 +47,7 @@ place-base g c = grind (arith, nat_tests)
 
 -- where a name that is not `base` stands
 pub past-base : (g : Graph) (c : NameBytes) → bytes_eq c base ≡ false → 0 < place (names_of g) c
-past-base g c apart = by (place (names_of g) c) (place-base g c ∙ apart)
-  where
-    by : (p : ℕ) → nat_eq p 0 ≡ false → 0 < p
-    by p e = grind (arith, nat_tests)
+past-base g c apart = grind (arith, nat_tests, place-base g c)
 
 pub sum_by-map : {X Y : Type 0} (f : Y → ℕ) (h : X → Y) (xs : List X) → sum_by f (map h xs) ≡ sum_by (λ x. f (h x)) xs
 sum_by-map f h [] = refl

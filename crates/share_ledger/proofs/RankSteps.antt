@@ -3,7 +3,7 @@ use Rattle.std.proofs.Common.{◌≡◌, ◌<◌, ◌≤◌, ◌+◌, ◌∙◌,
 use Rattle.std.proofs.Common.{List, [], ◌∷◌, length, set, get_or, replicate, nat_eq, nat_lt, sum_by}
 use Rattle.std.proofs.Common.{refl, sym, ap, subst, true≢false, inl, inr, arith}
 use Rattle.std.specs.List.{list_all, list_any}
-use Rattle.std.proofs.lemmas.Bool.{eqb-true, lt-ltb, ltb-true, cases_lt}
+use Rattle.std.proofs.lemmas.Bool.{ltb-false, eqb-true, lt-ltb, ltb-true, cases_lt}
 use Rattle.std.proofs.lemmas.Bool.Decides.{nat_tests}
 use Rattle.std.proofs.lemmas.List.{length-set, get_or-replicate, get_or_past}
 use Rattle.std.proofs.lemmas.List.Sums.{sum_by-cons, sum_by-set}
@@ -351,13 +351,10 @@ some-deep ss link r was not-all =
     let one =
     one-fails (λ (n : ℕ). nat_lt n 9) r.ranks 0 (λ e. not-all (was.given.counted ∙ e ∙ was.given.ranks_long)) in
     let lt : one.0 < 65 = (let inside = one.1.0 in let long = was.given.ranks_long in omega arith) in
-    let high = not-lt (numbers_of r.ranks one.0) 9 one.1.1 in
+    let high = ltb-false (numbers_of r.ranks one.0) 9 one.1.1 in
     let up = above one.0 high in
     (one.0, (up, (lt, was.longest one.0 8 up lt (omega arith) (omega arith) (λ full. absurd (omega arith)))))
   where
-    not-lt : (a b : ℕ) → nat_lt a b ≡ false → b ≤ a
-    not-lt a b e = grind (arith, nat_tests)
-
     above : (p : ℕ) → 9 ≤ numbers_of r.ranks p → 0 < p
     above zero high = let base = was.given.base_rank in absurd (omega arith)
     above (suc p) high = omega arith

@@ -1,7 +1,7 @@
 -- The routes of the tickets one by one, and the places of flows.
 use Rattle.std.proofs.Common.{◌≡◌, ◌≤◌, ◌<◌, ◌+◌, ◌^◌, ℕ, zero, suc, Bool, true, false, cond, ◌&&◌, ◌||◌, min, List, []}
 use Rattle.std.proofs.Common.{◌∷◌, ◌++◌, map, filter, take, set, get_or, length, nat_eq, Some, option_map}
-use Rattle.std.proofs.Common.{slice_get, refl, sym, ap, ◌∙◌, arith, add-one}
+use Rattle.std.proofs.Common.{slice_get, refl, sym, ap, ◌∙◌, arith}
 use Rattle.std.specs.List.{list_any}
 use Rattle.std.proofs.Math.Seq.{take-suc-set}
 use Rattle.std.proofs.lemmas.List.{append-nil}
@@ -41,26 +41,19 @@ take-more (x ∷ ts) (suc i) t lt at = ap (λ l. x ∷ l) (take-more ts i t (ome
 
 routes-step : (g : Graph) (b : Bool) (ts : List Ticket) (i : ℕ) (t : Ticket) → i < length ts → t ≡ get_or ts i t
     → routes_of g b (take (i + 1) ts) ≡ routes_of g b (take i ts) ++ cond (is_kind b t.holder) (route_of g t ∷ []) []
-routes-step g b ts i t lt at =
-    ap (λ k. routes_of g b (take k ts)) (add-one i) ∙ ap (routes_of g b) (take-more ts i t lt at)
-    ∙ routes-append g b (take i ts) t
+routes-step g b ts i t lt at = grind (arith, nat_tests, take-more ts i t lt at, routes-append g b (take i ts) t)
 
 pub listed-more : (g : Graph) (b : Bool) (ts : List Ticket) (rs : List Route) (i n : ℕ) (t : Ticket) (r : Route)
     → i < length ts → t ≡ get_or ts i t → is_kind b t.holder ≡ true → r ≡ route_of g t → n < length rs
     → take n rs ≡ routes_of g b (take i ts) → take (n + 1) (set rs n r) ≡ routes_of g b (take (i + 1) ts)
 listed-more g b ts rs i n t r lt at kind same inside so_far =
-    ap (λ k. take k (set rs n r)) (add-one n) ∙ take-suc-set rs n r inside
-    ∙ ap (λ qs. qs ++ r ∷ []) so_far ∙ ap (λ q. routes_of g b (take i ts) ++ q ∷ []) same
-    ∙ ap (λ k. routes_of g b (take i ts) ++ cond k (route_of g t ∷ []) []) (sym kind)
-    ∙ sym (routes-step g b ts i t lt at)
+    grind (arith, nat_tests, take-suc-set rs n r inside, routes-step g b ts i t lt at)
 
 pub listed-skip : (g : Graph) (b : Bool) (ts : List Ticket) (rs : List Route) (i n : ℕ) (t : Ticket)
     → i < length ts → t ≡ get_or ts i t → is_kind b t.holder ≡ false
     → take n rs ≡ routes_of g b (take i ts) → take n rs ≡ routes_of g b (take (i + 1) ts)
 listed-skip g b ts rs i n t lt at kind so_far =
-    so_far ∙ sym (append-nil (routes_of g b (take i ts)))
-    ∙ ap (λ k. routes_of g b (take i ts) ++ cond k (route_of g t ∷ []) []) (sym kind)
-    ∙ sym (routes-step g b ts i t lt at)
+    grind (arith, nat_tests, append-nil (routes_of g b (take i ts)), routes-step g b ts i t lt at)
 
 -- Routes are within the places, and few
 pub route-within : (g : Graph) → IsKept g → (t : Ticket) → IsPlaced g t → IsRouteWithin (route_of g t)

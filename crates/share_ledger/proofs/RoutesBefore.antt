@@ -1,12 +1,12 @@
 -- Routes are the same where a currency behind all of them is removed.
-use Rattle.std.proofs.Common.{◌≡◌, ◌≤◌, ◌<◌, ℕ, Bool, true, false, cond, not, ◌&&◌, List, [], ◌∷◌}
+use Rattle.std.proofs.Common.{◌≡◌, ◌<◌, ℕ, Bool, true, false, cond, not, ◌&&◌, List, [], ◌∷◌}
 use Rattle.std.proofs.Common.{length, sum_by, bytes_eq, nat_eq, nat_lt, None, refl, sym, ap, ◌∙◌, arith}
 use Rattle.std.proofs.Common.{true≢false}
 use Rattle.std.specs.List.{list_all}
 use Rattle.std.specs.Set.{remove_key}
 use Rattle.std.proofs.lemmas.List.Sums.{sum_by-cons}
 use Rattle.std.proofs.lemmas.Bool.Decides.{nat_tests}
-use Rattle.std.proofs.lemmas.Bool.{and_parts, ltb-true}
+use Rattle.std.proofs.lemmas.Bool.{ltb-false, eq-eqb, and_parts, ltb-true}
 use Rattle.share_base.specs.declared.refusal.Refusal.TheVariants.{NoCurrency, Base}
 use Rattle.share_model.specs.declared.funding.Holder.{Holder}
 use Rattle.share_model.specs.declared.funding.Holder.TheVariants.{Nobody, Currency, Flow}
@@ -62,12 +62,9 @@ module _ (g : Graph) (b : Bool) (ss : List (List Seat)) (seated : AreSeated (rou
       (sym (no-faults p (seats_at ss p) (each p lt)) ∙ seated.seated (fault p) p lt
       ∙ sum-routes g (λ (r : Route). cond (nat_eq p r.to) (fault p (seat_of r)) 0) b)))
 
-  itself : (p : ℕ) → nat_eq p p ≡ true
-  itself p = grind (arith, nat_tests)
-
   pub route-tells : (t : Ticket) → (route_of g t).to < 65 → is_kind b t.holder ≡ true
       → ((p : ℕ) → p < 65 → ticket-part p t ≡ 0) → Q (route_of g t).to (seat_of (route_of g t)) ≡ true
-  route-tells t inside kind none = grind (arith, nat_tests, itself)
+  route-tells t inside kind none = grind (arith, nat_tests, eq-eqb)
 
 all-each : {X : Type 0} (p : X → Bool) (xs : List X) → list_all p xs ≡ true → Each (λ x. p x ≡ true) xs
 all-each p [] e = tt
@@ -89,9 +86,7 @@ module _ (g : Graph) (ok : IsKept g) (c : NameBytes) (unused : remove_currency_r
 
   stays : (d : NameBytes) → place (names_of g) d < place (names_of g) c
       → place (names_of g) d ≡ place (names_of (remove_currency g c)) d
-  stays d lt =
-      place-removed c d (names_of g) lt
-      ∙ ap (λ b. place (cond b g.currencies (base ∷ remove_key (bytes_eq c) g.currencies)) d) apart
+  stays d lt = grind (arith, nat_tests, place-removed c d (names_of g) lt, apart)
 
   -- a ticket that is a route, from before the currency and to before it
   abbrev IsEarly : Bool → Ticket → Type 0
@@ -132,14 +127,11 @@ module _ (g : Graph) (ok : IsKept g) (c : NameBytes) (unused : remove_currency_r
         none [] e = tt
         none (x ∷ xs) e = absurd (omega arith)
 
-        past : (m n : ℕ) → nat_lt m n ≡ false → n ≤ m
-        past m n e = grind (arith, nat_tests)
-
         by : (b : Bool) → nat_lt p (place (names_of g) c) ≡ b → Each (λ s. is_early p s ≡ true) (seats_at bs p)
         by true e =
             all e (seats_at bs p)
             (all-each (λ (s : Seat). nat_lt s.from (place (names_of g) c)) (seats_at bs p) (before.backed p lt))
-        by false e = none (seats_at bs p) (before.empty p (past p (place (names_of g) c) e) lt)
+        by false e = none (seats_at bs p) (before.empty p (ltb-false p (place (names_of g) c) e) lt)
 
     fund-seats : (p : ℕ) → p < 65 → Each (λ s. nat_lt s.from (place (names_of g) c) ≡ true) (seats_at fs p)
     fund-seats p lt =

@@ -2,7 +2,7 @@
 use Rattle.std.proofs.Common.{◌≡◌, ◌≤◌, ◌<◌, ◌+◌, ◌∙◌, ◌&&◌, ◌||◌, ℕ, zero, suc, Bool, true, false, not, cond}
 use Rattle.std.proofs.Common.{List, [], ◌∷◌, sum_by, bytes_eq, nat_eq, refl, sym, ap, subst, true≢false, arith}
 use Rattle.std.specs.List.{list_any}
-use Rattle.std.proofs.lemmas.Bool.{eqb-true}
+use Rattle.std.proofs.lemmas.Bool.{eq-eqb, eqb-true}
 use Rattle.std.proofs.lemmas.Bool.Decides.{nat_tests}
 use Rattle.std.proofs.lemmas.List.Sums.{sum_by-cons}
 use Rattle.share_model.specs.declared.funding.Holder.{Holder}
@@ -189,13 +189,10 @@ module _ (g : Graph) (ss : List (List Seat)) (seated : AreSeated (backs_of g) ss
         let back = backer (is_tall ss from to m) p one.0 one.1.1.0 in
         let same =
         same_name a back.holder
-        (sym (place-same a back.holder (names_of g) there) ∙ ap (nat_eq p) (sym back.at) ∙ self p) in
+        (sym (place-same a back.holder (names_of g) there) ∙ ap (nat_eq p) (sym back.at) ∙ eq-eqb p p refl) in
         subst (λ n. runs-from n ≡ true) (omega arith)
         (tall-runs m (suc k) one.0.denomination one.1.0.denomination_known back.passes
         (runs-on one.0 back.holder (suc k) back.held one.1.1.1 (subst (λ d. runs ts (suc k) d ≡ true) same on)))
-      where
-        self : (n : ℕ) → nat_eq n n ≡ true
-        self n = grind (arith, nat_tests)
 
     pub tall-deep : (p : ℕ) → p < 65 → is_tall ss from to 8 p ≡ true → is_deep ts ≡ true
     unfolding is_deep runs
@@ -221,9 +218,7 @@ module _ (g : Graph) (ss : List (List Seat)) (seated : AreSeated (backs_of g) ss
     base-flat : (m : ℕ) → is_tall ss 0 0 m 0 ≡ false
     unfolding is_tall
     base-flat zero = refl
-    base-flat (suc m) =
-        ap (λ b. (nat_eq 0 0 && b) || list_any (λ (s : Seat). is_tall ss 0 0 m s.from) (seats_at ss 0)) (base-flat m)
-        ∙ ap (λ b. (nat_eq 0 0 && false) || b) (no-base (is_tall ss 0 0 m))
+    base-flat (suc m) = grind (arith, nat_tests, no-base (is_tall ss 0 0 m), base-flat m)
 
     pub never-tall : (p : ℕ) → p < 65 → is_tall ss 0 0 8 p ≡ true → ⊥
     unfolding is_deep

@@ -2,7 +2,7 @@
 use Rattle.std.proofs.Common.{◌≡◌, ◌≤◌, ◌<◌, ◌&&◌, ℕ, zero, suc, Bool, true, false, cond, List, [], ◌∷◌, length}
 use Rattle.std.proofs.Common.{sum_by, nat_eq, refl, sym, ap, ◌∙◌, true≢false, inl, inr, arith}
 use Rattle.std.specs.List.{list_any}
-use Rattle.std.proofs.lemmas.Bool.{eqb-true, cases_lt}
+use Rattle.std.proofs.lemmas.Bool.{eq-eqb, eqb-true, cases_lt}
 use Rattle.std.proofs.lemmas.List.Sums.{sum_by-cons, length-filter}
 use Rattle.std.proofs.lemmas.Bool.Decides.{nat_tests}
 use Rattle.share_model.specs.declared.funding.Holder.{Holder}
@@ -50,12 +50,7 @@ pub first-open : (f : ℕ) (es : List (NameBytes × OpenFlow)) (i : ℕ) → IsF
     → 1 ≤ times_open f es
 first-open f [] i first = absurd first
 first-open f (e ∷ es) zero first =
-    let here = ap {B = ℕ} (λ b. cond b 1 0) (turned e.1.number first) in
-    let more = sum_by-cons (λ (x : NameBytes × OpenFlow). cond (nat_eq x.1.number f) 1 0) e es in
-    omega arith
-  where
-    turned : (n : ℕ) → nat_eq f n ≡ true → nat_eq n f ≡ true
-    turned n e = grind (arith, nat_tests)
+    grind (arith, nat_tests, sum_by-cons (λ (x : NameBytes × OpenFlow). cond (nat_eq x.1.number f) 1 0) e es)
 first-open f (e ∷ es) (suc i) first =
     let rest = first-open f es i first.1 in
     let more = sum_by-cons (λ (x : NameBytes × OpenFlow). cond (nat_eq x.1.number f) 1 0) e es in
@@ -125,14 +120,7 @@ pub room-more : (g : Graph) → IsKept g → (b : Bool) (rs : List Route) (r : R
     → AreSeated rs ss
     → r.to < 65 → GrowsBy true rs (routes_of g b g.tickets) r → length (seats_at ss r.to) < 16
 room-more g ok b rs r ss seated lt grows =
-    let few = routes-few_at g ok b r.to in
-    let more = grows (λ (q : Route). cond (nat_eq r.to q.to) 1 0) in
-    let own = ones (seats_at ss r.to) ∙ seated.seated (λ _. 1) r.to lt in
-    let here = ap {B = ℕ} (λ b. cond b 1 0) (self r.to) in
-    omega arith
-  where
-    self : (n : ℕ) → nat_eq n n ≡ true
-    self n = grind (arith, nat_tests)
+    grind (arith, nat_tests, routes-few_at g ok b r.to, ones (seats_at ss r.to), eq-eqb)
 
 -- the seat of a route is there
 pub seat-there : (rs less : List Route) (r : Route) (ss : List (List Seat)) → AreSeated rs ss → r.to < 65

@@ -68,6 +68,4 @@ bits-flagged flags place bits b is were p few on =
 
 -- where no place is flagged, no bit has to be there
 pub none-flagged : (p : ℕ) → p < 65 → flags_of (replicate 65 false) p ≡ true → bit_at 0 (p % 64) ≡ 1
-none-flagged p few on =
-    let off = get_or-replicate 65 p false false few in
-    absurd (cc)
+none-flagged p few on = grind (arith, nat_tests, get_or-replicate 65 p false false few)

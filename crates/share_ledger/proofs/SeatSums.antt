@@ -6,6 +6,7 @@ use Rattle.std.proofs.lemmas.List.{get_or-take, get_or-set_other, length-take, l
 use Rattle.std.proofs.lemmas.Grind.{get_or-set_at}
 use Rattle.std.proofs.lemmas.List.Sums.{sum_by-take-le, sum_by_more, sum_by-set}
 use Rattle.std.proofs.Math.Seq.{take-set-lt}
+use Rattle.std.proofs.lemmas.Bool.{eq-eqb}
 use Rattle.share_model.specs.lists.Each.{Each}
 use Rattle.share_ledger.specs.declared.seats.Seat.{Seat}
 use Rattle.share_ledger.specs.Seats.{is_like, IsSeatWithin, taken}
@@ -50,13 +51,10 @@ lower-fits ss i d start held within lt all summed =
     let more = sum_by_more term ss i d lt in
     let part = sum_by-take-le term ss (i + 1) in
     let here : term (get_or ss i d) ≡ (get_or ss i d).amount =
-    ap {B = ℕ} (λ b. cond b (get_or ss i d).amount 0) (same p) in
+    ap {B = ℕ} (λ b. cond b (get_or ss i d).amount 0) (eq-eqb p p refl) in
     let whole = all p w.from_place in
     let now = summed p w.from_place in
     omega (arith, more, part, here, whole, now)
-  where
-    same : (n : ℕ) → nat_eq n n ≡ true
-    same n = grind (arith, nat_tests)
 
 -- the first that passes is in the list, and passes
 pub first-passes : {X : Type 0} (p : X → Bool) (xs : List X) (i : ℕ) (d : X) → IsFirstAt p xs i

@@ -6,6 +6,7 @@ use Rattle.std.specs.List.{list_any}
 use Rattle.std.proofs.lemmas.List.Sums.{sum_by-cons}
 use Rattle.std.proofs.lemmas.Bool.Decides.{nat_tests}
 use Rattle.std.proofs.lemmas.Option.{same_Some}
+use Rattle.std.proofs.lemmas.Bool.{eqb-true}
 use Rattle.share_model.specs.declared.funding.Holder.{Holder}
 use Rattle.share_model.specs.declared.funding.Holder.TheVariants.{Nobody, Currency, Flow}
 use Rattle.share_model.specs.declared.funding.Ticket.{Ticket}
@@ -43,14 +44,11 @@ pub weighed-poured : (rs : List Route) (ss : List (List Seat)) (on : ℕ → Boo
 unfolding poured
 weighed-poured rs ss on v whole p seated lt = by (on p) refl
   where
-    same : (a b : ℕ) → nat_eq a b ≡ true → b ≡ a
-    same a b e = grind (arith, nat_tests)
-
     term : (b : Bool) → on p ≡ b → (r : Route) → (a : Bool) → nat_eq p r.to ≡ a
         → cond b (cond a (carried v whole r) 0) 0 ≡ cond (a && on r.to) (carried v whole r) 0
-    term true lit r true e = sym (ap (λ b. cond b (carried v whole r) 0) (ap on (same p r.to e) ∙ lit))
+    term true lit r true e = sym (ap (λ b. cond b (carried v whole r) 0) (ap on (sym (eqb-true p r.to e)) ∙ lit))
     term true lit r false e = refl
-    term false dark r true e = sym (ap (λ b. cond b (carried v whole r) 0) (ap on (same p r.to e) ∙ dark))
+    term false dark r true e = sym (ap (λ b. cond b (carried v whole r) 0) (ap on (sym (eqb-true p r.to e)) ∙ dark))
     term false dark r false e = refl
 
     all : (b : Bool) → on p ≡ b → (qs : List Route)
@@ -108,11 +106,7 @@ module _ (g : Graph) (ok : IsKept g) (lit on : ℕ → Bool) (whole value : ℕ 
   saying (Flow f) = is_active_flow g f
 
   apart-place : (c : NameBytes) → bytes_eq c base ≡ false → 0 < place (names_of g) c
-  apart-place c e =
-      let other = place-base g c ∙ e in above (place (names_of g) c) other
-    where
-      above : (n : ℕ) → nat_eq n 0 ≡ false → 0 < n
-      above n e = grind (arith, nat_tests)
+  apart-place c e = grind (arith, nat_tests, place-base g c)
 
   -- a currency is awake where some of its tickets are said to be active
   on-said : (c : NameBytes) → 1 ≤ times c (names_of g) → bytes_eq c base ≡ false → on (place (names_of g) c) ≡ said c

@@ -1,23 +1,27 @@
-use Rattle.std.proofs.Common.{true, false, arith}
-use Rattle.share_ledger.specs.Arrays.{numbers_of}
-use Rattle.share_ledger.proofs.NetSteps.{array-set, woken, rested-held, rested, counted-bound}
+use Rattle.std.proofs.Common.{true, false, arith, set}
+use Rattle.share_ledger.specs.Arrays.{flags_of}
+use Rattle.share_ledger.proofs.NetSteps.{array-set, gathered-woken, gathered-rested, counted-bound}
 use Rattle.share_ledger.proofs.net.flip.Goals as goal
 use Rattle.std.proofs.lemmas.Bool.Decides.{nat_tests}
 
 pub lower-requires-clause-held : goal.lower-requires-clause-held
-lower-requires-clause-held c =
-    rested-held _ _ _ c.requires.seated _ c.requires.place _ c.seats_at-seats.ensures.value _ _ _ _
-    (numbers_of c.args.weights.now) c.requires.counted c.if-awake-place.true
+lower-requires-clause-held c = λ x below.
+    let was = c.requires.counted x below in
+    let moved = gathered-rested _ _ c.requires.seated _ c.requires.place _ c.seats_at-seats.ensures.value
+    (flags_of c.args.awake.now) (flags_of (set c.args.awake.now c.args.place false)) c.if-awake-place.true
     (λ k. array-set c.args.awake.now _ k false false
-    (let long = c.told-awake in let lt = c.requires.place in omega arith))
+    (let long = c.told-awake in let lt = c.requires.place in omega arith)) x in
+    omega arith
 
 pub returns-then-awake-place-clause-counted : goal.returns-then-awake-place-clause-counted
-returns-then-awake-place-clause-counted c =
-    rested _ _ _ c.requires.seated _ c.requires.place _ c.seats_at-seats.ensures.value _ _ _ _ _ c.requires.counted
-    c.if-awake-place.true
+returns-then-awake-place-clause-counted c = λ x below.
+    let was = c.requires.counted x below in
+    let now = c.lower.ensures x below in
+    let moved = gathered-rested _ _ c.requires.seated _ c.requires.place _ c.seats_at-seats.ensures.value
+    (flags_of c.args.awake.now) (flags_of (set c.args.awake.now c.args.place false)) c.if-awake-place.true
     (λ k. array-set c.args.awake.now _ k false false
-    (let long = c.told-awake in let lt = c.requires.place in omega arith))
-    c.lower.ensures
+    (let long = c.told-awake in let lt = c.requires.place in omega arith)) x in
+    omega arith
 
 pub returns-then-awake-place-clause-left : goal.returns-then-awake-place-clause-left
 returns-then-awake-place-clause-left c = grind (arith, nat_tests)
@@ -26,12 +30,14 @@ pub raise-requires-clause-small : goal.raise-requires-clause-small
 raise-requires-clause-small c = counted-bound _ _ _ _ c.is_kept.ensures c.requires.counted
 
 pub returns-clause-counted : goal.returns-clause-counted
-returns-clause-counted c =
-    woken _ _ _ c.requires.seated _ c.requires.place _ c.seats_at-seats.ensures.value _ _ _ _ _ c.requires.counted
-    c.if-awake-place.false
+returns-clause-counted c = λ x below.
+    let was = c.requires.counted x below in
+    let now = c.raise.ensures x below in
+    let moved = gathered-woken _ _ c.requires.seated _ c.requires.place _ c.seats_at-seats.ensures.value
+    (flags_of c.args.awake.now) (flags_of (set c.args.awake.now c.args.place true)) c.if-awake-place.false
     (λ k. array-set c.args.awake.now _ k true false
-    (let long = c.told-awake in let lt = c.requires.place in omega arith))
-    c.raise.ensures
+    (let long = c.told-awake in let lt = c.requires.place in omega arith)) x in
+    omega arith
 
 pub returns-clause-left : goal.returns-clause-left
 returns-clause-left c = grind (arith, nat_tests)

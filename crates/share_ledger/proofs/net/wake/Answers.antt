@@ -1,19 +1,21 @@
-use Rattle.std.proofs.Common.{◌+◌, true, false, ap, ◌∙◌, arith}
-use Rattle.share_ledger.specs.Arrays.{numbers_of}
+use Rattle.std.proofs.Common.{◌+◌, true, false, set, ap, ◌∙◌, arith}
+use Rattle.share_ledger.specs.Arrays.{flags_of, numbers_of}
 use Rattle.share_ledger.specs.Seats.{taken}
-use Rattle.share_ledger.proofs.NetSteps.{array-set, flow-woken, counted-bound}
+use Rattle.share_ledger.proofs.NetSteps.{array-set, gathered-woken, counted-bound}
 use Rattle.share_ledger.proofs.net.wake.Goals as goal
 
 pub raise-requires-clause-small : goal.raise-requires-clause-small
 raise-requires-clause-small c = counted-bound _ _ _ _ c.is_kept.ensures c.requires.counted
 
 pub returns-clause-counted : goal.returns-clause-counted
-returns-clause-counted c =
-    flow-woken _ _ _ c.requires.seated _ c.requires.place _ c.seats_at.ensures.value _ _ _ _ _ c.requires.counted
-    c.requires.idle
+returns-clause-counted c = λ x below.
+    let was = c.requires.counted x below in
+    let now = c.raise.ensures x below in
+    let gain = gathered-woken _ _ c.requires.seated _ c.requires.place _ c.seats_at.ensures.value
+    (flags_of c.args.active.now) (flags_of (set c.args.active.now c.args.place true)) c.requires.idle
     (λ k. array-set c.args.active.now _ k true false
-    (let long = c.told-active in let lt = c.requires.place in omega arith))
-    c.raise.ensures
+    (let long = c.told-active in let lt = c.requires.place in omega arith)) x in
+    omega arith
 
 pub returns-clause-raised : goal.returns-clause-raised
 returns-clause-raised c = λ p lt.

@@ -1,12 +1,16 @@
-# stridelink: 'make try' runs an example unproved, 'make run' proves and builds the program and runs it, and 'make test'
-# passes the gate. The toolchain's command rt has to be on the PATH.
+# stridelink: 'make try' runs an example unproved, 'make run' proves and builds the program and runs it, 'make serve'
+# plays a session over sockets with it, and 'make test' passes the gate. The toolchain's command rt has to be on the
+# PATH.
 
 SOURCES := crates.txt $(shell find crates -name '*.rt' -o -name '*.antt' | grep -v /out/)
 
-.PHONY: run try build test edits bench
+.PHONY: run serve try build test edits bench
 
 run: bin/stridelink
 	bin/stridelink run < examples/one-packet.script
+
+serve: bin/stridelink
+	examples/session.py
 
 try:
 	@echo 'running the example, with nothing proved: half a minute to a minute' >&2
@@ -34,6 +38,8 @@ test:
 	examples/face.sh
 	examples/slow-reader.py
 	examples/terminal.py
+	examples/session.py
+	examples/serve.py
 
 edits:
 	.ci/edits

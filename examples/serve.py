@@ -5,8 +5,6 @@ The program is bin/stridelink, or that of the environment variable STRIDELINK; i
 words, only the cases of these names are tried; with TIMES set, it tells how long each took. What is wanted comes from
 the rules: the bytes that the peer gets are those that the audit gives as a script, each connection's packets stand in
 it once and in order, and the report is the audit's. Each case has a limit of time, and what it started ends with it.
-
-Until the program has `serve`, this is tried with the plain program of bench/plain, and no gate runs it.
 """
 import fcntl
 import os
@@ -441,15 +439,18 @@ def peer_reads_slowly(run):
         while peer.read(700):
             time.sleep(0.002)
 
-    peer = run.peer(read_slowly, narrow=True)
+    gets_all(run, run.peer(read_slowly, narrow=True), packets("a", 0, 300, 500))
+
+
+def gets_all(run, peer, some):
+    """A client sends these packets and ends, and the peer gets all."""
     server = run.server(peer)
     control = server.control()
     control.fund()
-    some = packets("a", 0, 300, 500)
     server.ingress(records(some)).close()
     control.close()
     server.ends()
-    expect_equal(check(server, peer, [("whole", some)]).totals()["written"], 300, "frames")
+    expect_equal(check(server, peer, [("whole", some)]).totals()["written"], len(some), "frames")
 
 
 def peer_writes_back(run):
@@ -460,15 +461,7 @@ def peer_writes_back(run):
             peer.connection.sendall(b"thanks " * 100)
         peer.connection.sendall(b"bye " * 10000)
 
-    peer = run.peer(write_back)
-    server = run.server(peer)
-    control = server.control()
-    control.fund()
-    some = packets("a", 0, 1000, 1000)
-    server.ingress(records(some)).close()
-    control.close()
-    server.ends()
-    expect_equal(check(server, peer, [("whole", some)]).totals()["written"], 1000, "frames")
+    gets_all(run, run.peer(write_back), packets("a", 0, 1000, 1000))
 
 
 def spent_life(run):

@@ -1,3 +1,5 @@
+mod BookLemmas
+mod ControlLemmas
 mod LineLemmas
 mod ProgramLemmas
 mod StrictLemmas

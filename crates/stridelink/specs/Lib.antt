@@ -1,5 +1,10 @@
+pub mod Books
+pub mod Control
+pub mod Faults
 pub mod Lines
 pub mod LinesLaws
+pub mod Orders
 pub mod Program
 pub mod Strict
 pub mod StrictLaws
+pub mod Tariffs

@@ -1,4 +1,4 @@
-//! What help tells of scripts.
+//! What help tells of scripts and of the server.
 
 /// An example, their lines, the words of these, the tariffs, the answers, why a line is refused, and how a run ends.
 pub const SCRIPTS: &str = "An example, a script that sends one packet:
@@ -75,4 +75,42 @@ Exit statuses:
   1  the script could not be read, the output could not be written, or memory
      was lacking; with --strict also: a line was refused. Standard error tells
      which
+  2  the words of the command line are wrong";
+
+/// What the server accepts, in which order, how it ends, the lines of its control connections, and its statuses.
+pub const SERVER: &str =
+    "Addresses are HOST:PORT; with port 0 the system picks one, which --verbose tells.
+Order:
+  it makes the journal of the life, tries FILE, listens on A and B, connects to C
+  it accepts J control connections, each answered as soon as it is there
+  it accepts K ingress connections
+  when all connections have ended, and all that came is sent, it writes the audit
+  to FILE and the report to standard output
+A control connection takes the lines of a script, and answers each by one line, or
+by the report; 'stridelink run --help' tells them. Lines of send, turn, torn and
+audit have no place there: they are answered 'no 3 Syntax'. So is a line of more
+than 20480 bytes. What comes behind the last line feed is dropped.
+An ingress connection brings packets: the length of a flow's name in 1 byte, the
+name, the length of the payload in 2 bytes, the greater first, and the payload. A
+connection whose packet is none, or is cut short, ends.
+The uplink gets the frames: the bytes 4c 01, the number of the flow in 4 bytes, that
+of the packet in 4, the length of the payload in 2, and the payload.
+A life lasts for L events: each command that is answered, each packet that came for
+a flow, and each write call on the uplink is one, refused commands and packets too.
+When it is spent the ingress connections are ended, lines are answered 'no 2 Spent',
+and the status is 1.
+FILE is a script: 'stridelink run --life L < FILE' prints the very bytes that C got.
+Where FILE is a regular file or not there, a file beside it is written, FILE.1 or
+the next number that is free, and takes the name FILE at the end; until then an old
+FILE stays as it was. Anything else is written in place.
+With --until-eof the end of standard input ends the run: no more connections are
+accepted, of those that are there only what had come is taken, and what was queued
+is sent. A reply that can't be written for some seconds then ends its connection,
+and an uplink that takes nothing for so long has failed.
+A signal ends the process without an audit, and the file beside stays.
+Exit statuses:
+  0  all connections have ended, and all that came was sent or refused; refused
+     lines, and the way in which a connection ended, are no fault
+  1  a fault, which standard error tells in its last line; once connections were
+     accepted the audit and the report are written nevertheless
   2  the words of the command line are wrong";

@@ -1,4 +1,4 @@
-//! A link that shares its bandwidth among packet flows by tickets, driven by a script of lines.
+//! A link that shares its bandwidth among packet flows by tickets, driven by a script of lines or by sockets.
 #![tactic(auto)]
 
 ghost use Rattle.std.specs.Prelude.{◌≡◌, ◌≢◌, ◌⊎◌, ◌^◌, ℕ, [], None, true, false, IfOk, IfErr, IfSome, OnOk};
@@ -9,6 +9,7 @@ ghost use Rattle.share_script.specs.declared.script.ScriptFault.TheVariants.{Out
 ghost use Rattle.share_model.specs.io.Calls.{ReadsToEnd, HasRead, Offers};
 ghost use Rattle.share_model.specs.io.Told.{TapeAnswers};
 ghost use Rattle.share_model.specs.io.Printing.{bytes_told};
+ghost use Rattle.stridelink.specs.Orders.{CanBeServed};
 ghost use Rattle.stridelink.specs.Program.{program_rates, Ran, RanPart, RanToRefusal};
 ghost use Rattle.stridelink.specs.Strict.{EndsAtRefusal};
 ghost use Rattle.share_script.specs.Script.{IsFault};
@@ -24,22 +25,28 @@ macro_rules! program_shelf {
 
 mod help;
 mod lines;
+mod serve;
 mod strict;
 #[cfg(test)]
 mod tests;
 mod words;
 
 use crate::lines::LineReader;
+use crate::serve::{PlainTariffs, serve};
 use crate::strict::StrictWriter;
-use crate::words::{Asked, Orders, parse};
+use crate::words::{Asked, Orders, ServeOrders, parse};
 use clap::error::ErrorKind;
 use share_core::Engine;
 use share_model::{PatientWriter, PlainReader, PlainWriter, Rates, Source, Tape, Telling};
 use share_script::{ScriptFault, print_bytes, run_script};
 use std::alloc::Global;
-use std::fs::File;
+use std::fs::{File, Files};
 use std::io::{BufReader, IsTerminal, Read};
+use std::net::{Net, TcpListener, TcpStream};
 use std::process::ExitCode;
+use std::sync::Wait;
+use std::thread::Threads;
+use std::time::Clock;
 use std::{env, io};
 
 /// The status of a usage fault.
@@ -200,6 +207,29 @@ fn run_given(rt: &HostRuntime, orders: Orders<'_>) -> Result<ExitCode, ScriptFau
     }
 }
 
+// Serves the link that is asked for. What went wrong is told.
+fn serve_given<R, I>(
+    rt: &R,
+    alloc: Global,
+    orders: ServeOrders<'_>,
+    input: I,
+) -> Result<ExitCode, ScriptFault>
+where
+    R: Net<Listener = TcpListener, Stream = TcpStream> + Files + Threads + Wait + Clock,
+    R: Print + Eprint + Copy + Send + Sync + 'static,
+    I: Read + Send + Drop + 'static,
+    requires { CanBeServed orders.life orders.workers orders.clerks }
+{
+    match serve(rt, alloc, PlainTariffs, orders, input) {
+        Ok(()) => Ok(ExitCode::SUCCESS),
+        Err(fault) => {
+            // The status tells the fault also where standard error takes no text.
+            let _ = eprintln!(rt; "stridelink: {fault}");
+            Ok(ExitCode::FAILURE)
+        }
+    }
+}
+
 // The words of the command line, `None` where one of them is no UTF-8.
 fn given_words(rt: &HostRuntime) -> Result<Option<Vec<String>>, ScriptFault>
     ensures { IfErr result (λ fault. fault ≡ NoMemory) }
@@ -229,22 +259,29 @@ fn show(rt: &(impl Print + Eprint), text: &clap::Error) -> Result<ExitCode, Scri
     }
 }
 
-// Does what the words ask for.
-fn obey(rt: &HostRuntime) -> Result<ExitCode, ScriptFault> {
-    let words = given_words(rt)?;
-    match parse(rt.alloc(), words.as_ref().map(|words| words.as_slice()))? {
-        Asked::Text(text) => show(rt, &text),
-        Asked::Run(orders) => run_given(rt, orders),
-    }
+// Tells a fault.
+fn fail(rt: &impl Eprint, fault: ScriptFault) -> ExitCode
+    ensures { exit_status result ≡ 1 }
+{
+    // The status tells the fault also where standard error takes no text.
+    let _ = eprintln!(rt; "stridelink: {fault}");
+    ExitCode::FAILURE
 }
 
+// Threads are started from `main` alone, so it is here that a link is served.
 fn main(rt: HostRuntime) -> ExitCode {
-    match obey(&rt) {
+    let words = match given_words(&rt) {
+        Ok(words) => words,
+        Err(fault) => return fail(&rt, fault),
+    };
+    let obeyed = match parse(rt.alloc(), words.as_ref().map(|words| words.as_slice())) {
+        Ok(Asked::Text(text)) => show(&rt, &text),
+        Ok(Asked::Run(orders)) => run_given(&rt, orders),
+        Ok(Asked::Serve(orders)) => serve_given(&rt, rt.alloc(), orders, rt.reader()),
+        Err(fault) => Err(fault),
+    };
+    match obeyed {
         Ok(status) => status,
-        Err(fault) => {
-            // The status tells the fault also where standard error takes no text.
-            let _ = eprintln!(rt; "stridelink: {fault}");
-            ExitCode::FAILURE
-        }
+        Err(fault) => fail(&rt, fault),
     }
 }

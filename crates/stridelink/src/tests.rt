@@ -1,5 +1,9 @@
 //! Whole runs of the program, against the text that the rules give.
 
+mod audit;
+mod control;
+mod serving;
+
 use crate::lines::LineReader;
 use crate::strict::StrictWriter;
 use crate::{run, run_strictly};

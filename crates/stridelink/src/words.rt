@@ -1,15 +1,19 @@
 //! The words of the command line, and what they ask for.
-ghost use Rattle.std.specs.Prelude.{◌≡◌, ◌≢◌, ◌⊎◌, ℕ, None, IfOk, IfErr};
+ghost use Rattle.std.specs.Prelude.{◌≡◌, ◌≢◌, ◌≤◌, None, IfOk, IfErr, IsTrue};
 ghost use Rattle.clap.specs.Values.{kind_of};
 ghost use Rattle.share_script.specs.declared.script.ScriptFault.TheVariants.{NoMemory};
 ghost use Rattle.share_core.specs.Life.{life_refusal};
+ghost use Rattle.stridelink.specs.Orders.{CanBeServed};
 
 use crate::help;
+use clap::builder::ValueParser;
 use clap::error::ErrorKind;
 use clap::{Arg, ArgAction, ArgMatches, Command, value_parser};
 use share_core::MAX_LIFE;
 use share_script::ScriptFault;
 use std::alloc::{AllocError, Global};
+use std::fmt;
+use std::fmt::{Display, Formatter};
 
 /// The life of a link where the words give none.
 const LIFE: u64 = 65536;
@@ -23,6 +27,12 @@ const NOT_TEXT: &str = "invalid UTF-8 was detected in one or more arguments";
 /// What is wrong with a life that no link has.
 const NO_LIFE: &str = "a life is 1 to 16777216 events";
 
+/// How many ingress connections, and how many control connections, a server accepts at most.
+const MOST_CONNECTIONS: u64 = 2;
+
+/// What is wrong with another number of connections.
+const NO_CONNECTIONS: &str = "a server accepts 1 or 2 connections of each kind";
+
 /// How a script is to be run.
 #[derive(Clone, Copy, Debug)]
 pub struct Orders<'a> {
@@ -34,11 +44,36 @@ pub struct Orders<'a> {
     pub is_strict: bool,
 }
 
+/// How a link is to be served.
+#[derive(Clone, Copy, Debug)]
+pub struct ServeOrders<'a> {
+    /// Where ingress connections are accepted.
+    pub ingress: &'a str,
+    /// Where control connections are accepted.
+    pub control: &'a str,
+    /// Where the frames go.
+    pub uplink: &'a str,
+    /// The file of the audit.
+    pub audit: &'a str,
+    /// The events of the link's life.
+    pub life: u64,
+    /// How many ingress connections are accepted.
+    pub workers: u64,
+    /// How many control connections are accepted.
+    pub clerks: u64,
+    /// Whether the end of standard input ends the run.
+    pub is_until_eof: bool,
+    /// Whether standard error tells what happens.
+    pub is_verbose: bool,
+}
+
 /// What the words of the command line ask for.
 #[derive(Debug, Drop)]
 pub enum Asked<'a> {
     /// To run a script.
     Run(Orders<'a>),
+    /// To serve a link.
+    Serve(ServeOrders<'a>),
     /// To show a text: help, the version, or what is wrong with the words.
     Text(clap::Error),
 }
@@ -68,6 +103,79 @@ fn run_command<'a>(alloc: Global) -> Result<Command<'a>, AllocError> {
         .arg(file)
 }
 
+// A word of `serve` that has to be there.
+fn required<'a>(alloc: Global, name: &'a str, value: &'a str, help: &'a str) -> Arg<'a> {
+    Arg::new(alloc, name)
+        .long(name)
+        .value_name(value)
+        .help(help)
+        .value_parser(ValueParser::NonEmptyString)
+        .required(true)
+        .action(ArgAction::Set)
+}
+
+// The words of `serve` that are numbers.
+fn with_numbers<'a>(alloc: Global, serve: Command<'a>) -> Result<Command<'a>, AllocError> {
+    let workers = required(
+        alloc,
+        "workers",
+        "K",
+        "how many ingress connections are accepted, 1 or 2",
+    );
+    let life = required(
+        alloc,
+        "life",
+        "L",
+        "the events of the link's life, 1 to 16777216",
+    );
+    let clerks = Arg::new(alloc, "clerks")
+        .long("clerks")
+        .value_name("J")
+        .help("how many control connections are accepted, 1 or 2")
+        .value_parser(value_parser!(u64).range(1..=MOST_CONNECTIONS as i64))
+        .default_value("1")
+        .action(ArgAction::Set);
+    serve
+        .arg(workers.value_parser(value_parser!(u64).range(1..=MOST_CONNECTIONS as i64)))?
+        .arg(life.value_parser(value_parser!(u64).range(1..=MAX_LIFE as i64)))?
+        .arg(clerks)
+}
+
+// The words of `serve`.
+fn serve_command<'a>(alloc: Global) -> Result<Command<'a>, AllocError> {
+    let until_eof = Arg::new(alloc, "until-eof")
+        .long("until-eof")
+        .help("end all connections where standard input ends")
+        .action(ArgAction::SetTrue);
+    let verbose = Arg::new(alloc, "verbose")
+        .long("verbose")
+        .help("tell on standard error what happens")
+        .action(ArgAction::SetTrue);
+    let serve = Command::new(alloc, "serve")
+        .about("serves a link on sockets")
+        .after_long_help(help::SERVER)
+        .arg(required(
+            alloc,
+            "ingress",
+            "A",
+            "where ingress connections are accepted",
+        ))?
+        .arg(required(
+            alloc,
+            "control",
+            "B",
+            "where control connections are accepted",
+        ))?
+        .arg(required(alloc, "uplink", "C", "where the frames go"))?
+        .arg(required(
+            alloc,
+            "audit",
+            "FILE",
+            "where the audit is written at the end",
+        ))?;
+    with_numbers(alloc, serve)?.arg(until_eof)?.arg(verbose)
+}
+
 // The command line of the program, which is named so whatever the first word is.
 fn command_line<'a>(alloc: Global) -> Result<Command<'a>, AllocError> {
     Command::new(alloc, "stridelink")
@@ -76,41 +184,95 @@ fn command_line<'a>(alloc: Global) -> Result<Command<'a>, AllocError> {
         .about("a link that shares its bandwidth among packet flows by tickets")
         .after_long_help(help::SCRIPTS)
         .subcommand_required(true)
-        .subcommand(run_command(alloc)?)
+        .subcommand(run_command(alloc)?)?
+        .subcommand(serve_command(alloc)?)
 }
 
-// How the words ask for a script to be run.
-fn given_orders<'a>(matches: &ArgMatches<'a>) -> Orders<'a> {
-    match matches.subcommand() {
-        Some((_, run)) => Orders {
-            life: run.get_one::<u64>("life").unwrap_or(LIFE),
-            file: run.get_str("file").filter(|file| *file != "-"),
-            is_strict: run.get_flag("strict"),
-        },
-        None => Orders {
-            life: LIFE,
-            file: None,
-            is_strict: false,
-        },
+// How the words of `run` ask for a script to be run.
+fn run_orders<'a>(run: &ArgMatches<'a>) -> Orders<'a> {
+    Orders {
+        life: run.get_one::<u64>("life").unwrap_or(LIFE),
+        file: run.get_str("file").filter(|file| *file != "-"),
+        is_strict: run.get_flag("strict"),
     }
 }
 
-// What the words ask for. `clap` refuses a life that is out of range; its contract says so of the arguments of a
-// command, but not of those of a subcommand, so the life is looked at once more.
+// How the words of `serve` ask for a link to be served. A number that is not there is 0, which is out of range.
+fn serve_orders<'a>(serve: &ArgMatches<'a>) -> ServeOrders<'a> {
+    ServeOrders {
+        ingress: serve.get_str("ingress").unwrap_or(""),
+        control: serve.get_str("control").unwrap_or(""),
+        uplink: serve.get_str("uplink").unwrap_or(""),
+        audit: serve.get_str("audit").unwrap_or(""),
+        life: serve.get_one::<u64>("life").unwrap_or(0),
+        workers: serve.get_one::<u64>("workers").unwrap_or(0),
+        clerks: serve.get_one::<u64>("clerks").unwrap_or(0),
+        is_until_eof: serve.get_flag("until-eof"),
+        is_verbose: serve.get_flag("verbose"),
+    }
+}
+
+fn is_life(life: u64) -> bool
+    ensures { IsTrue result → life_refusal life ≡ None }
+{
+    life >= 1 && life <= MAX_LIFE
+}
+
+fn is_count(count: u64) -> bool
+    ensures { IsTrue result → (1 ≤ count) × (count ≤ 2) }
+{
+    count >= 1 && count <= MOST_CONNECTIONS
+}
+
+// What is wrong with numbers that are out of range. `clap` refuses these; its contract says so of the arguments of a
+// command, but not of those of a subcommand, so they are looked at once more.
+fn out_of_range(asked: &Asked<'_>) -> Option<&'static str>
+    ensures run { result ≡ None → (orders : _) → asked.now ≡ Asked.Run orders → life_refusal orders.life ≡ None }
+    ensures serve { result ≡ None → (orders : _) → asked.now ≡ Asked.Serve orders
+        → CanBeServed orders.life orders.workers orders.clerks }
+{
+    match asked {
+        Asked::Run(orders) if !is_life(orders.life) => Some(NO_LIFE),
+        Asked::Serve(orders) if !is_life(orders.life) => Some(NO_LIFE),
+        Asked::Serve(orders) if !is_count(orders.workers) || !is_count(orders.clerks) => Some(
+            NO_CONNECTIONS,
+        ),
+        _ => None,
+    }
+}
+
+// What the words ask for, whatever their numbers are.
+fn given<'a>(matches: &ArgMatches<'a>) -> Asked<'a>
+    ensures { (text : _) → result ≢ Asked.Text text }
+{
+    match matches.subcommand() {
+        Some(("serve", serve)) => Asked::Serve(serve_orders(serve)),
+        Some((_, run)) => Asked::Run(run_orders(run)),
+        None => Asked::Run(Orders {
+            life: LIFE,
+            file: None,
+            is_strict: false,
+        }),
+    }
+}
+
+// What the words ask for.
 fn read_words<'a>(alloc: Global, words: &'a [String]) -> Result<Asked<'a>, ScriptFault>
     ensures memory { IfErr result (λ fault. fault ≡ NoMemory) }
     ensures text { IfOk result (λ asked. (text : _) → asked ≡ Asked.Text text → kind_of text ≢ ErrorKind.OutOfMemory) }
     ensures life { IfOk result (λ asked. (orders : _) → asked ≡ Asked.Run orders
         → life_refusal orders.life ≡ None) }
+    ensures served { IfOk result (λ asked. (orders : _) → asked ≡ Asked.Serve orders
+        → CanBeServed orders.life orders.workers orders.clerks) }
 {
     let mut command = command_line(alloc)?;
     match command.try_get_matches_from_mut(words) {
         Ok(matches) => {
-            let orders = given_orders(&matches);
-            if orders.life < 1 || orders.life > MAX_LIFE {
-                return Ok(Asked::Text(command.error(ErrorKind::ValueValidation, NO_LIFE)?));
+            let asked = given(&matches);
+            match out_of_range(&asked) {
+                None => Ok(asked),
+                Some(wrong) => Ok(Asked::Text(command.error(ErrorKind::ValueValidation, wrong)?)),
             }
-            Ok(Asked::Run(orders))
         }
         Err(error) if error.kind() == ErrorKind::OutOfMemory => Err(ScriptFault::NoMemory),
         Err(error) => Ok(Asked::Text(error)),
@@ -123,17 +285,28 @@ fn has_control(words: &[String]) -> bool {
         .any(|word| word.as_str().chars().any(|c| c.is_control()))
 }
 
-// The word with its control characters escaped, as `\n` and `\u{1b}`.
+/// A word of the command line, which is shown with its control characters escaped, as `\n` and `\u{1b}`.
+#[derive(Clone, Copy, Debug, PartialEq, Eq)]
+pub struct Word<'a>(pub &'a str);
+
+impl<'a> Display for Word<'a> {
+    fn fmt<W: fmt::Write>(&self, f: &mut Formatter<W>) -> fmt::Result {
+        for c in self.0.chars() {
+            if c.is_control() {
+                let escape = c.escape_default();
+                write!(f, "{escape}")?;
+            } else {
+                f.write_char(c)?;
+            }
+        }
+        Ok(())
+    }
+}
+
 fn escaped(alloc: Global, word: &str) -> Result<String, AllocError> {
     let mut text = String::new(alloc);
-    for c in word.chars() {
-        if c.is_control() {
-            let escape = c.escape_default();
-            write!(text, "{escape}")?;
-        } else {
-            text.push(c)?;
-        }
-    }
+    let word = Word(word);
+    write!(text, "{word}")?;
     Ok(text)
 }
 
@@ -158,21 +331,34 @@ fn escaped_fault(
     }
 }
 
+// A text about these words, in which their control characters are escaped where it tells what is wrong with them.
+fn readable(alloc: Global, words: &[String], text: clap::Error) -> Result<clap::Error, ScriptFault>
+    requires { kind_of text ≢ ErrorKind.OutOfMemory }
+    ensures memory { IfErr result (λ fault. fault ≡ NoMemory) }
+    ensures text { IfOk result (λ shown. kind_of shown ≢ ErrorKind.OutOfMemory) }
+{
+    if text.use_stderr() && has_control(words) {
+        return escaped_fault(alloc, words, text);
+    }
+    Ok(text)
+}
+
 /// What the words ask for, `None` where one of them is no UTF-8.
 pub fn parse<'a>(alloc: Global, words: Option<&'a [String]>) -> Result<Asked<'a>, ScriptFault>
     ensures memory { IfErr result (λ fault. fault ≡ NoMemory) }
     ensures text { IfOk result (λ asked. (text : _) → asked ≡ Asked.Text text → kind_of text ≢ ErrorKind.OutOfMemory) }
     ensures life { IfOk result (λ asked. (orders : _) → asked ≡ Asked.Run orders
         → life_refusal orders.life ≡ None) }
+    ensures served { IfOk result (λ asked. (orders : _) → asked ≡ Asked.Serve orders
+        → CanBeServed orders.life orders.workers orders.clerks) }
 {
     let Some(words) = words else {
         let mut command = command_line(alloc)?;
         return Ok(Asked::Text(command.error(ErrorKind::InvalidValue, NOT_TEXT)?));
     };
     match read_words(alloc, words)? {
-        Asked::Text(fault) if fault.use_stderr() && has_control(words) => {
-            Ok(Asked::Text(escaped_fault(alloc, words, fault)?))
-        }
-        asked => Ok(asked),
+        Asked::Text(text) => Ok(Asked::Text(readable(alloc, words, text)?)),
+        Asked::Run(orders) => Ok(Asked::Run(orders)),
+        Asked::Serve(orders) => Ok(Asked::Serve(orders)),
     }
 }

@@ -1,0 +1,154 @@
+//! The file that an audit goes to.
+
+use crate::serve::keep::Keep;
+use share_journal::Journal;
+use share_model::{PatientWriter, PlainWriter};
+use std::alloc::{AllocError, Global};
+use std::fs::{Files, Metadata, OpenFile, OpenOptions};
+use std::io::{BufWriter, ErrorKind, Write};
+use std::{fs, io};
+
+/// How many bytes of an audit are written together.
+const ROOM: usize = 65536;
+
+/// How many names are tried for the file beside.
+const MOST_NAMES: u32 = 1000;
+
+/// Where an audit goes: into a file beside the one that is named, which takes its name at the end; or, where that is
+/// no regular file, into it. A file beside that did not take the name is removed.
+pub struct AuditFile<'a, R: Files> {
+    files: &'a R,
+    path: &'a str,
+    output: PatientWriter<PlainWriter<BufWriter<R::File>>>,
+    // The path of the file beside, where there is one.
+    beside: Option<String>,
+}
+
+impl<'a, R: Files> Drop for AuditFile<'a, R> {
+    fn drop(self) {
+        let AuditFile {
+            files,
+            path: _,
+            output,
+            beside,
+        } = self;
+        drop(output);
+        if let Some(beside) = beside {
+            let _ = fs::remove_file(files, beside.as_str());
+        }
+    }
+}
+
+// What is at a path, `None` where nothing is.
+fn found_at<R: Files>(files: &R, path: &str) -> io::Result<Option<Metadata>> {
+    match fs::symlink_metadata(files, path) {
+        Ok(found) => Ok(Some(found)),
+        Err(fault) if fault.kind() == ErrorKind::NotFound => Ok(None),
+        Err(fault) => Err(fault),
+    }
+}
+
+// The path with a number behind it.
+fn numbered(alloc: Global, path: &str, number: u32) -> Result<String, AllocError> {
+    let mut name = String::new(alloc);
+    write!(name, "{path}.{number}")?;
+    Ok(name)
+}
+
+impl<'a, R: Files> AuditFile<'a, R> {
+    /// Tries the file of this path. Nothing of an old audit is lost by that.
+    pub fn open(files: &'a R, alloc: Global, path: &'a str) -> io::Result<AuditFile<'a, R>> {
+        match found_at(files, path)? {
+            None => AuditFile::open_beside(files, alloc, path),
+            Some(found) if found.is_file() => {
+                let audit = AuditFile::open_beside(files, alloc, path)?;
+                audit.file().set_permissions(found.permissions())?;
+                Ok(audit)
+            }
+            Some(_) => {
+                let file = OpenOptions::new().write(true).open(files, path)?;
+                AuditFile::over(files, alloc, path, file, None)
+            }
+        }
+    }
+
+    // A file beside the one of this path, under the first name that is free.
+    fn open_beside(files: &'a R, alloc: Global, path: &'a str) -> io::Result<AuditFile<'a, R>> {
+        for number in 1..=MOST_NAMES {
+            let beside = numbered(alloc, path, number)?;
+            let opened = OpenOptions::new()
+                .write(true)
+                .create_new(true)
+                .open(files, beside.as_str());
+            match opened {
+                Ok(file) => return AuditFile::over(files, alloc, path, file, Some(beside)),
+                Err(fault) if fault.kind() == ErrorKind::AlreadyExists => (),
+                Err(fault) => return Err(fault),
+            }
+        }
+        Err(io::Error::from(ErrorKind::AlreadyExists))
+    }
+
+    // An audit that goes into this file.
+    fn over(
+        files: &'a R,
+        alloc: Global,
+        path: &'a str,
+        file: R::File,
+        beside: Option<String>,
+    ) -> io::Result<AuditFile<'a, R>> {
+        let buffered = match BufWriter::with_capacity(alloc, ROOM, file) {
+            Ok(buffered) => buffered,
+            Err(fault) => {
+                if let Some(beside) = beside {
+                    let _ = fs::remove_file(files, beside.as_str());
+                }
+                return Err(fault);
+            }
+        };
+        Ok(AuditFile {
+            files,
+            path,
+            output: PatientWriter(PlainWriter(buffered)),
+            beside,
+        })
+    }
+
+    fn file(&self) -> &R::File {
+        self.output.0.0.get_ref()
+    }
+
+    // Writes the audit of a journal.
+    fn write_out(&mut self, journal: &Journal) -> io::Result<()> {
+        if journal.audit(&mut self.output).is_err() {
+            return Err(io::Error::from(ErrorKind::Other));
+        }
+        self.output.0.0.flush()
+    }
+
+    /// Writes the audit of a journal, and gives it its name. On a fault what was there before stays, where that was a
+    /// regular file.
+    pub fn write(self, journal: &Journal) -> io::Result<()> {
+        let mut audit = self;
+        if audit.beside.is_none() {
+            // A device or a pipe has no length.
+            let _ = audit.file().set_len(0);
+        }
+        audit.write_out(journal)?;
+        if let Some(beside) = audit.beside.take() {
+            if let Err(fault) = fs::rename(audit.files, beside.as_str(), audit.path) {
+                audit.beside = Some(beside);
+                return Err(fault);
+            }
+        }
+        Ok(())
+    }
+}
+
+impl<'a, R: Files> Keep for AuditFile<'a, R> {
+    ghost kept = { λ _ _ _. Unit {0} };
+
+    fn keep(self, journal: &Journal) -> bool {
+        self.write(journal).is_ok()
+    }
+}

@@ -1,0 +1,147 @@
+//! What is done with a link that is served no more.
+ghost use Rattle.std.specs.Prelude.{◌≡◌, false, true, not};
+ghost use Rattle.share_model.specs.lists.Each.{Each};
+ghost use Rattle.stridelink.specs.Books.{journal_of, with_want, is_unsettled, IsKept, KeepsRun, WasSettled};
+
+use crate::serve::connections::Connections;
+use crate::serve::fault::Found;
+use crate::serve::keep::Keep;
+use crate::serve::uplink::Uplink;
+use share_ingress::IngressEnd;
+use share_journal::{Journal, Recorder, Source};
+use share_locked::{Clerk, Link, Locked, Settled, Unsettled, WhyUnsettled, settle};
+use share_model::{PlainWriter, Rates, Telling};
+use share_report::report;
+use std::alloc::Global;
+use std::io::Eprint;
+use std::sync::Arc;
+use std::time::Clock;
+
+/// A link that is served no more, with the ends of its queue, its clerks, and what went wrong in its run.
+#[derive(Drop)]
+pub struct EndedLink<S: Rates, L: Link> {
+    pub locked: Locked<PlainWriter<Uplink>, S, L>,
+    pub ends: Vec<IngressEnd>,
+    pub clerks: Vec<Clerk<L>>,
+    pub connections: Arc<Connections>,
+    pub found: Found,
+}
+
+/// How many entries of each kind a journal has.
+#[derive(Clone, Copy, Debug, PartialEq, Eq)]
+struct Counts {
+    commands: u64,
+    arrivals: u64,
+    turns: u64,
+}
+
+fn counts_of(journal: &Journal) -> Counts {
+    let mut counts = Counts {
+        commands: 0,
+        arrivals: 0,
+        turns: 0,
+    };
+    for entry in journal.entries() {
+        let count = match entry.source {
+            Source::Clerk(_) => &mut counts.commands,
+            Source::Worker(_) => &mut counts.arrivals,
+            Source::Link => &mut counts.turns,
+        };
+        *count = count.saturating_add(1);
+    }
+    counts
+}
+
+/// Writes the audit of the link and its report, and lets the uplink's peer have all that was sent.
+fn finish<S: Rates, R: Clock + Eprint, K: Keep, O: Telling>(
+    rt: &R,
+    recorder: &Recorder<PlainWriter<Uplink>, S>,
+    connections: &Connections,
+    keep: K,
+    output: &mut O,
+    found: Found,
+) -> Found
+    ensures audit { K.kept keep (journal_of recorder.now) (not result.audit) }
+    ensures uplink { result.uplink ≡ recorder.now.link.live.broken }
+    ensures same { result ≡ record found { uplink = result.uplink; audit = result.audit; output = result.output } }
+{
+    let mut found = found;
+    let wire = connections.wire();
+    wire.end_writing();
+    let counts = counts_of(recorder.journal());
+    let (commands, arrivals, turns) = (counts.commands, counts.arrivals, counts.turns);
+    connections.tell(
+        rt,
+        format_args!("{commands} commands, {arrivals} arrivals, {turns} turns"),
+    );
+    found.uplink = recorder.engine().broken();
+    found.audit = !keep.keep(recorder.journal());
+    found.output = report(recorder.engine(), output).is_err();
+    wire.read_away(rt);
+    found
+}
+
+// Why a link was not settled, among the faults.
+fn with_want(found: Found, why: WhyUnsettled) -> Found
+    ensures { result ≡ with_want found why }
+{
+    let mut found = found;
+    match why {
+        WhyUnsettled::Unsent => found.unsent = true,
+        WhyUnsettled::Mismatch => found.mismatch = true,
+        WhyUnsettled::LeftOver => found.left_over = true,
+        WhyUnsettled::NoMemory => found.memory = true,
+    }
+    found
+}
+
+// The same of a link that was not settled. Why is among the faults.
+fn finish_unsettled<S: Rates + Drop, L: Link, R: Clock + Eprint, K: Keep, O: Telling>(
+    rt: &R,
+    back: Unsettled<PlainWriter<Uplink>, S, L>,
+    connections: &Connections,
+    keep: K,
+    output: &mut O,
+    found: Found,
+) -> Found
+    ensures audit { K.kept keep (journal_of back.locked.recorder) (not result.audit) }
+    ensures uplink { result.uplink ≡ back.locked.recorder.link.live.broken }
+    ensures told { is_unsettled result ≡ true }
+    ensures run { KeepsRun found result }
+{
+    let Unsettled { why, locked, .. } = back;
+    let found = with_want(found, why);
+    finish(rt, locked.recorder(), connections, keep, output, found)
+}
+
+/// Settles the link, and writes its audit and its report, also where it was not settled.
+pub fn close<S: Rates + Drop, L: Link, R: Clock + Eprint, K: Keep, O: Telling>(
+    rt: &R,
+    alloc: Global,
+    ended: EndedLink<S, L>,
+    keep: K,
+    output: &mut O,
+) -> Found
+    requires { Each (λ e. e.link ≡ L.link) ended.ends.items }
+    ensures audit { K.kept keep (journal_of ended.locked.recorder) (not result.audit) }
+    ensures kept { IsKept K.kept keep (not result.audit) }
+    ensures uplink { result.uplink ≡ ended.locked.recorder.link.live.broken }
+    ensures settled { is_unsettled result ≡ false
+        → WasSettled ended.locked ended.ends.items ended.clerks.items }
+    ensures run { KeepsRun ended.found result }
+{
+    let EndedLink {
+        locked,
+        ends,
+        clerks,
+        connections,
+        found,
+    } = ended;
+    match settle(alloc, locked, ends, clerks) {
+        Ok(settled) => {
+            let Settled { recorder, .. } = settled;
+            finish(rt, &recorder, &connections, keep, output, found)
+        }
+        Err(back) => finish_unsettled(rt, back, &connections, keep, output, found),
+    }
+}

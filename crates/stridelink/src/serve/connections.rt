@@ -1,0 +1,235 @@
+//! The connections that are open, and how they are ended.
+
+use crate::serve::uplink::Wire;
+use share_locked::Stop;
+use std::alloc::Global;
+use std::fmt::Display;
+use std::io::{Eprint, ErrorKind, Read};
+use std::net::{Shutdown, TcpListener, TcpStream};
+use std::os::fd::OwnedFd;
+use std::sync::{Arc, Condvar, Mutex, Wait};
+use std::thread::{Parker, Threads};
+use std::time::Duration;
+use std::{io, thread};
+
+/// How long a reply, or a write call on the uplink, may wait once the end has begun: so many rests.
+const GRACE: u64 = 50;
+
+/// How many milliseconds a rest is.
+const REST: u64 = 100;
+
+/// Whose connection it is.
+#[derive(Clone, Copy, Debug, PartialEq, Eq)]
+pub enum Kind {
+    Control,
+    Ingress,
+}
+
+/// A connection that is open, by its number among those of its kind.
+#[derive(Drop)]
+struct Open {
+    kind: Kind,
+    number: usize,
+    stream: Arc<TcpStream>,
+}
+
+/// The connections that are open, the uplink, and how far the end has come.
+#[derive(Drop)]
+pub struct Connections {
+    open: Mutex<Vec<Open>>,
+    // Notified where a connection is over.
+    closed: Condvar,
+    // The listeners as streams, which can be shut down: that wakes an accept which waits.
+    control: TcpStream,
+    ingress: TcpStream,
+    wire: Arc<Wire>,
+    // No more connections are accepted, and those that are open give only what has come.
+    ending: Stop,
+    // The link takes nothing any more.
+    link_ended: Stop,
+    // Nothing is left to be watched.
+    over: Stop,
+    watcher: Parker,
+    is_verbose: bool,
+}
+
+// Another handle of a listener, as a stream.
+fn as_stream(listener: &TcpListener) -> io::Result<TcpStream> {
+    Ok(TcpStream::from(OwnedFd::from(listener.try_clone()?)))
+}
+
+impl Connections {
+    /// Of these listeners and this uplink, with room for so many connections.
+    pub fn new(
+        alloc: Global,
+        control: &TcpListener,
+        ingress: &TcpListener,
+        wire: Arc<Wire>,
+        room: usize,
+        is_verbose: bool,
+    ) -> io::Result<Connections> {
+        Ok(Connections {
+            open: Mutex::new(Vec::with_capacity(alloc, room)?),
+            closed: Condvar::new(),
+            control: as_stream(control)?,
+            ingress: as_stream(ingress)?,
+            wire,
+            ending: Stop::new(),
+            link_ended: Stop::new(),
+            over: Stop::new(),
+            watcher: Parker::new(),
+            is_verbose,
+        })
+    }
+
+    /// Tells a line on standard error, where that is wanted.
+    pub fn tell<R: Eprint, D: Display + Drop>(&self, rt: &R, line: D) {
+        if self.is_verbose {
+            let _ = rt.eprintln(line);
+        }
+    }
+
+    pub fn wire(&self) -> &Wire {
+        &self.wire
+    }
+
+    /// Whether no more connections are accepted.
+    pub fn is_ending(&self) -> bool {
+        self.ending.is_set()
+    }
+
+    /// Whether the link takes nothing any more.
+    pub fn has_link_ended(&self) -> bool {
+        self.link_ended.is_set()
+    }
+
+    /// A connection is there, which may have to end at once. Whether there was room for it.
+    pub fn add<R: Wait>(&self, rt: &R, kind: Kind, number: usize, stream: Arc<TcpStream>) -> bool {
+        let mut open = self.open.lock(rt);
+        if self.ending.is_set() {
+            let _ = stream.shutdown(Shutdown::Read);
+        }
+        if self.link_ended.is_set() && kind == Kind::Ingress {
+            let _ = stream.shutdown(Shutdown::Both);
+        }
+        open.push(Open {
+            kind,
+            number,
+            stream,
+        })
+        .is_ok()
+    }
+
+    /// A connection is over.
+    pub fn remove<R: Wait>(&self, rt: &R, kind: Kind, number: usize) {
+        let mut open = self.open.lock(rt);
+        open.retain(|one| one.kind != kind || one.number != number);
+        drop(open);
+        self.closed.notify_all();
+    }
+
+    /// Waits until all connections are over.
+    pub fn wait<R: Wait>(&self, rt: &R) {
+        let open = self.open.lock(rt);
+        let _ = self.closed.wait_while(rt, open, |open| !open.is_empty());
+    }
+
+    fn shut<R: Wait>(&self, rt: &R, kind: Kind, how: Shutdown) {
+        let open = self.open.lock(rt);
+        for one in open.as_slice() {
+            if one.kind == kind {
+                let _ = one.stream.shutdown(how);
+            }
+        }
+    }
+
+    /// The link takes nothing any more, so the ingress connections end.
+    pub fn end_link<R: Wait>(&self, rt: &R) {
+        self.link_ended.set();
+        self.shut(rt, Kind::Ingress, Shutdown::Both);
+    }
+
+    /// Accepts no more, and lets all connections give only what has come.
+    pub fn end<R: Wait>(&self, rt: &R) {
+        self.ending.set();
+        let _ = self.control.shutdown(Shutdown::Both);
+        let _ = self.ingress.shutdown(Shutdown::Both);
+        self.shut(rt, Kind::Control, Shutdown::Read);
+        self.shut(rt, Kind::Ingress, Shutdown::Read);
+        self.watcher.unpark();
+    }
+
+    /// Nothing is left to be watched.
+    pub fn end_watch(&self) {
+        self.over.set();
+        self.watcher.unpark();
+    }
+
+    /// Waits until the end begins; then ends replies that are not written in time, and an uplink that takes nothing
+    /// for so long.
+    pub fn watch<R: Wait>(&self, rt: &R) {
+        self.watcher.park(rt);
+        let mut steps = self.wire.steps();
+        if self.rest(rt) {
+            return;
+        }
+        self.shut(rt, Kind::Control, Shutdown::Both);
+        for _ in rt.forever() {
+            let now = self.wire.steps();
+            if now == steps && now % 2 == 1 {
+                self.wire.tear();
+                return;
+            }
+            steps = now;
+            if self.rest(rt) {
+                return;
+            }
+        }
+    }
+
+    // Lets the grace pass. Whether nothing is left to be watched.
+    fn rest<R: Wait>(&self, rt: &R) -> bool {
+        for _ in 0..GRACE {
+            if self.over.is_set() {
+                return true;
+            }
+            self.watcher.park_timeout(rt, Duration::from_millis(REST));
+        }
+        self.over.is_set()
+    }
+}
+
+// Reads to the end, and ends the connections then.
+fn end_at_end<R: Wait + Eprint, I: Read + Drop>(rt: &R, input: I, connections: &Connections) {
+    let mut input = input;
+    let mut buffer = [0u8; 256];
+    for _ in rt.forever() {
+        match input.read(&mut buffer) {
+            Ok(0) => break,
+            Ok(_) => (),
+            Err(fault) if fault.kind() == ErrorKind::Interrupted => (),
+            Err(_) => break,
+        }
+    }
+    drop(input);
+    connections.tell(rt, "standard input has ended");
+    connections.end(rt);
+}
+
+/// Ends the connections at the end of standard input, for which a thread waits that nobody waits for. Whether there
+/// is one.
+pub fn end_at_eof<R, I>(rt: &R, input: I, connections: &Arc<Connections>) -> bool
+where
+    R: Threads + Wait + Eprint + Copy + Send + 'static,
+    I: Read + Send + Drop + 'static,
+{
+    let Ok(theirs) = Arc::try_clone(connections) else {
+        return false;
+    };
+    let own = *rt;
+    let started = thread::spawn(rt, move || {
+        let input = input;
+        end_at_end(&own, input, &theirs)
+    });
+    started.is_ok()
+}

@@ -1,0 +1,109 @@
+//! The uplink: the connection to which the frames go.
+
+use std::alloc::{AllocError, Global};
+use std::io;
+use std::io::{ErrorKind, Read, Write};
+use std::net::{Shutdown, TcpStream};
+use std::sync::Arc;
+use std::sync::atomic::{AtomicU64, Ordering};
+use std::time::{Clock, Duration, Instant};
+
+/// How long what the peer sent is read away, in seconds.
+const AWAY_SECONDS: u64 = 5;
+
+/// How many read calls are made to read it away, at most.
+const MOST_READS: u64 = 4096;
+
+/// How many bytes one of them reads, at most.
+const AWAY: usize = 4096;
+
+/// The connection, and how many times a write call on it began or ended: odd while one is made.
+#[derive(Drop)]
+pub struct Wire {
+    stream: TcpStream,
+    steps: AtomicU64,
+}
+
+/// The writer of the link. Its offers are write calls on the connection.
+#[derive(Drop)]
+pub struct Uplink {
+    wire: Arc<Wire>,
+}
+
+impl Wire {
+    pub fn new(stream: TcpStream) -> Wire {
+        Wire {
+            stream,
+            steps: AtomicU64::new(0),
+        }
+    }
+
+    /// How many times a write call began or ended. It is odd while one is made.
+    pub fn steps(&self) -> u64 {
+        self.steps.load(Ordering::SeqCst)
+    }
+
+    /// Ends the connection, and a write call that waits.
+    pub fn tear(&self) {
+        let _ = self.stream.shutdown(Shutdown::Both);
+    }
+
+    /// Says that no more is sent.
+    pub fn end_writing(&self) {
+        let _ = self.stream.shutdown(Shutdown::Write);
+    }
+
+    /// Reads away what the peer sent, until it ends or for a while: a connection that is closed with bytes unread is
+    /// reset, and its last frames may be lost.
+    pub fn read_away(&self, rt: &impl Clock) {
+        let Ok(start) = Instant::now(rt) else {
+            return;
+        };
+        let mut buffer = [0u8; AWAY];
+        for _ in 0..MOST_READS {
+            if !self.reads_more(rt, start, &mut buffer) {
+                return;
+            }
+        }
+    }
+
+    // Makes one read call, and tells whether another one may find more.
+    fn reads_more(&self, rt: &impl Clock, start: Instant, buffer: &mut [u8]) -> bool {
+        let Ok(past) = start.elapsed(rt) else {
+            return false;
+        };
+        let Some(rest) = Duration::from_secs(AWAY_SECONDS).checked_sub(past) else {
+            return false;
+        };
+        if self.stream.set_read_timeout(Some(rest)).is_err() {
+            return false;
+        }
+        let mut stream = &self.stream;
+        match stream.read(buffer) {
+            Ok(count) => count > 0,
+            Err(fault) => fault.kind() == ErrorKind::Interrupted,
+        }
+    }
+}
+
+impl Uplink {
+    pub fn new(wire: &Arc<Wire>) -> Result<Uplink, AllocError> {
+        Ok(Uplink {
+            wire: Arc::try_clone(wire)?,
+        })
+    }
+}
+
+impl Write for Uplink {
+    fn write(&mut self, buf: &[u8]) -> io::Result<usize> {
+        let _ = self.wire.steps.fetch_add(1, Ordering::SeqCst);
+        let mut stream = &self.wire.stream;
+        let written = stream.write(buf);
+        let _ = self.wire.steps.fetch_add(1, Ordering::SeqCst);
+        written
+    }
+
+    fn flush(&mut self) -> io::Result<()> {
+        Ok(())
+    }
+}

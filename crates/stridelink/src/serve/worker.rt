@@ -1,0 +1,144 @@
+//! The work at one ingress connection.
+ghost use Rattle.std.specs.Prelude.{◌≡◌};
+
+use crate::serve::connections::Connections;
+use crate::serve::given::Given;
+use share_ingress::{Done, Ended, Gate, IngressEnd, IngressReader, Why, run_worker};
+use share_locked::Link;
+use share_model::PlainReader;
+use std::alloc::Global;
+use std::marker::{Model, PhantomData};
+use std::net::TcpStream;
+use std::sync::Wait;
+use std::thread;
+use std::thread::Parker;
+use std::time::Duration;
+
+/// How many turns a worker has.
+const TURNS: u64 = 1 << 40;
+
+/// How often an offer that a full queue refused is made again at once.
+const EAGER: u32 = 16;
+
+/// How many milliseconds the worker rests after each further one.
+const REST: u64 = 1;
+
+/// After so many offers that were refused it rests longer, so that it costs nothing where the link waits for its peer.
+const STALLED: u32 = 80;
+
+/// How many milliseconds it rests then.
+const LONG_REST: u64 = 5;
+
+/// An end of the queue of this link.
+#[derive(Drop)]
+pub struct LinkedEnd<L: Link> {
+    end: IngressEnd,
+    of: PhantomData<L>,
+}
+
+impl<L: Link> Model for LinkedEnd<L> {
+    ghost use Rattle.std.specs.Prelude.{◌≡◌};
+    ghost use Rattle.share_ingress.specs.Ends.{EndView};
+
+    ghost Value = { EndView };
+
+    ghost view = { λ l. l.end };
+
+    ghost invariant = { λ l. l.end.link ≡ L.link };
+}
+
+impl<L: Link> LinkedEnd<L> {
+    pub fn new(end: IngressEnd) -> LinkedEnd<L>
+        requires { end.link ≡ L.link }
+        ensures { result ≡ end }
+    {
+        LinkedEnd {
+            end,
+            of: PhantomData,
+        }
+    }
+
+    /// The end itself.
+    pub fn into_end(self) -> IngressEnd
+        ensures end { result ≡ self }
+        ensures link { result.link ≡ L.link }
+    {
+        self.end
+    }
+}
+
+/// Lets a worker go on until the link has ended. It rests where the queue stays full.
+#[derive(Drop)]
+struct UntilLinkEnds<'a, R> {
+    rt: &'a R,
+    connections: &'a Connections,
+    parker: Parker,
+    full: u32,
+}
+
+impl<'a, R: Wait> Gate for UntilLinkEnds<'a, R> {
+    ghost told = { λ _ _ _. Unit {0} };
+
+    fn before(&mut self, _n: u64) {
+        self.full = 0;
+    }
+
+    fn offered(&mut self, _n: u64) {}
+
+    fn full(&mut self) -> bool {
+        if self.connections.has_link_ended() {
+            return false;
+        }
+        self.full = self.full.saturating_add(1);
+        if self.full < EAGER {
+            thread::yield_now();
+            return true;
+        }
+        let rest = if self.full < STALLED { REST } else { LONG_REST };
+        self.parker
+            .park_timeout(self.rt, Duration::from_millis(rest));
+        true
+    }
+}
+
+/// Queues the records of a connection until it ends, or the link: the end of the queue, why, and how many.
+pub fn work<R: Wait, L: Link>(
+    rt: &R,
+    alloc: Global,
+    connections: &Connections,
+    stream: &TcpStream,
+    linked: LinkedEnd<L>,
+) -> (LinkedEnd<L>, Why, u64) {
+    let source = PlainReader(Given::new(stream, connections));
+    let Ok(reader) = IngressReader::new(alloc, source, TURNS) else {
+        return (linked, Why::Ended(Ended::NoMemory), 0);
+    };
+    let gate = UntilLinkEnds {
+        rt,
+        connections,
+        parker: Parker::new(),
+        full: 0,
+    };
+    let Done {
+        end,
+        gate,
+        why,
+        tally,
+    } = run_worker(rt, reader, linked.into_end(), gate);
+    drop(gate);
+    (LinkedEnd::new(end), why, tally)
+}
+
+/// The word for why a worker stopped.
+pub fn why_text(why: Why) -> &'static str {
+    match why {
+        Why::Ended(Ended::End) => "End",
+        Why::Ended(Ended::Cut) => "Cut",
+        Why::Ended(Ended::BadRecord) => "BadRecord",
+        Why::Ended(Ended::Fault) => "Fault",
+        Why::Ended(Ended::NoMemory) => "NoMemory",
+        Why::Ended(Ended::Bound) => "Bound",
+        Why::Stopped => "Stopped",
+        Why::NotStarted => "NotStarted",
+    }
+}

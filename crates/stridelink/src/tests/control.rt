@@ -1,0 +1,276 @@
+//! What control connections are answered.
+ghost use Rattle.std.specs.Prelude.{◌≡◌, ◌≤◌, [], length};
+
+use crate::serve::PlainTariffs;
+use crate::serve::control::{Attended, How, attend};
+use share_core::Engine;
+use share_ingress::{IngressEnd, Intake, queue};
+use share_journal::{Journal, Recorder};
+use share_locked::{Link, Locked};
+use share_model::{PlainReader, Rates, Tape};
+use share_script::IncomingLines;
+use std::alloc::Global;
+use std::io;
+use std::io::{Error, ErrorKind, Read, Write};
+use std::marker::Brand;
+use std::process::Abort;
+use std::sync::{Mutex, Wait};
+use std::test::Fail;
+
+/// The life of a link where it is not spent.
+const LIFE: u64 = 100;
+
+/// What comes on a connection, with a bar behind what one read gives, so that a read of nothing is interrupted; and
+/// what is written, with a bar behind what one write call takes.
+const CONVERSATIONS: [(&[u8], &[u8]); 9] = [
+    (b"", b""),
+    (b"nonsense\n", b"no 3 Syntax\n|"),
+    (
+        b"turn 1\nsend a 61\ntorn\naudit 1\n\nturn 0\n",
+        b"no 3 Syntax\nno 3 Syntax\nno 3 Syntax\nno 3 Syntax\nno 3 Syntax\nno 3 Syntax\n|",
+    ),
+    (
+        b"report\n",
+        b"clock                            0\n\
+        accepted                         0\n\
+        written                          0\n\
+        torn                             0\n\
+        waiting                          0\n\
+        dropped                          0\n\
+        bytes                            0\n\
+        past                             0\n\
+        tickets                          0\n\
+        pass                             0\n\
+        link                             0\n\
+        end\n|",
+    ),
+    (b"mkcur x\nmkcur x\n", b"ok\nno 9 Taken\n|"),
+    (b"mkcur x\n|mkcur y\n", b"ok\n|ok\n|"),
+    (b"mkcur x\nmkcur y", b"ok\n|"),
+    (b"mk|||cur x|\n", b"ok\n|"),
+    (
+        b"open a 4 1\n|mktkt 1 base\nfund 1 flow a\n",
+        b"flow 1\n|ticket 1\nok\n|",
+    ),
+];
+
+/// A reader that gives what stands before each bar, is interrupted where that is nothing, and fails at the end or not.
+#[derive(Drop)]
+struct Pieces<'a> {
+    rest: &'a [u8],
+    fails: bool,
+}
+
+// How many bytes stand before the first bar.
+fn piece_length(bytes: &[u8], most: usize) -> usize
+    ensures fits { result ≤ length bytes.now }
+    ensures few { result ≤ most }
+{
+    let count = bytes
+        .iter()
+        .position(|byte| *byte == b'|')
+        .unwrap_or(bytes.len());
+    count.min(most)
+}
+
+impl<'a> Read for Pieces<'a> {
+    fn read(&mut self, buf: &mut [u8]) -> io::Result<usize> {
+        if self.rest.is_empty() {
+            return if self.fails {
+                Err(Error::from(ErrorKind::ConnectionReset))
+            } else {
+                Ok(0)
+            };
+        }
+        let count = piece_length(self.rest, buf.len());
+        buf[..count].copy_from_slice(&self.rest[..count]);
+        self.rest = &self.rest[count..];
+        if let Some((b'|', rest)) = self.rest.split_first() {
+            self.rest = rest;
+        }
+        if count == 0 {
+            return Err(Error::from(ErrorKind::Interrupted));
+        }
+        Ok(count)
+    }
+}
+
+/// A writer that takes all, with a bar behind each call, and fails after so many calls.
+#[derive(Drop)]
+struct Barred<'a> {
+    bytes: &'a mut Vec<u8>,
+    left: u64,
+}
+
+impl<'a> Write for Barred<'a> {
+    fn write(&mut self, buf: &[u8]) -> io::Result<usize> {
+        if self.left == 0 {
+            return Err(Error::from(ErrorKind::BrokenPipe));
+        }
+        self.left -= 1;
+        self.bytes.extend_from_slice(buf)?;
+        self.bytes.push(b'|')?;
+        Ok(buf.len())
+    }
+
+    fn flush(&mut self) -> io::Result<()> {
+        Ok(())
+    }
+}
+
+/// What comes on a connection and how, and in how many write calls the answers go out before one fails.
+#[derive(Clone, Copy)]
+struct Asked<'a> {
+    life: u64,
+    bytes: &'a [u8],
+    fails: bool,
+    writes: u64,
+}
+
+// What comes whole, and is answered.
+fn whole<'a>(bytes: &'a [u8]) -> Asked<'a> {
+    Asked {
+        life: LIFE,
+        bytes,
+        fails: false,
+        writes: 100,
+    }
+}
+
+// Answers a connection to a link of this name: how it ended, and how many receipts its clerk has.
+fn attended<T, S, L>(
+    rt: &T,
+    alloc: Global,
+    recorder: Recorder<Tape, S>,
+    intake: Intake,
+    asked: Asked<'_>,
+    written: &mut Vec<u8>,
+) -> Result<(How, usize), Fail>
+where
+    T: Wait,
+    S: Rates + Drop,
+    L: Link,
+    requires empty { recorder.entries ≡ [] }
+    requires link { intake.link ≡ L.link }
+    requires nothing { intake.popped ≡ [] }
+{
+    let mut locked = Locked::<Tape, S, L>::new(recorder, intake);
+    let clerk = locked.clerk(alloc)?;
+    let port = Mutex::new(locked);
+    let pieces = Pieces {
+        rest: asked.bytes,
+        fails: asked.fails,
+    };
+    let input = IncomingLines::new(alloc, PlainReader(pieces))?;
+    let output = Barred {
+        bytes: written,
+        left: asked.writes,
+    };
+    let Attended { how, clerk } = attend(rt, alloc, &port, clerk, input, output);
+    Ok((how, clerk.receipts().len()))
+}
+
+// Answers a connection to a new link.
+fn answered<T: Wait + Abort, S: Rates + Copy>(
+    rt: &T,
+    alloc: Global,
+    shelf: S,
+    asked: Asked<'_>,
+    written: &mut Vec<u8>,
+) -> Result<(How, usize), Fail> {
+    let engine = Engine::new(alloc, shelf, asked.life, Tape::new(alloc))?;
+    let journal = Journal::new(alloc, asked.life)?;
+    let Ok(recorder) = Recorder::new(engine, journal) else {
+        panic!(rt; "the link and its journal are not new");
+    };
+    let (intake, ends) = queue(alloc, 1, 1)?;
+    drop::<Vec<IngressEnd>>(ends);
+    attended::<T, S, Brand>(rt, alloc, recorder, intake, asked, written)
+}
+
+fn are_answered<T: Wait + Abort, S: Rates + Copy>(
+    rt: &T,
+    alloc: Global,
+    shelf: S,
+) -> Result<(), Fail> {
+    for (bytes, want) in CONVERSATIONS {
+        let mut written = Vec::new(alloc);
+        let (how, _) = answered(rt, alloc, shelf, whole(bytes), &mut written)?;
+        assert_eq!(rt; how, How::End);
+        assert_eq!(rt; written.as_slice(), want);
+    }
+    Ok(())
+}
+
+// A line of more than 20480 bytes has no place, and the line behind it has its own answer.
+fn over_long_lines_have_no_place<T: Wait + Abort, S: Rates + Copy>(
+    rt: &T,
+    alloc: Global,
+    shelf: S,
+) -> Result<(), Fail> {
+    let mut long = Vec::new(alloc);
+    for _ in 0..20481 {
+        long.push(b'x')?;
+    }
+    long.extend_from_slice(b"\nmkcur x\n".as_slice())?;
+    let mut written = Vec::new(alloc);
+    let asked = whole(long.as_slice());
+    let (how, receipts) = answered(rt, alloc, shelf, asked, &mut written)?;
+    assert_eq!(rt; (how, receipts), (How::End, 1));
+    assert_eq!(rt; written.as_slice(), b"no 3 Syntax\nok\n|".as_slice());
+    Ok(())
+}
+
+// A spent life is told of changes alone, and these have no receipts.
+fn spent_lives_are_told<T: Wait + Abort, S: Rates + Copy>(
+    rt: &T,
+    alloc: Global,
+    shelf: S,
+) -> Result<(), Fail> {
+    let mut written = Vec::new(alloc);
+    let asked = Asked {
+        life: 1,
+        ..whole(b"mkcur x\nmkcur y\ntorn\n")
+    };
+    let (how, receipts) = answered(rt, alloc, shelf, asked, &mut written)?;
+    assert_eq!(rt; (how, receipts), (How::End, 1));
+    assert_eq!(rt;
+        written.as_slice(),
+        b"ok\nno 2 Spent\nno 3 Syntax\n|".as_slice()
+    );
+    Ok(())
+}
+
+// What was commanded before an answer could not be written stands, and the connection has ended.
+fn faults_end_a_connection<T: Wait + Abort, S: Rates + Copy>(
+    rt: &T,
+    alloc: Global,
+    shelf: S,
+) -> Result<(), Fail> {
+    let mut written = Vec::new(alloc);
+    let asked = Asked {
+        writes: 1,
+        ..whole(b"mkcur x\n|mkcur y\n|mkcur z\n")
+    };
+    let (how, receipts) = answered(rt, alloc, shelf, asked, &mut written)?;
+    assert_eq!(rt; (how, receipts), (How::WriteFault, 2));
+    assert_eq!(rt; written.as_slice(), b"ok\n|".as_slice());
+    let mut written = Vec::new(alloc);
+    let asked = Asked {
+        fails: true,
+        ..whole(b"mkcur x\nmkcur y")
+    };
+    let (how, receipts) = answered(rt, alloc, shelf, asked, &mut written)?;
+    assert_eq!(rt; (how, receipts), (How::ReadFault, 1));
+    assert_eq!(rt; written.as_slice(), b"ok\n|".as_slice());
+    Ok(())
+}
+
+#[test]
+fn lines_of_control_connections(rt: HostRuntime) -> Result<(), Fail> {
+    let alloc = rt.alloc();
+    are_answered(&rt, alloc, PlainTariffs)?;
+    over_long_lines_have_no_place(&rt, alloc, PlainTariffs)?;
+    spent_lives_are_told(&rt, alloc, PlainTariffs)?;
+    faults_end_a_connection(&rt, alloc, PlainTariffs)
+}

@@ -493,9 +493,9 @@ def spent_life_under_load(run):
     connections = [server.ingress(), server.ingress()]
     for connection, some in zip(connections, sent):
         run.thread(send_all, connection, some)
+    wait_for(lambda: control.ask("mkcur x") == ["no 2 Spent"], "the end of the life")
     for connection in connections:
         wait_for(lambda: is_over(connection), "the end of a connection")
-    control.ask_wanted(["mkcur x"], ["no 2 Spent"])
     control.close()
     server.ends(1, "the life is spent")
     replay = check(server, peer, [("part", some) for some in sent])

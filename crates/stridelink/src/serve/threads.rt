@@ -86,7 +86,7 @@ fn serve_ingress<R: Wait + Eprint, S: Rates, L: Link>(
     slot: &Slot<LinkedEnd<L>>,
 ) {
     if let Some(end) = slot.take(rt) {
-        let (end, why, tally) = work(rt, server.alloc, &server.connections, &stream, end);
+        let (end, why, tally) = work(rt, server.alloc, &server.connections, number, &stream, end);
         let text = why_text(why);
         server.connections.tell(
             rt,

@@ -20,14 +20,9 @@ const TURNS: u64 = 1 << 40;
 /// How often an offer that a full queue refused is made again at once.
 const EAGER: u32 = 16;
 
-/// How many milliseconds the worker rests after each further one.
-const REST: u64 = 1;
-
-/// After so many offers that were refused it rests longer, so that it costs nothing where the link waits for its peer.
-const STALLED: u32 = 80;
-
-/// How many milliseconds it rests then.
-const LONG_REST: u64 = 5;
+/// How many microseconds the worker rests at least after each further one. It draws how many more, up to 1023, so that of
+/// two workers that wait for places of one queue neither is always the second.
+const LEAST_REST: u64 = 1000;
 
 /// An end of the queue of this link.
 #[derive(Drop)]
@@ -74,6 +69,17 @@ struct UntilLinkEnds<'a, R> {
     connections: &'a Connections,
     parker: Parker,
     full: u32,
+    drawn: u32,
+}
+
+impl<'a, R: Wait> UntilLinkEnds<'a, R> {
+    // Rests for a while that is drawn, by a linear congruential generator.
+    fn rest(&mut self) {
+        self.drawn = self.drawn.wrapping_mul(1664525).wrapping_add(1013904223);
+        let more = u64::from(self.drawn >> 22);
+        self.parker
+            .park_timeout(self.rt, Duration::from_micros(LEAST_REST + more));
+    }
 }
 
 impl<'a, R: Wait> Gate for UntilLinkEnds<'a, R> {
@@ -94,18 +100,18 @@ impl<'a, R: Wait> Gate for UntilLinkEnds<'a, R> {
             thread::yield_now();
             return true;
         }
-        let rest = if self.full < STALLED { REST } else { LONG_REST };
-        self.parker
-            .park_timeout(self.rt, Duration::from_millis(rest));
+        self.rest();
         true
     }
 }
 
-/// Queues the records of a connection until it ends, or the link: the end of the queue, why, and how many.
+/// Queues the records of the connection with this number until it ends, or the link: the end of the queue, why, and how
+/// many.
 pub fn work<R: Wait, L: Link>(
     rt: &R,
     alloc: Global,
     connections: &Connections,
+    number: usize,
     stream: &TcpStream,
     linked: LinkedEnd<L>,
 ) -> (LinkedEnd<L>, Why, u64) {
@@ -118,6 +124,7 @@ pub fn work<R: Wait, L: Link>(
         connections,
         parker: Parker::new(),
         full: 0,
+        drawn: number as u32,
     };
     let Done {
         end,

@@ -145,9 +145,9 @@ fn attended<T, S, L>(
     intake: Intake,
     asked: Asked<'_>,
     written: &mut Vec<u8>,
-) -> Result<(How, usize), Fail>
+) -> (How, usize)
 where
-    T: Wait,
+    T: Wait + Abort,
     S: Rates + Drop,
     L: Link,
     requires empty { recorder.entries ≡ [] }
@@ -155,35 +155,38 @@ where
     requires nothing { intake.popped ≡ [] }
 {
     let mut locked = Locked::<Tape, S, L>::new(recorder, intake);
-    let clerk = locked.clerk(alloc)?;
+    let clerk = locked.clerk(alloc).expect(rt, "a clerk");
     let port = Mutex::new(locked);
     let pieces = Pieces {
         rest: asked.bytes,
         fails: asked.fails,
     };
-    let input = IncomingLines::new(alloc, PlainReader(pieces))?;
+    let input = IncomingLines::new(alloc, PlainReader(pieces))
+        .ok()
+        .expect(rt, "a chunk");
     let output = Barred {
         bytes: written,
         left: asked.writes,
     };
     let Attended { how, clerk } = attend(rt, alloc, &port, clerk, input, output);
-    Ok((how, clerk.receipts().len()))
+    drop(port);
+    let receipts = clerk.receipts().len();
+    drop(clerk);
+    (how, receipts)
 }
 
 // Answers a connection to a new link.
-fn answered<T: Wait + Abort, S: Rates + Copy>(
+fn answered<T: Wait + Abort, S: Rates + Drop>(
     rt: &T,
     alloc: Global,
     shelf: S,
     asked: Asked<'_>,
     written: &mut Vec<u8>,
-) -> Result<(How, usize), Fail> {
-    let engine = Engine::new(alloc, shelf, asked.life, Tape::new(alloc))?;
-    let journal = Journal::new(alloc, asked.life)?;
-    let Ok(recorder) = Recorder::new(engine, journal) else {
-        panic!(rt; "the link and its journal are not new");
-    };
-    let (intake, ends) = queue(alloc, 1, 1)?;
+) -> (How, usize) {
+    let engine = Engine::new(alloc, shelf, asked.life, Tape::new(alloc)).expect(rt, "a link");
+    let journal = Journal::new(alloc, asked.life).expect(rt, "a journal");
+    let recorder = Recorder::new(engine, journal).ok().expect(rt, "a recorder");
+    let (intake, ends) = queue(alloc, 1, 1).expect(rt, "a queue");
     drop::<Vec<IngressEnd>>(ends);
     attended::<T, S, Brand>(rt, alloc, recorder, intake, asked, written)
 }
@@ -195,7 +198,7 @@ fn are_answered<T: Wait + Abort, S: Rates + Copy>(
 ) -> Result<(), Fail> {
     for (bytes, want) in CONVERSATIONS {
         let mut written = Vec::new(alloc);
-        let (how, _) = answered(rt, alloc, shelf, whole(bytes), &mut written)?;
+        let (how, _) = answered(rt, alloc, shelf, whole(bytes), &mut written);
         assert_eq!(rt; how, How::End);
         assert_eq!(rt; written.as_slice(), want);
     }
@@ -215,7 +218,7 @@ fn over_long_lines_have_no_place<T: Wait + Abort, S: Rates + Copy>(
     long.extend_from_slice(b"\nmkcur x\n".as_slice())?;
     let mut written = Vec::new(alloc);
     let asked = whole(long.as_slice());
-    let (how, receipts) = answered(rt, alloc, shelf, asked, &mut written)?;
+    let (how, receipts) = answered(rt, alloc, shelf, asked, &mut written);
     assert_eq!(rt; (how, receipts), (How::End, 1));
     assert_eq!(rt; written.as_slice(), b"no 3 Syntax\nok\n|".as_slice());
     Ok(())
@@ -232,7 +235,7 @@ fn spent_lives_are_told<T: Wait + Abort, S: Rates + Copy>(
         life: 1,
         ..whole(b"mkcur x\nmkcur y\ntorn\n")
     };
-    let (how, receipts) = answered(rt, alloc, shelf, asked, &mut written)?;
+    let (how, receipts) = answered(rt, alloc, shelf, asked, &mut written);
     assert_eq!(rt; (how, receipts), (How::End, 1));
     assert_eq!(rt;
         written.as_slice(),
@@ -252,7 +255,7 @@ fn faults_end_a_connection<T: Wait + Abort, S: Rates + Copy>(
         writes: 1,
         ..whole(b"mkcur x\n|mkcur y\n|mkcur z\n")
     };
-    let (how, receipts) = answered(rt, alloc, shelf, asked, &mut written)?;
+    let (how, receipts) = answered(rt, alloc, shelf, asked, &mut written);
     assert_eq!(rt; (how, receipts), (How::WriteFault, 2));
     assert_eq!(rt; written.as_slice(), b"ok\n|".as_slice());
     let mut written = Vec::new(alloc);
@@ -260,7 +263,7 @@ fn faults_end_a_connection<T: Wait + Abort, S: Rates + Copy>(
         fails: true,
         ..whole(b"mkcur x\nmkcur y")
     };
-    let (how, receipts) = answered(rt, alloc, shelf, asked, &mut written)?;
+    let (how, receipts) = answered(rt, alloc, shelf, asked, &mut written);
     assert_eq!(rt; (how, receipts), (How::ReadFault, 1));
     assert_eq!(rt; written.as_slice(), b"ok\n|".as_slice());
     Ok(())

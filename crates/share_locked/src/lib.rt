@@ -13,4 +13,6 @@ pub use clerk::{Clerk, Receipt};
 pub use link::Link;
 pub use locked::{Admit, Locked, Settled, Unsettled, WhyUnsettled, settle};
 pub use running::{LinkEnd, Port, Stop, run_link};
-pub use threads::{Closed, Duty, Left, Post, Unclosed, serve_while, settle_all};
+pub use threads::{
+    Closed, Duty, Left, Post, Unclosed, attend_while, run_while, serve_while, settle_all,
+};

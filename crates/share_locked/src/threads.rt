@@ -14,7 +14,7 @@ use std::alloc::{AllocError, Global};
 use std::snapshot::Snapshot;
 use std::sync::{Mutex, Wait};
 use std::thread;
-use std::thread::Threads;
+use std::thread::{Scope, Threads};
 
 /// What a clerk does on a running link, in a thread of its own.
 pub trait Duty<W: Telling, S: Rates, L: Link> {
@@ -173,6 +173,92 @@ where
             (end, done)
         },
     )
+}
+
+/// Serves a link in a thread of its own, as `serve_while`, and lets each clerk do its duty in a thread of its own, as
+/// `attend_while`, while `work` is done in this one: how the service ended, how many clerks got a thread, and what came
+/// of the work.
+pub fn run_while<W, S, L, T, D, F, A>(
+    rt: &T,
+    port: &Port<W, S, L>,
+    posts: &[Post<D, L>],
+    ended: &Stop,
+    work: F,
+) -> (Option<LinkEnd>, usize, A)
+where
+    W: Telling + Send,
+    S: Rates + Send,
+    L: Link + Send,
+    T: Threads + Wait + Sync,
+    D: Duty<W, S, L> + Send,
+    F: FnOnce() -> A,
+    requires { F.pre work }
+    ensures { F.post work result.2 }
+{
+    let (link, (begun, done)) = serve_while(
+        rt,
+        port,
+        ended,
+        || -> (usize, A)
+            requires { F.pre work }
+            ensures { F.post work result.1 }
+        { attend_while(rt, port, posts, work) },
+    );
+    (link, begun, done)
+}
+
+/// Lets each clerk do its duty in a thread of its own while `work` is done in this one, and waits for all: how many
+/// clerks, from the first, got a thread, and what came of the work. The first clerk whose thread is not to be had is
+/// the last to be tried.
+pub fn attend_while<W, S, L, T, D, F, A>(
+    rt: &T,
+    port: &Port<W, S, L>,
+    posts: &[Post<D, L>],
+    work: F,
+) -> (usize, A)
+where
+    W: Telling + Send,
+    S: Rates + Send,
+    L: Link + Send,
+    T: Threads + Wait + Sync,
+    D: Duty<W, S, L> + Send,
+    F: FnOnce() -> A,
+    requires { F.pre work }
+    ensures { F.post work result.1 }
+{
+    thread::scope(
+        thread::scope_env(),
+        rt,
+        move |scope| -> (usize, A)
+            requires { F.pre work }
+            ensures { F.post work result.1 }
+        {
+            let begun = begin(scope, rt, port, posts);
+            (begun, work())
+        },
+    )
+}
+
+// Starts a thread for each clerk, up to the first for which none is to be had: how many.
+fn begin<'s, E, W, S, L, T, D>(
+    scope: &Scope<'s, E>,
+    rt: &'s T,
+    port: &'s Port<W, S, L>,
+    posts: &'s [Post<D, L>],
+) -> usize
+where
+    W: Telling + Send,
+    S: Rates + Send,
+    L: Link + Send,
+    T: Wait + Sync,
+    D: Duty<W, S, L> + Send,
+{
+    for (begun, post) in posts.iter().enumerate() {
+        if scope.spawn(move || post.attend(rt, port)).is_err() {
+            return begun;
+        }
+    }
+    posts.len()
 }
 
 // Serves a link, and sets a flag at the end.

@@ -38,7 +38,7 @@ pub fn audits_replay<W: Telling, S: Rates>(recorder: &Recorder<W, S>)
         → IsReplayOf W.told recorder.now.link recorder.now.entries life lacks }
     ensures answered { (life : ℕ) (lacks : List Bool) → recorder.now.link.life ≤ life
         → FoundMemory (talk life recorder.now.link.rates start lacks
-            (lines_of (audit (events_of recorder.now.entries))))
+        (lines_of (audit (events_of recorder.now.entries))))
         → IsReplayOf W.told recorder.now.link recorder.now.entries life lacks }
 {
     // What `journal` answers is not used: its contract says that the entries are a run.

@@ -69,16 +69,21 @@ struct UntilLinkEnds<'a, R> {
     connections: &'a Connections,
     parker: Parker,
     full: u32,
-    drawn: u32,
+    drawn: u64,
 }
 
 impl<'a, R: Wait> UntilLinkEnds<'a, R> {
     // Rests for a while that is drawn, by a linear congruential generator.
     fn rest(&mut self) {
-        self.drawn = self.drawn.wrapping_mul(1664525).wrapping_add(1013904223);
-        let more = u64::from(self.drawn >> 22);
-        self.parker
-            .park_timeout(self.rt, Duration::from_micros(LEAST_REST + more));
+        self.drawn = self
+            .drawn
+            .wrapping_mul(6364136223846793005)
+            .wrapping_add(1442695040888963407);
+        let more = self.drawn >> 54;
+        self.parker.park_timeout(
+            self.rt,
+            Duration::from_micros(LEAST_REST.saturating_add(more)),
+        );
     }
 }
 
@@ -124,7 +129,7 @@ pub fn work<R: Wait, L: Link>(
         connections,
         parker: Parker::new(),
         full: 0,
-        drawn: number as u32,
+        drawn: number as u64,
     };
     let Done {
         end,

@@ -185,7 +185,9 @@ fn answered<T: Wait + Abort, S: Rates + Drop>(
 ) -> (How, usize) {
     let engine = Engine::new(alloc, shelf, asked.life, Tape::new(alloc)).expect(rt, "a link");
     let journal = Journal::new(alloc, asked.life).expect(rt, "a journal");
-    let recorder = Recorder::new(engine, journal).ok().expect(rt, "a recorder");
+    let Ok(recorder) = Recorder::new(engine, journal) else {
+        panic!(rt; "the link and its journal are not new");
+    };
     let (intake, ends) = queue(alloc, 1, 1).expect(rt, "a queue");
     drop::<Vec<IngressEnd>>(ends);
     attended::<T, S, Brand>(rt, alloc, recorder, intake, asked, written)

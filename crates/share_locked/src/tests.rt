@@ -1,31 +1,43 @@
 //! Worked examples of a running link, and what no contract says.
+ghost use Rattle.std.specs.Prelude.{◌≡◌, IfOk};
+ghost use Rattle.share_model.specs.lists.Each.{Each};
+ghost use Rattle.share_ingress.specs.Names.{LinkName};
 
 mod asking;
 mod made;
 mod settling;
 mod spending;
+mod tariffs;
+mod whole_run;
 mod writing;
 
-use std::test::Fail;
+use crate::tests::tariffs::ByByte;
+use crate::tests::whole_run::Worked;
+use share_ingress::run_workers;
 
-// The shelf has two tariffs: by the byte, and by cells of 48. Its boxes are made in this body, which is dear to prove,
-// and it is lent.
 #[test]
-fn links_settle_as_worked(rt: HostRuntime) -> Result<(), Fail> {
+fn links_settle_as_worked(rt: HostRuntime) {
     let alloc = rt.alloc();
-    let shelf = share_tariff::shelf!(alloc, (1, 0, 1), (48, 16, 2));
-    asking::all(&rt, alloc, &shelf);
-    settling::all(&rt, alloc, &shelf);
-    spending::all(&rt, alloc, &shelf);
-    drop(shelf);
-    Ok(())
+    asking::all(&rt, alloc, ByByte);
+    settling::all(&rt, alloc, ByByte);
+    spending::all(&rt, alloc, ByByte);
 }
 
 #[test]
-fn offer_while_writing(rt: HostRuntime) -> Result<(), Fail> {
+fn offer_while_writing(rt: HostRuntime) {
+    writing::writes_while_an_offer_is_made(&rt, rt.alloc(), ByByte);
+}
+
+#[test]
+fn settled(rt: HostRuntime) {
     let alloc = rt.alloc();
-    let shelf = share_tariff::shelf!(alloc, (1, 0, 1));
-    writing::writes_while_an_offer_is_made(&rt, alloc, &shelf);
-    drop(shelf);
-    Ok(())
+    whole_run::settles(
+        &rt,
+        alloc,
+        ByByte,
+        |jobs| -> Worked
+            ensures { (link : LinkName) → Each (λ job. job.end.link ≡ link) jobs.items
+                → IfOk result (λ all. Each (λ done. done.end.link ≡ link) all.items) }
+        { run_workers(&rt, alloc, jobs) },
+    );
 }

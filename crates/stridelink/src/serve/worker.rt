@@ -24,6 +24,13 @@ const EAGER: u32 = 16;
 /// two workers that wait for places of one queue neither is always the second.
 const LEAST_REST: u64 = 1000;
 
+/// After a full queue so many records are offered in portions, with a rest behind each: what comes free at once is more
+/// than a buffer may hold, and the first worker to find it would else leave nothing to those that rest.
+const CAREFUL: u32 = 256;
+
+/// How many records such a portion has.
+const PORTION: u32 = 32;
+
 /// An end of the queue of this link.
 #[derive(Drop)]
 pub struct LinkedEnd<L: Link> {
@@ -69,6 +76,7 @@ struct UntilLinkEnds<'a, R> {
     connections: &'a Connections,
     parker: Parker,
     full: u32,
+    careful: u32,
     drawn: u64,
 }
 
@@ -94,12 +102,20 @@ impl<'a, R: Wait> Gate for UntilLinkEnds<'a, R> {
         self.full = 0;
     }
 
-    fn offered(&mut self, _n: u64) {}
+    fn offered(&mut self, _n: u64) {
+        if self.careful > 0 {
+            self.careful -= 1;
+            if self.careful % PORTION == 0 {
+                self.rest();
+            }
+        }
+    }
 
     fn full(&mut self) -> bool {
         if self.connections.has_link_ended() {
             return false;
         }
+        self.careful = CAREFUL;
         self.full = self.full.saturating_add(1);
         if self.full < EAGER {
             thread::yield_now();
@@ -129,6 +145,7 @@ pub fn work<R: Wait, L: Link>(
         connections,
         parker: Parker::new(),
         full: 0,
+        careful: 0,
         drawn: number as u64,
     };
     let Done {

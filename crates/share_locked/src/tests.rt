@@ -5,6 +5,7 @@ ghost use Rattle.share_ingress.specs.Names.{LinkName};
 
 mod asking;
 mod made;
+mod running;
 mod settling;
 mod spending;
 mod tariffs;
@@ -26,6 +27,11 @@ fn links_settle_as_worked(rt: HostRuntime) {
 #[test]
 fn offer_while_writing(rt: HostRuntime) {
     writing::writes_while_an_offer_is_made(&rt, rt.alloc(), ByByte);
+}
+
+#[test]
+fn served_while_others_work(rt: HostRuntime) {
+    running::serve_one(&rt, rt.alloc(), ByByte);
 }
 
 #[test]

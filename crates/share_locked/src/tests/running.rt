@@ -1,0 +1,94 @@
+//! A link that is served in a thread of its own.
+ghost use Rattle.std.specs.Prelude.{◌≡◌, []};
+
+use crate::tests::made::{LONG, offered, queued, recording};
+use crate::{Link, LinkEnd, Locked, Port, Stop, serve_while};
+use share_ingress::{IngressEnd, Intake};
+use share_journal::Recorder;
+use share_model::{Rates, Tape};
+use std::alloc::Global;
+use std::marker::Brand;
+use std::process::Abort;
+use std::sync::{Mutex, Wait};
+use std::thread::{Parker, Threads};
+use std::time::Duration;
+
+/// For how many milliseconds nothing is offered.
+const WHILE: u64 = 50;
+
+/// How often it is looked whether an offer came, at most, a millisecond apart.
+const LOOKS: u64 = 10000;
+
+// Offers a packet after a while: whether it comes to the journal, and the end.
+fn comes_late<T, S, L>(
+    rt: &T,
+    alloc: Global,
+    port: &Port<Tape, S, L>,
+    end: IngressEnd,
+) -> (bool, IngressEnd)
+where
+    T: Abort + Wait,
+    S: Rates,
+    L: Link,
+{
+    let mut end = end;
+    let parker = Parker::new();
+    parker.park_timeout(rt, Duration::from_millis(WHILE));
+    assert_eq!(rt; offered(rt, alloc, &mut end, b"x"), Some(1));
+    (comes(rt, &parker, port), end)
+}
+
+// Whether something comes to the journal.
+fn comes<T, S, L>(rt: &T, parker: &Parker, port: &Port<Tape, S, L>) -> bool
+where
+    T: Wait,
+    S: Rates,
+    L: Link,
+{
+    for _look in 0..LOOKS {
+        if port.lock(rt).recorder().journal().len() == 1 {
+            return true;
+        }
+        parker.park_timeout(rt, Duration::from_millis(1));
+    }
+    false
+}
+
+// A link is served as long as the work beside it is at it, and no longer.
+fn is_served<T, S, L>(
+    rt: &T,
+    alloc: Global,
+    recorder: Recorder<Tape, S>,
+    intake: Intake,
+    ends: Vec<IngressEnd>,
+)
+where
+    T: Abort + Threads + Wait + Sync,
+    S: Rates + Copy + Send,
+    L: Link + Send,
+    requires empty { recorder.entries ≡ [] }
+    requires link { intake.link ≡ L.link }
+    requires nothing { intake.popped ≡ [] }
+{
+    let mut ends = ends;
+    let end = ends.pop().expect(rt, "an end");
+    let locked: Locked<Tape, S, L> = Locked::new(recorder, intake);
+    let port = Mutex::new(locked);
+    let ended = Stop::new();
+    let (link, (came, end)) = serve_while(rt, &port, &ended, || comes_late(rt, alloc, &port, end));
+    let mut end = end;
+    assert_eq!(rt; (link, came), (Some(LinkEnd::Drained), true));
+    assert!(rt; ended.is_set());
+    assert_eq!(rt; offered(rt, alloc, &mut end, b"y"), Some(2));
+    assert_eq!(rt; port.into_inner().recorder().journal().len(), 1);
+}
+
+pub(super) fn serve_one<T, S>(rt: &T, alloc: Global, shelf: S)
+where
+    T: Abort + Threads + Wait + Sync,
+    S: Rates + Copy + Send,
+{
+    let (intake, ends) = queued(rt, alloc, 4, 1);
+    let recorder = recording(rt, alloc, shelf, LONG, Tape::new(alloc));
+    is_served::<T, S, Brand>(rt, alloc, recorder, intake, ends);
+}

@@ -24,6 +24,12 @@ const EAGER: u32 = 16;
 /// two workers that wait for places of one queue neither is always the second.
 const LEAST_REST: u64 = 1000;
 
+/// After so many offers that were refused it rests longer, so that it costs little where the link waits for its peer.
+const STALLED: u32 = 80;
+
+/// How many microseconds it rests at least then.
+const LONG_REST: u64 = 5000;
+
 /// After a full queue so many records are offered in portions, with a rest behind each: what comes free at once is more
 /// than a buffer may hold, and the first worker to find it would else leave nothing to those that rest.
 const CAREFUL: u32 = 256;
@@ -81,17 +87,15 @@ struct UntilLinkEnds<'a, R> {
 }
 
 impl<'a, R: Wait> UntilLinkEnds<'a, R> {
-    // Rests for a while that is drawn, by a linear congruential generator.
-    fn rest(&mut self) {
+    // Rests for so many microseconds and some more, which are drawn by a linear congruential generator.
+    fn rest(&mut self, least: u64) {
         self.drawn = self
             .drawn
             .wrapping_mul(6364136223846793005)
             .wrapping_add(1442695040888963407);
         let more = self.drawn >> 54;
-        self.parker.park_timeout(
-            self.rt,
-            Duration::from_micros(LEAST_REST.saturating_add(more)),
-        );
+        self.parker
+            .park_timeout(self.rt, Duration::from_micros(least.saturating_add(more)));
     }
 }
 
@@ -106,7 +110,7 @@ impl<'a, R: Wait> Gate for UntilLinkEnds<'a, R> {
         if self.careful > 0 {
             self.careful -= 1;
             if self.careful % PORTION == 0 {
-                self.rest();
+                self.rest(LEAST_REST);
             }
         }
     }
@@ -121,7 +125,11 @@ impl<'a, R: Wait> Gate for UntilLinkEnds<'a, R> {
             thread::yield_now();
             return true;
         }
-        self.rest();
+        self.rest(if self.full < STALLED {
+            LEAST_REST
+        } else {
+            LONG_REST
+        });
         true
     }
 }

@@ -19,7 +19,7 @@ const MOST: u32 = 65535;
 const EAGER: u32 = 16;
 
 /// How many milliseconds the link rests after each further one.
-const REST: u64 = 1;
+const REST: u64 = 2;
 
 /// A flag that is set once, and stays set.
 #[derive(Drop)]
@@ -73,7 +73,7 @@ enum Round {
 /// Serves a link until it is stopped and has nothing left to do, or until its life is spent. A round admits until the
 /// queue is empty, at most as many offers as it has places, and then makes one turn, each call under the lock alone;
 /// so those who wait for the lock get it between any two calls, and a command waits at most for those before it. After
-/// some rounds with nothing to do it rests for a millisecond after each.
+/// some rounds with nothing to do it rests for two milliseconds after each.
 pub fn run_link<W: Telling, S: Rates, L: Link, R: Wait>(
     rt: &R,
     port: &Port<W, S, L>,

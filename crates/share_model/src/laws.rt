@@ -185,11 +185,11 @@ pub fn runs_are_one_fold()
         → Headline life rates events (outcomes rates empty_state events) (run rates events).live (Some told) }
 {}
 
-/// A script is a run of its events, of which a line makes one or none. They may follow one another; they leave the state
-/// that the script comes to, and its writes are theirs; and each line is answered with the text of its event's outcome,
-/// or of its own where it made none. A line `report` makes none: wherever it stands, its text is the report of what the
-/// run of the events of the lines before it left. So every law of runs holds of every script, whatever its lines, and
-/// wherever memory was lacking.
+/// A script is a run of its events, of which a line makes one or none. They may follow one another; they leave the
+/// state that the script comes to, and its writes are theirs; and each line is answered with the text of its event's
+/// outcome, or of its own where it made none. A line `report` makes none: wherever it stands, its text is the report of
+/// what the run of the events of the lines before it left. So every law of runs holds of every script, whatever its
+/// lines, and wherever memory was lacking.
 pub fn scripts_are_runs()
     ensures follow { (life : ℕ) (rates : List Rate) (lacks : List Bool) (lines : List (List ℕ))
         → AreInRange rates

@@ -20,7 +20,8 @@ returns-in_err-printed-clause-printed g c =
     let p = err_from_is_err_and c.from_residual-in_err-printed.result
     c.from_residual-in_err-printed.ensures.1 in
     rw p.1
-    (ran_most _ _ _ _ _ _ _ c.in-Ok.engine c.in_ok-engine.engine _ (over_new _ _ _ _ c.in-Ok.engine c.in-Ok.ensures.ok.0)
+    (ran_most _ _ _ _ _ _ _ c.in-Ok.engine c.in_ok-engine.engine _
+    (over_new _ _ _ _ c.in-Ok.engine c.in-Ok.ensures.ok.0)
     (c.bytes.ensures ∙ ap (λ (t : Told). t.bytes) c.writer.ensures) c.in_ok-engine.ensures.fold
     c.in_err-printed.ensures.bytes)
 
@@ -34,7 +35,8 @@ returns-in_err-printed-clause-fault g c =
 
 pub returns-clause-printed : goal.returns-clause-printed
 returns-clause-printed g c =
-    ran_whole _ _ _ _ _ _ _ c.in-Ok.engine c.in_ok-engine.engine _ (over_new _ _ _ _ c.in-Ok.engine c.in-Ok.ensures.ok.0)
+    ran_whole _ _ _ _ _ _ _ c.in-Ok.engine c.in_ok-engine.engine _
+    (over_new _ _ _ _ c.in-Ok.engine c.in-Ok.ensures.ok.0)
     (c.bytes.ensures ∙ ap (λ (t : Told). t.bytes) c.writer.ensures) c.in_ok-engine.ensures.fold
     c.in_ok-printed.ensures.bytes
 

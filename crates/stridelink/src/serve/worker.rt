@@ -20,8 +20,8 @@ const TURNS: u64 = 1 << 40;
 /// How often an offer that a full queue refused is made again at once.
 const EAGER: u32 = 16;
 
-/// How many microseconds the worker rests at least after each further one. It draws how many more, up to 1023, so that of
-/// two workers that wait for places of one queue neither is always the second.
+/// How many microseconds the worker rests at least after each further one. It draws how many more, up to 1023, so that
+/// of two workers that wait for places of one queue neither is always the second.
 const LEAST_REST: u64 = 1000;
 
 /// After so many offers that were refused it rests longer, so that it costs little where the link waits for its peer.

@@ -1,12 +1,12 @@
 #!/usr/bin/env python3
 """Measures bin/stridelink beside a plain Rust program of the same lines, and the crates beside plain loops.
 
-`bench.py scripts` runs the scripts alone, `bench.py loops` the loops over the ledger and the stride queue, and
-`bench.py graphs` counts the instructions of lines over graphs of currencies that are made in several orders (by
-valgrind, whatever else the machine does); without a word all are run. A time is the processor time, user and system,
-of a whole run, the median of ROUNDS rounds in which the programs take turns, and a ratio is the median of the rounds'
-ratios; machines are noisy, so the ratios of one run are what to read. Nothing is written but a folder of scripts and
-outputs in the system's temporary folder, which is removed.
+`bench.py scripts` runs the scripts alone, and `bench.py loops` the loops over the ledger and the stride queue;
+`bench.py counts` counts the instructions of the first lines of each script, and `bench.py graphs` those of lines over
+graphs of currencies that are made in several orders (by valgrind, whatever else the machine does); without a word all
+are run. A time is the processor time, user and system, of a whole run, the median of ROUNDS rounds in which the
+programs take turns, and a ratio is the median of the rounds' ratios; machines are noisy, so the ratios of one run are
+what to read. Nothing is written but a folder of scripts and outputs in the system's temporary folder, which is removed.
 """
 import filecmp
 import os
@@ -24,6 +24,9 @@ ROUNDS = int(os.environ.get("ROUNDS", "15"))
 TOP = os.path.dirname(os.path.dirname(os.path.abspath(__file__)))
 PROGRAM = os.path.join(TOP, "bin", "stridelink")
 MEBIBYTE = 1 << 20
+
+# Of how many lines of a script the instructions are counted.
+COUNTED_LINES = 40_000
 
 
 @dataclass
@@ -137,6 +140,20 @@ def instructions_a_line(program, script, folder):
     return (counts[1] - counts[0]) / (script.length(2) - script.length(1))
 
 
+def measure_counts():
+    """Prints a row for each script: the instructions of its first lines."""
+    with tempfile.TemporaryDirectory() as folder:
+        plain = build_plain(folder)
+        path = os.path.join(folder, "script")
+        print_row(("script", "instructions a line", "plain", "beside plain"))
+        print_row(["---"] * 4)
+        for script in SCRIPTS:
+            count = script.write_first(path, COUNTED_LINES)
+            ours, theirs = (instructions([program, "run", "--life", str(script.life)], path, folder) / count
+                            for program in (PROGRAM, plain))
+            print_row((script.name, "%.0f" % ours, "%.0f" % theirs, "%.2f" % (ours / theirs)))
+
+
 def measure_graphs():
     """Prints a row for each graph."""
     with tempfile.TemporaryDirectory() as folder:
@@ -204,10 +221,10 @@ def measure_loops():
 
 
 def main():
-    parts = {"scripts": measure_scripts, "loops": measure_loops, "graphs": measure_graphs}
+    parts = {"scripts": measure_scripts, "loops": measure_loops, "counts": measure_counts, "graphs": measure_graphs}
     words = sys.argv[1:] or list(parts)
     if not set(words) <= set(parts):
-        sys.exit("the words are scripts, loops and graphs")
+        sys.exit("the words are " + ", ".join(parts))
     for word in words:
         parts[word]()
 

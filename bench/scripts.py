@@ -1,6 +1,7 @@
 """The scripts that are measured."""
 from collections.abc import Callable
 from dataclasses import dataclass
+from itertools import islice
 
 LONGEST_LIFE = 1 << 24
 FLOWS = 64
@@ -21,11 +22,25 @@ class Script:
         """The lines of a round."""
         return self.lines if isinstance(self.lines, str) else self.lines(number)
 
+    def pieces(self, times):
+        """Its beginning and its rounds, with `times` as many lines."""
+        yield self.beginning
+        yield from (self.round(number) for number in range(self.count * times))
+
     def write(self, path, times):
         """Writes it piece by piece, with `times` as many lines: a process starts with its parent's peak of memory."""
         with open(path, "w") as sink:
-            sink.write(self.beginning)
-            sink.writelines(self.round(number) for number in range(self.count * times))
+            sink.writelines(self.pieces(times))
+
+    def write_first(self, path, most):
+        """Writes the first lines, at most so many, and tells how many they are."""
+        lines = (line for piece in self.pieces(1) for line in piece.splitlines(keepends=True))
+        count = 0
+        with open(path, "w") as sink:
+            for line in islice(lines, most):
+                sink.write(line)
+                count += 1
+        return count
 
     def length(self, times):
         """How many lines there are."""

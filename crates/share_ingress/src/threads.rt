@@ -15,7 +15,7 @@ use std::marker::Brand;
 use std::snapshot::Snapshot;
 use std::sync::{Arc, Mutex, Wait};
 use std::thread;
-use std::thread::{Promise, PromisedHandle, Threads};
+use std::thread::{Promise, PromisedHandle, Scope, Threads};
 
 /// What a worker is to do: whose records it queues, where, and its gate.
 #[derive(Drop)]
@@ -47,13 +47,37 @@ pub fn run_workers<T, R, G>(
     jobs: Vec<Job<R, G>>,
 ) -> Result<Vec<Done<G>>, Vec<Job<R, G>>>
 where
-    T: Threads + Wait + Copy + Send + 'static,
-    R: Source + Send + Drop + 'static,
-    G: Gate + Send + Drop + 'static,
+    T: Threads + Wait + Sync,
+    R: Source + Send + Drop,
+    G: Gate + Send + Drop,
     ensures each { IfOk result (λ all. Matches (IsJobDone R.gives R.left G.told) jobs.items all.items) }
     ensures linked { IfOk result (λ all. Matches (λ job done. done.end.link ≡ job.end.link) jobs.items all.items) }
     ensures one_queue { (link : LinkName) → Each (λ job. job.end.link ≡ link) jobs.items
         → IfOk result (λ all. Each (λ done. done.end.link ≡ link) all.items) }
+    ensures back { IfErr result (λ back. back ≡ jobs) }
+{
+    thread::scope(
+        thread::scope_env(),
+        rt,
+        move |scope| -> Result<Vec<Done<G>>, Vec<Job<R, G>>>
+            ensures each { IfOk result (λ all. Matches (IsJobDone R.gives R.left G.told) jobs.items all.items) }
+            ensures back { IfErr result (λ back. back ≡ jobs) }
+        { run_in(scope, rt, alloc, jobs) },
+    )
+}
+
+// The same, with threads that end before this scope does.
+fn run_in<'s, E, T, R, G>(
+    scope: &Scope<'s, E>,
+    rt: &'s T,
+    alloc: Global,
+    jobs: Vec<Job<R, G>>,
+) -> Result<Vec<Done<G>>, Vec<Job<R, G>>>
+where
+    T: Threads + Wait + Sync,
+    R: Source + Send + Drop + 's,
+    G: Gate + Send + Drop + 's,
+    ensures each { IfOk result (λ all. Matches (IsJobDone R.gives R.left G.told) jobs.items all.items) }
     ensures back { IfErr result (λ back. back ≡ jobs) }
 {
     let mut jobs = jobs;
@@ -64,7 +88,7 @@ where
         return Err(jobs);
     };
     while let Some(job) = jobs.pop() {
-        put_last(&mut begun, start(rt, alloc, job));
+        put_last(&mut begun, start(scope, rt, alloc, job));
     }
     while let Some(one) = begun.pop() {
         put_last(&mut all, finish(rt, one));
@@ -85,23 +109,33 @@ fn put_last<A: Drop>(list: &mut Vec<A>, item: A)
 
 // Starts a job in a thread of its own. It is handed over once the thread is there: where none was to be had, it is
 // still here.
-fn start<T, R, G>(rt: &T, alloc: Global, job: Job<R, G>) -> Begun<R, G>
+fn start<'s, E, T, R, G>(
+    scope: &Scope<'s, E>,
+    rt: &'s T,
+    alloc: Global,
+    job: Job<R, G>,
+) -> Begun<R, G>
 where
-    T: Threads + Wait + Copy + Send + 'static,
-    R: Source + Send + Drop + 'static,
-    G: Gate + Send + Drop + 'static,
+    T: Threads + Wait + Sync,
+    R: Source + Send + Drop + 's,
+    G: Gate + Send + Drop + 's,
     ensures { MatchResult result (λ handle. handle.promise.0.value ≡ job) (IsNotStarted job) }
 {
-    start_as::<T, R, G, Brand>(rt, alloc, job)
+    start_as::<E, T, R, G, Brand>(scope, rt, alloc, job)
 }
 
 // The same, where the thread knows of the job that it takes that it is this one.
-fn start_as<T, R, G, K>(rt: &T, alloc: Global, job: Job<R, G>) -> Begun<R, G>
+fn start_as<'s, E, T, R, G, K>(
+    scope: &Scope<'s, E>,
+    rt: &'s T,
+    alloc: Global,
+    job: Job<R, G>,
+) -> Begun<R, G>
 where
-    T: Threads + Wait + Copy + Send + 'static,
-    R: Source + Send + Drop + 'static,
-    G: Gate + Send + Drop + 'static,
-    K: Known<Job<R, G>> + Send + 'static,
+    T: Threads + Wait + Sync,
+    R: Source + Send + Drop + 's,
+    G: Gate + Send + Drop + 's,
+    K: Known<Job<R, G>> + Send + 's,
     requires { IsOnly K.is job }
     ensures { MatchResult result (λ handle. handle.promise.0.value ≡ job) (IsNotStarted job) }
 {
@@ -112,12 +146,7 @@ where
         return Err(not_started(job));
     };
     let promise = WorkOf(Snapshot::of(&job));
-    let own = *rt;
-    match thread::spawn_with(
-        rt,
-        promise,
-        move || work_on_next::<T, R, G, K>(&own, &theirs),
-    ) {
+    match scope.spawn_with(promise, move || work_on_next::<T, R, G, K>(rt, &theirs)) {
         Ok(handle) => {
             handing::put::<T, Job<R, G>, K>(rt, &inbox, job);
             Ok(handle)

@@ -1,7 +1,7 @@
 use Rattle.std.proofs.Common.{◌≡◌, ◌≤◌, ◌+◌, [], MatchResult, vec_len, vec_capacity}
 use Rattle.share_ingress.specs.Threads.{IsJobDone, IsNotStarted}
 use Rattle.share_ingress.proofs.ThreadSteps.{Begun, Joined}
-use Rattle.share_ingress.proofs.threads.run_workers.Given as goal
+use Rattle.share_ingress.proofs.threads.run_in.Given as goal
 
 abbrev pub invariant-loop-job : goal.invariant-loop-job
 invariant-loop-job g l = record {

@@ -32,7 +32,7 @@ const TAKEN: Reply = Reply::Refused(Refusal::Taken);
 
 fn reports<S: Rates, L: Link>(rt: &impl Abort, alloc: Global, locked: &Locked<Tape, S, L>) {
     let text = locked.report(alloc).expect(rt, "memory");
-    assert_eq!(rt; from_utf8(text.as_slice()).ok(), Some(ZERO));
+    assert!(rt; from_utf8(text.as_slice()).ok() == Some(ZERO));
     drop(text);
 }
 
@@ -55,12 +55,12 @@ fn keeps_receipts<S: Rates, L: Link>(
     locked: &mut Locked<Tape, S, L>,
     clerk: &mut Clerk<L>,
 ) {
-    assert_eq!(rt; clerk.number(), 2);
+    assert!(rt; clerk.number() == 2);
     assert!(rt; clerk.receipts().is_empty());
-    assert_eq!(rt; commanded(rt, locked, clerk, make_x(rt)), (1, Reply::Done));
-    assert_eq!(rt; commanded(rt, locked, clerk, make_x(rt)), (2, TAKEN));
+    assert!(rt; commanded(rt, locked, clerk, make_x(rt)) == (1, Reply::Done));
+    assert!(rt; commanded(rt, locked, clerk, make_x(rt)) == (2, TAKEN));
     let kept = [receipt(rt, 1, Reply::Done), receipt(rt, 2, TAKEN)];
-    assert_eq!(rt; clerk.receipts(), kept.as_slice());
+    assert!(rt; clerk.receipts() == kept.as_slice());
 }
 
 fn tells<T: Abort, S: Rates + Copy, L: Link>(
@@ -74,13 +74,13 @@ fn tells<T: Abort, S: Rates + Copy, L: Link>(
     requires nothing { intake.popped ≡ [] }
 {
     let mut locked: Locked<Tape, S, L> = Locked::new(recorder, intake);
-    assert_eq!(rt; locked.capacity(), 7);
+    assert!(rt; locked.capacity() == 7);
     reports(rt, alloc, &locked);
     let first = locked.clerk(alloc).expect(rt, "a clerk");
-    assert_eq!(rt; first.number(), 1);
+    assert!(rt; first.number() == 1);
     let mut second = locked.clerk(alloc).expect(rt, "a clerk");
     keeps_receipts(rt, &mut locked, &mut second);
-    assert_eq!(rt; locked.recorder().journal().len(), 2);
+    assert!(rt; locked.recorder().journal().len() == 2);
     drop(first);
     drop(second);
     drop(locked);

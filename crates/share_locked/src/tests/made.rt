@@ -3,12 +3,12 @@ ghost use Rattle.std.specs.Prelude.{◌≡◌, [], IfSome};
 ghost use Rattle.share_model.specs.lists.Each.{Each};
 ghost use Rattle.share_journal.specs.Records.{AcceptedNothing};
 
-use crate::{Clerk, Link, Locked, Settled, WhyUnsettled, settle};
+use crate::{Clerk, Link, Locked, Port, Settled, WhyUnsettled, settle};
 use share_base::{Command, FlowNo, Name, Parcel, Reply, TicketNo};
 use share_core::Engine;
 use share_ingress::{IngressEnd, Intake, Offered, queue};
 use share_journal::{Journal, Recorder};
-use share_model::{Rates, Telling};
+use share_model::{Rates, Tape, Telling};
 use std::alloc::Global;
 use std::process::Abort;
 use std::sync::Wait;
@@ -76,7 +76,10 @@ pub(super) fn offered<T: Wait + Abort>(
     let parcel = Parcel::new(alloc, payload).expect(rt, "a payload");
     match end.offer(rt, name(rt, "a"), parcel) {
         Offered::Queued(n) => Some(n),
-        Offered::Full(_) => None,
+        Offered::Full(back) => {
+            drop(back);
+            None
+        }
     }
 }
 
@@ -122,7 +125,7 @@ pub(super) fn offering<T: Wait + Abort, L: Link>(
 {
     let (ends, last) = without_last::<T, L>(rt, ends);
     let mut last = last;
-    assert_eq!(rt; offered(rt, alloc, &mut last, payload), wanted);
+    assert!(rt; offered(rt, alloc, &mut last, payload) == wanted);
     with_last::<T, L>(rt, ends, last)
 }
 
@@ -161,15 +164,9 @@ pub(super) fn open_and_fund<W: Telling, S: Rates, L: Link>(
         currency: name(rt, "base"),
     };
     let fund = Command::FundFlow { ticket: 1, flow };
-    assert_eq!(rt;
-        commanded(rt, locked, clerk, open),
-        (1, Reply::Flow(FlowNo(1)))
-    );
-    assert_eq!(rt;
-        commanded(rt, locked, clerk, make),
-        (2, Reply::Ticket(TicketNo(1)))
-    );
-    assert_eq!(rt; commanded(rt, locked, clerk, fund), (3, Reply::Done));
+    assert!(rt; commanded(rt, locked, clerk, open) == (1, Reply::Flow(FlowNo(1))));
+    assert!(rt; commanded(rt, locked, clerk, make) == (2, Reply::Ticket(TicketNo(1))));
+    assert!(rt; commanded(rt, locked, clerk, fund) == (3, Reply::Done));
 }
 
 /// What comes back of a link that is not settled.
@@ -190,7 +187,7 @@ pub(super) fn not_settled<W: Telling + Drop, S: Rates + Copy, L: Link>(
     match settle(alloc, locked, ends, clerks) {
         Ok(_) => panic!(rt; "it was settled"),
         Err(back) => {
-            assert_eq!(rt; back.why, why);
+            assert!(rt; back.why == why);
             (back.locked, back.ends, back.clerks)
         }
     }
@@ -207,17 +204,28 @@ pub(super) fn settled<W: Telling + Drop, S: Rates + Copy, L: Link>(
 ) -> Recorder<W, S>
     requires { Each (λ e. e.link ≡ L.link) ends.items }
 {
-    match settle(alloc, locked, ends, clerks) {
-        Err(back) => panic!(rt; "it was not settled: {:?}", back.why),
-        Ok(settled) => {
-            let Settled {
-                recorder,
-                tallies,
-                arrivals,
-                commands,
-            } = settled;
-            assert_eq!(rt; (tallies.as_slice(), arrivals, commands), wanted);
-            recorder
-        }
-    }
+    let Settled {
+        recorder,
+        tallies,
+        arrivals,
+        commands,
+    } = settle(alloc, locked, ends, clerks)
+        .ok()
+        .expect(rt, "it is settled");
+    assert!(rt; (tallies.as_slice(), arrivals, commands) == wanted);
+    drop(tallies);
+    recorder
+}
+
+/// Whether a recorder has so many entries, and its writer these bytes.
+pub(super) fn has<S: Rates>(recorder: &Recorder<Tape, S>, entries: u64, bytes: &[u8]) -> bool {
+    recorder.journal().len() == entries && recorder.engine().writer().bytes() == bytes
+}
+
+/// How many entries the journal of a link has.
+pub(super) fn entries_of<T: Wait, W: Telling, S: Rates, L: Link>(
+    rt: &T,
+    port: &Port<W, S, L>,
+) -> u64 {
+    port.lock(rt).recorder().journal().len()
 }

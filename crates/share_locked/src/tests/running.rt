@@ -1,7 +1,7 @@
 //! A link that is served in a thread of its own.
 ghost use Rattle.std.specs.Prelude.{◌≡◌, []};
 
-use crate::tests::made::{LONG, offered, queued, recording};
+use crate::tests::made::{LONG, entries_of, offered, queued, recording};
 use crate::{Link, LinkEnd, Locked, Port, Stop, serve_while};
 use share_ingress::{IngressEnd, Intake};
 use share_journal::Recorder;
@@ -34,7 +34,7 @@ where
     let mut end = end;
     let parker = Parker::new();
     parker.park_timeout(rt, Duration::from_millis(WHILE));
-    assert_eq!(rt; offered(rt, alloc, &mut end, b"x"), Some(1));
+    assert!(rt; offered(rt, alloc, &mut end, b"x") == Some(1));
     (comes(rt, &parker, port), end)
 }
 
@@ -46,7 +46,7 @@ where
     L: Link,
 {
     for _look in 0..LOOKS {
-        if port.lock(rt).recorder().journal().len() == 1 {
+        if entries_of(rt, port) == 1 {
             return true;
         }
         parker.park_timeout(rt, Duration::from_millis(1));
@@ -54,7 +54,20 @@ where
     false
 }
 
-// A link is served as long as the work beside it is at it, and no longer.
+// A link is served as long as the work beside it is at it; the end with which that offers.
+fn serves<T, S, L>(rt: &T, alloc: Global, port: &Port<Tape, S, L>, end: IngressEnd) -> IngressEnd
+where
+    T: Abort + Threads + Wait + Sync,
+    S: Rates + Send,
+    L: Link + Send,
+{
+    let ended = Stop::new();
+    let (link, (came, end)) = serve_while(rt, port, &ended, || comes_late(rt, alloc, port, end));
+    assert!(rt; link == Some(LinkEnd::Drained) && came && ended.is_set());
+    end
+}
+
+// A link is served no longer than the work beside it is at it.
 fn is_served<T, S, L>(
     rt: &T,
     alloc: Global,
@@ -72,15 +85,14 @@ where
 {
     let mut ends = ends;
     let end = ends.pop().expect(rt, "an end");
+    drop(ends);
     let locked: Locked<Tape, S, L> = Locked::new(recorder, intake);
     let port = Mutex::new(locked);
-    let ended = Stop::new();
-    let (link, (came, end)) = serve_while(rt, &port, &ended, || comes_late(rt, alloc, &port, end));
-    let mut end = end;
-    assert_eq!(rt; (link, came), (Some(LinkEnd::Drained), true));
-    assert!(rt; ended.is_set());
-    assert_eq!(rt; offered(rt, alloc, &mut end, b"y"), Some(2));
-    assert_eq!(rt; port.into_inner().recorder().journal().len(), 1);
+    let mut end = serves(rt, alloc, &port, end);
+    assert!(rt; offered(rt, alloc, &mut end, b"y") == Some(2));
+    drop(end);
+    assert!(rt; entries_of(rt, &port) == 1);
+    drop(port);
 }
 
 pub(super) fn serve_one<T, S>(rt: &T, alloc: Global, shelf: S)

@@ -3,7 +3,7 @@ ghost use Rattle.std.specs.Prelude.{◌≡◌, []};
 ghost use Rattle.share_model.specs.lists.Each.{Each};
 
 use crate::tests::made::{
-    LONG, not_settled, offering, one, open_and_fund, queued, recording, settled, with_last,
+    LONG, has, not_settled, offering, one, open_and_fund, queued, recording, settled, with_last,
     without_last,
 };
 use crate::{Admit, Clerk, Link, Locked, WhyUnsettled};
@@ -31,8 +31,8 @@ fn nothing<T: Abort, S: Rates + Copy, L: Link>(
 {
     let locked: Locked<Tape, S, L> = Locked::new(recorder, intake);
     let recorder = settled(rt, alloc, locked, ends, Vec::new(alloc), (&[0, 0], 0, 0));
-    assert_eq!(rt; recorder.journal().len(), 0);
-    assert!(rt; recorder.engine().writer().bytes().is_empty());
+    assert!(rt; has(&recorder, 0, b""));
+    drop(recorder);
 }
 
 // Of two workers one end is missing at first.
@@ -59,7 +59,7 @@ fn an_end_is_missing<T: Abort, S: Rates + Copy, L: Link>(
         clerks,
         WhyUnsettled::Mismatch,
     );
-    assert_eq!(rt; ends.len(), 1);
+    assert!(rt; ends.len() == 1);
     let ends = with_last::<T, L>(rt, ends, second);
     let recorder = settled(rt, alloc, locked, ends, clerks, (&[0, 0], 0, 0));
     drop(recorder);
@@ -73,7 +73,7 @@ fn two_clerks<S: Rates + Copy, L: Link>(
 ) -> (Clerk<L>, Clerk<L>) {
     let mut first = locked.clerk(alloc).expect(rt, "a clerk");
     let second = locked.clerk(alloc).expect(rt, "a clerk");
-    assert_eq!(rt; locked.clerk(alloc).err(), Some(Refusal::TableFull));
+    assert!(rt; locked.clerk(alloc).err() == Some(Refusal::TableFull));
     open_and_fund(rt, locked, &mut first);
     (first, second)
 }
@@ -127,7 +127,8 @@ fn the_other_is_missing<S: Rates + Copy, L: Link>(
     );
     let both = together(rt, first, clerks);
     let recorder = settled(rt, alloc, locked, ends, both, (&[0], 0, 3));
-    assert_eq!(rt; recorder.journal().len(), 3);
+    assert!(rt; has(&recorder, 3, b""));
+    drop(recorder);
 }
 
 // Two clerks, the second one first.
@@ -137,8 +138,10 @@ fn together<L: Link>(
     second: Vec<Clerk<L>>,
 ) -> Vec<Clerk<L>> {
     let mut first = first;
+    let last = first.pop().expect(rt, "a clerk");
+    drop(first);
     let mut both = second;
-    assert!(rt; both.push(first.pop().expect(rt, "a clerk")).is_ok());
+    assert!(rt; both.push(last).is_ok());
     both
 }
 
@@ -152,8 +155,8 @@ fn admits_one<T: Abort + Wait, S: Rates, L: Link>(rt: &T, locked: &mut Locked<Ta
             seq: 1,
         },
     };
-    assert_eq!(rt; locked.admit(rt), admitted);
-    assert_eq!(rt; locked.admit(rt), Admit::Empty);
+    assert!(rt; locked.admit(rt) == admitted);
+    assert!(rt; locked.admit(rt) == Admit::Empty);
 }
 
 fn sends_it<S: Rates, L: Link>(rt: &impl Abort, locked: &mut Locked<Tape, S, L>) {
@@ -163,8 +166,8 @@ fn sends_it<S: Rates, L: Link>(rt: &impl Abort, locked: &mut Locked<Tape, S, L>)
         k: 13,
         whole: true,
     };
-    assert_eq!(rt; locked.turn(65535), wrote);
-    assert_eq!(rt; locked.turn(65535), Turn::Idle);
+    assert!(rt; locked.turn(65535) == wrote);
+    assert!(rt; locked.turn(65535) == Turn::Idle);
 }
 
 // The frame of the one packet is not sent at first.
@@ -194,12 +197,12 @@ fn a_frame_is_unsent<T: Abort + Wait, S: Rates + Copy, L: Link>(
         clerks,
         WhyUnsettled::Unsent,
     );
-    assert_eq!(rt; (ends.len(), clerks.len()), (1, 1));
+    assert!(rt; ends.len() == 1 && clerks.len() == 1);
     sends_it(rt, &mut locked);
     let recorder = settled(rt, alloc, locked, ends, clerks, (&[1], 1, 3));
-    assert_eq!(rt; recorder.journal().len(), 5);
     let frame = b"\x4c\x01\0\0\0\x01\0\0\0\x01\0\x01a";
-    assert_eq!(rt; recorder.engine().writer().bytes(), frame.as_slice());
+    assert!(rt; has(&recorder, 5, frame));
+    drop(recorder);
 }
 
 pub(super) fn all<T: Abort + Wait, S: Rates + Copy>(rt: &T, alloc: Global, shelf: S) {

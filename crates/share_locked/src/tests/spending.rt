@@ -2,7 +2,9 @@
 ghost use Rattle.std.specs.Prelude.{◌≡◌, []};
 ghost use Rattle.share_model.specs.lists.Each.{Each};
 
-use crate::tests::made::{not_settled, offering, one, open_and_fund, queued, recording};
+use crate::tests::made::{
+    entries_of, not_settled, offering, one, open_and_fund, queued, recording,
+};
 use crate::{Admit, Link, LinkEnd, Locked, Port, Stop, WhyUnsettled, run_link};
 use share_base::Turn;
 use share_ingress::{IngressEnd, Intake};
@@ -16,10 +18,18 @@ use std::sync::{Mutex, Wait};
 // Neither an admission nor a turn nor the link's worker does anything.
 fn does_nothing<T: Abort + Wait, S: Rates, L: Link>(rt: &T, port: &Port<Tape, S, L>) {
     let stop = Stop::new();
-    assert_eq!(rt; port.lock(rt).admit(rt), Admit::Spent);
-    assert_eq!(rt; run_link(rt, port, &stop), LinkEnd::Spent);
-    assert_eq!(rt; port.lock(rt).turn(65535), Turn::Spent);
-    assert_eq!(rt; port.lock(rt).recorder().journal().len(), 3);
+    assert!(rt; admits(rt, port) == Admit::Spent);
+    assert!(rt; run_link(rt, port, &stop) == LinkEnd::Spent);
+    assert!(rt; turns(rt, port) == Turn::Spent);
+    assert!(rt; entries_of(rt, port) == 3);
+}
+
+fn admits<T: Wait, S: Rates, L: Link>(rt: &T, port: &Port<Tape, S, L>) -> Admit {
+    port.lock(rt).admit(rt)
+}
+
+fn turns<T: Wait, S: Rates, L: Link>(rt: &T, port: &Port<Tape, S, L>) -> Turn {
+    port.lock(rt).turn(65535)
 }
 
 // Three commands spend the life, and one offer is queued.
@@ -53,8 +63,10 @@ fn spent<T: Abort + Wait, S: Rates + Copy, L: Link>(
         clerks,
         WhyUnsettled::LeftOver,
     );
-    assert_eq!(rt; (ends.len(), clerks.len()), (1, 1));
+    assert!(rt; ends.len() == 1 && clerks.len() == 1);
     drop(locked);
+    drop(ends);
+    drop(clerks);
 }
 
 pub(super) fn all<T: Abort + Wait, S: Rates + Copy>(rt: &T, alloc: Global, shelf: S) {

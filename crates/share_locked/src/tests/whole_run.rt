@@ -179,10 +179,10 @@ fn opens_and_funds<S: Rates, L: Link>(
         flow,
     };
     let opened = commanded(rt, locked, clerk, open_of(flow));
-    assert_eq!(rt; opened.1, Reply::Flow(FlowNo(number)));
+    assert!(rt; opened.1 == Reply::Flow(FlowNo(number)));
     let made = commanded(rt, locked, clerk, base);
-    assert_eq!(rt; made.1, Reply::Ticket(TicketNo(number)));
-    assert_eq!(rt; commanded(rt, locked, clerk, fund).1, Reply::Done);
+    assert!(rt; made.1 == Reply::Ticket(TicketNo(number)));
+    assert!(rt; commanded(rt, locked, clerk, fund).1 == Reply::Done);
 }
 
 fn opens_later(rt: &impl Abort, alloc: Global, flow: &str) -> Opening {
@@ -203,7 +203,7 @@ fn two_posts<S: Rates, L: Link>(
 ) -> Vec<Post<Opening, L>> {
     let mut first = locked.clerk(alloc).expect(rt, "a clerk");
     let second = locked.clerk(alloc).expect(rt, "a clerk");
-    assert_eq!(rt; locked.clerk(alloc).err(), Some(Refusal::TableFull));
+    assert!(rt; locked.clerk(alloc).err() == Some(Refusal::TableFull));
     opens_and_funds(rt, locked, &mut first, 1, "a");
     opens_and_funds(rt, locked, &mut first, 2, "b");
     let mut posts = Vec::new(alloc);
@@ -216,16 +216,16 @@ fn two_posts<S: Rates, L: Link>(
 
 // The workers read all, and queued it.
 fn are_done(rt: &impl Abort, workers: &[Left<WhileServed>]) {
-    assert_eq!(rt; workers.len(), 2);
+    assert!(rt; workers.len() == 2);
     for worker in workers {
-        assert_eq!(rt; worker.why, Why::Ended(Ended::End));
+        assert!(rt; worker.why == Why::Ended(Ended::End));
     }
-    assert_eq!(rt; (workers[0].tally, workers[1].tally), (2, 1));
+    assert!(rt; workers[0].tally == 2 && workers[1].tally == 1);
 }
 
 // The clerks opened their flows, and found them.
 fn have_found(rt: &impl Abort, duties: &[Opening]) {
-    assert_eq!(rt; duties.len(), 2);
+    assert!(rt; duties.len() == 2);
     for duty in duties {
         assert!(rt; duty.opened && duty.found);
     }
@@ -258,14 +258,14 @@ fn replays<S: Rates + Copy>(
     recorder: &Recorder<Tape, S>,
 ) {
     let written = recorder.engine().writer().bytes();
-    assert_eq!(rt; written.len(), 39);
+    assert!(rt; written.len() == 39);
     let mut audit = Tape::new(alloc);
     assert!(rt; recorder.journal().audit(&mut audit).is_ok());
     let mut output = Tape::new(alloc);
     let engine = Engine::new(alloc, shelf, LIFE, Tape::new(alloc)).expect(rt, "a link");
     let ran = run_script(alloc, engine, &mut PlainReader(audit.bytes()), &mut output);
     let engine = ran.ok().expect(rt, "a run");
-    assert_eq!(rt; engine.writer().bytes(), written);
+    assert!(rt; engine.writer().bytes() == written);
     drop(engine);
     drop(output);
     drop(audit);
@@ -277,10 +277,10 @@ fn is_settled<S: Rates + Copy>(
     shelf: S,
     settled: &Settled<Tape, S>,
 ) {
-    assert_eq!(rt; settled.tallies.as_slice(), [2, 1].as_slice());
-    assert_eq!(rt; (settled.arrivals, settled.commands), (3, 8));
+    assert!(rt; settled.tallies.as_slice() == [2, 1].as_slice());
+    assert!(rt; settled.arrivals == 3 && settled.commands == 8);
     let journal = settled.recorder.journal();
-    assert_eq!(rt; journal.len(), 14);
+    assert!(rt; journal.len() == 14);
     let a = name(rt, "a");
     assert!(rt; place_of(rt, journal, a, 0x61) < place_of(rt, journal, a, 0x62));
     replays(rt, alloc, shelf, &settled.recorder);
@@ -300,15 +300,54 @@ fn is_closed<S: Rates + Copy, L: Link>(
     let closed = settle_all(alloc, locked, all, posts);
     let (workers, duties, settled) = closed.ok().expect(rt, "memory");
     are_done(rt, workers.as_slice());
+    drop(workers);
     have_found(rt, duties.as_slice());
-    match &settled {
-        Err(back) => panic!(rt; "it was not settled: {:?}", back.why),
-        Ok(settled) => is_settled(rt, alloc, shelf, settled),
-    }
+    drop(duties);
+    let settled = settled.ok().expect(rt, "it is settled");
+    is_settled(rt, alloc, shelf, &settled);
+    drop(settled);
 }
 
 // Two workers and two clerks are at work at once. What the workers do is given, since a closure here could not say
 // that the handle is one that every thread may keep.
+fn works<T, S, L, F>(
+    rt: &T,
+    port: &Port<Tape, S, L>,
+    posts: &[Post<Opening, L>],
+    ended: &Stop,
+    jobs: Jobs,
+    work: F,
+) -> Vec<Done<WhileServed>>
+where
+    T: Abort + Threads + Wait + Sync,
+    S: Rates + Copy + Send,
+    L: Link + Send,
+    F: FnOnce(Jobs) -> Worked,
+    requires callable { F.IsAlwaysCallable work }
+    requires ends { Each (λ job. job.end.link ≡ L.link) jobs.items }
+    requires linked { (jobs : _) (worked : _) → F.post work jobs worked
+        → Each (λ job. job.end.link ≡ L.link) jobs.items
+        → IfOk worked (λ all. Each (λ done. done.end.link ≡ L.link) all.items) }
+    ensures { Each (λ done. done.end.link ≡ L.link) result.items }
+{
+    let (link, begun, worked) = run_while(
+        rt,
+        port,
+        posts,
+        ended,
+        || -> Worked
+            requires { F.pre work jobs }
+            ensures { F.post work jobs result }
+        { work(jobs) },
+    );
+    assert!(rt; link == Some(LinkEnd::Drained) && begun == 2 && ended.is_set());
+    match worked {
+        Err(_) => panic!(rt; "no memory for what the workers leave"),
+        Ok(all) => all,
+    }
+}
+
+// A link on which they work is settled.
 fn runs<T, S, L, F>(
     rt: &T,
     alloc: Global,
@@ -337,22 +376,9 @@ where
     let posts = two_posts(rt, alloc, &mut locked);
     let jobs = two_jobs::<T, L>(rt, alloc, ends, &ended);
     let port = Mutex::new(locked);
-    let (link, begun, worked) = run_while(
-        rt,
-        &port,
-        posts.as_slice(),
-        &ended,
-        || -> Worked
-            requires { F.pre work jobs }
-            ensures { F.post work jobs result }
-        { work(jobs) },
-    );
-    assert_eq!(rt; (link, begun), (Some(LinkEnd::Drained), 2));
-    assert!(rt; ended.is_set());
-    match worked {
-        Err(_) => panic!(rt; "no memory for what the workers leave"),
-        Ok(all) => is_closed(rt, alloc, shelf, port.into_inner(), all, posts),
-    }
+    let all = works(rt, &port, posts.as_slice(), &ended, jobs, work);
+    drop(ended);
+    is_closed(rt, alloc, shelf, port.into_inner(), all, posts);
 }
 
 pub(super) fn settles<T, S, F>(rt: &T, alloc: Global, shelf: S, work: F)

@@ -1,6 +1,5 @@
 //! An offer is queued while the link waits for its writer.
 ghost use Rattle.std.specs.Prelude.{◌≡◌, []};
-ghost use Rattle.share_model.specs.lists.Each.{Each};
 
 use crate::tests::made::{LONG, offered, open_and_fund, queued, recording};
 use crate::{Admit, Link, Locked, Port};
@@ -85,14 +84,40 @@ fn turned<T: Abort + Threads + Wait + Sync, S: Rates, L: Link>(
     })
 }
 
-// One packet is admitted, and the second offer comes while its frame is written.
-fn writes<T: Abort + Threads + Wait + Sync, S: Rates + Copy, L: Link>(
+// A packet is admitted, and the second offer comes while its frame is written.
+fn writes<T: Abort + Threads + Wait + Sync, S: Rates, L: Link>(
+    rt: &T,
+    alloc: Global,
+    port: &Port<Waiting, S, L>,
+    end: &mut IngressEnd,
+    called: &AtomicU64,
+    word: &AtomicU64,
+) {
+    assert!(rt; offered(rt, alloc, end, b"a") == Some(1));
+    assert!(rt; admits(rt, port) == admitted(1));
+    let wrote = Turn::Wrote {
+        flow: FlowNo(1),
+        seq: 1,
+        k: 13,
+        whole: true,
+    };
+    assert!(rt; turned(rt, alloc, port, end, called, word) == wrote);
+    assert!(rt; admits(rt, port) == admitted(2));
+}
+
+fn admits<T: Wait, S: Rates, L: Link>(rt: &T, port: &Port<Waiting, S, L>) -> Admit {
+    port.lock(rt).admit(rt)
+}
+
+// A link whose one flow is open and funded.
+fn is_written<T: Abort + Threads + Wait + Sync, S: Rates + Copy, L: Link>(
     rt: &T,
     alloc: Global,
     recorder: Recorder<Waiting, S>,
     intake: Intake,
-    ends: Vec<IngressEnd>,
-    words: (Arc<AtomicU64>, Arc<AtomicU64>),
+    end: &mut IngressEnd,
+    called: &AtomicU64,
+    word: &AtomicU64,
 )
     requires empty { recorder.entries ≡ [] }
     requires link { intake.link ≡ L.link }
@@ -101,22 +126,10 @@ fn writes<T: Abort + Threads + Wait + Sync, S: Rates + Copy, L: Link>(
     let mut locked: Locked<Waiting, S, L> = Locked::new(recorder, intake);
     let mut clerk = locked.clerk(alloc).expect(rt, "a clerk");
     open_and_fund(rt, &mut locked, &mut clerk);
-    let mut ends = ends;
-    let mut end = ends.pop().expect(rt, "an end");
-    assert_eq!(rt; offered(rt, alloc, &mut end, b"a"), Some(1));
-    assert_eq!(rt; locked.admit(rt), admitted(1));
+    drop(clerk);
     let port = Mutex::new(locked);
-    let wrote = Turn::Wrote {
-        flow: FlowNo(1),
-        seq: 1,
-        k: 13,
-        whole: true,
-    };
-    assert_eq!(rt;
-        turned(rt, alloc, &port, &mut end, &words.0, &words.1),
-        wrote
-    );
-    assert_eq!(rt; port.lock(rt).admit(rt), admitted(2));
+    writes(rt, alloc, &port, end, called, word);
+    drop(port);
 }
 
 fn admitted(n: u32) -> Admit {
@@ -150,5 +163,11 @@ where
     };
     let recorder = recording(rt, alloc, shelf, LONG, waiting);
     let (intake, ends) = queued(rt, alloc, 4, 1);
-    writes::<T, S, Brand>(rt, alloc, recorder, intake, ends, (called, word));
+    let mut ends = ends;
+    let mut end = ends.pop().expect(rt, "an end");
+    drop(ends);
+    is_written::<T, S, Brand>(rt, alloc, recorder, intake, &mut end, &called, &word);
+    drop(end);
+    drop(called);
+    drop(word);
 }

@@ -1,12 +1,16 @@
 -- What workers leave, parted into their ends and all else.
-use Rattle.std.proofs.Common.{◌≡◌, List, [], ◌∷◌, ◌++◌, map, length, arith}
-use Rattle.std.proofs.Common.{sym, ap, ◌∙◌, subst}
+use Rattle.std.proofs.Common.{◌≡◌, ℕ, suc, List, [], ◌∷◌, ◌++◌, map, length, Option, arith}
+use Rattle.std.proofs.Common.{refl, sym, ap, ◌∙◌, subst}
 use Rattle.std.proofs.lemmas.List.{append_assoc, append-nil, map-append}
+use Rattle.share_model.specs.declared.reader.Got.{Got}
 use Rattle.share_model.specs.lists.Each.{Each}
 use Rattle.share_ingress.specs.Ends.{EndView}
+use Rattle.share_ingress.specs.GateCalls.{GateCall}
 use Rattle.share_ingress.specs.Names.{LinkName}
+use Rattle.share_ingress.specs.Threads.{IsJobDone, Matches}
+use Rattle.share_ingress.specs.declared.threads.Job.{Job}
 use Rattle.share_ingress.specs.declared.workers.Done.{Done}
-use Rattle.share_locked.specs.Leaves.{done_of, ends_of}
+use Rattle.share_locked.specs.Leaves.{IsJobLeft, done_of, ends_of}
 use Rattle.share_locked.specs.declared.threads.Left.{Left}
 
 module _ {G : Type 0} where
@@ -52,3 +56,25 @@ module _ {G : Type 0} where
   ends_linked link all ends lefts is e h =
       subst (λ t. Each (λ (x : EndView). x.link ≡ link) t) (sym e)
       (linked link lefts (subst (λ t. Each (λ (d : Done G). d.end.link ≡ link) t) (sym is) h))
+
+module _ {R G : Type 0} (gives : R → List ℕ → Got → R → Type 0) (left : R → Option (List ℕ))
+    (told : G → GateCall → G → Type 0) where
+  left_jobs : (jobs : List (Job R G)) (lefts : List (Left G))
+      → Matches (IsJobDone gives left told) jobs (map done_of lefts) → Matches (IsJobLeft gives left told) jobs lefts
+  left_jobs [] [] h = tt
+  left_jobs [] (l ∷ ls) h = absurd h
+  left_jobs (j ∷ js) [] h = absurd h
+  left_jobs (j ∷ js) (l ∷ ls) h = (h.0, left_jobs js ls h.1)
+
+  -- what is left of the jobs
+  pub jobs_left : (jobs : List (Job R G)) (all : List (Done G)) (lefts : List (Left G)) → map done_of lefts ≡ all
+      → Matches (IsJobDone gives left told) jobs all → Matches (IsJobLeft gives left told) jobs lefts
+  jobs_left jobs all lefts is h =
+      left_jobs jobs lefts (subst (λ t. Matches (IsJobDone gives left told) jobs t) (sym is) h)
+
+pub matches_length : {A B : Type 0} (P : A → B → Type 0) (xs : List A) (ys : List B) → Matches P xs ys
+    → length ys ≡ length xs
+matches_length P [] [] h = refl
+matches_length P [] (y ∷ ys) h = absurd h
+matches_length P (x ∷ xs) [] h = absurd h
+matches_length P (x ∷ xs) (y ∷ ys) h = ap suc (matches_length P xs ys h.1)

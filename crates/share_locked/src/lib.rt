@@ -14,5 +14,5 @@ pub use link::Link;
 pub use locked::{Admit, Locked, Settled, Unsettled, WhyUnsettled, settle};
 pub use running::{LinkEnd, Port, Stop, run_link};
 pub use threads::{
-    Closed, Duty, Left, Post, Unclosed, attend_while, run_while, serve_while, settle_all,
+    Duty, Left, NotRun, Post, Ran, attend_while, run_and_settle, run_while, serve_while,
 };

@@ -1,15 +1,17 @@
-//! The threads of a running link, and its settling once they have ended.
+//! A link with its threads, from its queue to its settling.
 ghost use Rattle.std.specs.Prelude.{◌≡◌, ◌≤◌, [], map, IfOk, IfErr, vec_len, vec_capacity};
 ghost use Rattle.share_model.specs.lists.Each.{Each};
-ghost use Rattle.share_locked.specs.Leaves.{done_of, ends_of};
-ghost use Rattle.share_locked.specs.Settles.{IsAccounted, Unsettles};
+ghost use Rattle.share_ingress.specs.Names.{LinkName};
+ghost use Rattle.share_ingress.specs.Threads.{IsJobDone, Matches};
+ghost use Rattle.share_locked.specs.Leaves.{IsJobLeft, done_of, ends_of};
+ghost use Rattle.share_locked.specs.Settles.{IsAccounted, IsSettledBy, Unsettles};
 
 use crate::clerk::Clerk;
 use crate::link::Link;
 use crate::locked::{Locked, Settled, Unsettled, settle};
 use crate::running::{LinkEnd, Port, Stop, run_link};
-use share_ingress::{Done, IngressEnd, Why};
-use share_model::{Rates, Telling};
+use share_ingress::{Done, Gate, IngressEnd, Job, Why, run_workers};
+use share_model::{Rates, Source, Telling};
 use std::alloc::{AllocError, Global};
 use std::snapshot::Snapshot;
 use std::sync::{Mutex, Wait};
@@ -70,37 +72,12 @@ pub struct Left<G> {
     pub end: Snapshot<IngressEnd>,
 }
 
-/// What workers left beside their ends, the duties of the clerks, and the settling with these ends and clerks.
-pub type Closed<W, S, L, G, D> = (
+// What workers left beside their ends, the duties of the clerks, and the settling with these ends and clerks.
+type Closed<W, S, L, G, D> = (
     Vec<Left<G>>,
     Vec<D>,
     Result<Settled<W, S>, Unsettled<W, S, L>>,
 );
-
-/// A link with what its workers left and with its posts, as they were.
-pub type Unclosed<W, S, L, G, D> = (Locked<W, S, L>, Vec<Done<G>>, Vec<Post<D, L>>);
-
-/// Settles a link with the ends that its workers left, and with the clerks of these posts. All comes back as it was
-/// where memory was refused before.
-pub fn settle_all<W: Telling, S: Rates, L: Link, G: Drop, D: Drop>(
-    alloc: Global,
-    locked: Locked<W, S, L>,
-    all: Vec<Done<G>>,
-    posts: Vec<Post<D, L>>,
-) -> Result<Closed<W, S, L, G, D>, Unclosed<W, S, L, G, D>>
-    requires link { Each (λ done. done.end.link ≡ L.link) all.items }
-    ensures left { IfOk result (λ closed. map done_of closed.0.items ≡ all.items) }
-    ensures accounts { IfOk result (λ closed. IfOk closed.2 (λ s.
-        IsAccounted W.told s.recorder (ends_of closed.0.items))) }
-    ensures unsettled { IfOk result (λ closed. IfErr closed.2 (λ u. (u.ends.items ≡ ends_of closed.0.items)
-        × Unsettles u.why u.locked u.ends.items u.clerks.items)) }
-    ensures back { IfErr result (λ back. (back.0 ≡ locked) × (back.1 ≡ all)) }
-{
-    let Ok(room) = make_room(alloc, all.len(), posts.len()) else {
-        return Err((locked, all, posts));
-    };
-    Ok(close(alloc, locked, all, posts, room))
-}
 
 // Settles a link with the ends that workers left, and with the clerks of these posts.
 fn close<W: Telling, S: Rates, L: Link, G: Drop, D: Drop>(
@@ -116,8 +93,12 @@ fn close<W: Telling, S: Rates, L: Link, G: Drop, D: Drop>(
     requires clerks { (room.clerks.items ≡ []) × (vec_len posts ≤ vec_capacity room.clerks) }
     requires duties { (room.duties.items ≡ []) × (vec_len posts ≤ vec_capacity room.duties) }
     ensures left { map done_of result.0.items ≡ all.items }
+    ensures duties { vec_len result.1 ≡ vec_len posts }
+    ensures settled { IfOk result.2 (λ s.
+        IsSettledBy (vec_len posts) (ends_of result.0.items) s.recorder s.tallies.items s.arrivals s.commands) }
     ensures accounts { IfOk result.2 (λ s. IsAccounted W.told s.recorder (ends_of result.0.items)) }
     ensures unsettled { IfErr result.2 (λ u. (u.ends.items ≡ ends_of result.0.items)
+        × (vec_len u.clerks ≡ vec_len posts)
         × Unsettles u.why u.locked u.ends.items u.clerks.items) }
 {
     let Room {
@@ -132,6 +113,131 @@ fn close<W: Telling, S: Rates, L: Link, G: Drop, D: Drop>(
         Ok(settled) => (workers, duties, Ok(settled)),
         Err(back) => (workers, duties, Err(back)),
     }
+}
+
+/// What a run leaves: how the link's service ended, or `None` where its thread was not to be had; how many clerks, from
+/// the first, got a thread; what each worker left, in the order of the jobs; the duties of all clerks; and the settling.
+#[derive(Drop)]
+pub struct Ran<W: Telling, S: Rates, L: Link, G, D> {
+    pub link: Option<LinkEnd>,
+    pub begun: usize,
+    pub workers: Vec<Left<G>>,
+    pub duties: Vec<D>,
+    pub settled: Result<Settled<W, S>, Unsettled<W, S, L>>,
+}
+
+/// A link of which no job was started, since memory was refused, with its jobs and its posts. The clerks may have done
+/// their duties.
+#[derive(Drop)]
+pub struct NotRun<W: Telling, S: Rates, L: Link, R: Source, G, D> {
+    pub locked: Locked<W, S, L>,
+    pub jobs: Vec<Job<R, G>>,
+    pub posts: Vec<Post<D, L>>,
+}
+
+/// Runs a link with its threads, and settles it: a thread serves the link, each clerk does its duty in a thread of its
+/// own, and so does each worker its job. Once workers and clerks have ended, the service is stopped, and the link is
+/// settled with their ends and clerks. `ended` is set as soon as the link is served no more, also where its thread was
+/// not to be had: gates look at it, so that no worker waits on a queue from which nothing is taken.
+///
+/// The first clerk whose thread is not to be had is the last to be tried. Where memory was refused before any job was
+/// started, all comes back.
+pub fn run_and_settle<T, W, S, L, R, G, D>(
+    rt: &T,
+    alloc: Global,
+    locked: Locked<W, S, L>,
+    jobs: Vec<Job<R, G>>,
+    posts: Vec<Post<D, L>>,
+    ended: &Stop,
+) -> Result<Ran<W, S, L, G, D>, NotRun<W, S, L, R, G, D>>
+where
+    T: Threads + Wait + Sync,
+    W: Telling + Send,
+    S: Rates + Send,
+    L: Link + Send,
+    R: Source + Send + Drop,
+    G: Gate + Send + Drop,
+    D: Duty<W, S, L> + Send + Drop,
+    requires { Each (λ job. job.end.link ≡ L.link) jobs.items }
+    ensures workers { IfOk result (λ ran.
+        Matches (IsJobLeft R.gives R.left G.told) jobs.items ran.workers.items) }
+    ensures accounts { IfOk result (λ ran. IfOk ran.settled (λ s.
+        IsAccounted W.told s.recorder (ends_of ran.workers.items))) }
+    ensures duties { IfOk result (λ ran. vec_len ran.duties ≡ vec_len posts) }
+    ensures settled { IfOk result (λ ran. IfOk ran.settled (λ s.
+        IsSettledBy (vec_len posts) (ends_of ran.workers.items) s.recorder s.tallies.items s.arrivals s.commands)) }
+    ensures unsettled { IfOk result (λ ran. IfErr ran.settled (λ u. (u.ends.items ≡ ends_of ran.workers.items)
+        × (vec_len u.clerks ≡ vec_len posts)
+        × Unsettles u.why u.locked u.ends.items u.clerks.items)) }
+    ensures back { IfErr result (λ back. (back.jobs ≡ jobs) × (back.posts ≡ posts)) }
+{
+    let Ok(room) = make_room(alloc, jobs.len(), posts.len()) else {
+        return Err(NotRun {
+            locked,
+            jobs,
+            posts,
+        });
+    };
+    let port = Mutex::new(locked);
+    let (link, begun, worked) = run_all(rt, alloc, &port, posts.as_slice(), jobs, ended);
+    let locked = port.into_inner();
+    match worked {
+        Err(jobs) => Err(NotRun {
+            locked,
+            jobs,
+            posts,
+        }),
+        Ok(all) => {
+            let (workers, duties, settled) = close(alloc, locked, all, posts, room);
+            Ok(Ran {
+                link,
+                begun,
+                workers,
+                duties,
+                settled,
+            })
+        }
+    }
+}
+
+// What workers leave, or their jobs where none was started.
+type Worked<R, G> = Result<Vec<Done<G>>, Vec<Job<R, G>>>;
+
+// Serves a link while clerks do their duties and workers these jobs: how the service ended, how many clerks got a
+// thread, and what the workers leave.
+fn run_all<T, W, S, L, R, G, D>(
+    rt: &T,
+    alloc: Global,
+    port: &Port<W, S, L>,
+    posts: &[Post<D, L>],
+    jobs: Vec<Job<R, G>>,
+    ended: &Stop,
+) -> (Option<LinkEnd>, usize, Worked<R, G>)
+where
+    T: Threads + Wait + Sync,
+    W: Telling + Send,
+    S: Rates + Send,
+    L: Link + Send,
+    R: Source + Send + Drop,
+    G: Gate + Send + Drop,
+    D: Duty<W, S, L> + Send,
+    ensures each { IfOk result.2 (λ all. Matches (IsJobDone R.gives R.left G.told) jobs.items all.items) }
+    ensures one_queue { (link : LinkName) → Each (λ job. job.end.link ≡ link) jobs.items
+        → IfOk result.2 (λ all. Each (λ done. done.end.link ≡ link) all.items) }
+    ensures back { IfErr result.2 (λ back. back ≡ jobs) }
+{
+    run_while(
+        rt,
+        port,
+        posts,
+        ended,
+        || -> Worked<R, G>
+            ensures each { IfOk result (λ all. Matches (IsJobDone R.gives R.left G.told) jobs.items all.items) }
+            ensures one_queue { (link : LinkName) → Each (λ job. job.end.link ≡ link) jobs.items
+                → IfOk result (λ all. Each (λ done. done.end.link ≡ link) all.items) }
+            ensures back { IfErr result (λ back. back ≡ jobs) }
+        { run_workers(rt, alloc, jobs) },
+    )
 }
 
 /// Serves a link in a thread of its own while `work` is done in this one; then stops the service, and waits for its
@@ -342,6 +448,8 @@ fn vacated<D: Drop, L: Link>(
 ) -> (Vec<Clerk<L>>, Vec<D>)
     requires clerks { (clerks.items ≡ []) × (vec_len posts ≤ vec_capacity clerks) }
     requires duties { (duties.items ≡ []) × (vec_len posts ≤ vec_capacity duties) }
+    ensures clerks { vec_len result.0 ≡ vec_len posts }
+    ensures duties { vec_len result.1 ≡ vec_len posts }
 {
     let (mut clerks, mut duties) = (clerks, duties);
     for post in posts {

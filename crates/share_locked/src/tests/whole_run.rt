@@ -1,15 +1,14 @@
 //! A link that runs with all its threads, and settles.
-ghost use Rattle.std.specs.Prelude.{◌≡◌, [], IfOk};
+ghost use Rattle.std.specs.Prelude.{◌≡◌, []};
 ghost use Rattle.share_model.specs.lists.Each.{Each};
-ghost use Rattle.share_ingress.specs.Names.{LinkName};
 
 use crate::tests::made::{commanded, name, queued, recording, without_last};
 use crate::{
-    Clerk, Duty, Left, Link, LinkEnd, Locked, Port, Post, Settled, Stop, run_while, settle_all,
+    Clerk, Duty, Left, Link, LinkEnd, Locked, Port, Post, Ran, Settled, Stop, run_and_settle,
 };
 use share_base::{Command, Event, FlowNo, Name, Refusal, Reply, TicketNo};
 use share_core::Engine;
-use share_ingress::{Done, Ended, Gate, IngressEnd, IngressReader, Intake, Job, Why};
+use share_ingress::{Ended, Gate, IngressEnd, IngressReader, Intake, Job, Why};
 use share_journal::{Journal, Recorder};
 use share_model::{PlainReader, Rates, Tape, Telling};
 use share_script::run_script;
@@ -17,7 +16,7 @@ use std::alloc::Global;
 use std::io::Cursor;
 use std::marker::Brand;
 use std::process::Abort;
-use std::sync::{Arc, Mutex, Wait};
+use std::sync::{Arc, Wait};
 use std::thread::Threads;
 
 /// More events than the link makes.
@@ -34,7 +33,7 @@ const FOR_B: &[u8] = &[1, b'b', 0, 1, 0x63];
 
 /// Stops a worker that waits on a full queue once the link is served no more.
 #[derive(Drop)]
-pub(super) struct WhileServed {
+struct WhileServed {
     ended: Arc<Stop>,
 }
 
@@ -100,10 +99,7 @@ fn is_of(line: &[u8], name: &[u8]) -> bool {
 }
 
 /// The jobs of workers that read these bytes.
-pub(super) type Jobs = Vec<Job<PlainReader<Cursor<Vec<u8>>>, WhileServed>>;
-
-/// What they leave, or their jobs where none was started.
-pub(super) type Worked = Result<Vec<Done<WhileServed>>, Jobs>;
+type Jobs = Vec<Job<PlainReader<Cursor<Vec<u8>>>, WhileServed>>;
 
 fn job(
     rt: &impl Abort,
@@ -286,19 +282,21 @@ fn is_settled<S: Rates + Copy>(
     replays(rt, alloc, shelf, &settled.recorder);
 }
 
-// What ran is settled.
-fn is_closed<S: Rates + Copy, L: Link>(
+// The run ended well, and is settled.
+fn has_settled<S: Rates + Copy, L: Link>(
     rt: &impl Abort,
     alloc: Global,
     shelf: S,
-    locked: Locked<Tape, S, L>,
-    all: Vec<Done<WhileServed>>,
-    posts: Vec<Post<Opening, L>>,
-)
-    requires { Each (λ done. done.end.link ≡ L.link) all.items }
-{
-    let closed = settle_all(alloc, locked, all, posts);
-    let (workers, duties, settled) = closed.ok().expect(rt, "memory");
+    ran: Ran<Tape, S, L, WhileServed, Opening>,
+) {
+    let Ran {
+        link,
+        begun,
+        workers,
+        duties,
+        settled,
+    } = ran;
+    assert!(rt; link == Some(LinkEnd::Drained) && begun == 2);
     are_done(rt, workers.as_slice());
     drop(workers);
     have_found(rt, duties.as_slice());
@@ -308,90 +306,40 @@ fn is_closed<S: Rates + Copy, L: Link>(
     drop(settled);
 }
 
-// Two workers and two clerks are at work at once. What the workers do is given, since a closure here could not say
-// that the handle is one that every thread may keep.
-fn works<T, S, L, F>(
-    rt: &T,
-    port: &Port<Tape, S, L>,
-    posts: &[Post<Opening, L>],
-    ended: &Stop,
-    jobs: Jobs,
-    work: F,
-) -> Vec<Done<WhileServed>>
-where
-    T: Abort + Threads + Wait + Sync,
-    S: Rates + Copy + Send,
-    L: Link + Send,
-    F: FnOnce(Jobs) -> Worked,
-    requires callable { F.IsAlwaysCallable work }
-    requires ends { Each (λ job. job.end.link ≡ L.link) jobs.items }
-    requires linked { (jobs : _) (worked : _) → F.post work jobs worked
-        → Each (λ job. job.end.link ≡ L.link) jobs.items
-        → IfOk worked (λ all. Each (λ done. done.end.link ≡ L.link) all.items) }
-    ensures { Each (λ done. done.end.link ≡ L.link) result.items }
-{
-    let (link, begun, worked) = run_while(
-        rt,
-        port,
-        posts,
-        ended,
-        || -> Worked
-            requires { F.pre work jobs }
-            ensures { F.post work jobs result }
-        { work(jobs) },
-    );
-    assert!(rt; link == Some(LinkEnd::Drained) && begun == 2 && ended.is_set());
-    match worked {
-        Err(_) => panic!(rt; "no memory for what the workers leave"),
-        Ok(all) => all,
-    }
-}
-
-// A link on which they work is settled.
-fn runs<T, S, L, F>(
+// Two workers and two clerks are at work at once.
+fn runs<T, S, L>(
     rt: &T,
     alloc: Global,
     shelf: S,
     recorder: Recorder<Tape, S>,
     intake: Intake,
     ends: Vec<IngressEnd>,
-    work: F,
 )
 where
     T: Abort + Threads + Wait + Sync,
     S: Rates + Copy + Send,
     L: Link + Send,
-    F: FnOnce(Jobs) -> Worked,
     requires empty { recorder.entries ≡ [] }
     requires link { intake.link ≡ L.link }
     requires nothing { intake.popped ≡ [] }
     requires ends { Each (λ e. e.link ≡ L.link) ends.items }
-    requires callable { F.IsAlwaysCallable work }
-    requires linked { (jobs : _) (worked : _) → F.post work jobs worked
-        → Each (λ job. job.end.link ≡ L.link) jobs.items
-        → IfOk worked (λ all. Each (λ done. done.end.link ≡ L.link) all.items) }
 {
     let ended = Arc::new(alloc, Stop::new()).ok().expect(rt, "a flag");
     let mut locked: Locked<Tape, S, L> = Locked::new(recorder, intake);
     let posts = two_posts(rt, alloc, &mut locked);
     let jobs = two_jobs::<T, L>(rt, alloc, ends, &ended);
-    let port = Mutex::new(locked);
-    let all = works(rt, &port, posts.as_slice(), &ended, jobs, work);
+    let ran = run_and_settle(rt, alloc, locked, jobs, posts, &ended);
+    assert!(rt; ended.is_set());
     drop(ended);
-    is_closed(rt, alloc, shelf, port.into_inner(), all, posts);
+    has_settled(rt, alloc, shelf, ran.ok().expect(rt, "memory"));
 }
 
-pub(super) fn settles<T, S, F>(rt: &T, alloc: Global, shelf: S, work: F)
+pub(super) fn settles<T, S>(rt: &T, alloc: Global, shelf: S)
 where
     T: Abort + Threads + Wait + Sync,
     S: Rates + Copy + Send,
-    F: FnOnce(Jobs) -> Worked,
-    requires callable { F.IsAlwaysCallable work }
-    requires linked { (link : LinkName) (jobs : _) (worked : _) → F.post work jobs worked
-        → Each (λ job. job.end.link ≡ link) jobs.items
-        → IfOk worked (λ all. Each (λ done. done.end.link ≡ link) all.items) }
 {
     let (intake, ends) = queued(rt, alloc, 4, 2);
     let recorder = recording(rt, alloc, shelf, LIFE, Tape::new(alloc));
-    runs::<T, S, Brand, F>(rt, alloc, shelf, recorder, intake, ends, work);
+    runs::<T, S, Brand>(rt, alloc, shelf, recorder, intake, ends);
 }

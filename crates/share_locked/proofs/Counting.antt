@@ -1,5 +1,5 @@
 -- How many arrivals there are among entries.
-use Rattle.std.specs.Prelude.{◌≡◌, ◌&&◌, ℕ, ◌+◌, true, false, List, [], ◌∷◌, ◌++◌, length, count_by, if◌then◌else◌}
+use Rattle.std.specs.Prelude.{◌≡◌, ◌&&◌, ℕ, ◌+◌, List, [], ◌∷◌, ◌++◌, length, count_by, if◌then◌else◌}
 use Rattle.std.specs.List.{fold}
 use Rattle.std.proofs.Common.{arith}
 use Rattle.std.proofs.lemmas.List.{length-append}

@@ -1,6 +1,5 @@
-use Rattle.std.proofs.Common.{◌∙◌, ap, sym}
-use Rattle.share_model.specs.link.Answers.{answers_event}
-use Rattle.share_locked.proofs.Steps.{command_booked, command_unbooked, command_kept}
+use Rattle.std.proofs.Common.{◌∙◌}
+use Rattle.share_locked.proofs.Steps.{command_kept}
 use Rattle.share_locked.proofs.locked.Locked.command.Goals as goal
 
 pub invariant_of-self : goal.invariant_of-self

@@ -1,5 +1,5 @@
 //! The server: a link over sockets.
-ghost use Rattle.std.specs.Prelude.{◌≡◌, [], IfOk, OnOk, not, true};
+ghost use Rattle.std.specs.Prelude.{◌≡◌, ◌≤◌, [], IfOk, OnOk, true, false, vec_len, vec_capacity};
 ghost use Rattle.share_model.specs.lists.Each.{Each};
 ghost use Rattle.stridelink.specs.Books.{IsKept};
 
@@ -23,7 +23,7 @@ use crate::serve::fault::Found;
 pub use crate::serve::fault::ServeFault;
 pub use crate::serve::keep::Keep;
 use crate::serve::slot::Slot;
-pub use crate::serve::start::serve;
+pub use crate::serve::start::{Unserved, serve};
 pub use crate::serve::tariffs::PlainTariffs;
 use crate::serve::threads::{Server, run};
 use crate::serve::uplink::{Uplink, Wire};
@@ -71,13 +71,29 @@ struct Fresh<S: Rates> {
     ends: Vec<IngressEnd>,
 }
 
-/// Where connections are accepted, how many on the control side, and those that are open.
+/// Where connections are accepted, and those that are open.
 #[derive(Drop)]
 struct Doors {
     ingress: TcpListener,
     control: TcpListener,
-    clerks: usize,
     connections: Arc<Connections>,
+}
+
+/// All that is there before a link is served. It is one value, since a function that holds it and ends early is proved
+/// for each of its parts that is let go.
+#[derive(Drop)]
+struct Setting<S: Rates> {
+    fresh: Fresh<S>,
+    doors: Doors,
+    clerks: usize,
+}
+
+/// Places for clerks and ends while their threads have them, and lists for them after that.
+#[derive(Drop)]
+struct Places<L: Link> {
+    clerks: Vec<Slot<Clerk<L>>>,
+    ends: Vec<Slot<LinkedEnd<L>>>,
+    spare_clerks: Vec<Clerk<L>>,
 }
 
 // A recorder of a new link over the uplink.
@@ -85,15 +101,23 @@ fn recording<S: Rates + Drop>(
     alloc: Global,
     shelf: S,
     journal: Journal,
-    wire: &Arc<Wire>,
+    uplink: Uplink,
 ) -> Result<Recorder<PlainWriter<Uplink>, S>, ServeFault>
     ensures { IfOk result (λ r. r.entries ≡ []) }
 {
-    let writer = Uplink::new(wire)?;
-    let engine = Engine::new(alloc, shelf, journal.life(), PlainWriter(writer))?;
+    let engine = match Engine::new(alloc, shelf, journal.life(), PlainWriter(uplink)) {
+        Ok(engine) => engine,
+        Err(refused) => {
+            drop(journal);
+            return Err(ServeFault::from(refused));
+        }
+    };
     match Recorder::new(engine, journal) {
         Ok(recorder) => Ok(recorder),
-        Err(_) => Err(ServeFault::Mismatch),
+        Err(back) => {
+            drop(back);
+            Err(ServeFault::Mismatch)
+        }
     }
 }
 
@@ -102,31 +126,37 @@ fn link_over<S: Rates + Drop>(
     alloc: Global,
     shelf: S,
     journal: Journal,
-    wire: &Arc<Wire>,
+    uplink: Uplink,
     workers: usize,
 ) -> Result<Fresh<S>, ServeFault>
     ensures empty { IfOk result (λ fresh. fresh.recorder.entries ≡ []) }
     ensures nothing { IfOk result (λ fresh. fresh.intake.popped ≡ []) }
     ensures linked { IfOk result (λ fresh. Each (λ e. e.link ≡ fresh.intake.link) fresh.ends.items) }
 {
-    let recorder = recording(alloc, shelf, journal, wire)?;
-    let (intake, ends) = queue(alloc, PLACES, workers)?;
-    Ok(Fresh {
-        recorder,
-        intake,
-        ends,
-    })
+    let recorder = recording(alloc, shelf, journal, uplink)?;
+    match queue(alloc, PLACES, workers) {
+        Ok((intake, ends)) => Ok(Fresh {
+            recorder,
+            intake,
+            ends,
+        }),
+        Err(refused) => {
+            drop(recorder);
+            Err(ServeFault::from(refused))
+        }
+    }
 }
 
-// The listeners, of which it is told where they listen, with no connection yet.
-fn open_doors<R: Eprint>(
-    rt: &R,
-    alloc: Global,
-    ingress: TcpListener,
-    control: TcpListener,
-    wire: Arc<Wire>,
-    plan: Plan,
-) -> Result<Doors, ServeFault> {
+// The listeners with no connection yet, and the uplink as a writer.
+fn open_doors(alloc: Global, sockets: Sockets, plan: Plan) -> Result<(Doors, Uplink), ServeFault> {
+    let Sockets {
+        ingress,
+        control,
+        uplink,
+    } = sockets;
+    let _ = uplink.set_nodelay(true);
+    let wire = Arc::new(alloc, Wire::new(uplink)).map_err(|_| ServeFault::NoMemory)?;
+    let uplink = Uplink::new(&wire)?;
     let room = plan.workers.saturating_add(plan.clerks);
     let Ok(connections) = Connections::new(alloc, &control, &ingress, wire, room, plan.is_verbose)
     else {
@@ -135,27 +165,61 @@ fn open_doors<R: Eprint>(
     let Ok(connections) = Arc::new(alloc, connections) else {
         return Err(ServeFault::NoMemory);
     };
-    tell_addresses(rt, &connections, &ingress, &control);
-    Ok(Doors {
+    let doors = Doors {
         ingress,
         control,
-        clerks: plan.clerks,
         connections,
-    })
+    };
+    Ok((doors, uplink))
 }
 
 // Tells where the server listens.
-fn tell_addresses<R: Eprint>(
-    rt: &R,
-    connections: &Connections,
-    ingress: &TcpListener,
-    control: &TcpListener,
-) {
-    if let Ok(address) = ingress.local_addr() {
-        connections.tell(rt, format_args!("listening for ingress on {address}"));
+fn tell_addresses<R: Eprint>(rt: &R, doors: &Doors) {
+    if let Ok(address) = doors.ingress.local_addr() {
+        let line = format_args!("listening for ingress on {address}");
+        doors.connections.tell(rt, line);
     }
-    if let Ok(address) = control.local_addr() {
-        connections.tell(rt, format_args!("listening for control on {address}"));
+    if let Ok(address) = doors.control.local_addr() {
+        let line = format_args!("listening for control on {address}");
+        doors.connections.tell(rt, line);
+    }
+}
+
+// A new link with these sockets. It is told where it listens once all is there.
+fn set_up<R: Eprint, S: Rates + Drop>(
+    rt: &R,
+    alloc: Global,
+    shelf: S,
+    journal: Journal,
+    sockets: Sockets,
+    plan: Plan,
+) -> Result<Setting<S>, ServeFault>
+    ensures empty { IfOk result (λ s. s.fresh.recorder.entries ≡ []) }
+    ensures nothing { IfOk result (λ s. s.fresh.intake.popped ≡ []) }
+    ensures linked { IfOk result (λ s. Each (λ e. e.link ≡ s.fresh.intake.link) s.fresh.ends.items) }
+{
+    let (doors, uplink) = match open_doors(alloc, sockets, plan) {
+        Ok(both) => both,
+        Err(fault) => {
+            drop(shelf);
+            drop(journal);
+            return Err(fault);
+        }
+    };
+    match link_over(alloc, shelf, journal, uplink, plan.workers) {
+        Ok(fresh) => {
+            tell_addresses(rt, &doors);
+            let clerks = plan.clerks;
+            Ok(Setting {
+                fresh,
+                doors,
+                clerks,
+            })
+        }
+        Err(fault) => {
+            drop(doors);
+            Err(fault)
+        }
     }
 }
 
@@ -182,33 +246,25 @@ where
     O: Telling,
     ensures kept { OnOk result (IsKept K.kept keep true) }
 {
-    let Sockets {
-        ingress,
-        control,
-        uplink,
-    } = sockets;
-    let _ = uplink.set_nodelay(true);
-    let Ok(wire) = Arc::new(alloc, Wire::new(uplink)) else {
-        return Err(ServeFault::NoMemory);
-    };
-    let fresh = link_over(alloc, shelf, journal, &wire, plan.workers)?;
-    let doors = open_doors(rt, alloc, ingress, control, wire, plan)?;
-    match serve_as::<R, S, I, K, O, Brand>(rt, alloc, fresh, doors, until, keep, output)?.first() {
-        None => Ok(()),
-        Some(fault) => Err(fault),
+    match set_up(rt, alloc, shelf, journal, sockets, plan) {
+        Ok(setting) => { serve_as::<R, S, I, K, O, Brand>(rt, alloc, setting, until, keep, output) }
+        Err(fault) => {
+            drop(until);
+            drop(keep);
+            Err(fault)
+        }
     }
 }
 
-// Serves the link of this name until all its connections have ended, and closes its books: what went wrong.
+// Serves the link of this name until all its connections have ended, and closes its books.
 fn serve_as<R, S, I, K, O, L>(
     rt: &R,
     alloc: Global,
-    fresh: Fresh<S>,
-    doors: Doors,
+    setting: Setting<S>,
     until: Option<I>,
     keep: K,
     output: &mut O,
-) -> Result<Found, ServeFault>
+) -> Result<(), ServeFault>
 where
     R: Threads + Wait + Clock + Eprint + Copy + Send + Sync + 'static,
     S: Rates + Send + Drop,
@@ -216,35 +272,58 @@ where
     K: Keep + Drop,
     O: Telling,
     L: Link + Send,
-    requires empty { fresh.recorder.entries ≡ [] }
-    requires link { fresh.intake.link ≡ L.link }
-    requires nothing { fresh.intake.popped ≡ [] }
-    requires linked { Each (λ e. e.link ≡ L.link) fresh.ends.items }
-    ensures kept { IfOk result (λ found. IsKept K.kept keep (not found.audit)) }
+    requires empty { setting.fresh.recorder.entries ≡ [] }
+    requires link { setting.fresh.intake.link ≡ L.link }
+    requires nothing { setting.fresh.intake.popped ≡ [] }
+    requires linked { Each (λ e. e.link ≡ L.link) setting.fresh.ends.items }
+    ensures kept { OnOk result (IsKept K.kept keep true) }
 {
-    let ended = serve_all::<R, S, I, L>(rt, alloc, fresh, doors, until)?;
-    Ok(close(rt, alloc, ended, keep, output))
+    match make_places(alloc, setting.fresh.ends.len(), setting.clerks) {
+        Ok(places) => {
+            let ended = serve_all::<R, S, I, L>(rt, alloc, setting, places, until);
+            told(close(rt, alloc, ended, keep, output))
+        }
+        Err(refused) => {
+            drop(setting);
+            drop(until);
+            drop(keep);
+            Err(ServeFault::from(refused))
+        }
+    }
+}
+
+// The answer of a run with these faults.
+fn told(found: Found) -> Result<(), ServeFault>
+    ensures { OnOk result (found.audit ≡ false) }
+{
+    match found.first() {
+        None => Ok(()),
+        Some(fault) => Err(fault),
+    }
 }
 
 // Serves the link of this name until all its connections have ended.
 fn serve_all<R, S, I, L>(
     rt: &R,
     alloc: Global,
-    fresh: Fresh<S>,
-    doors: Doors,
+    setting: Setting<S>,
+    places: Places<L>,
     until: Option<I>,
-) -> Result<EndedLink<S, L>, ServeFault>
+) -> EndedLink<S, L>
 where
     R: Threads + Wait + Eprint + Copy + Send + Sync + 'static,
     S: Rates + Send + Drop,
     I: Read + Send + Drop + 'static,
     L: Link + Send,
-    requires empty { fresh.recorder.entries ≡ [] }
-    requires link { fresh.intake.link ≡ L.link }
-    requires nothing { fresh.intake.popped ≡ [] }
-    requires linked { Each (λ e. e.link ≡ L.link) fresh.ends.items }
-    ensures linked { IfOk result (λ ended. Each (λ e. e.link ≡ L.link) ended.ends.items) }
+    requires empty { setting.fresh.recorder.entries ≡ [] }
+    requires link { setting.fresh.intake.link ≡ L.link }
+    requires nothing { setting.fresh.intake.popped ≡ [] }
+    requires linked { Each (λ e. e.link ≡ L.link) setting.fresh.ends.items }
+    requires room { vec_len setting.fresh.ends ≤ vec_capacity places.ends }
+    requires vacant { places.ends.items ≡ [] }
+    ensures linked { Each (λ e. e.link ≡ L.link) result.ends.items }
 {
+    let Setting { fresh, doors, .. } = setting;
     let Fresh {
         recorder,
         intake,
@@ -253,13 +332,15 @@ where
     let Doors {
         ingress,
         control,
-        clerks,
         connections,
     } = doors;
+    let Places {
+        clerks,
+        ends: vacant,
+        spare_clerks,
+    } = places;
     let mut spare = ends;
-    let spare_clerks = Vec::with_capacity(alloc, clerks)?;
-    let ends = end_slots(alloc, &mut spare)?;
-    let clerks = clerk_slots(alloc, clerks)?;
+    let ends = filled(&mut spare, vacant);
     let server = Server::<S, L> {
         alloc,
         port: Mutex::new(Locked::new(recorder, intake)),
@@ -271,7 +352,7 @@ where
         ends,
     };
     let found = run_until(rt, &server, until);
-    Ok(ended(server, spare, spare_clerks, found))
+    ended(server, spare, spare_clerks, found)
 }
 
 // Runs all threads until the link has ended, and tells which faults there were. Where a reader is given, its end ends
@@ -328,20 +409,35 @@ fn clerk_slots<L: Link>(alloc: Global, count: usize) -> Result<Vec<Slot<Clerk<L>
     Ok(slots)
 }
 
-// The ends in places of their own, in their order.
-fn end_slots<L: Link>(
-    alloc: Global,
-    ends: &mut Vec<IngressEnd>,
-) -> Result<Vec<Slot<LinkedEnd<L>>>, AllocError>
-    requires { Each (λ e. e.link ≡ L.link) ends.old.items }
-    ensures { OnOk result (ends.new.items ≡ []) }
+// Places for so many ends and so many clerks.
+fn make_places<L: Link>(alloc: Global, ends: usize, clerks: usize) -> Result<Places<L>, AllocError>
+    ensures vacant { IfOk result (λ places. places.ends.items ≡ []) }
+    ensures room { IfOk result (λ places. ends ≤ vec_capacity places.ends) }
 {
-    let mut slots = Vec::with_capacity(alloc, ends.len())?;
+    let spare_clerks = Vec::with_capacity(alloc, clerks)?;
+    let clerks = clerk_slots(alloc, clerks)?;
+    Ok(Places {
+        clerks,
+        ends: Vec::with_capacity(alloc, ends)?,
+        spare_clerks,
+    })
+}
+
+// The ends in places of their own, in their order.
+fn filled<L: Link>(
+    ends: &mut Vec<IngressEnd>,
+    vacant: Vec<Slot<LinkedEnd<L>>>,
+) -> Vec<Slot<LinkedEnd<L>>>
+    requires linked { Each (λ e. e.link ≡ L.link) ends.old.items }
+    requires vacant { (vacant.items ≡ []) × (vec_len ends.old ≤ vec_capacity vacant) }
+    ensures { ends.new.items ≡ [] }
+{
+    let mut slots = vacant;
     while let Some(end) = ends.pop() {
-        slots.push(Slot::new(Some(LinkedEnd::new(end))))?;
+        slots.push_reserved(Slot::new(Some(LinkedEnd::new(end))));
     }
     slots.as_mut_slice().reverse();
-    Ok(slots)
+    slots
 }
 
 // The ends from their places, in a list that has room for them.

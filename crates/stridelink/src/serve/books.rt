@@ -9,7 +9,7 @@ use crate::serve::keep::Keep;
 use crate::serve::uplink::Uplink;
 use share_ingress::IngressEnd;
 use share_journal::{Journal, Recorder, Source};
-use share_locked::{Clerk, Link, Locked, Settled, Unsettled, WhyUnsettled, settle};
+use share_locked::{Clerk, Link, Locked, Unsettled, WhyUnsettled, settle};
 use share_model::{PlainWriter, Rates, Telling};
 use share_report::report;
 use std::alloc::Global;
@@ -109,9 +109,10 @@ fn finish_unsettled<S: Rates + Drop, L: Link, R: Clock + Eprint, K: Keep, O: Tel
     ensures told { is_unsettled result ≡ true }
     ensures run { KeepsRun found result }
 {
-    let Unsettled { why, locked, .. } = back;
-    let found = with_want(found, why);
-    finish(rt, locked.recorder(), connections, keep, output, found)
+    let found = with_want(found, back.why);
+    let found = finish(rt, back.locked.recorder(), connections, keep, output, found);
+    drop(back);
+    found
 }
 
 /// Settles the link, and writes its audit and its report, also where it was not settled.
@@ -139,9 +140,15 @@ pub fn close<S: Rates + Drop, L: Link, R: Clock + Eprint, K: Keep, O: Telling>(
     } = ended;
     match settle(alloc, locked, ends, clerks) {
         Ok(settled) => {
-            let Settled { recorder, .. } = settled;
-            finish(rt, &recorder, &connections, keep, output, found)
+            let found = finish(rt, &settled.recorder, &connections, keep, output, found);
+            drop(settled);
+            drop(connections);
+            found
         }
-        Err(back) => finish_unsettled(rt, back, &connections, keep, output, found),
+        Err(back) => {
+            let found = finish_unsettled(rt, back, &connections, keep, output, found);
+            drop(connections);
+            found
+        }
     }
 }

@@ -78,6 +78,36 @@ fn audit_file<'a, R: Files>(
     }
 }
 
+// What a run needs, in this order: a journal, the file of the audit, and sockets. What was made before a fault is let
+// go by calls: here each of its parts would be gone through in the proof.
+fn prepared<'a, R>(
+    rt: &'a R,
+    alloc: Global,
+    orders: ServeOrders<'a>,
+) -> Result<(Journal, AuditFile<'a, R>, Sockets), Unserved<'a>>
+where
+    R: Net<Listener = TcpListener, Stream = TcpStream> + Files,
+{
+    let Ok(journal) = Journal::new(alloc, orders.life) else {
+        return Err(Unserved::NoMemory);
+    };
+    let audit = match audit_file(rt, alloc, orders.audit) {
+        Ok(audit) => audit,
+        Err(fault) => {
+            drop(journal);
+            return Err(fault);
+        }
+    };
+    match sockets(rt, orders) {
+        Ok(sockets) => Ok((journal, audit, sockets)),
+        Err(fault) => {
+            drop(journal);
+            drop(audit);
+            Err(fault)
+        }
+    }
+}
+
 /// Serves a new link with the program's tariffs as these words ask for. Its journal is made first, then the file of
 /// the audit is tried, and then it listens and connects.
 pub fn serve<'a, R, S, I>(
@@ -95,11 +125,14 @@ where
     requires rates { S.rates shelf ≡ program_rates }
     requires orders { CanBeServed orders.life orders.workers orders.clerks }
 {
-    let Ok(journal) = Journal::new(alloc, orders.life) else {
-        return Err(Unserved::NoMemory);
+    let (journal, audit, sockets) = match prepared(rt, alloc, orders) {
+        Ok(all) => all,
+        Err(fault) => {
+            drop(shelf);
+            drop(input);
+            return Err(fault);
+        }
     };
-    let audit = audit_file(rt, alloc, orders.audit)?;
-    let sockets = sockets(rt, orders)?;
     let plan = Plan {
         workers: orders.workers as usize,
         clerks: orders.clerks as usize,
@@ -109,6 +142,7 @@ where
     let until = if orders.is_until_eof {
         Some(input)
     } else {
+        drop(input);
         None
     };
     match serve_on(

@@ -3,10 +3,10 @@ use Rattle.stridelink.proofs.serve.books.finish_unsettled.Goals as goal
 
 pub returns-clause-told : goal.returns-clause-told
 returns-clause-told g c =
-    still_told c.args.found c.with_want-found.result c.finish.result c.args.back.why c.with_want-found.ensures
-    c.finish.ensures.same
+    still_told c.args.found c.with_want-found.result c.finish-found.result c.args.back.why c.with_want-found.ensures
+    c.finish-found.ensures.same
 
 pub returns-clause-run : goal.returns-clause-run
 returns-clause-run g c =
-    run_kept c.args.found c.with_want-found.result c.finish.result c.args.back.why c.with_want-found.ensures
-    c.finish.ensures.same
+    run_kept c.args.found c.with_want-found.result c.finish-found.result c.args.back.why c.with_want-found.ensures
+    c.finish-found.ensures.same

@@ -454,14 +454,16 @@ def gets_all(run, peer, some):
 
 
 def peer_writes_back(run):
-    """What the peer says is read away: neither does it disturb the run, nor is the end of the frames lost by it."""
+    """What the peer says is read away: neither does it disturb the run, nor is the end of the frames lost by it, which
+    is still on its way when the server has sent all, since the peer reads slowly."""
     def write_back(peer):
         peer.connection.sendall(b"hello " * 1000)
         while peer.read(700):
             peer.connection.sendall(b"thanks " * 100)
+            time.sleep(0.01)
         peer.connection.sendall(b"bye " * 10000)
 
-    gets_all(run, run.peer(write_back), packets("a", 0, 1000, 1000))
+    gets_all(run, run.peer(write_back, narrow=True), packets("a", 0, 300, 500))
 
 
 def spent_life(run):

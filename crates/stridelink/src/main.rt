@@ -32,7 +32,7 @@ mod tests;
 mod words;
 
 use crate::lines::LineReader;
-use crate::serve::{PlainTariffs, serve};
+use crate::serve::{PlainTariffs, Unserved, serve};
 use crate::strict::StrictWriter;
 use crate::words::{Asked, Orders, ServeOrders, parse};
 use clap::error::ErrorKind;
@@ -220,12 +220,20 @@ where
     I: Read + Send + Drop + 'static,
     requires { CanBeServed orders.life orders.workers orders.clerks }
 {
-    match serve(rt, alloc, PlainTariffs, orders, input) {
-        Ok(()) => Ok(ExitCode::SUCCESS),
+    let served = serve(rt, alloc, PlainTariffs, orders, input);
+    Ok(tell_served(rt, served))
+}
+
+// Tells what went wrong where a link was served, if something did.
+fn tell_served(rt: &impl Eprint, served: Result<(), Unserved<'_>>) -> ExitCode
+    ensures { MatchResult served.entry (λ _. exit_status result ≡ 0) (λ _. exit_status result ≡ 1) }
+{
+    match served {
+        Ok(()) => ExitCode::SUCCESS,
         Err(fault) => {
             // The status tells the fault also where standard error takes no text.
             let _ = eprintln!(rt; "stridelink: {fault}");
-            Ok(ExitCode::FAILURE)
+            ExitCode::FAILURE
         }
     }
 }

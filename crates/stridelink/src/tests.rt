@@ -2,6 +2,7 @@
 
 mod audit;
 mod control;
+mod faults;
 mod serving;
 
 use crate::lines::LineReader;

@@ -6,7 +6,7 @@ use crate::serve::control::{Attended, How, attend};
 use share_core::Engine;
 use share_ingress::{IngressEnd, Intake, queue};
 use share_journal::{Journal, Recorder};
-use share_locked::{Link, Locked};
+use share_locked::{Link, Locked, Port};
 use share_model::{PlainReader, Rates, Tape};
 use share_script::IncomingLines;
 use std::alloc::Global;
@@ -95,16 +95,17 @@ impl<'a> Read for Pieces<'a> {
     }
 }
 
-/// A writer that takes all, with a bar behind each call, and fails after so many calls.
+/// A writer that takes all, with a bar behind each call, and fails after so many calls, or where the link is locked.
 #[derive(Drop)]
-struct Barred<'a> {
+struct Barred<'a, S: Rates, L: Link> {
+    port: &'a Port<Tape, S, L>,
     bytes: &'a mut Vec<u8>,
     left: u64,
 }
 
-impl<'a> Write for Barred<'a> {
+impl<'a, S: Rates, L: Link> Write for Barred<'a, S, L> {
     fn write(&mut self, buf: &[u8]) -> io::Result<usize> {
-        if self.left == 0 {
+        if self.left == 0 || self.port.try_lock().is_none() {
             return Err(Error::from(ErrorKind::BrokenPipe));
         }
         self.left -= 1;
@@ -165,6 +166,7 @@ where
         .ok()
         .expect(rt, "a chunk");
     let output = Barred {
+        port: &port,
         bytes: written,
         left: asked.writes,
     };
@@ -271,11 +273,32 @@ fn faults_end_a_connection<T: Wait + Abort, S: Rates + Copy>(
     Ok(())
 }
 
+// No answer is written in a hold of the lock, also where more answers than may wait are those to lines that came
+// together.
+fn answers_are_written_outside_of_holds<T: Wait + Abort, S: Rates + Copy>(
+    rt: &T,
+    alloc: Global,
+    shelf: S,
+) -> Result<(), Fail> {
+    let mut lines = Vec::new(alloc);
+    for _ in 0..200 {
+        lines.extend_from_slice(b"report\n".as_slice())?;
+    }
+    for _ in 0..8000 {
+        lines.extend_from_slice(b"mkcur x\n".as_slice())?;
+    }
+    let mut written = Vec::new(alloc);
+    let (how, _) = answered(rt, alloc, shelf, whole(lines.as_slice()), &mut written);
+    assert_eq!(rt; how, How::End);
+    Ok(())
+}
+
 #[test]
 fn lines_of_control_connections(rt: HostRuntime) -> Result<(), Fail> {
     let alloc = rt.alloc();
     are_answered(&rt, alloc, PlainTariffs)?;
     over_long_lines_have_no_place(&rt, alloc, PlainTariffs)?;
     spent_lives_are_told(&rt, alloc, PlainTariffs)?;
+    answers_are_written_outside_of_holds(&rt, alloc, PlainTariffs)?;
     faults_end_a_connection(&rt, alloc, PlainTariffs)
 }

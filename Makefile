@@ -47,3 +47,5 @@ edits:
 bench: bin/stridelink
 	python3 bench/bench.py
 	python3 bench/ingress.py
+	python3 bench/locked.py
+	python3 bench/serve.py

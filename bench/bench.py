@@ -177,9 +177,15 @@ LEDGER_LOOPS = (
 
 def build_crate(folder, name, sources, used, also, words):
     """Builds a crate of the bench in a repository of its own over copies of the crates that it uses, and runs it once
-    with these words. `also` are the other libraries that it uses."""
+    with these words. `also` are the other libraries that it uses. Its specifications and proofs stand beside its
+    sources under their paths, with - for /."""
     for crate in used:
         shutil.copytree(os.path.join(TOP, "crates", crate), os.path.join(folder, "crates", crate))
+    for part in os.listdir(os.path.join(TOP, "bench", name)):
+        if part.endswith(".antt.txt"):
+            path = os.path.join(folder, "crates", name, part.removesuffix(".txt").replace("-", "/"))
+            os.makedirs(os.path.dirname(path), exist_ok=True)
+            shutil.copy(os.path.join(TOP, "bench", name, part), path)
     shutil.copy(os.path.join(TOP, "HANDLES"), folder)
     source = os.path.join(folder, "crates", name, "src")
     os.makedirs(source)

@@ -4,7 +4,7 @@ use crate::link::MAX_LINE;
 use crate::locked::{Port, hold};
 use crate::output::Output;
 use crate::words;
-use std::io::{self, ErrorKind, Read};
+use std::io::{self, ErrorKind, Read, Write};
 
 const ROOM: usize = 1 << 16;
 
@@ -16,14 +16,14 @@ pub enum How {
     WriteFault,
 }
 
-struct Clerk<'a, W> {
-    port: &'a Port,
+struct Clerk<'a, U, W> {
+    port: &'a Port<U>,
     output: Output,
     wake: W,
     receipts: u64,
 }
 
-impl<W: Fn()> Clerk<'_, W> {
+impl<U: Write, W: Fn()> Clerk<'_, U, W> {
     /// Answers all lines that are whole; how many bytes they have. The link is told of what was commanded before a
     /// reply is written, since that may wait.
     fn answer(&mut self, bytes: &[u8]) -> io::Result<usize> {
@@ -44,7 +44,7 @@ impl<W: Fn()> Clerk<'_, W> {
 }
 
 /// Answers the lines of a connection until it ends; how it ended, and how many commands were events.
-pub fn attend(mut source: impl Read, output: Output, port: &Port, wake: impl Fn()) -> (How, u64) {
+pub fn attend<U: Write>(mut source: impl Read, output: Output, port: &Port<U>, wake: impl Fn()) -> (How, u64) {
     let mut clerk = Clerk { port, output, wake, receipts: 0 };
     let mut buffer = vec![0; ROOM];
     let mut filled = 0;

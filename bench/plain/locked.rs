@@ -1,12 +1,11 @@
 //! The link behind its lock, one call a hold, and the worker that admits and sends.
 
-use crate::connections::Connections;
 use crate::journal::{Entry, Journal};
 use crate::link::{Link, Turn};
 use crate::output::Output;
 use crate::records::{self, Offer};
-use std::net::TcpStream;
-use std::sync::atomic::{AtomicBool, Ordering};
+use std::io::Write;
+use std::sync::atomic::{AtomicBool, AtomicU64, Ordering};
 use std::sync::mpsc::Receiver;
 use std::sync::{Mutex, MutexGuard, PoisonError};
 use std::thread;
@@ -14,19 +13,19 @@ use std::thread;
 /// The places of the queue.
 pub const CAPACITY: usize = 256;
 
-pub struct Locked {
+pub struct Locked<W> {
     pub link: Link,
     pub journal: Journal,
-    pub uplink: TcpStream,
+    pub uplink: W,
     /// The queue until the link has ended, and how many offers of each worker were popped.
     pub queue: Option<Receiver<Offer>>,
     pub popped: Vec<u64>,
 }
 
-pub type Port = Mutex<Locked>;
+pub type Port<W> = Mutex<Locked<W>>;
 
 #[derive(PartialEq, Eq)]
-enum Admission {
+pub enum Admission {
     Admitted,
     Empty,
     Spent,
@@ -43,7 +42,7 @@ pub fn hold<T>(lock: &Mutex<T>) -> MutexGuard<'_, T> {
     lock.lock().unwrap_or_else(PoisonError::into_inner)
 }
 
-impl Locked {
+impl<W: Write> Locked<W> {
     /// Answers a line of a control connection; whether it was an event.
     pub fn command(&mut self, line: &[u8], output: &mut Output) -> bool {
         let is_event = self.link.answer_control(line, output);
@@ -53,7 +52,7 @@ impl Locked {
         is_event
     }
 
-    fn admit(&mut self) -> Admission {
+    pub fn admit(&mut self) -> Admission {
         if self.link.is_spent() {
             return Admission::Spent;
         }
@@ -66,10 +65,11 @@ impl Locked {
         Admission::Admitted
     }
 
-    fn turn(&mut self, connections: &Connections) -> Turn {
-        connections.writes.fetch_add(1, Ordering::Relaxed);
+    /// A turn. The count of writes is odd while one is made.
+    pub fn turn(&mut self, writes: &AtomicU64) -> Turn {
+        writes.fetch_add(1, Ordering::Relaxed);
         let turn = self.link.turn_on(&mut self.uplink);
-        connections.writes.fetch_add(1, Ordering::Relaxed);
+        writes.fetch_add(1, Ordering::Relaxed);
         match turn {
             Turn::Wrote(count) => self.journal.push(Entry::Write(count)),
             Turn::Torn => self.journal.push(Entry::Torn),
@@ -81,7 +81,7 @@ impl Locked {
 
 /// A round admits until the queue is empty, at most as many as it has places, and makes one turn. It waits where there
 /// was nothing to do, and ends where the life is spent, or where there was nothing to do after the stop.
-pub fn run_link(port: &Port, stop: &AtomicBool, connections: &Connections) -> LinkEnd {
+pub fn run_link<W: Write>(port: &Port<W>, stop: &AtomicBool, writes: &AtomicU64) -> LinkEnd {
     loop {
         let is_stopped = stop.load(Ordering::Acquire);
         let mut admission = Admission::Admitted;
@@ -91,7 +91,7 @@ pub fn run_link(port: &Port, stop: &AtomicBool, connections: &Connections) -> Li
                 break;
             }
         }
-        let turn = if admission == Admission::Spent { Turn::Spent } else { hold(port).turn(connections) };
+        let turn = if admission == Admission::Spent { Turn::Spent } else { hold(port).turn(writes) };
         let end = match turn {
             Turn::Spent => return LinkEnd::Spent,
             Turn::Idle => LinkEnd::Drained,

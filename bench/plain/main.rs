@@ -5,9 +5,11 @@
 //! the flows that compete stand in a heap. It takes the words `run --life L`, which have to be right.
 //!
 //! With `serve` it is the link on sockets, over the mutex, the bounded channel and the threads of the standard library:
-//! the yardstick of serve.py, and what examples/serve.py was tried with. Its words are in arguments.rs.
+//! the yardstick of serve.py, and what examples/serve.py was tried with. Its words are in arguments.rs. With `beside
+//! SIZE ROUNDS` it is the yardstick of locked.py.
 
 mod arguments;
+mod beside;
 mod buffer;
 mod chains;
 mod connections;
@@ -76,6 +78,13 @@ fn main() -> io::Result<ExitCode> {
             return Ok(ExitCode::from(2));
         };
         return Ok(ExitCode::from(serve::serve(&arguments)));
+    }
+    if let [word, size, rounds] = words.as_slice()
+        && word == "beside"
+    {
+        let (size, rounds) = (size.parse().map_err(io::Error::other)?, rounds.parse().map_err(io::Error::other)?);
+        println!("{}", beside::arrivals(size, rounds)?);
+        return Ok(ExitCode::SUCCESS);
     }
     let life = std::env::args().nth(3).and_then(|word| word.parse().ok()).unwrap_or(65536);
     let mut script = File::from(io::stdin().as_fd().try_clone_to_owned()?);

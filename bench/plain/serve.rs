@@ -50,7 +50,7 @@ impl Fault {
 
 /// What the threads of a run share.
 struct Server {
-    port: Port,
+    port: Port<TcpStream>,
     connections: Arc<Connections>,
     stop: AtomicBool,
     /// The worker of the link, which is woken where there may be something to do.
@@ -84,7 +84,7 @@ impl Server {
 
     /// The link's worker, and what happens where it ends.
     fn link_worker(&self) -> LinkEnd {
-        let end = run_link(&self.port, &self.stop, &self.connections);
+        let end = run_link(&self.port, &self.stop, &self.connections.writes);
         self.end_link();
         end
     }
@@ -201,7 +201,7 @@ impl Server {
     }
 
     /// Whether what the threads did is what the journal tells.
-    fn settle(&self, locked: &Locked, books: &Books) {
+    fn settle(&self, locked: &Locked<TcpStream>, books: &Books) {
         if locked.link.is_broken() {
             self.fault(Fault::Uplink);
         }
@@ -215,7 +215,7 @@ impl Server {
     }
 
     /// Tells the counts, writes the audit and the report, and lets the uplink's peer have all that was sent.
-    fn finish(&self, locked: &mut Locked, file: AuditFile) {
+    fn finish(&self, locked: &mut Locked<TcpStream>, file: AuditFile) {
         let _ = locked.uplink.shutdown(Shutdown::Write);
         let Journal { commands, arrivals, .. } = locked.journal;
         let events = locked.journal.len() as u64;

@@ -20,19 +20,23 @@ const TURNS: u64 = 1 << 40;
 /// How often an offer that a full queue refused is made again at once.
 const EAGER: u32 = 16;
 
-/// How many microseconds the worker rests at least after each further one. It draws how many more, up to 1023, so that
-/// of two workers that wait for places of one queue neither is always the second.
-const LEAST_REST: u64 = 1000;
+/// How many microseconds the worker rests at least after each further one. It draws how many more, up to as many, so
+/// that of two workers that wait for places of one queue neither is always the second.
+const SHORT_REST: u64 = 100;
 
 /// After so many offers that were refused it rests longer, so that it costs little where the link waits for its peer.
 const STALLED: u32 = 80;
 
 /// How many microseconds it rests at least then.
-const LONG_REST: u64 = 5000;
+const LONG_REST: u64 = 4000;
 
 /// After a full queue so many records are offered in portions, with a rest behind each: what comes free at once is more
 /// than a buffer may hold, and the first worker to find it would else leave nothing to those that rest.
 const CAREFUL: u32 = 256;
+
+/// How many microseconds such a rest has at least where the worker had come to rest longer, as others may have: so that
+/// they find places too.
+const CAREFUL_REST: u64 = 1000;
 
 /// How many records such a portion has.
 const PORTION: u32 = 32;
@@ -83,17 +87,18 @@ struct UntilLinkEnds<'a, R> {
     parker: Parker,
     full: u32,
     careful: u32,
+    careful_rest: u64,
     drawn: u64,
 }
 
 impl<'a, R: Wait> UntilLinkEnds<'a, R> {
-    // Rests for so many microseconds and some more, which are drawn by a linear congruential generator.
+    // Rests for this many microseconds and some more, which are drawn by a linear congruential generator.
     fn rest(&mut self, least: u64) {
         self.drawn = self
             .drawn
             .wrapping_mul(6364136223846793005)
             .wrapping_add(1442695040888963407);
-        let more = self.drawn >> 54;
+        let more = (self.drawn >> 54).saturating_mul(least) >> 10;
         self.parker
             .park_timeout(self.rt, Duration::from_micros(least.saturating_add(more)));
     }
@@ -110,7 +115,7 @@ impl<'a, R: Wait> Gate for UntilLinkEnds<'a, R> {
         if self.careful > 0 {
             self.careful -= 1;
             if self.careful % PORTION == 0 {
-                self.rest(LEAST_REST);
+                self.rest(self.careful_rest);
             }
         }
     }
@@ -122,14 +127,14 @@ impl<'a, R: Wait> Gate for UntilLinkEnds<'a, R> {
         self.careful = CAREFUL;
         self.full = self.full.saturating_add(1);
         if self.full < EAGER {
+            self.careful_rest = SHORT_REST;
             thread::yield_now();
-            return true;
-        }
-        self.rest(if self.full < STALLED {
-            LEAST_REST
+        } else if self.full < STALLED {
+            self.rest(SHORT_REST);
         } else {
-            LONG_REST
-        });
+            self.careful_rest = CAREFUL_REST;
+            self.rest(LONG_REST);
+        }
         true
     }
 }
@@ -154,6 +159,7 @@ pub fn work<R: Wait, L: Link>(
         parker: Parker::new(),
         full: 0,
         careful: 0,
+        careful_rest: SHORT_REST,
         drawn: number as u64,
     };
     let Done {

@@ -116,7 +116,8 @@ fn close<W: Telling, S: Rates, L: Link, G: Drop, D: Drop>(
 }
 
 /// What a run leaves: how the link's service ended, or `None` where its thread was not to be had; how many clerks, from
-/// the first, got a thread; what each worker left, in the order of the jobs; the duties of all clerks; and the settling.
+/// the first, got a thread; what each worker left, in the order of the jobs; the duties of all clerks; and the
+/// settling.
 #[derive(Drop)]
 pub struct Ran<W: Telling, S: Rates, L: Link, G, D> {
     pub link: Option<LinkEnd>,

@@ -1,0 +1,44 @@
+# Completions of stridelink for bash: its commands, their options that are not there yet, and files where one is wanted.
+
+_stridelink() {
+    local word=${COMP_WORDS[COMP_CWORD]} before=${COMP_WORDS[COMP_CWORD - 1]} wanted= option
+    COMPREPLY=()
+    if ((COMP_CWORD == 1)); then
+        mapfile -t COMPREPLY < <(compgen -W "run serve help --help --version" -- "$word")
+        return
+    fi
+    case ${COMP_WORDS[1]} in
+        run) wanted="--life --strict --help" ;;
+        serve)
+            wanted="--ingress --control --uplink --audit --workers --life --clerks --until-eof --verbose --help"
+            ;;
+        help) wanted="run serve" ;;
+    esac
+    # In --audit=FILE the sign is a word of its own.
+    if [[ $word == = ]]; then
+        word=
+    elif [[ $before == = ]]; then
+        before=${COMP_WORDS[COMP_CWORD - 2]}
+    fi
+    case $before in
+        --audit)
+            compopt -o default
+            return
+            ;;
+        --workers | --clerks) wanted="1 2 3 4 5 6 7 8" ;;
+        --ingress | --control | --uplink | --life | :) return ;;
+        *)
+            if [[ ${COMP_WORDS[1]} == run && $word != -* ]]; then
+                compopt -o default
+                return
+            fi
+            for option in "${COMP_WORDS[@]:2:COMP_CWORD - 2}"; do
+                wanted=" $wanted "
+                wanted=${wanted/ $option / }
+            done
+            ;;
+    esac
+    mapfile -t COMPREPLY < <(compgen -W "$wanted" -- "$word")
+}
+
+complete -F _stridelink stridelink

@@ -1,0 +1,188 @@
+#!/usr/bin/env python3
+"""Tries the manual pages: mandoc finds nothing to say, what the sources of the program have stands in the pages, and so
+do the lines, answers and texts that the program tells; and their examples are answered as they show. The page of the
+tools has their options."""
+import os
+import re
+import subprocess
+
+from trying import LIMIT, TOP, expect, expect_equal, expect_works, try_cases, write
+
+from serving import PROGRAM
+
+FOLDER = os.path.join(TOP, "docs", "man")
+COMMANDS = "stridelink.1"
+FORMATS = "stridelink.5"
+TOOL_PAGE = "stridelink-tools.1"
+
+
+def page(name):
+    """The text of a page, as it is shown."""
+    shown = subprocess.run(["mandoc", "-T", "ascii", name], cwd=FOLDER, stdout=subprocess.PIPE, timeout=LIMIT,
+                           check=True).stdout
+    return re.sub(".\b", "", shown.decode())
+
+
+def words_of(text):
+    return " ".join(text.split())
+
+
+def section(text, title):
+    """The part of a page under this title."""
+    return re.search(r"^%s$(.*?)(?=^[A-Z]|\Z)" % title, text, re.MULTILINE | re.DOTALL).group(1)
+
+
+def source(crate, *path):
+    with open(os.path.join(TOP, "crates", crate, "src", *path), encoding="utf-8") as file:
+        return file.read()
+
+
+def expect_all(wanted, least, text, what):
+    """Wants that all of these texts stand in a page, and that there are so many at least: else the sources were not
+    read well."""
+    wanted = list(wanted)
+    expect(len(wanted) >= least, "only %d found in the sources: %s" % (len(wanted), what))
+    text = words_of(text)
+    missing = [each for each in wanted if not re.search(r"(?<![\w-])%s(?![\w-])" % re.escape(each), text)]
+    expect(not missing, "%s not in the page: %s" % (what, missing))
+
+
+def lint(run):
+    """mandoc has nothing to say about the pages."""
+    done = subprocess.run(["mandoc", "-T", "lint", COMMANDS, FORMATS, TOOL_PAGE], cwd=FOLDER, stdout=subprocess.PIPE,
+                          stderr=subprocess.STDOUT, timeout=LIMIT, check=False)
+    expect_equal((done.returncode, done.stdout.decode()), (0, ""), "what mandoc says")
+
+
+def options(run):
+    """Each option of the sources stands in the synopsis and has a paragraph, with the name of its value; and so have
+    those of clap."""
+    words = source("stridelink", "words.rt")
+    flags = re.findall(r'\.long\("([a-z-]+)"\)\s*(?:\.value_name\("([A-Z]+)"\))?', words)
+    required = re.findall(r'required\w*\(\s*alloc,\s*"([a-z-]+)",\s*"([A-Z]+)"', words)
+    wanted = [("--%s %s" % option).strip() for option in flags + required]
+    expect_all(wanted, 11, section(page(COMMANDS), "SYNOPSIS"), "options in the synopsis")
+    expect_all(("-h", "--help", "-V", "--version", "[FILE]", "run", "serve"), 7, section(page(COMMANDS), "SYNOPSIS"),
+               "words in the synopsis")
+    paragraphs = re.findall(r"^     (?:-\w, )?(--.*)$", section(page(COMMANDS), "DESCRIPTION"), re.MULTILINE)
+    missing = {*wanted, "--help", "--version"} - set(paragraphs)
+    expect(not missing, "options without a paragraph: %s" % missing)
+
+
+def tool_options(run):
+    """Each option and argument that a tool's help tells stands in the tool's part of the synopsis, and each option has a
+    paragraph."""
+    text = page(TOOL_PAGE)
+    synopsis, paragraphs = section(text, "SYNOPSIS"), section(text, "DESCRIPTION")
+    for name in ("bill", "verify", "shares", "exporter"):
+        usage = re.search(r"usage: (.*?)\n\n", expect_works(name, "--help"), re.DOTALL).group(1)
+        own = " ".join(re.findall(r"^     stridelink-%s (.*)$" % name, synopsis, re.MULTILINE))
+        options = re.findall(r"--[a-z]+(?: [A-Z]+)?", usage)
+        expect_all(options + re.findall(r"(?<![-A-Z])[A-Z]{2,}", usage), 2, own, "words of " + name)
+        missing = [each for each in options if not re.search("^     %s( |$)" % each, paragraphs, re.MULTILINE)]
+        expect(not missing, "options of %s without a paragraph: %s" % (name, missing))
+
+
+def numbers(run):
+    """The limits of the options, as the sources have them."""
+    words = source("stridelink", "words.rt")
+    most = int(re.search(r"MOST_CONNECTIONS: u64 = (\d+);", words).group(1))
+    life = int(re.search(r"LIFE: u64 = (\d+);", words).group(1))
+    limits = "1 or 2" if most == 2 else "1 to %d" % most
+    expect_all(("K ingress connections, " + limits, "J control connections, " + limits, "1 to 16777216",
+                "without the option %d" % life), 4, page(COMMANDS), "limits")
+
+
+def faults(run):
+    """Each fault text of the sources stands among the diagnostics; what is named in it is ADDR or FILE."""
+    texts = [text for path in (("stridelink", "serve", "fault.rt"), ("stridelink", "serve", "start.rt"),
+                               ("share_script", "script.rt"))
+             for text in re.findall(r'#\[error\("(.*?)"\)\]', source(*path)) if text != "{0}"]
+    names = [text.replace("{0}", "FILE" if "audit" in text else "ADDR") for text in texts]
+    expect_all(sorted(set(names)), 14, section(page(COMMANDS), "DIAGNOSTICS"), "faults")
+
+
+def told(run):
+    """Each line of --verbose stands in the page, with capital letters for what is put in, and each word for an end."""
+    texts = set()
+    for name in ("serve.rt", "serve/threads.rt", "serve/books.rt", "serve/connections.rt"):
+        text = source("stridelink", *name.split("/"))
+        texts |= set(re.findall(r'format_args!\("(.*?)"\)', text)) | set(re.findall(r'tell\(rt, "(.*?)"\)', text))
+        texts |= set(re.findall(r'format_args!\(\s*"(.*?)"', text))
+    letters = {"address": "ADDR", "number": "N", "how:?": "HOW", "text": "WHY", "count": "C", "tally": "T",
+               "commands": "C", "arrivals": "A", "turns": "T"}
+    lines = set()
+    for text in texts:
+        for word in (("control", "ingress") if "{word}" in text else ("",)):
+            lines.add(re.sub(r"\{(.*?)\}", lambda put: letters[put.group(1)], text.replace("{word}", word)))
+    expect_all(sorted(lines), 9, page(COMMANDS), "what --verbose tells")
+    ends = re.findall(r'=> "([A-Z][A-Za-z]+)"', source("stridelink", "serve", "worker.rt"))
+    how = re.search(r"enum How \{(.*?)\}", source("stridelink", "serve", "control.rt"), re.DOTALL).group(1)
+    expect_all(ends + re.findall(r"^    ([A-Z]\w+),", how, re.MULTILINE), 12, page(COMMANDS), "how connections end")
+
+
+def statuses(run):
+    """Each status that help tells stands in the page."""
+    text = re.findall(r"Exit statuses:\n(.*?)\";", source("stridelink", "help.rt"), re.DOTALL)
+    wanted = {status for part in text for status in re.findall(r"^  (\d)  ", part, re.MULTILINE)}
+    shown = set(re.findall(r"^     (\d)  ", section(page(COMMANDS), "EXIT STATUS"), re.MULTILINE))
+    expect_equal((len(text), shown), (2, wanted), "statuses")
+
+
+def refusals(run):
+    """Each refusal stands in the page with its number, its name and its sentence, and there is no other."""
+    text = source("share_base", "refusal.rt")
+    sentences = dict(re.findall(r'#\[error\("(.*?)"\)\]\s*(\w+),', text))
+    names = {name: sentence for sentence, name in sentences.items()}
+    numbers_of = dict(re.findall(r"Refusal::(\w+) => (\d+),", text))
+    wanted = ["%s %s %s" % (numbers_of[name], name, sentence) for name, sentence in names.items()]
+    part = section(page(FORMATS), "REFUSALS")
+    expect_all(wanted, 20, part, "refusals")
+    shown = re.findall(r"^     (\d+) +\w+ ", part, re.MULTILINE)
+    expect_equal(sorted(shown, key=int), sorted(numbers_of.values(), key=int), "the numbers of refusals")
+
+
+def lines_and_answers(run):
+    """The first word of each line and each answer of the sources stands in the page; so do the totals of a report."""
+    reading, replies = source("share_script", "reading.rt"), source("share_script", "replies.rt")
+    keywords = sorted(set(re.findall(r'is_word\(keyword, b"(\w+)"\)', reading)))
+    lines = re.findall(r"^     (\w+)", section(page(FORMATS), "SCRIPT LINES"), re.MULTILINE)
+    expect(set(keywords) <= set(lines) and len(keywords) >= 13, "lines not in the page: %s of %s"
+           % (set(keywords) - set(lines), keywords))
+    answers = [text.strip() for text in re.findall(r'push_str\("([a-z ]+)"\)', replies)]
+    shown = re.findall(r"^     (\w+)", section(page(FORMATS), "ANSWERS"), re.MULTILINE)
+    missing = {word for word in answers if word} - set(shown)
+    expect(not missing and len(set(answers)) >= 9, "answers not in the page: %s" % missing)
+    keys = re.findall(r'push_total\(text, b"(\w+)"', source("share_report", "lines.rt"))
+    totals = re.findall(r"^     (\w+)", section(page(FORMATS), "THE REPORT"), re.MULTILINE)
+    expect(set(keys) <= set(totals) and len(keys) == 11, "totals not in the page: %s" % (set(keys) - set(totals)))
+
+
+def shown_example(text, begin, end):
+    """The lines of an example between two of its lines, without the space before them."""
+    pattern = r"^ +%s\n(.*?)^ +%s$" % (re.escape(begin), re.escape(end))
+    return re.search(pattern, text, re.MULTILINE | re.DOTALL).group(1)
+
+
+def examples(run):
+    """The examples are answered as the pages show."""
+    commands, formats = page(COMMANDS), page(FORMATS)
+    script = re.sub(r"^ +", "", shown_example(commands, "$ stridelink run << end", "end"), flags=re.MULTILINE)
+    answers = re.sub(r"^ +", "", re.search(r"^ +end\n(.*?)\n\n", commands, re.MULTILINE | re.DOTALL).group(1),
+                     flags=re.MULTILINE)
+    expect_equal(answered(run, script), answers + "\n", "the example of stridelink(1)")
+    example = section(formats, "EXAMPLES")
+    audit, report = re.search(r"(audit 1\n.*?)\n\n.*?report:\n\n(.*? end)\n", example, re.DOTALL).groups()
+    audit = re.sub(r"^ +", "", audit, flags=re.MULTILINE)
+    report = re.sub(r"^     ", "", report, flags=re.MULTILINE)
+    printed = answered(run, audit + "\nreport\n")
+    expect_equal(printed[printed.index("clock"):], report + "\nout 4c010000000100\n", "the report of stridelink(5)")
+
+
+def answered(run, script):
+    """What the program prints of a script."""
+    path = write(run.folder(), "script", script)
+    return subprocess.run([PROGRAM, "run", path], stdout=subprocess.PIPE, timeout=LIMIT, check=True).stdout.decode()
+
+
+try_cases(lint, options, tool_options, numbers, faults, told, statuses, refusals, lines_and_answers, examples)

@@ -1,0 +1,294 @@
+#!/usr/bin/env python3
+"""Tries the Debian package: that the same tree builds the same bytes, that lintian has no error, and, where dpkg has
+installed it in a root of its own, that the program, the pages, the tools, the completions, the dissector and the unit
+work from where they lie there. That takes the rights of root."""
+import atexit
+import filecmp
+import functools
+import glob
+import os
+import pty
+import re
+import select
+import shutil
+import subprocess
+import sys
+import tempfile
+import time
+
+from trying import LIMIT, TOOLS, TOP, audit, expect, expect_equal, expect_works, try_cases, write
+
+from serving import PATIENCE, PROGRAM, Failure, frame
+
+EXAMPLES = "/usr/share/doc/stridelink/examples"
+COMPLETION = "/usr/share/bash-completion/completions/stridelink"
+ONE_PACKET = ("open acme 16 1", "mktkt 300 base", "fund 1 flow acme", "send acme 68656c6c6f", "turn 17")
+UNIT = "/lib/systemd/system/stridelink@.service"
+SETTINGS = {"PATH": "/usr/sbin:/usr/bin:/sbin:/bin", "HOME": "/tmp", "TERM": "dumb", "LC_ALL": "C.UTF-8"}
+
+# Makes the mounts of a root in the folder $1, which end with the command that then runs in it. Its /usr, /etc and /var
+# are the machine's, and what is changed there goes to the folder.
+IN_ROOT = """
+set -eu
+cd "$1"
+for part in usr etc var; do
+    mount -t overlay overlay -o "lowerdir=/$part,upperdir=$part/changed,workdir=$part/work" "root/$part"
+done
+mount --rbind /dev root/dev
+mount --rbind /proc root/proc
+shift
+exec chroot root "$@"
+"""
+
+
+class Root:
+    """A root that has the packages of this machine and nothing else of it: no /work, /home, /root or /opt. Nothing that
+    is done there changes the machine, and no mount outlives its command."""
+
+    def __init__(self):
+        self.folder = tempfile.mkdtemp(prefix="stridelink-")
+        atexit.register(shutil.rmtree, self.folder, ignore_errors=True)
+        for part in ("usr", "etc", "var"):
+            for name in ("%s/changed" % part, "%s/work" % part, "root/%s" % part):
+                os.makedirs(os.path.join(self.folder, name))
+        for part in ("dev", "proc", "run", "tmp"):
+            os.mkdir(self.path(part))
+        for part in ("bin", "sbin", "lib", "lib64"):
+            os.symlink("usr/" + part, self.path(part))
+
+    def path(self, name):
+        """What a file of /tmp, or of another folder that is not the machine's, is called from outside."""
+        return os.path.join(self.folder, "root", name.lstrip("/"))
+
+    def command(self, *words):
+        return ["unshare", "--mount", "sh", "-c", IN_ROOT, "sh", self.folder, *words]
+
+    def tell(self, *words):
+        """Wants that a command ends well and tells nothing on standard error: what it printed."""
+        done = subprocess.run(self.command(*words), env=SETTINGS, stdin=subprocess.DEVNULL, stdout=subprocess.PIPE,
+                              stderr=subprocess.PIPE, timeout=LIMIT, check=False)
+        expect_equal((done.returncode, done.stderr.decode()), (0, ""), "status and fault of %s" % (words,))
+        return done.stdout.decode()
+
+
+def build(folder, program=PROGRAM):
+    """Builds the package: the status, and what is told of faults."""
+    done = subprocess.run([os.path.join(TOOLS, "package"), program, folder], stdout=subprocess.DEVNULL,
+                          stderr=subprocess.PIPE, timeout=LIMIT, check=False)
+    return done.returncode, done.stderr.decode()
+
+
+@functools.cache
+def built():
+    """The path of the package, which is built once."""
+    folder = tempfile.mkdtemp(prefix="stridelink-")
+    atexit.register(shutil.rmtree, folder, ignore_errors=True)
+    expect_equal(build(folder), (0, ""), "the end of package")
+    path, = glob.glob(os.path.join(folder, "*.deb"))
+    return path
+
+
+@functools.cache
+def installed():
+    """The root in which the package is installed, once, by dpkg, which sees that the machine has what it depends on."""
+    root = Root()
+    shutil.copy(built(), root.path("tmp/stridelink.deb"))
+    root.tell("dpkg", "--no-triggers", "--install", "/tmp/stridelink.deb")
+    return root
+
+
+def text(path):
+    with open(path, encoding="utf-8") as source:
+        return source.read()
+
+
+def field(name):
+    return subprocess.run(["dpkg-deb", "--field", built(), name], stdout=subprocess.PIPE, timeout=LIMIT,
+                          check=True).stdout.decode().strip()
+
+
+def builds(run):
+    """The name and the version of the package are those of the program, and the same tree gives the same bytes."""
+    version = subprocess.run([PROGRAM, "--version"], stdout=subprocess.PIPE, timeout=LIMIT, check=True).stdout.decode()
+    expect_equal("stridelink %s\n" % field("Version"), version, "the version")
+    name = "stridelink_%s_%s.deb" % (field("Version"), field("Architecture"))
+    expect_equal(os.path.basename(built()), name, "the name")
+    expect(re.search(r"\blibc6 \(>= ", field("Depends")), "it depends on %s" % field("Depends"))
+    folder = run.folder()
+    expect_equal(build(folder), (0, ""), "the end of package")
+    expect(filecmp.cmp(built(), os.path.join(folder, name), shallow=False), "a second build differs")
+
+
+def refused(run):
+    """A program of another version than the changelog's is not packed."""
+    folder = run.folder()
+    program = write(folder, "program", "#!/bin/sh\necho stridelink 9.9.9\n")
+    os.chmod(program, 0o755)
+    status, told = build(folder, program)
+    expect(status == 1 and told.startswith("package: the program is 'stridelink 9.9.9'"), "told: %s" % told)
+    expect_equal(os.listdir(folder), ["program"], "what is left")
+
+
+def linted(run):
+    """lintian finds no error and nothing to warn of."""
+    done = subprocess.run(["lintian", "--allow-root", "--fail-on", "error,warning", built()], stdout=subprocess.PIPE,
+                          stderr=subprocess.STDOUT, env={**os.environ, "TMPDIR": run.folder()}, timeout=LIMIT,
+                          check=False)
+    expect_equal((done.returncode, done.stdout.decode()), (0, ""), "what lintian says")
+
+
+def first_example(run):
+    """The program runs the first example and answers as stored; dpkg finds each file as it was packed."""
+    root = installed()
+    expect_equal(root.tell("dpkg", "--verify", "stridelink"), "", "what dpkg says")
+    expect_equal(root.tell("sh", "-c", "command -v stridelink"), "/usr/bin/stridelink\n", "the program on the PATH")
+    answers = root.tell("/usr/bin/stridelink", "run", EXAMPLES + "/one-packet.script")
+    expect_equal(answers, text(os.path.join(TOP, "examples", "one-packet.output")), "the answers")
+    expect_equal(root.tell("cat", EXAMPLES + "/one-packet.output"), answers, "the answers in the package")
+
+
+def pages(run):
+    """Each manual page is shown, and says what its source says; that of each tool is found by the tool's name."""
+    root = installed()
+    for source in glob.glob(os.path.join(TOP, "docs", "man", "*")):
+        name = os.path.basename(source)
+        wanted = subprocess.run(["mandoc", "-T", "utf8", source], stdout=subprocess.PIPE, timeout=LIMIT,
+                                check=True).stdout.decode()
+        shown = root.tell("mandoc", "-T", "utf8", "/usr/share/man/man%s/%s.gz" % (name[-1], name))
+        expect_equal(shown, wanted, name)
+        expect("STRIDELINK" in shown, "%s shows nothing" % name)
+    for tool in ("bill", "verify", "shares", "exporter"):
+        page = root.tell("mandoc", "-T", "utf8", "/usr/share/man/man1/stridelink-%s.1.gz" % tool)
+        expect("STRIDELINK-TOOLS(1)" in page, "the page of %s" % tool)
+
+
+def tools(run):
+    """The tools work from where they lie, with the program that is installed, as they do in the repository."""
+    root = installed()
+    ours = write(root.path("tmp"), "audit", audit(*ONE_PACKET))
+    for words in (("bill",), ("bill", "--csv"), ("bill", "--json"), ("shares", "--csv")):
+        found = root.tell("stridelink-" + words[0], *words[1:], "/tmp/audit")
+        expect_equal(found, expect_works(*words, ours), "what stridelink-%s prints" % words[0])
+        expect("acme" in found, "stridelink-%s prints no flow" % words[0])
+    write(root.path("tmp"), "frames", frame(1, 1, b"hello"))
+    expect_equal(root.tell("stridelink-verify", "/tmp/audit", "/tmp/frames"),
+                 "the same 17 bytes, with 1 whole frames\n", "what stridelink-verify says")
+    root.tell("stridelink-shares", "/tmp/audit", "/tmp/picture")
+    expect(text(root.path("tmp/picture.svg")).startswith("<?xml"), "no picture")
+    for tool in ("bill", "verify", "shares", "exporter"):
+        told = root.tell("stridelink-" + tool, "--help")
+        expect(told.startswith("usage: stridelink-%s " % tool), "help of %s" % tool)
+
+
+class Typing:
+    """A bash at a terminal in the root, with the completions of the system. The program is stood in for by a function
+    that prints its words in brackets."""
+    START = ("PS1= PS2=; set +m; . /usr/share/bash-completion/bash_completion; cd %s; "
+             "stridelink() { printf '[%%s]' \"$@\"; echo .; }; stridelink ready\n" % EXAMPLES)
+
+    def __init__(self, root, run):
+        self.terminal, theirs = pty.openpty()
+        self.process = subprocess.Popen(root.command("bash", "--norc", "--noprofile", "-i"), env=SETTINGS,
+                                        stdin=theirs, stdout=theirs, stderr=theirs, start_new_session=True)
+        os.close(theirs)
+        run.stack.callback(self.close)
+        expect_equal(self.words(self.START), ["ready"], "words of the start")
+
+    def words(self, typed):
+        """The words that the program is given where this is typed."""
+        os.write(self.terminal, typed.encode())
+        told, until = "", time.monotonic() + PATIENCE
+        while True:
+            shown = re.search(r"^(\[[^\r\n]*\])\.\r?$", told, re.MULTILINE)
+            if shown:
+                return re.findall(r"\[(.*?)\]", shown.group(1))
+            if not select.select([self.terminal], [], [], max(0, until - time.monotonic()))[0]:
+                raise Failure("%r typed, and only %r told" % (typed, told))
+            told += os.read(self.terminal, 4096).decode()
+
+    def close(self):
+        self.process.kill()
+        self.process.wait()
+        os.close(self.terminal)
+
+
+# What is typed, a tab for each completion, and the words that come of it. A word that is not completed stays.
+COMPLETED = (
+    ("se\t", ["serve"]),
+    ("ru\t", ["run"]),
+    ("--v\t", ["--version"]),
+    ("help se\t", ["help", "serve"]),
+    ("serve --wo\t", ["serve", "--workers"]),
+    ("se\t--up\t127.0.0.1:7003 --un\t", ["serve", "--uplink", "127.0.0.1:7003", "--until-eof"]),
+    ("serve --workers 2 --wo\t", ["serve", "--workers", "2", "--wo"]),
+    ("serve --audit one-packet.s\t", ["serve", "--audit", "one-packet.script"]),
+    ("serve --audit=one-packet.s\t", ["serve", "--audit=one-packet.script"]),
+    ("serve --life one-packet.s\t", ["serve", "--life", "one-packet.s"]),
+    ("serve --ingress one-packet.s\t", ["serve", "--ingress", "one-packet.s"]),
+    ("run --st\tone-packet.s\t", ["run", "--strict", "one-packet.script"]),
+    ("run --strict --st\t", ["run", "--strict", "--st"]),
+)
+
+
+def completes(run):
+    """A bash completes the commands, their options that are not there yet, and files where one is wanted."""
+    typing = Typing(installed(), run)
+    for typed, wanted in COMPLETED:
+        expect_equal(typing.words("stridelink %s\n" % typed), wanted, "words of %r" % typed)
+
+
+def completes_all(run):
+    """The options that are completed are those that help tells."""
+    for command in ("run", "serve"):
+        told = installed().tell("stridelink", command, "-h")
+        options = sorted(set(re.findall(r"^ .*?(--[a-z-]+)", told, re.MULTILINE)))
+        completed = installed().tell("bash", "-c", ". %s; COMP_WORDS=(stridelink %s --) COMP_CWORD=2; _stridelink; "
+                                                   "echo ${COMPREPLY[@]}" % (COMPLETION, command))
+        expect_equal(sorted(completed.split()), options, "options of " + command)
+        expect(len(options) >= 3, "options in the help of %s: %s" % (command, options))
+
+
+def dissects(run):
+    """tshark loads the dissector from the folder in which it is installed."""
+    told = installed().tell("sh", "-c", "tshark -G protocols 2> /dev/null")
+    expect("\tstridelink\n" in told, "tshark does not know the protocol")
+
+
+def unit(run):
+    """systemd-analyze has nothing to say about the unit, with its page and its commands, and finds it confined."""
+    root, source = installed(), os.path.join(TOOLS, "systemd")
+    expect_equal(root.tell("cat", UNIT), text(os.path.join(source, "stridelink@.service")), "the unit")
+    expect_equal(root.tell("systemd-analyze", "verify", UNIT), "", "what systemd-analyze verify says")
+    root.tell("systemd-analyze", "security", "--offline=true", "--threshold=30", UNIT)
+    expect_equal(root.tell("cat", EXAMPLES + "/example.conf"), text(os.path.join(source, "example.conf")),
+                 "the example of its configuration")
+
+
+def removed(run):
+    """An upgrade stops no instance, and a removal stops all: a stand-in for systemctl keeps what it is asked for. dpkg
+    removes each file of the package, and a configuration that an operator made stays."""
+    root = Root()
+    shutil.copy(built(), root.path("tmp/stridelink.deb"))
+    write(root.path("tmp"), "systemctl", '#!/bin/sh\necho "$@" >> /tmp/asked\n')
+    os.makedirs(root.path("run/systemd/system"))
+    root.tell("sh", "-c", "install /tmp/systemctl /usr/bin; rm -f /usr/sbin/policy-rc.d")
+    for _ in range(2):
+        root.tell("dpkg", "--no-triggers", "--install", "/tmp/stridelink.deb")
+    expect(not os.path.exists(root.path("tmp/asked")), "an upgrade asks systemctl for something")
+    files = [path for path in root.tell("dpkg", "--listfiles", "stridelink").split()
+             if "stridelink" in path and path != "/etc/stridelink"]
+    expect(len(files) > 60, "only %d files" % len(files))
+    root.tell("cp", EXAMPLES + "/example.conf", "/etc/stridelink/north.conf")
+    root.tell("sh", "-c", "dpkg --no-triggers --purge stridelink 2> /dev/null")
+    expect_equal(text(root.path("tmp/asked")), "stop stridelink@*.service\n", "what systemctl is asked")
+    left = root.tell("sh", "-c", 'for path; do [ ! -e "$path" ] || echo "$path"; done', "sh", *files)
+    expect_equal(left, "", "files that are left")
+    root.tell("test", "-f", "/etc/stridelink/north.conf")
+
+
+CASES = [builds, refused, linted]
+if os.geteuid() == 0:
+    CASES += [first_example, pages, tools, completes, completes_all, dissects, unit, removed]
+else:
+    print("package.py: only root can install the package, and what is installed is not tried", file=sys.stderr)
+try_cases(*CASES)

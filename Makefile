@@ -1,10 +1,30 @@
 # stridelink: 'make try' runs an example unproved, 'make run' proves and builds the program and runs it, 'make serve'
-# plays a session over sockets with it, and 'make test' passes the gate. The toolchain's command rt has to be on the
-# PATH.
+# plays a session over sockets with it, 'make check' proves what changed and runs tests and examples, and 'make test'
+# passes the gate. The toolchain's command rt has to be on the PATH. 'make tools' installs what the tools around a server
+# use, and 'make tools-test' tries these with the program, or with that of the variable STRIDELINK. 'make deb' builds a
+# Debian package of all this in bin/.
 
 SOURCES := crates.txt $(shell find crates -name '*.rt' -o -name '*.antt' | grep -v /out/)
 
-.PHONY: run serve try build test edits bench
+.PHONY: run serve try build check test edits bench tools tools-test deb
+
+TOOL_PACKAGES := mandoc man-db tshark gnuplot-nox python3 python3-prometheus-client postgresql systemd bash-completion \
+    binutils dpkg-dev lintian
+
+# The proved program goes to bin/, and the scripts of examples/ play it.
+define examples
+mkdir -p bin
+cp crates/stridelink/out/stridelink bin/stridelink
+examples/compare.sh
+examples/faults.sh
+examples/answers.sh
+examples/face.sh
+examples/slow-reader.py
+examples/terminal.py
+examples/session.py
+examples/serve.py
+examples/hostile.py
+endef
 
 run: bin/stridelink
 	bin/stridelink run < examples/one-packet.script
@@ -15,6 +35,11 @@ serve: bin/stridelink
 try:
 	@echo 'running the example, with nothing proved: half a minute to a minute' >&2
 	cd crates/stridelink && rt try -- run < ../../examples/one-packet.script
+
+check:
+	@echo 'proving what changed since the last check, then tests and examples: an hour where nothing is kept' >&2
+	RT_SECONDS=120 rt all test
+	$(examples)
 
 build: bin/stridelink
 
@@ -30,16 +55,7 @@ test:
 	RT_JOBS=$$(.ci/jobs) rt ci
 	.ci/memory
 	.ci/places
-	mkdir -p bin
-	cp crates/stridelink/out/stridelink bin/stridelink
-	examples/compare.sh
-	examples/faults.sh
-	examples/answers.sh
-	examples/face.sh
-	examples/slow-reader.py
-	examples/terminal.py
-	examples/session.py
-	examples/serve.py
+	$(examples)
 
 edits:
 	.ci/edits
@@ -49,3 +65,24 @@ bench: bin/stridelink
 	python3 bench/ingress.py
 	python3 bench/locked.py
 	python3 bench/serve.py
+
+tools:
+	DEBIAN_FRONTEND=noninteractive apt-get install -y --no-install-recommends $(TOOL_PACKAGES)
+
+ifndef STRIDELINK
+deb tools-test: bin/stridelink
+endif
+deb:
+	mkdir -p bin
+	tools/package $(or $(STRIDELINK),bin/stridelink) bin
+
+tools-test:
+	tools/tests/bill.py
+	tools/tests/verify.py
+	tools/tests/dissector.py
+	tools/tests/manual.py
+	tools/tests/exporter.py
+	tools/tests/shares.py
+	tools/tests/unit.py
+	tools/tests/links.py
+	tools/tests/package.py

@@ -80,12 +80,19 @@ grep -q '^Usage: stridelink <COMMAND>$' "$said" || {
     failed=1
 }
 
-expect 1 'stridelink: cannot read the script' 'stridelink run < .'
-expect 1 'stridelink: cannot read the script' 'stridelink run <&-'
-expect 1 '' 'stridelink run < . 2>&-'
-expect 1 '' 'stridelink run < . 2> /dev/full'
-expect 1 'stridelink: cannot write the output' "stridelink run < $script > /dev/full"
-expect 1 'stridelink: cannot write the output' "stridelink run < $script >&-"
-expect 1 '' "stridelink run < $script > /dev/full 2>&1"
+for words in run 'run --strict'; do
+    for input in '< .' '<&-' /proc/self/mem; do
+        expect 1 'stridelink: cannot read the script' "stridelink $words $input"
+    done
+    expect 1 '' "stridelink $words < . 2>&-"
+    expect 1 '' "stridelink $words < . 2> /dev/full"
+    for input in "< $script" $script '<<< walk'; do
+        expect 1 'stridelink: cannot write the output' "stridelink $words $input > /dev/full"
+        expect 1 'stridelink: cannot write the output' "stridelink $words $input >&-"
+        expect 1 '' "stridelink $words $input > /dev/full 2>&1"
+        expect 1 '' "stridelink $words $input >&- 2>&-"
+    done
+    expect 0 '' "[[ \$(stridelink $words $script <&-) == \"\$(< ${script%.script}.output)\" ]]"
+done
 expect 1 'stridelink: out of memory' 'pairs | (ulimit -v 32768; stridelink run > /dev/null)'
 exit "$failed"

@@ -9,29 +9,27 @@ it once and in order, and the report is the audit's. Each case has a limit of ti
 import fcntl
 import os
 import resource
-import signal
 import socket
 import struct
 import sys
 import termios
 import time
-import traceback
 
 sys.dont_write_bytecode = True
 
-from serving import (ENDED, END, LOOPBACK, PATIENCE, Failure, Run, check, ends_by_itself, expect, expect_equal,
-                     frame, limit_time, payloads, record, reset, total, wait_for)
+from serving import (ENDED, END, LOOPBACK, ONE_PACKET, PATIENCE, QUIET_SECONDS, QUIET_SHARE, Failure, check,
+                     ends_by_itself, expect, expect_equal, frame, is_blocked, listeners, lower, lowest_free,
+                     one_packet, packets, packets_until_torn, record, records, reset, total, try_cases, wait_for)
 
 # Seconds for a case, and for all of them.
 LIMIT = 60
 LIMIT_OF_ALL = 240
 
-# A server that waits may use this share of a core, measured over so many seconds.
-QUIET_SECONDS = 1.5
-QUIET_SHARE = 0.02
-
 # The most workers, and the most clerks.
-MOST_ENDS = 2
+MOST_ENDS = 8
+
+# A server may use this share of a core while all of its workers wait for places of the queue.
+WAITING_SHARE = 0.005 * MOST_ENDS
 SERVED = """\
 clock                           13
 accepted                         1
@@ -47,15 +45,6 @@ link                             0
 flow        1 a                      0    0                13 out              1099511627776
 end
 """
-
-
-def packets(name, connection, count, size):
-    """Packets of a connection: (name, payload)."""
-    return [(name, payload) for payload in payloads(connection, count, size)]
-
-
-def records(some):
-    return b"".join(record(name, payload) for name, payload in some)
 
 
 def served(run):
@@ -87,23 +76,6 @@ def quiet(run):
     server.ends()
     check(server, peer, [])
     expect_equal(server.text("stderr"), "", "what is told")
-
-
-def listeners(process):
-    """The ports on which a process listens at 127.0.0.2 (ingress) and 127.0.0.3 (control), if both are there."""
-    sockets = set()
-    for descriptor in os.listdir("/proc/%d/fd" % process):
-        link = os.readlink("/proc/%d/fd/%s" % (process, descriptor))
-        sockets.add(link.removeprefix("socket:[").removesuffix("]"))
-    found = {}
-    with open("/proc/net/tcp") as source:
-        for line in source.readlines()[1:]:
-            words = line.split()
-            address, port = words[1].split(":")
-            name = {"0200007F": "ingress", "0300007F": "control"}.get(address)
-            if name and words[3] == "0A" and words[9] in sockets:
-                found[name] = int(port, 16)
-    return found if len(found) == 2 else None
 
 
 def control_lines(run):
@@ -166,17 +138,20 @@ def accepted_in_order(run):
 
 
 def full_queue(run):
-    """Two workers and two clerks, and 20,000 packets while the peer reads nothing for a while."""
+    """As many workers and clerks as there may be, and 40,000 packets while the peer reads nothing for a while. What
+    waits in the sockets of a connection is less than what its client sends."""
+    flows, currencies = "abcdefgh", "stuvwxyz"
     peer = run.peer(lambda peer: peer.go_on.wait(), narrow=True)
-    server = run.server(peer, workers=2, clerks=2)
-    controls = [server.control(), server.control()]
-    controls[0].fund()
-    controls[1].ask_wanted(["open b 1024 2", "mktkt 3 base", "fund 2 flow b"], ["flow 2", "ticket 2", "ok"])
-    sent = [packets("ab"[number], number, 10000, 700) for number in (0, 1)]
-    connections = [server.ingress(), server.ingress()]
+    server = run.server(peer, workers=MOST_ENDS, clerks=MOST_ENDS, life=1 << 17)
+    controls = [server.control() for _ in range(MOST_ENDS)]
+    for number, (control, flow) in enumerate(zip(controls, flows), 1):
+        control.ask_wanted(["open %s 1024 2" % flow, "mktkt %d base" % number, "fund %d flow %s" % (number, flow)],
+                           ["flow %d" % number, "ticket %d" % number, "ok"])
+    sent = [packets(flow, number, 5000, 1490) for number, flow in enumerate(flows)]
+    connections = [server.ingress() for _ in range(MOST_ENDS)]
     senders = [run.thread(send_all, connection, some) for connection, some in zip(connections, sent)]
-    wait_for(lambda: is_blocked(server, senders), "clients that wait for a full queue")
-    commanders = [run.thread(command_much, control, "xy"[number]) for number, control in enumerate(controls)]
+    wait_for(lambda: is_blocked(server, senders, WAITING_SHARE), "clients that wait for a full queue")
+    commanders = [run.thread(command_much, control, name) for control, name in zip(controls, currencies)]
     used = server.processor_seconds()
     time.sleep(QUIET_SECONDS)
     share = (server.processor_seconds() - used) / QUIET_SECONDS
@@ -185,24 +160,17 @@ def full_queue(run):
         task.finish(LIMIT)
     server.ends(seconds=LIMIT)
     replay = check(server, peer, [("whole", some) for some in sent])
-    for name in "xy":
+    for name in currencies:
         wanted = [word % (name, number) for number in range(200) for word in ("mkcur %s%d", "rmcur %s%d")]
         commands = [line for line, reply in replay.answered() if line.split()[1][0] == name and reply == "ok"]
         expect_equal(commands, wanted, "the commands of a clerk")
-    expect(share < QUIET_SHARE, "a server whose queue is full takes %.1f %% of a core" % (100 * share))
+    expect(share < WAITING_SHARE, "a server whose queue is full takes %.1f %% of a core" % (100 * share))
 
 
 def send_all(connection, some):
     connection.settimeout(LIMIT)
     connection.sendall(records(some))
     connection.close()
-
-
-def is_blocked(server, senders):
-    """Whether the server has hardly used any time for a while, with all clients at work."""
-    used = server.processor_seconds()
-    time.sleep(0.3)
-    return all(sender.is_alive() for sender in senders) and server.processor_seconds() - used < 0.3 * QUIET_SHARE
 
 
 def command_much(control, name):
@@ -387,31 +355,6 @@ def clients_stall(run):
         connection.close()
     server.ends()
     check(server, peer, [("whole", late), ("whole", some)])
-
-
-def packets_until_torn(run, peer):
-    """Sends packets one by one until the uplink is torn; what follows is admitted still, and a flow can be closed."""
-    server = run.server(peer)
-    control = server.control()
-    control.fund()
-    some = packets("a", 0, 2000, 1000)
-    connection = server.ingress()
-
-    def is_torn(count):
-        connection.sendall(record(*some[count]))
-        return control.ask("report")[0].split("\n")[10].split() == ["link", "2"]
-
-    sent = next((count for count in range(len(some) - 1) if is_torn(count)), None)
-    expect(sent is not None, "the uplink is not torn")
-    connection.sendall(record(*some[sent + 1]))
-    connection.close()
-    control.ask_wanted(["mkcur x"], ["ok"])
-    wait_for(lambda: total("accepted", sent + 2) in control.ask("report")[0], "arrivals on a torn link")
-    control.close()
-    server.ends(1, "the uplink failed")
-    replay = check(server, peer, [("whole", some[:sent + 2])], torn=True)
-    expect_equal(sum(reply.startswith("torn 1 ") for reply in replay.replies), 1, "faults in the audit")
-    expect_equal(replay.lines.count("torn"), 1, "faults in the audit")
 
 
 def peer_closes_at_once(run):
@@ -742,28 +685,6 @@ def fault_thread(run):
     check(server, peer, [("whole", [("a", b"1st")])])
 
 
-def lower(server, what, limit):
-    """Takes a resource away from a server that runs."""
-    most = resource.prlimit(server.process.pid, what)[1]
-    resource.prlimit(server.process.pid, what, (limit, most))
-
-
-def lowest_free(server):
-    taken = {int(name) for name in os.listdir("/proc/%d/fd" % server.process.pid)}
-    return next(number for number in range(1 << 20) if number not in taken)
-
-
-ONE_PACKET = "audit 1\nopen a 1024 1\nmktkt 1 base\nfund 1 flow a\nsend a 317374\nturn 15\n"
-
-
-def one_packet(server):
-    """The clients of a run whose audit is this."""
-    control = server.control()
-    control.fund()
-    server.ingress(record("a", b"1st")).close()
-    control.close()
-
-
 def fault_files(run):
     """An audit that cannot be opened is told before anything listens, one that cannot be written at the end."""
     peer = run.peer()
@@ -830,34 +751,5 @@ CASES = (served, quiet, control_lines, accepted_in_order, idle, full_queue, shar
          fault_words, fault_addresses, fault_memory, fault_accept, fault_thread, fault_files, audit_files)
 
 
-def holds(case, end):
-    """Tries a case, which has LIMIT seconds and what is left until the end of all; whether it holds. Tells why not."""
-    start = time.monotonic()
-    signal.alarm(max(1, min(LIMIT, int(end - start))))
-    try:
-        with Run() as run:
-            case(run)
-    except Exception as fault:
-        trace = traceback.extract_tb(fault.__traceback__)
-        lines = ", ".join(str(place.lineno) for place in trace if place.filename == __file__)
-        kind = "" if isinstance(fault, Failure) else type(fault).__name__ + ": "
-        print("%s: %s%s (lines %s)" % (case.__name__, kind, fault, lines), file=sys.stderr)
-        return False
-    finally:
-        signal.alarm(0)
-        if os.environ.get("TIMES"):
-            print("%-30s %6.2f s" % (case.__name__, time.monotonic() - start), flush=True)
-    return True
-
-
-def main():
-    names = {case.__name__: case for case in CASES}
-    if not set(sys.argv[1:]) <= set(names):
-        sys.exit("the cases are " + " ".join(names))
-    limit_time()
-    end = time.monotonic() + LIMIT_OF_ALL
-    failed = [case for case in CASES if case.__name__ in (sys.argv[1:] or names) and not holds(case, end)]
-    return 1 if failed else 0
-
-
-sys.exit(main())
+if __name__ == "__main__":
+    try_cases(CASES, LIMIT, LIMIT_OF_ALL)

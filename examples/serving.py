@@ -1,15 +1,18 @@
-"""What the cases of serve.py use: the server that is tried, the clients and the peer of its uplink, and the checks that
-hold for each run."""
+"""What the cases of serve.py and hostile.py use: the server that is tried, the clients and the peer of its uplink, the
+checks that hold for each run, and what tries the cases."""
 import contextlib
 import os
 import re
+import resource
 import signal
 import socket
 import struct
 import subprocess
+import sys
 import tempfile
 import threading
 import time
+import traceback
 from collections import defaultdict
 
 TOP = os.path.dirname(os.path.dirname(os.path.abspath(__file__)))
@@ -19,11 +22,16 @@ PROGRAM = os.path.abspath(os.environ.get("STRIDELINK", os.path.join(TOP, "bin", 
 PATIENCE = 20
 END = 40
 
+# A server that waits may use this share of a core, measured over so many seconds.
+QUIET_SECONDS = 1.5
+QUIET_SHARE = 0.02
+
 # The lines of --verbose that are wanted: these two once the server listens, and one for each connection that ended.
 LISTENING = re.compile(r"^listening for (ingress|control) on 127\.0\.0\.1:(\d+)$", re.MULTILINE)
 ENDED = "%s %d: ended"
 
 FUNDED = ("open a %d 1", "mktkt 1 base", "fund 1 flow a")
+ONE_PACKET = "audit 1\nopen a 1024 1\nmktkt 1 base\nfund 1 flow a\nsend a 317374\nturn 15\n"
 LOOPBACK = "127.0.0.1"
 
 
@@ -70,6 +78,15 @@ def payloads(connection, count, size):
     """So many payloads of so many bytes, 5 or more, that no other connection has."""
     filling = bytes(i * 7 % 256 for i in range(size - 5))
     return [struct.pack(">BI", connection, number) + filling for number in range(count)]
+
+
+def packets(name, connection, count, size):
+    """Packets of a connection: (name, payload)."""
+    return [(name, payload) for payload in payloads(connection, count, size)]
+
+
+def records(some):
+    return b"".join(record(name, payload) for name, payload in some)
 
 
 def frame(flow, seq, payload):
@@ -221,6 +238,7 @@ class Server:
         self.folder = folder
         self.life = life
         self.audit_path = audit or os.path.join(folder, "audit")
+        self.hosts = {"ingress": str(ingress).split(":")[0], "control": str(control).split(":")[0]}
         self.ports = {}
         words = {"ingress": ingress, "control": control, "uplink": uplink, "workers": workers, "life": life,
                  "audit": self.audit_path if audit != "" else None, "clerks": clerks}
@@ -250,10 +268,10 @@ class Server:
         return self
 
     def control(self):
-        return Control((LOOPBACK, int(self.ports["control"])))
+        return Control((self.hosts["control"], int(self.ports["control"])))
 
     def ingress(self, data=b""):
-        connection = connected((LOOPBACK, int(self.ports["ingress"])))
+        connection = connected((self.hosts["ingress"], int(self.ports["ingress"])))
         connection.sendall(data)
         return connection
 
@@ -296,6 +314,50 @@ class Server:
         if self.process.stdin:
             with contextlib.suppress(OSError):
                 self.process.stdin.close()
+
+
+def listeners(process):
+    """The ports on which a process listens at 127.0.0.2 (ingress) and 127.0.0.3 (control), if both are there."""
+    sockets = set()
+    for descriptor in os.listdir("/proc/%d/fd" % process):
+        with contextlib.suppress(FileNotFoundError):
+            link = os.readlink("/proc/%d/fd/%s" % (process, descriptor))
+            sockets.add(link.removeprefix("socket:[").removesuffix("]"))
+    found = {}
+    with open("/proc/net/tcp") as source:
+        for line in source.readlines()[1:]:
+            words = line.split()
+            address, port = words[1].split(":")
+            name = {"0200007F": "ingress", "0300007F": "control"}.get(address)
+            if name and words[3] == "0A" and words[9] in sockets:
+                found[name] = int(port, 16)
+    return found if len(found) == 2 else None
+
+
+def is_blocked(server, senders, most=QUIET_SHARE):
+    """Whether the server has used at most this share of a core for a while, with all clients at work."""
+    used = server.processor_seconds()
+    time.sleep(0.3)
+    return all(sender.is_alive() for sender in senders) and server.processor_seconds() - used < 0.3 * most
+
+
+def lower(server, what, limit):
+    """Takes a resource away from a server that runs."""
+    most = resource.prlimit(server.process.pid, what)[1]
+    resource.prlimit(server.process.pid, what, (limit, most))
+
+
+def lowest_free(server):
+    taken = {int(name) for name in os.listdir("/proc/%d/fd" % server.process.pid)}
+    return next(number for number in range(1 << 20) if number not in taken)
+
+
+def one_packet(server):
+    """The clients of a run whose audit is this."""
+    control = server.control()
+    control.fund()
+    server.ingress(record("a", b"1st")).close()
+    control.close()
 
 
 class Replay:
@@ -393,6 +455,31 @@ def check(server, peer, sent=None, torn=False):
     return replay
 
 
+def packets_until_torn(run, peer):
+    """Sends packets one by one until the uplink is torn; what follows is admitted still, and a flow can be closed."""
+    server = run.server(peer)
+    control = server.control()
+    control.fund()
+    some = packets("a", 0, 2000, 1000)
+    connection = server.ingress()
+
+    def is_torn(count):
+        connection.sendall(record(*some[count]))
+        return control.ask("report")[0].split("\n")[10].split() == ["link", "2"]
+
+    sent = next((count for count in range(len(some) - 1) if is_torn(count)), None)
+    expect(sent is not None, "the uplink is not torn")
+    connection.sendall(record(*some[sent + 1]))
+    connection.close()
+    control.ask_wanted(["mkcur x"], ["ok"])
+    wait_for(lambda: total("accepted", sent + 2) in control.ask("report")[0], "arrivals on a torn link")
+    control.close()
+    server.ends(1, "the uplink failed")
+    replay = check(server, peer, [("whole", some[:sent + 2])], torn=True)
+    expect_equal(sum(reply.startswith("torn 1 ") for reply in replay.replies), 1, "faults in the audit")
+    expect_equal(replay.lines.count("torn"), 1, "faults in the audit")
+
+
 class Run:
     """What a case may use. All of it ends with the case."""
 
@@ -423,11 +510,26 @@ class Run:
         """Starts a server that listens."""
         return self.start(peer.address, **words).listens()
 
+    def process(self, words, **how):
+        """Starts the program with these words, and pipes for standard output and error."""
+        process = subprocess.Popen([PROGRAM, *words], stdout=subprocess.PIPE, stderr=subprocess.PIPE, **how)
+        self.stack.callback(discard, process)
+        return process
+
     def thread(self, work, *words):
         """Works beside. `join` of what is answered waits for the end, and raises what went wrong."""
         task = Task(work, words)
         task.start()
         return task
+
+
+def discard(process):
+    """Ends a program, and closes its pipes."""
+    process.kill()
+    process.wait()
+    for pipe in filter(None, (process.stdin, process.stdout, process.stderr)):
+        with contextlib.suppress(OSError):
+            pipe.close()
 
 
 class Task(threading.Thread):
@@ -463,3 +565,36 @@ def limit_time():
     signal.signal(signal.SIGALRM, alarmed)
     for number in (signal.SIGTERM, signal.SIGHUP, signal.SIGINT):
         signal.signal(number, ended)
+
+
+def holds(case, limit, end):
+    """Tries a case, which has a limit of seconds and what is left until the end of all; whether it holds. Tells why
+    not."""
+    start = time.monotonic()
+    signal.alarm(max(1, min(limit, int(end - start))))
+    try:
+        with Run() as run:
+            case(run)
+    except Exception as fault:
+        trace = traceback.extract_tb(fault.__traceback__)
+        lines = ", ".join(str(place.lineno) for place in trace if place.filename == case.__code__.co_filename)
+        kind = "" if isinstance(fault, Failure) else type(fault).__name__ + ": "
+        print("%s: %s%s (lines %s)" % (case.__name__, kind, fault, lines), file=sys.stderr)
+        return False
+    finally:
+        signal.alarm(0)
+        if os.environ.get("TIMES"):
+            print("%-30s %6.2f s" % (case.__name__, time.monotonic() - start), flush=True)
+    return True
+
+
+def try_cases(cases, limit, limit_of_all):
+    """Tries those cases that the words name, or all, within a limit of seconds for each and one for all of them, and
+    ends the program with the status."""
+    names = {case.__name__: case for case in cases}
+    if not set(sys.argv[1:]) <= set(names):
+        sys.exit("the cases are " + " ".join(names))
+    limit_time()
+    end = time.monotonic() + limit_of_all
+    failed = [case for case in cases if case.__name__ in (sys.argv[1:] or names) and not holds(case, limit, end)]
+    sys.exit(1 if failed else 0)

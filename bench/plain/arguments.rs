@@ -3,7 +3,7 @@
 const MAX_LIFE: u64 = 1 << 24;
 
 /// How many workers and how many clerks there may be.
-const MAX_ENDS: u64 = 2;
+const MAX_ENDS: u64 = 8;
 
 pub struct Arguments {
     pub ingress: String,

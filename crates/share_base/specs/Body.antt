@@ -8,6 +8,6 @@ use Rattle.share_base.specs.Refusal.{first_refusal}
 abbrev pub is_payload_length : ℕ → Bool
 is_payload_length n = nat_le 1 n && nat_le n 1490
 
--- what is answered where bytes are to be a payload, memory aside
+-- why these bytes are no payload, memory aside
 abbrev pub payload_refusal : List ℕ → Option Refusal
 payload_refusal bytes = first_refusal ((not (is_payload_length (length bytes)), Range) ∷ [])

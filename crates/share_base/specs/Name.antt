@@ -14,5 +14,5 @@ abbrev pub is_name : List ℕ → Bool
 is_name bs = is_letter (slice_index bs 0) && nat_le (length bs) 16 && list_all is_name_byte bs
 
 -- the 16 bytes that hold a name: its own, and then zeros
-abbrev pub padded : List ℕ → List ℕ
-padded bs = bs ++ replicate (16 - length bs) 0
+abbrev pub sixteen_bytes_of : List ℕ → List ℕ
+sixteen_bytes_of bs = bs ++ replicate (16 - length bs) 0

@@ -55,6 +55,6 @@ abbrev pub first_refusal : List (Bool × Refusal) → Option Refusal
 first_refusal [] = None
 first_refusal (row ∷ rows) = if row.0 then Some row.1 else first_refusal rows
 
--- e is what the table answers; or the table answers nothing, and memory was refused
+-- e is the table's refusal; or the table gives none, and memory was refused
 abbrev pub IsRefused : Option Refusal → Refusal → Type 0
 IsRefused stands e = (stands ≡ Some e) ⊎ ((stands ≡ None) × (e ≡ NoMemory))

@@ -17,11 +17,11 @@ pub enum Command {
     MakeTicket { amount: u64, currency: Name },
     /// Removes a ticket without a holder.
     RemoveTicket(u64),
-    /// Lets a ticket without a holder fund a currency.
+    /// Makes a ticket without a holder fund a currency.
     FundCurrency { ticket: u64, currency: Name },
-    /// Lets a ticket without a holder fund an open flow.
+    /// Makes a ticket without a holder fund an open flow.
     FundFlow { ticket: u64, flow: Name },
-    /// Takes a ticket's holder away.
+    /// Takes a ticket from its holder.
     Unfund(u64),
     /// Opens a flow with a buffer of `limit` packets, 1 to 1024, under a tariff of the shelf.
     OpenFlow { name: Name, limit: u64, tariff: u64 },
@@ -44,7 +44,7 @@ pub enum Reply {
         dropped: u32,
         account: u64,
     },
-    /// The packet that was accepted: its flow and its sequence number.
+    /// The flow and the sequence number of the packet that was accepted.
     Packet {
         flow: FlowNo,
         seq: u32,
@@ -65,14 +65,14 @@ impl Reply {
 /// The answer to a turn of the link.
 #[derive(Clone, Copy, Debug, PartialEq, Eq)]
 pub enum Turn {
-    /// The writer accepted `k` bytes of the frame of this packet, which is `whole` now or in part.
+    /// The writer accepted `k` bytes of the frame of this packet. The frame is now `whole`, or still in part.
     Wrote {
         flow: FlowNo,
         seq: u32,
         k: u32,
         whole: bool,
     },
-    /// The writer failed after `j` bytes of the frame of this packet, and the link is broken.
+    /// The writer failed when `j` bytes of the frame of this packet were out. The link is broken.
     Torn {
         flow: FlowNo,
         seq: u32,
@@ -82,9 +82,9 @@ pub enum Turn {
     Idle,
     /// The write was interrupted, and nothing changed.
     Again,
-    /// The link was broken before.
+    /// The link was broken already.
     Broken,
-    /// The life was spent before.
+    /// The life of the link was spent already.
     Spent,
 }
 

@@ -7,7 +7,7 @@ ghost use Rattle.std.specs.Cmp.Lexicographic.{pointwise, slice_cmp};
 ghost use Rattle.std.specs.Cmp.Lexicographic.{nat_list_eq_equiv, nat_list_cmp_total, texts_ties, texts_po, same_text};
 ghost use Rattle.std.specs.Cmp.{partial_equiv_from_equiv};
 ghost use Rattle.std.proofs.Common.{ap, sym};
-ghost use Rattle.share_base.specs.Name.{is_letter, is_name_byte, is_name, padded};
+ghost use Rattle.share_base.specs.Name.{is_letter, is_name_byte, is_name, sixteen_bytes_of};
 
 use std::cmp::Ordering;
 use std::hash::{Hash, Hasher};
@@ -20,13 +20,13 @@ pub const MAX_NAME: usize = 16;
 /// digits, `_` or `-`. A contract sees it as its bytes.
 #[derive(Clone, Copy, Debug)]
 pub struct Name {
-    bytes: [u8; 16],
+    bytes: [u8; MAX_NAME],
     len: usize,
 }
 
 impl Model for Name {
     ghost use Rattle.std.specs.Prelude.{◌≡◌, ℕ, List, length, take, true};
-    ghost use Rattle.share_base.specs.Name.{padded, is_name};
+    ghost use Rattle.share_base.specs.Name.{sixteen_bytes_of, is_name};
 
     ghost Value = { List ℕ };
 
@@ -34,23 +34,23 @@ impl Model for Name {
 
     ghost invariant = { λ name.
         (length (take name.len name.bytes) ≡ name.len)
-        × (padded (take name.len name.bytes) ≡ name.bytes)
+        × (sixteen_bytes_of (take name.len name.bytes) ≡ name.bytes)
         × (is_name (take name.len name.bytes) ≡ true) };
 
-    ghost inverse = { λ bs. record { bytes = padded bs; len = length bs } };
+    ghost inverse = { λ bs. record { bytes = sixteen_bytes_of bs; len = length bs } };
 
     ghost inverse_ok = { λ a h i. record { bytes = h.1 i; len = h.0 i } };
 }
 
 impl Name {
-    /// The name that these bytes spell, if they spell one.
+    /// Reads a name from its bytes. `None` if they spell no name.
     pub fn read(bytes: &[u8]) -> Option<Name>
         ensures { result ≡ (if is_name bytes.now then Some bytes.now else None) }
     {
         if !begins_well(bytes) || bytes.len() > MAX_NAME {
             return None;
         }
-        match copied(bytes) {
+        match copy_of(bytes) {
             None => None,
             Some(copy) => Some(Name {
                 bytes: copy,
@@ -62,7 +62,7 @@ impl Name {
     /// The bytes of the name.
     pub fn as_bytes(&self) -> &[u8]
         ensures value { result.now ≡ self.now }
-        ensures short { length self.now ≤ 16 }
+        ensures short { length self.now ≤ MAX_NAME }
         ensures name { is_name self.now ≡ true }
     {
         &self.bytes[..self.len]
@@ -78,11 +78,11 @@ fn begins_well(bytes: &[u8]) -> bool
     }
 }
 
-// The bytes of a name, and zeros behind them. `None` where one of them is in no name. They are copied as they are
-// tested: a name is short, and a call to copy it would take longer than the loop.
-fn copied(bytes: &[u8]) -> Option<[u8; 16]>
-    requires { length bytes.now ≤ 16 }
-    ensures { result ≡ (if list_all is_name_byte bytes.now then Some (padded bytes.now) else None) }
+// The bytes of a name, and zeros after them. `None` if a byte may not be in a name. One loop tests and copies: a name
+// is short, and a call to copy it would take longer.
+fn copy_of(bytes: &[u8]) -> Option<[u8; MAX_NAME]>
+    requires { length bytes.now ≤ MAX_NAME }
+    ensures { result ≡ (if list_all is_name_byte bytes.now then Some (sixteen_bytes_of bytes.now) else None) }
 {
     let mut copy = [0; MAX_NAME];
     for place in 0..bytes.len() {
@@ -106,8 +106,8 @@ fn is_name_byte(byte: u8) -> bool
     is_letter(byte) || (b'0' <= byte && byte <= b'9') || byte == b'_' || byte == b'-'
 }
 
-// Whether sixteen bytes are the same. All of them are compared, without a branch for each.
-fn are_same(bytes: &[u8; 16], others: &[u8; 16]) -> bool
+// Whether all sixteen bytes are equal. They are compared without a branch for each.
+fn are_same(bytes: &[u8; MAX_NAME], others: &[u8; MAX_NAME]) -> bool
     ensures { result ≡ pointwise nat_eq bytes.now others.now }
 {
     let mut same = true;
@@ -156,9 +156,9 @@ impl Ord for Name {
 }
 
 impl Hash for Name {
-    ghost hash_input = { λ name. padded name ∷ [] };
+    ghost hash_input = { λ name. sixteen_bytes_of name ∷ [] };
 
-    ghost respects_eq = { λ x y same. ap (λ name. padded name ∷ []) (same_text x y (sym same)) };
+    ghost respects_eq = { λ x y same. ap (λ name. sixteen_bytes_of name ∷ []) (same_text x y (sym same)) };
 
     // All sixteen bytes are written at once: a slice of bytes writes its length, and then each of them by itself.
     fn hash<H: Hasher>(&self, state: &mut H) {

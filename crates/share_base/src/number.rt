@@ -3,7 +3,7 @@ ghost use Rattle.std.specs.Prelude.{◌≡◌};
 
 use std::marker::Model;
 
-/// The number of a flow, open or closed. A contract sees it as that number.
+/// The number of a flow, open or closed. A contract sees it as a plain number.
 #[derive(Clone, Copy, Debug, PartialEq, Eq, PartialOrd, Ord, Hash)]
 pub struct FlowNo(pub u32);
 
@@ -26,7 +26,7 @@ impl FlowNo {
     }
 }
 
-/// The number of a ticket. A contract sees it as that number.
+/// The number of a ticket. A contract sees it as a plain number.
 #[derive(Clone, Copy, Debug, PartialEq, Eq, PartialOrd, Ord, Hash)]
 pub struct TicketNo(pub u32);
 

@@ -11,11 +11,11 @@ use std::marker::Model;
 /// The longest payload, in bytes.
 pub const MAX_PAYLOAD: usize = 1490;
 
-/// The longest payload that is held in place, in bytes.
+/// The longest payload that is held in the value itself, in bytes.
 pub const MAX_IN_PLACE: usize = 16;
 
-/// The payload of a packet: 1 to 1490 bytes. Up to 16 of them are held in place, more in an allocation. A contract sees
-/// it as these bytes.
+/// The payload of a packet: 1 to 1490 bytes. Up to 16 are held in the value itself, more in memory of their own. A
+/// contract sees it as its bytes.
 #[derive(Drop)]
 pub struct Body {
     bytes: SmallVec<u8, MAX_IN_PLACE>,
@@ -23,17 +23,18 @@ pub struct Body {
 
 impl Model for Body {
     ghost use Rattle.std.specs.Prelude.{ℕ, List, length, ◌≤◌};
+    ghost use Rattle.share_base.specs.declared.parcel.TheConstants.{MAX_PAYLOAD};
 
     ghost Value = { List ℕ };
 
     ghost view = { λ body. body.bytes.items };
 
-    ghost invariant = { λ body. (1 ≤ length body.bytes.items) × (length body.bytes.items ≤ 1490) };
+    ghost invariant = { λ body. (1 ≤ length body.bytes.items) × (length body.bytes.items ≤ MAX_PAYLOAD) };
 }
 
 impl Body {
-    /// A copy of these bytes. `Range` where they are not 1 to 1490, `NoMemory` where a growth was refused, which only
-    /// more than 16 of them take.
+    /// Copies these bytes. `Range` if there are not 1 to 1490 of them, `NoMemory` if memory was refused; up to 16 bytes
+    /// take none.
     pub fn new(alloc: Global, bytes: &[u8]) -> Result<Body, Refusal>
         ensures ok { IfOk result (λ body. (body ≡ bytes.now) × (payload_refusal bytes.now ≡ None)) }
         ensures refused { IfErr result (IsRefused (payload_refusal bytes.now)) }
@@ -46,10 +47,10 @@ impl Body {
         Ok(Body { bytes })
     }
 
-    /// These bytes, 1 to 1490 of them, as a payload. It takes no memory.
+    /// Makes a payload of these bytes, 1 to 1490 of them. It takes no memory.
     pub fn from_vec(bytes: Vec<u8>) -> Body
         requires some { 1 ≤ length bytes.items }
-        requires few { length bytes.items ≤ 1490 }
+        requires few { length bytes.items ≤ MAX_PAYLOAD }
         ensures { result ≡ bytes.items }
     {
         Body {
@@ -57,7 +58,7 @@ impl Body {
         }
     }
 
-    /// The first bytes of an array, 1 to 16 of them, as a payload. It takes no memory.
+    /// Makes a payload of the first bytes of an array, 1 to 16 of them. It takes no memory.
     pub fn from_array(alloc: Global, bytes: [u8; MAX_IN_PLACE], count: usize) -> Body
         requires some { 1 ≤ count }
         requires few { count ≤ MAX_IN_PLACE }
@@ -72,7 +73,7 @@ impl Body {
     pub fn as_slice(&self) -> &[u8]
         ensures value { result.now ≡ self.now }
         ensures some { 1 ≤ length self.now }
-        ensures few { length self.now ≤ 1490 }
+        ensures few { length self.now ≤ MAX_PAYLOAD }
     {
         self.bytes.as_slice()
     }
@@ -97,7 +98,7 @@ impl Model for Parcel {
 }
 
 impl Parcel {
-    /// Two copies of these bytes. `Range` where they are not 1 to 1490, `NoMemory` where a growth was refused.
+    /// Copies these bytes twice. `Range` if there are not 1 to 1490 of them, `NoMemory` if memory was refused.
     pub fn new(alloc: Global, bytes: &[u8]) -> Result<Parcel, Refusal>
         ensures ok { IfOk result
             (λ parcel. (parcel ≡ bytes.now) × (payload_refusal bytes.now ≡ None)) }
@@ -108,7 +109,7 @@ impl Parcel {
         Ok(Parcel { sending, audit })
     }
 
-    /// The copy to send and the copy to record. It takes no memory.
+    /// Gives the copy to send and the copy to record. It takes no memory.
     pub fn split(self) -> (Body, Body)
         ensures sending { result.0 ≡ self }
         ensures audit { result.1 ≡ self }

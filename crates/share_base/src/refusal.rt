@@ -80,7 +80,7 @@ impl Refusal {
         }
     }
 
-    /// The name that stands in replies beside the number.
+    /// The name that replies give beside the number.
     pub fn name(&self) -> &'static str
         ensures { result.now ≡ refusal_name self.now }
     {
@@ -125,7 +125,7 @@ impl From<AllocError> for Refusal {
     }
 }
 
-/// A refused growth is `NoMemory`; the value that was not stored is dropped.
+/// A refused growth is `NoMemory`. The value that was not stored is dropped.
 impl<T: Drop> From<AllocFailed<T>> for Refusal {
     ghost from_gives = { λ _ refusal. refusal ≡ NoMemory };
 

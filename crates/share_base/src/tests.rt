@@ -33,7 +33,7 @@ fn names_are_spelled(rt: HostRuntime) {
     }
 }
 
-// The bytes spell a name, which is kept as they are.
+// Whether the bytes spell a name, which gives them back.
 fn is_name(bytes: &[u8]) -> bool {
     match Name::read(bytes) {
         Some(name) => name.as_bytes() == bytes,
@@ -67,7 +67,7 @@ fn names_are_ordered_and_hashed_as_their_bytes(rt: HostRuntime) {
     }
 }
 
-// Both orders say so, and equality and hashes agree with them.
+// Whether `cmp` and `partial_cmp` answer this order, and equality and hashes agree with it.
 fn are_ordered(left: &Name, right: &Name, order: Ordering) -> bool {
     let is_equal = order == Ordering::Equal;
     left.cmp(right) == order
@@ -96,7 +96,7 @@ fn payloads_are_1_to_1490_bytes(rt: HostRuntime) {
     }
 }
 
-// A body is refused so, or it holds the payload.
+// Whether `Body::new` answers this refusal or, if there is none, a body that holds the payload.
 fn body_is(alloc: Global, payload: &[u8], refusal: Option<Refusal>) -> bool {
     match Body::new(alloc, payload) {
         Ok(body) => {
@@ -108,7 +108,7 @@ fn body_is(alloc: Global, payload: &[u8], refusal: Option<Refusal>) -> bool {
     }
 }
 
-// A parcel is refused so, or each half holds the payload.
+// Whether `Parcel::new` answers this refusal or, if there is none, a parcel whose halves both hold the payload.
 fn parcel_is(alloc: Global, payload: &[u8], refusal: Option<Refusal>) -> bool {
     match Parcel::new(alloc, payload) {
         Ok(parcel) => {
@@ -131,7 +131,7 @@ fn payloads_are_made_of_vectors_and_arrays(rt: HostRuntime) {
     }
 }
 
-// The first bytes, as an array and as a vector, are the payload.
+// Whether the first bytes make the payload, from an array and from a vector.
 fn is_made(alloc: Global, bytes: [u8; MAX_IN_PLACE], count: usize) -> bool
     requires some { 1 ≤ count }
     requires few { count ≤ MAX_IN_PLACE }
@@ -249,14 +249,14 @@ fn refusals_have_numbers_names_and_texts(rt: HostRuntime) {
     }
 }
 
-// The refusal has this number and this name, and is itself.
+// Whether the refusal has this number and this name, and `same` gives it back.
 fn is_named(refusal: Refusal, number: u32, name: &str) -> bool {
     refusal.number() == number
         && refusal.name().as_bytes() == name.as_bytes()
         && refusal.same() == refusal
 }
 
-// The refusal is shown by this text.
+// Whether the refusal is shown by this text.
 fn is_shown(alloc: Global, refusal: Refusal, text: &str) -> bool {
     match refusal.to_string(alloc) {
         Ok(shown) => shown.as_bytes() == text.as_bytes(),

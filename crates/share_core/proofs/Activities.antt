@@ -4,15 +4,16 @@ use Rattle.std.proofs.Common.{nat_eq, refl, sym, ap, subst, true≢false}
 use Rattle.share_model.specs.lists.Change.{change_first}
 use Rattle.share_model.specs.declared.funding.OpenFlow.{OpenFlow}
 use Rattle.share_model.specs.declared.rates.Rate.{Rate}
-use Rattle.share_model.specs.funding.Graph.{NameBytes, flow_numbers}
+use Rattle.share_model.specs.funding.Graph.{NameBytes, Graph, flow_numbers}
 use Rattle.share_model.specs.funding.Changes.{with_activity, set_active}
 use Rattle.share_model.specs.link.Buffers.{Buffer, is_some_packet, is_busy}
-use Rattle.share_model.specs.link.Live.{Live, wants}
-use Rattle.share_model.specs.link.BufferLaws.{numbers-with_activity}
-use Rattle.share_model.specs.run.QueueLaws.{wants-can_level}
+use Rattle.share_model.specs.link.Live.{Live, tickets_of_all}
+use Rattle.share_model.proofs.lemmas.link.BufferLaws.{numbers-with_activity}
+use Rattle.share_model.proofs.lemmas.run.QueueLaws.{tickets_of_all-can_level}
 use Rattle.share_model.specs.run.Sound.{Sound, QueueIsSound}
 use Rattle.share_model.specs.stride.Moves.{Stride}
-use Rattle.share_model.specs.stride.Level.{CanLevel}
+use Rattle.share_model.specs.stride.Level.{CanLevel, IsLevel, level_all}
+use Rattle.share_model.proofs.lemmas.stride.LevelLaws.{level_stays}
 
 -- a flow whose buffer holds a packet is active
 stays : (f : ℕ) (es : List (NameBytes × OpenFlow)) (bs : List Buffer)
@@ -55,10 +56,18 @@ stays-active {l = l} sound f busy =
     ap (λ es. record l.graph { flows = es }) (stays f l.graph.flows l.buffers sound.flows.buffered sound.flows.active
     busy)
 
+-- and a level queue stays as it is
+pub stays-level : {life : ℕ} {rates : List Rate} {l : Live} → Sound life rates l → (f : ℕ)
+    → is_busy l.buffers f ≡ true → (q : Stride) → IsLevel q (tickets_of_all l.graph)
+    → level_all q (tickets_of_all (set_active l.graph f true)) ≡ q
+stays-level {l = l} sound f busy q level =
+    ap (λ (g : Graph). level_all q (tickets_of_all g)) (stays-active sound f busy)
+    ∙ level_stays q (tickets_of_all l.graph) level
+
 -- the flows are clients also after one of them became active, or not
-pub can-settle : {life : ℕ} {rates : List Rate} {l : Live} → Sound life rates l → (q : Stride)
+pub can-set_active : {life : ℕ} {rates : List Rate} {l : Live} → Sound life rates l → (q : Stride)
     → QueueIsSound life (l.counts.events + 1) (flow_numbers l.graph.flows) q → (f : ℕ) (t : Bool)
-    → CanLevel q (wants (set_active l.graph f t))
-can-settle {life = life} {l = l} sound q is f t =
-    wants-can_level (set_active l.graph f t) (subst (λ ns. QueueIsSound life (l.counts.events + 1) ns q)
+    → CanLevel q (tickets_of_all (set_active l.graph f t))
+can-set_active {life = life} {l = l} sound q is f t =
+    tickets_of_all-can_level (set_active l.graph f t) (subst (λ ns. QueueIsSound life (l.counts.events + 1) ns q)
     (sym (numbers-with_activity f t l.graph.flows)) is)

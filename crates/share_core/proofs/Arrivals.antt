@@ -7,20 +7,23 @@ use Rattle.share_base.specs.declared.command.Reply.TheVariants.{Refused, Packet 
 use Rattle.share_base.specs.declared.refusal.Refusal.TheVariants.{BufferFull}
 use Rattle.share_model.specs.declared.link.Book.{Book}
 use Rattle.share_model.specs.declared.rates.Rate.{Rate}
-use Rattle.share_model.specs.link.Live.{Live, is_book_of, counted, accept, arrive_in}
+use Rattle.share_model.specs.link.Live.{Live, with_one_event}
+use Rattle.share_model.specs.link.Books.{is_book_of}
+use Rattle.share_model.specs.link.Arrivals.{accept, arrive_in}
 use Rattle.share_model.specs.link.Fields.{IsBody}
-use Rattle.share_model.specs.lists.Laws.{has_number, each-find, is_some-find_number}
+use Rattle.share_model.specs.lists.Rises.{has_number}
+use Rattle.share_model.proofs.lemmas.lists.Laws.{each-find, is_some-find_number}
 use Rattle.std.specs.FinMap.{get}
 use Rattle.share_model.specs.declared.funding.OpenFlow.{OpenFlow}
 use Rattle.share_model.specs.link.Buffers.{Buffer, buffer_of, is_buffer_of, is_full}
 use Rattle.share_model.specs.funding.Graph.{NameBytes, Graph, flow_numbers}
 use Rattle.share_model.specs.funding.Changes.{flow_named}
 use Rattle.share_model.specs.run.Sound.{Sound, IsSoundBuffer}
-use Rattle.share_model.specs.run.SoundLaws.{flow-buffered}
-use Rattle.share_model.specs.run.SoundStepLaws.{sound-accept}
-use Rattle.share_model.specs.link.BufferLaws.{number-of_named}
-use Rattle.share_model.specs.link.Did.{Stepped}
-use Rattle.share_model.specs.link.Seen.{Seen}
+use Rattle.share_model.proofs.lemmas.run.SoundLaws.{flow-buffered}
+use Rattle.share_model.proofs.lemmas.run.SoundStepLaws.{sound-accept}
+use Rattle.share_model.proofs.lemmas.link.BufferLaws.{number-of_named}
+use Rattle.share_model.specs.link.Calls.{Stepped}
+use Rattle.share_model.specs.link.View.{LinkView}
 
 -- the entry of which a number was read
 pub record HasNumber (o : Option OpenFlow) (f : ℕ) : Type 0 where
@@ -33,7 +36,7 @@ entry_of None f is = absurd (cc)
 entry_of (Some e) f is = record { entry = e; found = refl; number = cc }
 
 -- an open flow has a buffer
-pub buffered : (k : Seen (Unit {0})) → Sound k.life k.rates k.live → (name : NameBytes) (f : ℕ)
+pub buffered : (k : LinkView (Unit {0})) → Sound k.life k.rates k.live → (name : NameBytes) (f : ℕ)
     → option_map (λ (e : OpenFlow). e.number) (flow_named k.live.graph name) ≡ Some f
     → IsSome (buffer_of k.live.buffers f)
 buffered k sound name f is =
@@ -78,36 +81,36 @@ module _ (l : Live) (f : ℕ) (body : List ℕ) where
   came (Some b) n some is = rw (is.1, is.0) refl
 
   pub came_full : (o : Option Buffer) → IsSome o → IfSome o (λ b. is_full b ≡ true)
-      → (counted l, Refused BufferFull) ≡ arrive_in l f body o
+      → (with_one_event l, Refused BufferFull) ≡ arrive_in l f body o
   came_full None some full = absurd (cc)
   came_full (Some b) some full = rw full refl
 
 -- the event of a packet that a full buffer, which stays as it is, handed back
-pub refused_full : (k n new : Seen (Unit {0})) (f : ℕ) (body : List ℕ) (reply : Reply) (bs : List Buffer) → k ≡ n
+pub refused_full : (k n new : LinkView (Unit {0})) (f : ℕ) (body : List ℕ) (reply : Reply) (bs : List Buffer) → k ≡ n
     → bs ≡ k.live.buffers → IsSome (buffer_of k.live.buffers f)
     → IfSome (buffer_of k.live.buffers f) (λ b. is_full b ≡ true)
-    → Stepped (counted (record k.live { buffers = bs }), Refused BufferFull)
+    → Stepped (with_one_event (record k.live { buffers = bs }), Refused BufferFull)
     (record k { live = record k.live { buffers = bs } }) reply new
     → Stepped (arrive_in n.live f body (buffer_of n.live.buffers f)) n reply new
 refused_full k n new f body reply bs same unchanged some full did =
-    subst (λ (n : Seen (Unit {0})). Stepped (arrive_in n.live f body (buffer_of n.live.buffers f)) n reply new) same
+    subst (λ (n : LinkView (Unit {0})). Stepped (arrive_in n.live f body (buffer_of n.live.buffers f)) n reply new) same
     (subst (λ (next : Live × Reply). Stepped next k reply new)
     (came_full k.live f body (buffer_of k.live.buffers f) some full)
-    (subst (λ (bs : List Buffer). Stepped (counted (record k.live { buffers = bs }), Refused BufferFull)
+    (subst (λ (bs : List Buffer). Stepped (with_one_event (record k.live { buffers = bs }), Refused BufferFull)
     (record k { live = record k.live { buffers = bs } }) reply new) unchanged did))
 
 -- the event of a packet that took the next number
-pub took_number : (k n new : Seen (Unit {0})) (f : ℕ) (body : List ℕ) (number : ℕ) → k ≡ n
+pub took_number : (k n new : LinkView (Unit {0})) (f : ℕ) (body : List ℕ) (number : ℕ) → k ≡ n
     → IsSome (buffer_of k.live.buffers f)
     → IfSome (buffer_of k.live.buffers f) (λ b. (number ≡ b.next) × (is_full b ≡ false))
     → new ≡ record k { live = accept k.live f body }
     → Stepped (arrive_in n.live f body (buffer_of n.live.buffers f)) n (PacketReply f number) new
 took_number k n new f body number same some taken is =
-    subst (λ (n : Seen (Unit {0})). Stepped (arrive_in n.live f body (buffer_of n.live.buffers f)) n
+    subst (λ (n : LinkView (Unit {0})). Stepped (arrive_in n.live f body (buffer_of n.live.buffers f)) n
     (PacketReply f number) new) same
     (subst (λ (next : Live × Reply). Stepped next k (PacketReply f number) new)
     (came k.live f body (buffer_of k.live.buffers f) number some taken)
-    (subst (λ (new : Seen (Unit {0})). Stepped (accept k.live f body, PacketReply f number) k
+    (subst (λ (new : LinkView (Unit {0})). Stepped (accept k.live f body, PacketReply f number) k
     (PacketReply f number) new) (sym is)
     (record { live = refl; answer_is = refl; rest = record { life = refl; rates = refl; writer = refl } })))
 

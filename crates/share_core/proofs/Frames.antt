@@ -9,10 +9,13 @@ use Rattle.share_base.specs.declared.refusal.Refusal.TheVariants.{Spent}
 use Rattle.share_model.specs.declared.link.Part.{Part}
 use Rattle.share_model.specs.link.Frame.{Packet}
 use Rattle.share_model.specs.link.Buffers.{Buffer, head_of}
-use Rattle.share_model.specs.run.BytesLaws.{KeepsFrames, keeps-commanded, keeps-arrived}
-use Rattle.share_model.specs.link.Did.{is_spent, Stepped, Steps, CommandDid}
-use Rattle.share_model.specs.link.Live.{Live, Sending, sending_at, frame_in_part, command_step, arrive_step}
-use Rattle.share_model.specs.link.Seen.{Seen}
+use Rattle.share_model.proofs.lemmas.run.BytesLaws.{KeepsFrames, keeps-commanded, keeps-arrived}
+use Rattle.share_model.specs.link.Calls.{is_spent, Stepped, Steps, CommandCall}
+use Rattle.share_model.specs.link.Live.{Live}
+use Rattle.share_model.specs.link.Turns.{Sending, sending_at, frame_in_part}
+use Rattle.share_model.specs.link.Commands.{command_step}
+use Rattle.share_model.specs.link.Arrivals.{arrive_step}
+use Rattle.share_model.specs.link.View.{LinkView}
 use Rattle.share_model.specs.run.Sound.{Sound}
 use Rattle.share_core.specs.Framed.{IsFrameOf}
 
@@ -41,10 +44,10 @@ framed_live l l' bytes keeps is =
     is)
 
 -- so they do after a step that keeps the frames, where there was one
-module _ {W : Type 0} (k n : Seen W) (reply : Reply) (bytes : List ℕ) (sound : Sound k.life k.rates k.live)
+module _ {W : Type 0} (k n : LinkView W) (reply : Reply) (bytes : List ℕ) (sound : Sound k.life k.rates k.live)
     (is : IsFrameOf k.live.buffers k.live.part bytes) where
   framed_same : n ≡ k → IsFrameOf n.live.buffers n.live.part bytes
-  framed_same same = subst (λ (k : Seen W). IsFrameOf k.live.buffers k.live.part bytes) (sym same) is
+  framed_same same = subst (λ (k : LinkView W). IsFrameOf k.live.buffers k.live.part bytes) (sym same) is
 
   framed_step : (next : Live × Reply) → KeepsFrames k.live next.0 → (b : Bool)
       → MatchBool b ((reply ≡ Refused Spent) × (n ≡ k)) (Stepped next k reply n)
@@ -54,7 +57,7 @@ module _ {W : Type 0} (k n : Seen W) (reply : Reply) (bytes : List ℕ) (sound :
       subst (λ (l : Live). IsFrameOf l.buffers l.part bytes) (sym did.live)
       (framed_live k.live next.0 bytes keeps is)
 
-  pub framed-command : (c : Command) → CommandDid k c reply n → IsFrameOf n.live.buffers n.live.part bytes
+  pub framed-command : (c : Command) → CommandCall k c reply n → IsFrameOf n.live.buffers n.live.part bytes
   framed-command c (inl lacked) = framed_same lacked.unchanged
   framed-command c (inr did) =
       framed_step (command_step k.rates k.live c) (keeps-commanded sound c) (is_spent k) did

@@ -5,18 +5,19 @@ use Rattle.share_model.specs.declared.link.Part.{Part}
 use Rattle.share_model.specs.declared.rates.Rate.{Rate}
 use Rattle.share_model.specs.declared.stride.Client.{Client}
 use Rattle.share_model.specs.funding.Graph.{tickets, is_active_flow}
-use Rattle.share_model.proofs.FundingHeld.{idle-none}
+use Rattle.share_model.proofs.lemmas.funding.Held.{idle-none}
 use Rattle.share_model.specs.link.Buffers.{Buffer, head_in, head_of_buffer, head_of, buffer_of, is_some_packet}
-use Rattle.share_model.specs.link.Buffers.{holds_packet, is_busy}
+use Rattle.share_model.specs.link.Buffers.{holds_packet}
 use Rattle.share_model.specs.link.Frame.{Packet}
-use Rattle.share_model.specs.link.Live.{Live, sending_at, sending}
+use Rattle.share_model.specs.link.Live.{Live}
+use Rattle.share_model.specs.link.Turns.{sending_at, sending}
 use Rattle.share_model.specs.stride.Moves.{next, new_client, IsNext, IsNextFlow, client}
-use Rattle.share_model.specs.stride.NextLaws.{IsNext-next}
-use Rattle.share_model.specs.run.KeptClientLaws.{competes-stands}
-use Rattle.share_model.specs.run.QueueLaws.{level-flow}
+use Rattle.share_model.proofs.lemmas.stride.NextLaws.{IsNext-next}
+use Rattle.share_model.proofs.lemmas.run.KeptClientLaws.{competes-stands}
+use Rattle.share_model.proofs.lemmas.run.QueueLaws.{level-flow}
 use Rattle.share_model.specs.run.Sound.{Sound, PartIsSound}
-use Rattle.share_model.specs.run.SoundLaws.{flow-active}
-use Rattle.share_core.proofs.Sendings.{sending-part, sending-next, sending-none}
+use Rattle.share_model.proofs.lemmas.run.SoundLaws.{flow-active}
+use Rattle.share_core.proofs.Sendings.{sending-part, sending-next}
 
 -- a buffer that holds a packet has a head
 has_head : (b : Buffer) (ps : List (List ℕ)) → is_some_packet ps ≡ true → head_in b ps ≡ None → ⊥

@@ -11,23 +11,23 @@ use Rattle.share_model.specs.lists.Rises.{Rises}
 use Rattle.share_model.specs.funding.Graph.{NameBytes, Graph, flow_numbers, tickets}
 use Rattle.share_model.specs.funding.Changes.{set_active}
 use Rattle.share_model.specs.funding.Kept.{IsKept}
-use Rattle.share_model.specs.link.BufferLaws.{numbers-with_activity}
-use Rattle.share_model.specs.link.Live.{wants}
-use Rattle.share_model.specs.run.QueueLaws.{wants-distinct}
+use Rattle.share_model.proofs.lemmas.link.BufferLaws.{numbers-with_activity}
+use Rattle.share_model.specs.link.Live.{tickets_of_all}
+use Rattle.share_model.proofs.lemmas.run.QueueLaws.{tickets_of_all-distinct}
 use Rattle.share_model.specs.stride.Moves.{Stride, client}
 use Rattle.share_model.specs.stride.Level.{moved_if, level_one, level_all, CanLevel, IsLevel, HasTickets}
 use Rattle.share_model.specs.stride.Level.{AreDistinctFlows}
-use Rattle.share_model.specs.stride.LevelLaws.{can_level-level_one, client-level_one_other, level_move-none}
+use Rattle.share_model.proofs.lemmas.stride.LevelLaws.{can_level-level_one, client-level_one_other, level_move-none}
 use Rattle.share_core.specs.Held.{IfFound}
 use Rattle.share_core.specs.Levels.{AreTicketsOf, IsLevelAt, AreLevelAt, AreSameFrom}
 
 -- the flows from a place on are still to be levelled, and then all are
-pub record AreLeft (start now : Stride) (wants : List (ℕ × ℕ)) (place : ℕ) : Type 0 where
-  pub rest : level_all now (drop place wants) ≡ level_all start wants
-  pub can : CanLevel now (drop place wants)
+pub record AreLeft (start now : Stride) (tickets_of_all : List (ℕ × ℕ)) (place : ℕ) : Type 0 where
+  pub rest : level_all now (drop place tickets_of_all) ≡ level_all start tickets_of_all
+  pub can : CanLevel now (drop place tickets_of_all)
 
-pub wants-count : (g : Graph) → length (wants g) ≡ length g.flows
-wants-count g =
+pub tickets_of_all-count : (g : Graph) → length (tickets_of_all g) ≡ length g.flows
+tickets_of_all-count g =
     length-map {B = ℕ × ℕ} g.flows (λ (e : NameBytes × OpenFlow). (e.1.number, tickets g e.1.number))
 
 drop-get : {A : Type 0} (xs : List A) (n : ℕ) → n < length xs
@@ -36,80 +36,85 @@ drop-get [] n few = absurd (omega arith)
 drop-get (x ∷ xs) zero few = (x, refl, refl)
 drop-get (x ∷ xs) (suc n) few = drop-get xs n (omega arith)
 
-pub left-start : (start : Stride) (wants : List (ℕ × ℕ)) → CanLevel start wants → AreLeft start start wants 0
-left-start start wants can = record { rest = refl; can = can }
+pub left-start : (start : Stride) (tickets_of_all : List (ℕ × ℕ)) → CanLevel start tickets_of_all
+    → AreLeft start start tickets_of_all 0
+left-start start tickets_of_all can = record { rest = refl; can = can }
 
 -- the next flow can be levelled
-pub left-can : (start now : Stride) (wants : List (ℕ × ℕ)) (place : ℕ) → place < length wants
-    → AreLeft start now wants place
-    → IfFound (slice_get wants place) (λ want. IsSome (get now.clients want.0) × (want.1 ≤ 2 ^ 20))
-left-can start now wants place few left =
-    let at = drop-get wants place few in
+pub left-can : (start now : Stride) (tickets_of_all : List (ℕ × ℕ)) (place : ℕ) → place < length tickets_of_all
+    → AreLeft start now tickets_of_all place
+    → IfFound (slice_get tickets_of_all place) (λ want. IsSome (get now.clients want.0) × (want.1 ≤ 2 ^ 20))
+left-can start now tickets_of_all place few left =
+    let at = drop-get tickets_of_all place few in
     let can = subst (CanLevel now) at.2 left.can in
     subst (λ o. IfFound o (λ (want : ℕ × ℕ). IsSome (get now.clients want.0) × (want.1 ≤ 2 ^ 20))) (sym at.1) can.0
 
 -- and the others are left then
-pub left-next : (start now new : Stride) (wants : List (ℕ × ℕ)) (place : ℕ) → place < length wants
-    → AreLeft start now wants place
-    → IfFound (slice_get wants place) (λ want. new ≡ level_one now want.0 want.1)
-    → AreLeft start new wants (place + 1)
-left-next start now new wants place few left moved =
-    let at = drop-get wants place few in
+pub left-next : (start now new : Stride) (tickets_of_all : List (ℕ × ℕ)) (place : ℕ) → place < length tickets_of_all
+    → AreLeft start now tickets_of_all place
+    → IfFound (slice_get tickets_of_all place) (λ want. new ≡ level_one now want.0 want.1)
+    → AreLeft start new tickets_of_all (place + 1)
+left-next start now new tickets_of_all place few left moved =
+    let at = drop-get tickets_of_all place few in
     let can = subst (CanLevel now) at.2 left.can in
     let is = subst (λ o. IfFound o (λ (want : ℕ × ℕ). new ≡ level_one now want.0 want.1)) at.1 moved in
     let one_more : suc place ≡ place + 1 = omega arith in
-    let others = drop (suc place) wants in
-    subst (AreLeft start new wants) one_more (record {
+    let others = drop (suc place) tickets_of_all in
+    subst (AreLeft start new tickets_of_all) one_more (record {
       rest = ap (λ s. level_all s others) is
           ∙ (ap (level_all now) (sym at.2) ∙ left.rest);
       can = subst (λ s. CanLevel s others) (sym is) (can_level-level_one now at.0.0 at.0.1 others can.0.0 can.1);
     })
 
 -- none is left at the end
-pub left-none : (start now : Stride) (wants : List (ℕ × ℕ)) (place : ℕ) → length wants ≤ place
-    → AreLeft start now wants place → now ≡ level_all start wants
-left-none start now wants place all left = ap (level_all now) (sym (drop_all place wants all)) ∙ left.rest
+pub left-none : (start now : Stride) (tickets_of_all : List (ℕ × ℕ)) (place : ℕ) → length tickets_of_all ≤ place
+    → AreLeft start now tickets_of_all place → now ≡ level_all start tickets_of_all
+left-none start now tickets_of_all place all left = ap (level_all now) (sym (drop_all place tickets_of_all all))
+    ∙ left.rest
 
 -- ---- The tickets that are kept beside the queue
 
 -- the flows before a place were levelled, and what they were levelled with is kept
-pub record AreDone (start now : Stride) (wants : List (ℕ × ℕ)) (levels : List ℕ) (place : ℕ) : Type 0 where
-  pub left : AreLeft start now wants place
-  pub kept : take place levels ≡ map (λ (want : ℕ × ℕ). want.1) (take place wants)
-  pub few : length wants ≤ 64
-  pub long : length levels ≡ 64
+pub record AreDone (start now : Stride) (tickets_of_all : List (ℕ × ℕ)) (levelled_with : List ℕ) (place : ℕ) : Type 0
+  where
+    pub left : AreLeft start now tickets_of_all place
+    pub kept : take place levelled_with ≡ map (λ (want : ℕ × ℕ). want.1) (take place tickets_of_all)
+    pub few : length tickets_of_all ≤ 64
+    pub long : length levelled_with ≡ 64
 
 -- and the others compete with what is kept for them
-pub record AreDoneChanged (start now : Stride) (wants : List (ℕ × ℕ)) (levels : List ℕ) (place : ℕ) : Type 0 where
-  pub before : AreDone start now wants levels place
-  pub after : (k : ℕ) → place ≤ k → IsLevelAt now wants levels k
+pub record AreDoneChanged (start now : Stride) (tickets_of_all : List (ℕ × ℕ)) (levelled_with : List ℕ)
+    (place : ℕ) : Type 0 where
+  pub before : AreDone start now tickets_of_all levelled_with place
+  pub after : (k : ℕ) → place ≤ k → IsLevelAt now tickets_of_all levelled_with k
 
-one_more : (wants : List (ℕ × ℕ)) (place : ℕ) (want : ℕ × ℕ) → slice_get wants place ≡ Some want
-    → map (λ (want : ℕ × ℕ). want.1) (take (suc place) wants)
-    ≡ map (λ (want : ℕ × ℕ). want.1) (take place wants) ++ want.1 ∷ []
+one_more : (tickets_of_all : List (ℕ × ℕ)) (place : ℕ) (want : ℕ × ℕ) → slice_get tickets_of_all place ≡ Some want
+    → map (λ (want : ℕ × ℕ). want.1) (take (suc place) tickets_of_all)
+    ≡ map (λ (want : ℕ × ℕ). want.1) (take place tickets_of_all) ++ want.1 ∷ []
 one_more [] place want is = absurd cc
-one_more (w ∷ wants) zero want is = ap (λ (want : ℕ × ℕ). want.1 ∷ []) (same_Some w want is)
-one_more (w ∷ wants) (suc place) want is = ap (λ ns. w.1 ∷ ns) (one_more wants place want is)
+one_more (w ∷ tickets_of_all) zero want is = ap (λ (want : ℕ × ℕ). want.1 ∷ []) (same_Some w want is)
+one_more (w ∷ tickets_of_all) (suc place) want is = ap (λ ns. w.1 ∷ ns) (one_more tickets_of_all place want is)
 
-pub done-start : (start : Stride) (wants : List (ℕ × ℕ)) (levels : List ℕ) → length wants ≤ 64
-    → length levels ≡ 64 → CanLevel start wants → AreDone start start wants levels 0
-done-start start wants levels few long can =
-    record { left = left-start start wants can; kept = refl; few = few; long = long }
+pub done-start : (start : Stride) (tickets_of_all : List (ℕ × ℕ)) (levelled_with : List ℕ) → length tickets_of_all ≤ 64
+    → length levelled_with ≡ 64 → CanLevel start tickets_of_all → AreDone start start tickets_of_all levelled_with 0
+done-start start tickets_of_all levelled_with few long can =
+    record { left = left-start start tickets_of_all can; kept = refl; few = few; long = long }
 
-pub done-next : (start now new : Stride) (wants : List (ℕ × ℕ)) (levels next : List ℕ) (place : ℕ)
-    → place < length wants → AreDone start now wants levels place
-    → IfFound (slice_get wants place) (λ want. new ≡ level_one now want.0 want.1)
-    → IfFound (slice_get wants place) (λ want. next ≡ set levels place want.1)
+pub done-next : (start now new : Stride) (tickets_of_all : List (ℕ × ℕ)) (levelled_with next : List ℕ) (place : ℕ)
+    → place < length tickets_of_all → AreDone start now tickets_of_all levelled_with place
+    → IfFound (slice_get tickets_of_all place) (λ want. new ≡ level_one now want.0 want.1)
+    → IfFound (slice_get tickets_of_all place) (λ want. next ≡ set levelled_with place want.1)
     → length next ≡ 64
-    → AreDone start new wants next (place + 1)
-done-next start now new wants levels next place few done moved written long =
-    let at = drop-get wants place few in
-    let is = subst (λ o. IfFound o (λ (want : ℕ × ℕ). next ≡ set levels place want.1)) at.1 written in
+    → AreDone start new tickets_of_all next (place + 1)
+done-next start now new tickets_of_all levelled_with next place few done moved written long =
+    let at = drop-get tickets_of_all place few in
+    let is = subst (λ o. IfFound o (λ (want : ℕ × ℕ). next ≡ set levelled_with place want.1)) at.1 written in
     record {
-      left = left-next start now new wants place few done.left moved;
-      kept = ap (take (place + 1)) is ∙ take_more_set levels place at.0.1 (omega (arith, few, done.few, done.long))
-          ∙ ap (λ ns. ns ++ at.0.1 ∷ []) done.kept ∙ sym (one_more wants place at.0 at.1)
-          ∙ ap (λ k. map (λ (want : ℕ × ℕ). want.1) (take k wants)) (sym (add-one place));
+      left = left-next start now new tickets_of_all place few done.left moved;
+      kept = ap (take (place + 1)) is
+          ∙ take_more_set levelled_with place at.0.1 (omega (arith, few, done.few, done.long))
+          ∙ ap (λ ns. ns ++ at.0.1 ∷ []) done.kept ∙ sym (one_more tickets_of_all place at.0 at.1)
+          ∙ ap (λ k. map (λ (want : ℕ × ℕ). want.1) (take k tickets_of_all)) (sym (add-one place));
       few = done.few;
       long = long;
     }
@@ -119,8 +124,8 @@ each-at P [] k x all is = absurd cc
 each-at P (y ∷ ys) zero x all is = subst P (same_Some y x is) all.0
 each-at P (y ∷ ys) (suc k) x all is = each-at P ys k x all.1 is
 
-distinct-at : (wants : List (ℕ × ℕ)) → AreDistinctFlows wants → (i k : ℕ) → i < k → (v w : ℕ × ℕ)
-    → slice_get wants i ≡ Some v → slice_get wants k ≡ Some w → w.0 ≢ v.0
+distinct-at : (tickets_of_all : List (ℕ × ℕ)) → AreDistinctFlows tickets_of_all → (i k : ℕ) → i < k → (v w : ℕ × ℕ)
+    → slice_get tickets_of_all i ≡ Some v → slice_get tickets_of_all k ≡ Some w → w.0 ≢ v.0
 distinct-at [] distinct i k before v w at_i at_k = absurd cc
 distinct-at (e ∷ es) distinct zero zero before v w at_i at_k = absurd (omega (arith, before))
 distinct-at (e ∷ es) distinct zero (suc k) before v w at_i at_k =
@@ -131,49 +136,53 @@ distinct-at (e ∷ es) distinct (suc i) (suc k) before v w at_i at_k =
     distinct-at es distinct.1 i k (omega (arith, before)) v w at_i at_k
 
 -- a move of the flow at a place leaves those behind it as they were
-stays-behind : (now : Stride) (wants : List (ℕ × ℕ)) (levels : List ℕ) (place k : ℕ) (want : ℕ × ℕ)
-    → AreDistinctFlows wants → slice_get wants place ≡ Some want → place < k → IsLevelAt now wants levels k
-    → IsLevelAt (level_one now want.0 want.1) wants (set levels place want.1) k
-stays-behind now wants levels place k want distinct at behind is = by_flow (slice_get wants k) refl is
+stays-behind : (now : Stride) (tickets_of_all : List (ℕ × ℕ)) (levelled_with : List ℕ) (place k : ℕ) (want : ℕ × ℕ)
+    → AreDistinctFlows tickets_of_all → slice_get tickets_of_all place ≡ Some want → place < k
+    → IsLevelAt now tickets_of_all levelled_with k
+    → IsLevelAt (level_one now want.0 want.1) tickets_of_all (set levelled_with place want.1) k
+stays-behind now tickets_of_all levelled_with place k want distinct at behind is = by_flow (slice_get tickets_of_all k)
+    refl is
   where
-    by_flow : (o : Option (ℕ × ℕ)) → slice_get wants k ≡ o
-        → IfFound o (λ other. HasTickets (client now other.0) (get_or levels k 0))
+    by_flow : (o : Option (ℕ × ℕ)) → slice_get tickets_of_all k ≡ o
+        → IfFound o (λ other. HasTickets (client now other.0) (get_or levelled_with k 0))
         → IfFound o (λ other. HasTickets (client (level_one now want.0 want.1) other.0)
-        (get_or (set levels place want.1) k 0))
+        (get_or (set levelled_with place want.1) k 0))
     by_flow None at_k has = tt
     by_flow (Some other) at_k has =
-        let apart = distinct-at wants distinct place k behind want other at at_k in
+        let apart = distinct-at tickets_of_all distinct place k behind want other at at_k in
         let elsewhere : k ≢ place = λ same. absurd (omega (arith, behind, same)) in
         rw (
           client-level_one_other now want.0 want.1 other.0 apart,
-          get_or-set_other levels place k want.1 0 elsewhere,
+          get_or-set_other levelled_with place k want.1 0 elsewhere,
         ) has
 
-pub changed-next : (start now new : Stride) (wants : List (ℕ × ℕ)) (levels next : List ℕ) (place : ℕ)
-    → AreDistinctFlows wants → place < length wants → AreDoneChanged start now wants levels place
-    → IfFound (slice_get wants place) (λ want. new ≡ level_one now want.0 want.1)
-    → IfFound (slice_get wants place) (λ want. next ≡ set levels place want.1)
+pub changed-next : (start now new : Stride) (tickets_of_all : List (ℕ × ℕ)) (levelled_with next : List ℕ) (place : ℕ)
+    → AreDistinctFlows tickets_of_all → place < length tickets_of_all
+    → AreDoneChanged start now tickets_of_all levelled_with place
+    → IfFound (slice_get tickets_of_all place) (λ want. new ≡ level_one now want.0 want.1)
+    → IfFound (slice_get tickets_of_all place) (λ want. next ≡ set levelled_with place want.1)
     → length next ≡ 64
-    → AreDoneChanged start new wants next (place + 1)
-changed-next start now new wants levels next place distinct few done moved written long =
-    let at = drop-get wants place few in
+    → AreDoneChanged start new tickets_of_all next (place + 1)
+changed-next start now new tickets_of_all levelled_with next place distinct few done moved written long =
+    let at = drop-get tickets_of_all place few in
     let moved_is = subst (λ o. IfFound o (λ (want : ℕ × ℕ). new ≡ level_one now want.0 want.1)) at.1 moved in
-    let written_is = subst (λ o. IfFound o (λ (want : ℕ × ℕ). next ≡ set levels place want.1)) at.1 written in
+    let written_is = subst (λ o. IfFound o (λ (want : ℕ × ℕ). next ≡ set levelled_with place want.1)) at.1 written in
     record {
-      before = done-next start now new wants levels next place few done.before moved written long;
+      before = done-next start now new tickets_of_all levelled_with next place few done.before moved written long;
       after = λ k behind. rw (moved_is, written_is)
-          (stays-behind now wants levels place k at.0 distinct at.1 (omega (arith, behind))
+          (stays-behind now tickets_of_all levelled_with place k at.0 distinct at.1 (omega (arith, behind))
           (done.after k (omega (arith, behind))));
     }
 
 -- a client that has the tickets of its flow takes no move
-pub one-stays : (now : Stride) (wants : List (ℕ × ℕ)) (levels : List ℕ) (place share : ℕ)
-    → IsLevelAt now wants levels place → get_or levels place 0 ≡ share
-    → IfFound (slice_get wants place) (λ want. want.1 ≡ share)
-    → IfFound (slice_get wants place) (λ want. now ≡ level_one now want.0 want.1)
-one-stays now wants levels place share is same share_is = by_flow (slice_get wants place) is share_is
+pub one-stays : (now : Stride) (tickets_of_all : List (ℕ × ℕ)) (levelled_with : List ℕ) (place share : ℕ)
+    → IsLevelAt now tickets_of_all levelled_with place → get_or levelled_with place 0 ≡ share
+    → IfFound (slice_get tickets_of_all place) (λ want. want.1 ≡ share)
+    → IfFound (slice_get tickets_of_all place) (λ want. now ≡ level_one now want.0 want.1)
+one-stays now tickets_of_all levelled_with place share is same share_is = by_flow (slice_get tickets_of_all place) is
+    share_is
   where
-    by_flow : (o : Option (ℕ × ℕ)) → IfFound o (λ want. HasTickets (client now want.0) (get_or levels place 0))
+    by_flow : (o : Option (ℕ × ℕ)) → IfFound o (λ want. HasTickets (client now want.0) (get_or levelled_with place 0))
         → IfFound o (λ want. want.1 ≡ share) → IfFound o (λ want. now ≡ level_one now want.0 want.1)
     by_flow None has is = tt
     by_flow (Some want) has is =
@@ -181,27 +190,30 @@ one-stays now wants levels place share is same share_is = by_flow (slice_get wan
         sym (ap (moved_if now want.0) (level_move-none (client now want.0) want.1 holds))
 
 -- flows whose tickets are as they were take no move
-changed_same : (start now : Stride) (wants : List (ℕ × ℕ)) (levels : List ℕ) (place n : ℕ)
-    → AreDistinctFlows wants → place + n ≤ length wants
-    → AreSameFrom levels (map (λ (want : ℕ × ℕ). want.1) wants) place (place + n)
-    → AreDoneChanged start now wants levels place → AreDoneChanged start now wants levels (place + n)
-changed_same start now wants levels place zero distinct few same done =
-    subst (AreDoneChanged start now wants levels) (omega arith) done
-changed_same start now wants levels place (suc n) distinct few same done =
-    let inside : place < length wants = omega (arith, few) in
-    let at = drop-get wants place inside in
-    let own : get_or levels place 0 ≡ at.0.1 = same place (omega arith) (omega arith) ∙ mapped wants place at.0 at.1 in
+changed_same : (start now : Stride) (tickets_of_all : List (ℕ × ℕ)) (levelled_with : List ℕ) (place n : ℕ)
+    → AreDistinctFlows tickets_of_all → place + n ≤ length tickets_of_all
+    → AreSameFrom levelled_with (map (λ (want : ℕ × ℕ). want.1) tickets_of_all) place (place + n)
+    → AreDoneChanged start now tickets_of_all levelled_with place
+    → AreDoneChanged start now tickets_of_all levelled_with (place + n)
+changed_same start now tickets_of_all levelled_with place zero distinct few same done =
+    subst (AreDoneChanged start now tickets_of_all levelled_with) (omega arith) done
+changed_same start now tickets_of_all levelled_with place (suc n) distinct few same done =
+    let inside : place < length tickets_of_all = omega (arith, few) in
+    let at = drop-get tickets_of_all place inside in
+    let own : get_or levelled_with place 0 ≡ at.0.1 = same place (omega arith) (omega arith)
+    ∙ mapped tickets_of_all place at.0 at.1 in
     let holds = subst (λ o. IfFound o (λ (want : ℕ × ℕ). want.1 ≡ at.0.1)) (sym at.1) refl in
-    let stays = one-stays now wants levels place at.0.1 (done.after place (omega arith)) own holds in
-    let kept = subst (λ o. IfFound o (λ (want : ℕ × ℕ). levels ≡ set levels place want.1)) (sym at.1)
-    (sym (set-get_or levels place 0) ∙ ap (set levels place) own) in
-    let one = changed-next start now now wants levels levels place distinct inside done stays kept done.before.long in
-    let further = changed_same start now wants levels (place + 1) n distinct (omega (arith, few))
+    let stays = one-stays now tickets_of_all levelled_with place at.0.1 (done.after place (omega arith)) own holds in
+    let kept = subst (λ o. IfFound o (λ (want : ℕ × ℕ). levelled_with ≡ set levelled_with place want.1)) (sym at.1)
+    (sym (set-get_or levelled_with place 0) ∙ ap (set levelled_with place) own) in
+    let one = changed-next start now now tickets_of_all levelled_with levelled_with place distinct inside done stays
+    kept done.before.long in
+    let further = changed_same start now tickets_of_all levelled_with (place + 1) n distinct (omega (arith, few))
     (λ k after before. same k (omega (arith, after)) (omega (arith, before))) one in
-    subst (AreDoneChanged start now wants levels) (omega arith) further
+    subst (AreDoneChanged start now tickets_of_all levelled_with) (omega arith) further
   where
-    mapped : (wants : List (ℕ × ℕ)) (k : ℕ) (want : ℕ × ℕ) → slice_get wants k ≡ Some want
-        → get_or (map (λ (want : ℕ × ℕ). want.1) wants) k 0 ≡ want.1
+    mapped : (tickets_of_all : List (ℕ × ℕ)) (k : ℕ) (want : ℕ × ℕ) → slice_get tickets_of_all k ≡ Some want
+        → get_or (map (λ (want : ℕ × ℕ). want.1) tickets_of_all) k 0 ≡ want.1
     mapped [] k want is = absurd cc
     mapped (w ∷ ws) zero want is = ap (λ (want : ℕ × ℕ). want.1) (same_Some w want is)
     mapped (w ∷ ws) (suc k) want is = mapped ws k want is
@@ -215,9 +227,10 @@ tickets_by value [] = refl
 tickets_by value (e ∷ es) = ap (λ ns. value e.1.number ∷ ns) (tickets_by value es)
 
 -- what is wanted of the flows is their tickets
-pub wants-tickets : (g : Graph)
-    → map (λ (e : NameBytes × OpenFlow). tickets g e.1.number) g.flows ≡ map (λ (want : ℕ × ℕ). want.1) (wants g)
-wants-tickets g = tickets_by (tickets g) g.flows
+pub tickets_of_all-tickets : (g : Graph)
+    → map (λ (e : NameBytes × OpenFlow). tickets g e.1.number) g.flows
+    ≡ map (λ (want : ℕ × ℕ). want.1) (tickets_of_all g)
+tickets_of_all-tickets g = tickets_by (tickets g) g.flows
 
 numbers_by : (value : ℕ → ℕ) (es : List (NameBytes × OpenFlow))
     → map (λ (want : ℕ × ℕ). want.0) (map (λ (e : NameBytes × OpenFlow). (e.1.number, value e.1.number)) es)
@@ -225,11 +238,11 @@ numbers_by : (value : ℕ → ℕ) (es : List (NameBytes × OpenFlow))
 numbers_by value [] = refl
 numbers_by value (e ∷ es) = ap (λ ns. e.1.number ∷ ns) (numbers_by value es)
 
-level_by : (q : Stride) (olds news : List (ℕ × ℕ)) (levels : List ℕ)
+level_by : (q : Stride) (olds news : List (ℕ × ℕ)) (levelled_with : List ℕ)
     → map (λ (want : ℕ × ℕ). want.0) olds ≡ map (λ (want : ℕ × ℕ). want.0) news → IsLevel q olds
-    → take (length olds) levels ≡ map (λ (want : ℕ × ℕ). want.1) olds → AreLevelAt q news levels
-level_by q olds [] levels numbers level kept k = tt
-level_by q [] (n ∷ ns) levels numbers level kept k = absurd cc
+    → take (length olds) levelled_with ≡ map (λ (want : ℕ × ℕ). want.1) olds → AreLevelAt q news levelled_with
+level_by q olds [] levelled_with numbers level kept k = tt
+level_by q [] (n ∷ ns) levelled_with numbers level kept k = absurd cc
 level_by q (o ∷ os) (n ∷ ns) [] numbers level kept k = absurd cc
 level_by q (o ∷ os) (n ∷ ns) (l ∷ ls) numbers level kept zero =
     let same : o.0 ≡ n.0 = cc in
@@ -239,45 +252,46 @@ level_by q (o ∷ os) (n ∷ ns) (l ∷ ls) numbers level kept (suc k) =
     level_by q os ns ls (cc) level.1 (cc) k
 
 -- where the flows stand as they were, their clients compete with what was kept
-pub level-by : (q : Stride) (g now : Graph) (levels : List ℕ) → flow_numbers now.flows ≡ flow_numbers g.flows
-    → IsLevel q (wants g) → AreTicketsOf levels g → AreLevelAt q (wants now) levels
-level-by q g now levels same level kept =
-    level_by q (wants g) (wants now) levels
+pub level-by : (q : Stride) (g now : Graph) (levelled_with : List ℕ) → flow_numbers now.flows ≡ flow_numbers g.flows
+    → IsLevel q (tickets_of_all g) → AreTicketsOf levelled_with g → AreLevelAt q (tickets_of_all now) levelled_with
+level-by q g now levelled_with same level kept =
+    level_by q (tickets_of_all g) (tickets_of_all now) levelled_with
     (numbers_by (tickets g) g.flows ∙ sym same ∙ sym (numbers_by (tickets now) now.flows)) level
-    (ap (λ k. take k levels) (wants-count g) ∙ kept)
+    (ap (λ k. take k levelled_with) (tickets_of_all-count g) ∙ kept)
 
-pub level-settled : (q : Stride) (g now : Graph) (f : ℕ) (t : Bool) (levels : List ℕ) → now ≡ set_active g f t
-    → IsLevel q (wants g) → AreTicketsOf levels g → AreLevelAt q (wants now) levels
-level-settled q g now f t levels is =
-    level-by q g now levels (ap (λ (g : Graph). flow_numbers g.flows) is ∙ numbers-with_activity f t g.flows)
+pub level-settled : (q : Stride) (g now : Graph) (f : ℕ) (t : Bool) (levelled_with : List ℕ) → now ≡ set_active g f t
+    → IsLevel q (tickets_of_all g) → AreTicketsOf levelled_with g → AreLevelAt q (tickets_of_all now) levelled_with
+level-settled q g now f t levelled_with is =
+    level-by q g now levelled_with (ap (λ (g : Graph). flow_numbers g.flows) is ∙ numbers-with_activity f t g.flows)
 
-pub kept-distinct : (g : Graph) → IsKept g → AreDistinctFlows (wants g)
+pub kept-distinct : (g : Graph) → IsKept g → AreDistinctFlows (tickets_of_all g)
 unfolding Rises
-kept-distinct g kept = wants-distinct g g.next_flow kept.numbered.flows.2
+kept-distinct g kept = tickets_of_all-distinct g g.next_flow kept.numbered.flows.2
 
 -- all were levelled at the end
-pub kept-all : (start now : Stride) (g : Graph) (levels : List ℕ) (place : ℕ) → place ≡ length g.flows
-    → AreDone start now (wants g) levels place → AreTicketsOf levels g
-kept-all start now g levels place all done =
-    ap (λ k. take k levels) (sym all) ∙ done.kept
-    ∙ ap (map (λ (want : ℕ × ℕ). want.1)) (take_all place (wants g) (omega (arith, all, wants-count g)))
+pub kept-all : (start now : Stride) (g : Graph) (levelled_with : List ℕ) (place : ℕ) → place ≡ length g.flows
+    → AreDone start now (tickets_of_all g) levelled_with place → AreTicketsOf levelled_with g
+kept-all start now g levelled_with place all done =
+    ap (λ k. take k levelled_with) (sym all) ∙ done.kept
+    ∙ ap (map (λ (want : ℕ × ℕ). want.1))
+    (take_all place (tickets_of_all g) (omega (arith, all, tickets_of_all-count g)))
 
 pub tickets-count : (g : Graph) (ts : List ℕ) → ts ≡ map (λ (e : NameBytes × OpenFlow). tickets g e.1.number) g.flows
     → length ts ≡ length g.flows
 tickets-count g ts is = ap length is ∙ length-map g.flows (λ (e : NameBytes × OpenFlow). tickets g e.1.number)
 
 -- the flows up to a place whose tickets are as they were need no look
-pub changed-to : (start now : Stride) (g : Graph) (levels ts : List ℕ) (place to : ℕ) → IsKept g
+pub changed-to : (start now : Stride) (g : Graph) (levelled_with ts : List ℕ) (place to : ℕ) → IsKept g
     → ts ≡ map (λ (e : NameBytes × OpenFlow). tickets g e.1.number) g.flows → place ≤ to → to ≤ length ts
-    → AreSameFrom levels ts place to → AreDoneChanged start now (wants g) levels place
-    → AreDoneChanged start now (wants g) levels to
-changed-to start now g levels ts place to kept is before inside same done =
+    → AreSameFrom levelled_with ts place to → AreDoneChanged start now (tickets_of_all g) levelled_with place
+    → AreDoneChanged start now (tickets_of_all g) levelled_with to
+changed-to start now g levelled_with ts place to kept is before inside same done =
     let count = tickets-count g ts is in
     let n = to - place in
     let there : place + n ≡ to = omega (arith, before) in
-    let wanted = is ∙ wants-tickets g in
-    let within : place + n ≤ length (wants g) = omega (arith, there, inside, count, wants-count g) in
-    let same_there : AreSameFrom levels (map (λ (want : ℕ × ℕ). want.1) (wants g)) place (place + n) =
+    let wanted = is ∙ tickets_of_all-tickets g in
+    let within : place + n ≤ length (tickets_of_all g) = omega (arith, there, inside, count, tickets_of_all-count g) in
+    let same_there : AreSameFrom levelled_with (map (λ (want : ℕ × ℕ). want.1) (tickets_of_all g)) place (place + n) =
     λ k after before. same k after (omega (arith, before, there)) ∙ ap (λ ns. get_or ns k 0) wanted in
-    subst (AreDoneChanged start now (wants g) levels) there
-    (changed_same start now (wants g) levels place n (kept-distinct g kept) within same_there done)
+    subst (AreDoneChanged start now (tickets_of_all g) levelled_with) there
+    (changed_same start now (tickets_of_all g) levelled_with place n (kept-distinct g kept) within same_there done)

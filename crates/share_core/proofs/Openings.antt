@@ -14,18 +14,20 @@ use Rattle.share_model.specs.declared.funding.OpenFlow.{OpenFlow}
 use Rattle.share_model.specs.declared.rates.Rate.{Rate}
 use Rattle.share_model.specs.funding.Graph.{NameBytes, flow_numbers}
 use Rattle.share_model.specs.funding.Changes.{add_flow}
-use Rattle.share_model.specs.link.Live.{Live, open_flow_refusal, wants}
-use Rattle.share_model.specs.link.Did.{is_spent, CommandDid}
-use Rattle.share_model.specs.link.Seen.{Seen}
-use Rattle.share_model.specs.link.Buffers.{Buffer, buffer_of, opened, closed}
-use Rattle.share_model.specs.lists.Laws.{has_number, rises-fresh, is_some-find_number}
-use Rattle.share_model.specs.run.QueueLaws.{queue-added, wants-can_level}
+use Rattle.share_model.specs.link.Live.{Live, tickets_of_all}
+use Rattle.share_model.specs.link.Commands.{open_flow_refusal}
+use Rattle.share_model.specs.link.Calls.{is_spent, CommandCall}
+use Rattle.share_model.specs.link.View.{LinkView}
+use Rattle.share_model.specs.link.Buffers.{Buffer, buffer_of, open_in, close_in}
+use Rattle.share_model.specs.lists.Rises.{has_number}
+use Rattle.share_model.proofs.lemmas.lists.Laws.{rises-fresh, is_some-find_number}
+use Rattle.share_model.proofs.lemmas.run.QueueLaws.{queue-added, tickets_of_all-can_level}
 use Rattle.share_model.specs.run.Sound.{Sound, QueueIsSound}
-use Rattle.share_model.specs.run.SoundLaws.{sound-numbered}
-use Rattle.share_model.specs.run.SoundStepLaws.{numbers-added, openable}
+use Rattle.share_model.proofs.lemmas.run.SoundLaws.{sound-numbered}
+use Rattle.share_model.proofs.lemmas.run.SoundStepLaws.{numbers-added, openable}
 use Rattle.share_model.specs.stride.Moves.{Stride, add, add_refusal}
 use Rattle.share_model.specs.stride.Level.{CanLevel}
-use Rattle.share_model.specs.lists.RemoveLaws.{none_from}
+use Rattle.share_model.proofs.lemmas.lists.RemoveLaws.{none_from}
 
 -- a queue with room refuses no client
 has_room : (q : Stride) → len q.clients < 64 → add_refusal q ≡ None
@@ -45,26 +47,26 @@ added old new f (Err e) done refused room = absurd (no_refusal (sym refused.1 �
     no_refusal is = cc
 
 -- a buffer that is opened is there, and where it is closed again the buffers are what they were
-pub opened-found : (bs : List Buffer) (f limit : ℕ) → buffer_of bs f ≡ None → IsSome (buffer_of (opened bs f limit) f)
-opened-found [] f limit none = grind (arith, nat_tests)
-opened-found (b ∷ bs) f limit none = by_test (nat_eq f b.flow) refl none (opened-found bs f limit)
+pub open_in-found : (bs : List Buffer) (f limit : ℕ) → buffer_of bs f ≡ None → IsSome (buffer_of (open_in bs f limit) f)
+open_in-found [] f limit none = grind (arith, nat_tests)
+open_in-found (b ∷ bs) f limit none = by_test (nat_eq f b.flow) refl none (open_in-found bs f limit)
   where
     by_test : (t : Bool) → nat_eq f b.flow ≡ t → buffer_of (b ∷ bs) f ≡ None
-        → (buffer_of bs f ≡ None → IsSome (buffer_of (opened bs f limit) f))
-        → IsSome (buffer_of (opened (b ∷ bs) f limit) f)
+        → (buffer_of bs f ≡ None → IsSome (buffer_of (open_in bs f limit) f))
+        → IsSome (buffer_of (open_in (b ∷ bs) f limit) f)
     by_test true is none rest = rw is refl
     by_test false is none rest = rw is (rest (rw is at none))
 
-pub closed-opened : (bs : List Buffer) (f limit : ℕ) → buffer_of bs f ≡ None → closed (opened bs f limit) f ≡ bs
-closed-opened [] f limit none = grind (arith, nat_tests)
-closed-opened (b ∷ bs) f limit none = by_test (nat_eq f b.flow) refl none (closed-opened bs f limit)
+pub close_in-open_in : (bs : List Buffer) (f limit : ℕ) → buffer_of bs f ≡ None → close_in (open_in bs f limit) f ≡ bs
+close_in-open_in [] f limit none = grind (arith, nat_tests)
+close_in-open_in (b ∷ bs) f limit none = by_test (nat_eq f b.flow) refl none (close_in-open_in bs f limit)
   where
     no_buffer : Some b ≡ None → ⊥
     no_buffer is = cc
 
     by_test : (t : Bool) → nat_eq f b.flow ≡ t → buffer_of (b ∷ bs) f ≡ None
-        → (buffer_of bs f ≡ None → closed (opened bs f limit) f ≡ bs)
-        → closed (opened (b ∷ bs) f limit) f ≡ b ∷ bs
+        → (buffer_of bs f ≡ None → close_in (open_in bs f limit) f ≡ bs)
+        → close_in (open_in (b ∷ bs) f limit) f ≡ b ∷ bs
     by_test true is none rest = absurd (no_buffer (rw is at none))
     by_test false is none rest = rw is (ap (λ bs. b ∷ bs) (rest (rw is at none)))
 
@@ -89,9 +91,9 @@ module _ {life : ℕ} {rates : List Rate} {l : Live} (sound : Sound life rates l
 
   -- all can be levelled once it is open
   pub can-open : length l.graph.flows < 64 → (name : NameBytes)
-      → CanLevel (add l.queue l.graph.next_flow) (wants (add_flow l.graph name))
+      → CanLevel (add l.queue l.graph.next_flow) (tickets_of_all (add_flow l.graph name))
   can-open room name =
-      wants-can_level (add_flow l.graph name)
+      tickets_of_all-can_level (add_flow l.graph name)
       (subst (λ ns. QueueIsSound life (l.counts.events + 1) ns (add l.queue l.graph.next_flow))
       (sym (numbers-added l.graph name))
       (queue-added l.graph.next_flow fresh (omega (arith, room, sym sound.queue.count ∙ client_count)) sound.queue))
@@ -106,16 +108,16 @@ module _ {life : ℕ} {rates : List Rate} {l : Live} (sound : Sound life rates l
   queue-room name limit tariff allowed =
       has_room l.queue (omega (arith, client_count, allowed-room name limit tariff allowed))
 
-pub allowed_of : (k n : Seen (Unit {0})) (name : NameBytes) (limit tariff : ℕ) → k ≡ n
+pub allowed_of : (k n : LinkView (Unit {0})) (name : NameBytes) (limit tariff : ℕ) → k ≡ n
     → open_flow_refusal n.rates n.live name limit tariff ≡ None
     → open_flow_refusal k.rates k.live name limit tariff ≡ None
 allowed_of k n name limit tariff same allowed =
-    subst (λ (k : Seen (Unit {0})). open_flow_refusal k.rates k.live name limit tariff ≡ None) (sym same) allowed
+    subst (λ (k : LinkView (Unit {0})). open_flow_refusal k.rates k.live name limit tariff ≡ None) (sym same) allowed
 
 -- nothing changed where no memory was found
-pub found_none : (k n new : Seen (Unit {0})) (name : NameBytes) (limit tariff : ℕ) → k ≡ n → new ≡ k
+pub found_none : (k n new : LinkView (Unit {0})) (name : NameBytes) (limit tariff : ℕ) → k ≡ n → new ≡ k
     → is_spent n ≡ false → open_flow_refusal n.rates n.live name limit tariff ≡ None
-    → CommandDid n (OpensFlow name limit tariff) (Refused NoMemory) new
+    → CommandCall n (OpensFlow name limit tariff) (Refused NoMemory) new
 found_none k n new name limit tariff same unchanged living allowed = inl record {
   reply_is = refl;
   unchanged = unchanged ∙ same;

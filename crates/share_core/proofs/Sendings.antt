@@ -3,13 +3,14 @@ use Rattle.std.proofs.Common.{◌≡◌, ℕ, ◌+◌, List, length, Option, Non
 use Rattle.std.proofs.Common.{ap, subst}
 use Rattle.share_model.specs.declared.link.Part.{Part}
 use Rattle.share_model.specs.link.Frame.{Packet}
-use Rattle.share_model.specs.link.FrameLaws.{length-frame}
+use Rattle.share_model.proofs.lemmas.link.FrameLaws.{length-frame}
 use Rattle.share_model.specs.link.Buffers.{Buffer, head_of}
-use Rattle.share_model.specs.link.Live.{Live, Sending, sending_at, sending}
+use Rattle.share_model.specs.link.Live.{Live}
+use Rattle.share_model.specs.link.Turns.{Sending, sending_at, sending}
 use Rattle.share_model.specs.stride.Moves.{next}
 use Rattle.share_flows.specs.Places.{Stands}
-use Rattle.share_core.specs.declared.place.Place.{Place}
-use Rattle.share_core.specs.Place.{IsPlaceOf}
+use Rattle.share_core.specs.declared.next_write.NextWrite.{NextWrite}
+use Rattle.share_core.specs.NextWrite.{IsNextWriteOf}
 
 pub sending-part : (l : Live) (p : Part) → l.part ≡ Some p
     → sending l ≡ option_map (sending_at p.out) (head_of l.buffers p.flow)
@@ -26,21 +27,21 @@ unfolding sending
 sending-none l none is = rw (none, is) refl
 
 -- the place at the head packet of a flow is that of the frame that is sent, or there is neither
-pub sending_placed : (l : Live) (out : ℕ) (o : Option Packet) (r : Option Place)
+pub sending_placed : (l : Live) (out : ℕ) (o : Option Packet) (r : Option NextWrite)
     → sending l ≡ option_map (sending_at out) o
-    → MatchOption r (o ≡ None) (λ p. IsPlaceOf (option_map (sending_at out) o) p × Stands l.buffers p.buffer)
-    → MatchOption r (sending l ≡ None) (λ p. IsPlaceOf (sending l) p × Stands l.buffers p.buffer)
+    → MatchOption r (o ≡ None) (λ p. IsNextWriteOf (option_map (sending_at out) o) p × Stands l.buffers p.buffer)
+    → MatchOption r (sending l ≡ None) (λ p. IsNextWriteOf (sending l) p × Stands l.buffers p.buffer)
 sending_placed l out o None is none = is ∙ ap (option_map (sending_at out)) none
 sending_placed l out o (Some p) is placed =
-    (subst (λ (s : Option Sending). IsPlaceOf s p) (sym is) placed.0, placed.1)
+    (subst (λ (s : Option Sending). IsNextWriteOf s p) (sym is) placed.0, placed.1)
 
 -- a head packet, with the length of its frame, is at its place
-pub head_placed : (bs : List Buffer) (place : Place) (payload : List ℕ)
+pub head_placed : (bs : List Buffer) (place : NextWrite) (payload : List ℕ)
     → head_of bs place.buffer.flow
     ≡ Some record { flow = place.buffer.flow; seq = place.seq; payload = payload }
     → place.length ≡ 12 + length payload
-    → IsPlaceOf (option_map (sending_at place.out) (head_of bs place.buffer.flow)) place
+    → IsNextWriteOf (option_map (sending_at place.out) (head_of bs place.buffer.flow)) place
 head_placed bs place payload head long =
-    subst (λ (o : Option Packet). IsPlaceOf (option_map (sending_at place.out) o) place) (sym head)
+    subst (λ (o : Option Packet). IsNextWriteOf (option_map (sending_at place.out) o) place) (sym head)
     (ap (λ n. record { buffer = place.buffer; seq = place.seq; out = place.out; length = n })
     (long ∙ sym (length-frame record { flow = place.buffer.flow; seq = place.seq; payload = payload })))

@@ -6,11 +6,12 @@ use Rattle.std.proofs.lemmas.List.{length-map}
 use Rattle.share_model.specs.declared.link.Book.{Book}
 use Rattle.share_model.specs.declared.rates.Rate.{Rate}
 use Rattle.share_model.specs.link.Buffers.{Buffer, buffer_of, is_buffer_of}
-use Rattle.share_model.specs.link.Live.{Live, is_book_of}
-use Rattle.share_model.specs.link.Seen.{Seen}
+use Rattle.share_model.specs.link.Live.{Live}
+use Rattle.share_model.specs.link.Books.{is_book_of}
+use Rattle.share_model.specs.link.View.{LinkView}
 use Rattle.share_model.specs.run.Sound.{Sound}
 use Rattle.share_flows.specs.declared.buffers.Place.{Place}
-use Rattle.share_flows.specs.PlaceLaws.{is_found}
+use Rattle.share_flows.proofs.PlaceLaws.{is_found}
 use Rattle.share_flows.specs.Places.{Stands}
 
 abbrev place_within : ℕ → ℕ → Option ℕ
@@ -41,7 +42,7 @@ pub buffered_at : (bs : List Buffer) (place : Place) → Stands bs place → IsS
 buffered_at bs place stands = is_found (is_buffer_of place.flow) bs place.at stands
 
 -- a buffer stands where it was seen to stand
-pub stands_in : (k n : Seen (Unit {0})) (place : Place) → k ≡ n → Stands n.live.buffers place
+pub stands_in : (k n : LinkView (Unit {0})) (place : Place) → k ≡ n → Stands n.live.buffers place
     → Stands k.live.buffers place
 stands_in k n place same stands =
-    subst (λ (k : Seen (Unit {0})). Stands k.live.buffers place) (sym same) stands
+    subst (λ (k : LinkView (Unit {0})). Stands k.live.buffers place) (sym same) stands

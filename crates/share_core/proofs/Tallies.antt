@@ -1,11 +1,11 @@
 -- How many packets wait, in one buffer and in all.
 use Rattle.std.proofs.Common.{◌≡◌, ◌+◌, ◌-◌, ◌≤◌, ℕ, Bool, true, false, List, Option, None, Some}
-use Rattle.std.proofs.Common.{arith, true≢false, sym, ◌∙◌}
+use Rattle.std.proofs.Common.{arith, true≢false, sym}
 use Rattle.share_model.specs.declared.rates.Rate.{Rate}
 use Rattle.share_model.specs.link.Buffers.{Buffer}
 use Rattle.share_model.specs.link.Live.{Live}
 use Rattle.share_model.specs.link.Totals.{packets_in, torn_packets, torn_count}
-use Rattle.share_model.specs.run.CountLaws.{some-held, count-within}
+use Rattle.share_model.proofs.lemmas.run.CountLaws.{some-held, count-within}
 use Rattle.share_model.specs.run.Sound.{Sound, TornIsNamed, torn_gone}
 
 -- what was accepted, and neither written, nor dropped, nor torn, waits

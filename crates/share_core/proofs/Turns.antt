@@ -6,28 +6,31 @@ use Rattle.share_model.specs.declared.link.Part.{Part}
 use Rattle.share_model.specs.declared.rates.Rate.{Rate}
 use Rattle.share_model.specs.link.Frame.{Packet, frame}
 use Rattle.share_model.specs.link.Buffers.{head_of}
-use Rattle.share_model.specs.link.Live.{Live, Sending, sending_at, sending, is_whole, whole, in_part}
+use Rattle.share_model.specs.link.Live.{Live}
+use Rattle.share_model.specs.link.Turns.{Sending, sending_at, sending, is_whole, whole, in_part}
 use Rattle.share_model.specs.stride.Moves.{next}
-use Rattle.share_model.specs.link.Live.{wrote_turn, write_step}
+use Rattle.share_model.specs.link.Turns.{wrote_turn, write_step}
 use Rattle.share_model.specs.run.Sound.{Sound}
-use Rattle.share_model.specs.run.SoundLaws.{sending-head}
-use Rattle.share_core.specs.declared.place.Place.{Place}
+use Rattle.share_model.proofs.lemmas.run.SoundLaws.{sending-head}
+use Rattle.share_core.specs.declared.next_write.NextWrite.{NextWrite}
 use Rattle.share_core.specs.Framed.{IsFrameOf}
 use Rattle.share_core.proofs.Frames.{same_head}
 use Rattle.share_core.proofs.Writes.{IsSent}
 
 -- a fact about the frame that is sent, by any place of it
-pub for_sent : (l : Live) (place : Place) (P : Sending → Type 0) (t : IsSent l place) → P t.s → IfSome (sending l) P
+pub for_sent : (l : Live) (place : NextWrite) (P : Sending → Type 0) (t : IsSent l place) → P t.s → IfSome (sending l) P
 for_sent l place P t h = subst (λ (o : Option Sending). IfSome o P) (sym t.is) h
 
-pub of_sent : (l : Live) (place : Place) (P : Sending → Type 0) (t : IsSent l place) → IfSome (sending l) P → P t.s
+pub of_sent : (l : Live) (place : NextWrite) (P : Sending → Type 0) (t : IsSent l place) → IfSome (sending l) P → P t.s
 of_sent l place P t h = subst (λ (o : Option Sending). IfSome o P) t.is h
 
 -- the flow of the frame that is sent has a head packet, its own
-pub sent_head : {life : ℕ} {rates : List Rate} (l : Live) (place : Place) → Sound life rates l → (t : IsSent l place)
+pub sent_head : {life : ℕ} {rates : List Rate} (l : Live) (place : NextWrite) → Sound life rates l
+    → (t : IsSent l place)
     → head_of l.buffers place.buffer.flow ≡ Some t.s.head
 sent_head l place sound t =
-    subst (λ (p : Place). head_of l.buffers p.buffer.flow ≡ Some t.s.head) (sym t.place_is) (sending-head sound t.is)
+    subst (λ (p : NextWrite). head_of l.buffers p.buffer.flow ≡ Some t.s.head) (sym t.place_is)
+    (sending-head sound t.is)
 
 head_of_at : (out : ℕ) (o : Option Packet) (s : Sending) → option_map (sending_at out) o ≡ Some s
     → (s.out ≡ out) × (o ≡ Some s.head)

@@ -2,4 +2,4 @@ pub mod Framed
 pub mod Held
 pub mod Levels
 pub mod Life
-pub mod Place
+pub mod NextWrite

@@ -3,10 +3,12 @@ ghost use Rattle.std.specs.Prelude.{◌≡◌, ◌<◌, ◌≤◌, ◌^◌, ◌+
 ghost use Rattle.std.specs.Prelude.{Some, IsSome, IsTrue, is_some, option_copied};
 ghost use Rattle.std.specs.Set.{remove_key};
 ghost use Rattle.share_model.specs.link.Tariff.{rate_at, rate_of, units_of};
-ghost use Rattle.share_model.specs.link.Live.{is_book_of, new_book, account_of, units_due, with_units, posted};
+ghost use Rattle.share_model.specs.link.Books.{is_book_of, new_book, account_of, units_due, with_units};
+ghost use Rattle.share_model.specs.link.Books.{books_with_units};
 ghost use Rattle.share_core.specs.Held.{IfFound};
 
 use crate::MAX_FLOWS;
+use crate::frame::MAX_FRAME;
 use share_base::FlowNo;
 use share_model::{Book, Rates};
 use std::alloc::{AllocError, Global};
@@ -21,12 +23,13 @@ pub struct Books {
 impl Model for Books {
     ghost use Rattle.std.specs.Prelude.{List, ◌≤◌, vec_capacity};
     ghost use Rattle.share_model.specs.declared.link.Book.{Book};
+    ghost use Rattle.share_core.specs.declared.TheConstants.{MAX_FLOWS};
 
     ghost Value = { List Book };
 
     ghost view = { λ b. b.books.items };
 
-    ghost invariant = { λ b. 64 ≤ vec_capacity b.books };
+    ghost invariant = { λ b. MAX_FLOWS ≤ vec_capacity b.books };
 }
 
 impl Books {
@@ -62,7 +65,10 @@ impl Books {
         requires { IsSome (find (is_book_of flow) self.now) }
         ensures { position (is_book_of flow) self.now ≡ Some result }
     {
-        place_of(self.books.as_slice(), flow).unwrap()
+        match place_of(self.books.as_slice(), flow) {
+            None => unreachable!(),
+            Some(place) => place,
+        }
     }
 
     /// The account of a flow, and 0 where it is not open.
@@ -75,16 +81,15 @@ impl Books {
         }
     }
 
-    /// Posts a flow, whose book stands at a place, for `count` bytes of a frame, and gives the units that they are
-    /// charged.
+    /// Posts the flow whose book is at a place for `count` bytes of a frame, and gives the units that they are charged.
     pub fn charge_at<S: Rates>(&mut self, shelf: &S, place: usize, flow: FlowNo, count: u32) -> u64
         requires there { position (is_book_of flow) self.old ≡ Some place }
         requires known { IfFound (find (is_book_of flow) self.old)
             (λ b. IsTrue (is_some (rate_at (S.rates shelf.now) b.tariff))) }
         requires account { IfFound (find (is_book_of flow) self.old) (λ b. b.account ≤ 2 ^ 62) }
-        requires few { count ≤ 1502 }
+        requires few { count ≤ MAX_FRAME }
         ensures units { result ≡ units_due (S.rates shelf.now) self.old flow count }
-        ensures posted { self.new ≡ posted (S.rates shelf.now) self.old flow result }
+        ensures posted { self.new ≡ books_with_units (S.rates shelf.now) self.old flow result }
     {
         let book = &mut self.books[place];
         post(book, shelf, count)
@@ -104,7 +109,7 @@ impl Books {
 fn post<S: Rates>(book: &mut Book, shelf: &S, count: u32) -> u64
     requires known { IsTrue (is_some (rate_at (S.rates shelf.now) book.old.tariff)) }
     requires account { book.old.account ≤ 2 ^ 62 }
-    requires few { count ≤ 1502 }
+    requires few { count ≤ MAX_FRAME }
     ensures units { result ≡ units_of (rate_of (S.rates shelf.now) book.old.tariff) count }
     ensures posted { book.new ≡ with_units (S.rates shelf.now) result book.old }
 {

@@ -6,31 +6,32 @@ ghost use Rattle.std.specs.FinMap.{get};
 ghost use Rattle.share_model.specs.stride.Moves.{global_part};
 ghost use Rattle.share_model.specs.stride.Moves.{position as position_of};
 ghost use Rattle.share_model.specs.link.Totals.{totals, row};
-ghost use Rattle.share_model.specs.link.Did.{is_spent, Steps, CommandDid, Offered, TurnDid, TearDid};
+ghost use Rattle.share_model.specs.link.Calls.{is_spent, Steps, CommandCall, OfferDecided, TurnCall, TearCall};
 ghost use Rattle.share_model.specs.funding.Graph.{tickets};
 ghost use Rattle.share_model.specs.funding.Changes.{flow_named};
-ghost use Rattle.share_model.specs.link.Live.{empty_link, is_book_of, arrive_step, sending};
-ghost use Rattle.share_model.specs.link.Seen.{Seen};
+ghost use Rattle.share_model.specs.link.Live.{empty_link};
+ghost use Rattle.share_model.specs.link.Books.{is_book_of};
+ghost use Rattle.share_model.specs.link.Arrivals.{arrive_step};
+ghost use Rattle.share_model.specs.link.Turns.{sending};
+ghost use Rattle.share_model.specs.link.View.{LinkView};
 ghost use Rattle.share_model.specs.link.Fields.{IsName, IsBody, HasCommandFields};
 ghost use Rattle.share_model.specs.run.Sound.{Sound};
 ghost use Rattle.share_model.specs.link.Tariff.{AreInRange};
 ghost use Rattle.share_model.specs.link.Frame.{frame};
 ghost use Rattle.share_model.specs.io.Told.{Fits};
 ghost use Rattle.share_core.specs.Framed.{IsFrameOf};
-ghost use Rattle.share_core.specs.Place.{IsPlaceOf};
+ghost use Rattle.share_core.specs.NextWrite.{IsNextWriteOf};
 ghost use Rattle.share_flows.specs.Places.{Stands};
 ghost use Rattle.share_core.specs.Life.{life_refusal};
 
 use crate::fields;
+use crate::frame::MAX_FRAME;
 use crate::link::Link;
-use crate::place::Place;
+use crate::next_write::NextWrite;
 use share_base::{Body, Command, FlowNo, Name, Refusal, Reply, Turn};
-use share_model::{Answer, GlobalPart, Position, Rates, Row, Telling, Totals};
+use share_model::{Answer, GlobalPart, Position, Rates, Row, TellingWriter, Totals};
 use std::alloc::Global;
 use std::marker::Model;
-
-/// The longest frame, in bytes.
-const MAX_FRAME: usize = 1502;
 
 /// A link: commands, arrivals and turns, one event a call. It owns the shelf of its tariffs and its writer.
 ///
@@ -46,12 +47,13 @@ pub struct Engine<W, S: Rates> {
 
 impl<W, S: Rates> Model for Engine<W, S> {
     ghost use Rattle.std.specs.Prelude.{◌≤◌, vec_capacity};
-    ghost use Rattle.share_model.specs.link.Seen.{Seen};
+    ghost use Rattle.share_model.specs.link.View.{LinkView};
     ghost use Rattle.share_core.specs.Framed.{IsFrameOf};
+    ghost use Rattle.share_core.specs.declared.frame.TheConstants.{MAX_FRAME};
     ghost use Rattle.std.specs.Coded.{codes};
     ghost use Rattle.share_model.specs.stride.Moves.{coded_stride};
 
-    ghost Value = { Seen W };
+    ghost Value = { LinkView W };
 
     ghost coded = { Prim.hlevel (codes, coded_stride) };
 
@@ -59,7 +61,7 @@ impl<W, S: Rates> Model for Engine<W, S> {
         record { life = e.link.life; rates = e.link.rates; live = e.link.live; writer = e.writer } };
 
     ghost invariant = { λ e.
-        (1502 ≤ vec_capacity e.frame)
+        (MAX_FRAME ≤ vec_capacity e.frame)
         × IsFrameOf e.link.live.buffers e.link.live.part e.frame.items };
 }
 
@@ -151,8 +153,9 @@ impl<W, S: Rates> Engine<W, S> {
         self.link.tickets(flow)
     }
 
-    /// Where an open flow stands in the queue: whether it competes, its tickets and stride (the last ones where it does
-    /// not compete), and its pass or, where it does not compete, its remain. `None` where no open flow has this number.
+    /// The position of an open flow in the queue: whether it competes, its tickets and stride (the last ones where it
+    /// does not compete), and its pass or, where it does not compete, its remain. `None` where no open flow has this
+    /// number.
     pub fn position(&self, flow: FlowNo) -> Option<Position>
         ensures { result ≡ option_map position_of (get self.now.live.queue.clients flow) }
     {
@@ -197,7 +200,7 @@ impl<W, S: Rates> Engine<W, S> {
     /// - `MakeTicket`: `Range` (an amount of 1 to 2^20), `NoCurrency`, `TableFull` (1024 tickets), `NoMemory`;
     /// - `RemoveTicket`: `NoTicket`, `Funding` (it funds something);
     /// - `FundCurrency`: `NoTicket`, `NoCurrency`, `Base`, `Funding`, `Crowded` (16 tickets fund the currency), `Cycle`
-    ///   (the currency is the ticket's, or backs it), `Deep` (nine currencies would stand in a chain);
+    ///   (the currency is the ticket's, or backs it), `Deep` (nine currencies would be in a chain);
     /// - `FundFlow`: `NoTicket`, `NoFlow`, `Funding`, `Crowded` (16 tickets fund the flow);
     /// - `Unfund`: `NoTicket`, `Unfunded`;
     /// - `OpenFlow`: `Range` (a limit of 1 to 1024 packets), `NoTariff`, `Taken`, `TableFull` (64 flows), `NoMemory`;
@@ -206,7 +209,7 @@ impl<W, S: Rates> Engine<W, S> {
     /// The three that make something may find no memory; the other six take none. After a command that is done, each
     /// open flow competes with as many tickets as it has.
     pub fn command(&mut self, command: Command) -> Reply
-        ensures did { CommandDid self.old command result self.new }
+        ensures did { CommandCall self.old command result self.new }
         ensures fields { HasCommandFields command }
     {
         fields::of_command(&command);
@@ -237,39 +240,33 @@ impl<W, S: Rates> Engine<W, S> {
     /// in this order. It takes no memory.
     pub fn turn(&mut self, most: u32) -> Turn
     where
-        W: Telling,
+        W: TellingWriter,
         requires { 1 ≤ most }
-        ensures { TurnDid W.answers self.old most result self.new }
+        ensures { TurnCall W.answers self.old most result self.new }
     {
-        if self.link.spent() {
-            return Turn::Spent;
-        }
-        if self.link.broken() {
-            return Turn::Broken;
-        }
-        match self.link.sending() {
-            None => Turn::Idle,
-            Some(place) => self.send(place, most),
+        match self.link.due() {
+            Err(turn) => turn,
+            Ok(place) => self.send(place, most),
         }
     }
 
     // Offers the writer the next bytes of the frame that is sent.
-    fn send(&mut self, place: Place, most: u32) -> Turn
+    fn send(&mut self, place: NextWrite, most: u32) -> Turn
     where
-        W: Telling,
+        W: TellingWriter,
         requires some { 1 ≤ most }
         requires living { is_spent self.old ≡ false }
         requires unbroken { self.old.live.broken ≡ false }
-        requires sends { IsPlaceOf (sending self.old.live) place }
+        requires sends { IsNextWriteOf (sending self.old.live) place }
         requires stands { Stands self.old.live.buffers place.buffer }
         ensures { IfSome (sending self.old.live)
-            (λ s. Offered W.answers self.old most s result self.new) }
+            (λ s. OfferDecided W.answers self.old most s result self.new) }
     {
         let out = place.out;
         load(&self.link, &place, &mut self.frame);
         match offer(&mut self.writer, self.frame.as_slice(), out, most) {
             Answer::Accepted(0) => self.link.fail(place),
-            Answer::Accepted(count) => self.link.wrote(place, count as u32),
+            Answer::Accepted(count) => self.link.write(place, count as u32),
             Answer::Interrupted => Turn::Again,
             Answer::Failed => self.link.fail(place),
         }
@@ -278,17 +275,11 @@ impl<W, S: Rates> Engine<W, S> {
     /// The caller declares that the writer failed, and the writer is not called: `Torn`, one event, where there is a
     /// frame to send. Else nothing changes: `Spent`, `Broken` or `Idle`, in this order. It takes no memory.
     pub fn tear(&mut self) -> Turn
-        ensures { TearDid self.old result self.new }
+        ensures { TearCall self.old result self.new }
     {
-        if self.link.spent() {
-            return Turn::Spent;
-        }
-        if self.link.broken() {
-            return Turn::Broken;
-        }
-        match self.link.sending() {
-            None => Turn::Idle,
-            Some(place) => self.link.fail(place),
+        match self.link.due() {
+            Err(turn) => turn,
+            Ok(place) => self.link.fail(place),
         }
     }
 }
@@ -309,15 +300,15 @@ impl<W, S: Rates + Drop> Engine<W, S> {
     }
 }
 
-// Sees to it that the buffer holds the frame that is sent: it does where that is in part.
-fn load<S: Rates>(link: &Link<S>, place: &Place, buffer: &mut Vec<u8>)
-    requires sends { IsPlaceOf (sending link.now.live) place.now }
+// Builds the frame that is sent in the buffer. A frame in part is there already.
+fn load<S: Rates>(link: &Link<S>, place: &NextWrite, buffer: &mut Vec<u8>)
+    requires sends { IsNextWriteOf (sending link.now.live) place.now }
     requires stands { Stands link.now.live.buffers place.now.buffer }
     requires kept { IsFrameOf link.now.live.buffers link.now.live.part buffer.old.items }
-    requires room { 1502 ≤ vec_capacity buffer.old }
+    requires room { MAX_FRAME ≤ vec_capacity buffer.old }
     ensures sound { Sound link.now.life link.now.rates link.now.live }
     ensures frame { IfSome (sending link.now.live) (λ s. buffer.new.items ≡ frame s.head) }
-    ensures room { 1502 ≤ vec_capacity buffer.new }
+    ensures room { MAX_FRAME ≤ vec_capacity buffer.new }
 {
     let _ = link.spent();
     if place.out == 0 {
@@ -326,7 +317,7 @@ fn load<S: Rates>(link: &Link<S>, place: &Place, buffer: &mut Vec<u8>)
 }
 
 // Offers a writer the next bytes of a frame of which `out` are out, at most `most` of them, in one call.
-fn offer<W: Telling>(writer: &mut W, frame: &[u8], out: u32, most: u32) -> Answer
+fn offer<W: TellingWriter>(writer: &mut W, frame: &[u8], out: u32, most: u32) -> Answer
     requires { out ≤ length frame.now }
     ensures answered { W.answers writer.old (take most (drop out frame.now)) result writer.new }
     ensures fits { Fits (take most (drop out frame.now)) result }

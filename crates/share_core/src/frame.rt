@@ -2,16 +2,19 @@
 ghost use Rattle.std.specs.Prelude.{◌≡◌, ◌≤◌, ◌+◌, ◌++◌, length, vec_capacity};
 ghost use Rattle.share_model.specs.link.Frame.{frame};
 
-use share_base::FlowNo;
-use share_frame::header;
+use share_base::{FlowNo, MAX_PAYLOAD};
+use share_frame::{HEADER, header};
+
+/// The longest frame, in bytes.
+pub const MAX_FRAME: usize = HEADER + MAX_PAYLOAD;
 
 /// Puts the frame of a packet into a buffer that has room for it. It takes no memory.
 pub fn fill(buffer: &mut Vec<u8>, flow: FlowNo, seq: u32, payload: &[u8])
-    requires short { length payload.now ≤ 1490 }
-    requires room { 1502 ≤ vec_capacity buffer.old }
+    requires short { length payload.now ≤ MAX_PAYLOAD }
+    requires room { MAX_FRAME ≤ vec_capacity buffer.old }
     ensures frame { buffer.new.items
         ≡ frame (record { flow = flow; seq = seq; payload = payload.now }) }
-    ensures room { 1502 ≤ vec_capacity buffer.new }
+    ensures room { MAX_FRAME ≤ vec_capacity buffer.new }
 {
     let head = header(flow, seq, payload.len() as u16);
     buffer.clear();

@@ -1,6 +1,6 @@
 //! What holds of every link. A function here does nothing: its contract is a law, which is proved with it.
 ghost use Rattle.std.specs.Prelude.{◌≡◌, None};
-ghost use Rattle.share_model.specs.link.Live.{sending};
+ghost use Rattle.share_model.specs.link.Turns.{sending};
 ghost use Rattle.share_model.specs.stride.Moves.{next};
 
 use crate::engine::Engine;

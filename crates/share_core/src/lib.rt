@@ -7,7 +7,7 @@ mod fields;
 mod frame;
 mod laws;
 mod link;
-mod place;
+mod next_write;
 #[cfg(test)]
 mod tests;
 

@@ -2,8 +2,8 @@
 ghost use Rattle.std.specs.Prelude.{◌≡◌, ◌<◌, ◌≤◌, ◌^◌, false, IfOk, IfErr, None};
 ghost use Rattle.share_base.specs.Refusal.{IsRefused};
 ghost use Rattle.share_base.specs.declared.command.Reply.TheVariants.{Refused};
-ghost use Rattle.share_model.specs.link.Did.{is_spent, Stepped};
-ghost use Rattle.share_model.specs.link.Live.{empty_link, counted};
+ghost use Rattle.share_model.specs.link.Calls.{is_spent, Stepped};
+ghost use Rattle.share_model.specs.link.Live.{empty_link, with_one_event};
 ghost use Rattle.share_model.specs.run.Sound.{Sound};
 ghost use Rattle.share_core.specs.Life.{life_refusal};
 
@@ -32,7 +32,7 @@ pub struct Link<S: Rates> {
     shelf: S,
     ledger: Ledger,
     queue: Queue,
-    levels: [u32; MAX_FLOWS],
+    levelled_with: [u32; MAX_FLOWS],
     buffers: Buffers,
     books: Books,
     part: Option<Part>,
@@ -44,12 +44,12 @@ pub struct Link<S: Rates> {
 impl<S: Rates> Model for Link<S> {
     ghost use Rattle.std.specs.Prelude.{◌≤◌, ◌^◌};
     ghost use Rattle.share_model.specs.run.Sound.{Sound};
-    ghost use Rattle.share_model.specs.link.Seen.{Seen};
+    ghost use Rattle.share_model.specs.link.View.{LinkView};
     ghost use Rattle.share_core.specs.Levels.{AreTicketsOf};
     ghost use Rattle.std.specs.Coded.{codes};
     ghost use Rattle.share_model.specs.stride.Moves.{coded_stride};
 
-    ghost Value = { Seen (Unit {0}) };
+    ghost Value = { LinkView (Unit {0}) };
 
     ghost coded = { Prim.hlevel (codes, coded_stride) };
 
@@ -70,7 +70,7 @@ impl<S: Rates> Model for Link<S> {
     } };
 
     ghost invariant = { λ e.
-        ((e.life ≤ 2 ^ 24) × AreTicketsOf e.levels e.ledger)
+        ((e.life ≤ 2 ^ 24) × AreTicketsOf e.levelled_with e.ledger)
         × Sound e.life (S.rates e.shelf) (record {
           graph = e.ledger;
           queue = e.queue;
@@ -104,7 +104,7 @@ impl<S: Rates + Drop> Link<S> {
             shelf,
             ledger,
             queue,
-            levels: [0; MAX_FLOWS],
+            levelled_with: [0; MAX_FLOWS],
             buffers,
             books,
             part: None,
@@ -129,7 +129,7 @@ impl<S: Rates> Link<S> {
     // A refused command or arrival is an event that changes nothing else.
     fn refuse(&mut self, refusal: Refusal) -> Reply
         requires { is_spent self.old ≡ false }
-        ensures { Stepped (counted self.old.live, Refused refusal) self.old result self.new }
+        ensures { Stepped (with_one_event self.old.live, Refused refusal) self.old result self.new }
     {
         self.counts.events += 1;
         Reply::Refused(refusal)

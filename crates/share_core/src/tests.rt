@@ -9,7 +9,7 @@ mod refusals;
 
 use crate::Engine;
 use share_base::{Body, Command, FlowNo, Name, Outcome, Refusal, Reply, TicketNo, Turn};
-use share_model::{Answer, Rates, Scripted, Tape, Telling};
+use share_model::{Answer, Rates, Scripted, Tape, TellingWriter};
 use std::alloc::Global;
 use std::process::Abort;
 use std::test::Fail;
@@ -144,7 +144,7 @@ fn command_of(rt: &impl Abort, call: Call) -> Option<Command> {
     Some(command)
 }
 
-fn ask<W: Telling, S: Rates>(
+fn ask<W: TellingWriter, S: Rates>(
     rt: &impl Abort,
     alloc: Global,
     engine: &mut Engine<W, S>,
@@ -178,7 +178,7 @@ fn read<W, S: Rates>(rt: &impl Abort, engine: &Engine<W, S>, call: Call) -> Opti
 }
 
 // Makes each call, and compares its answer.
-fn play<W: Telling, S: Rates>(
+fn play<W: TellingWriter, S: Rates>(
     rt: &impl Abort,
     alloc: Global,
     engine: &mut Engine<W, S>,

@@ -1,5 +1,5 @@
 -- Buffers of which no two are of the same flow: one of a flow is the first of it.
-use Rattle.std.proofs.Common.{◌≡◌, ◌∙◌, ◌<◌, ◌≤◌, ℕ, zero, suc, true, false, List, [], ◌∷◌, map, length, get_or, set}
+use Rattle.std.proofs.Common.{◌≡◌, ◌∙◌, ◌<◌, ℕ, zero, suc, true, false, List, [], ◌∷◌, map, length, get_or, set}
 use Rattle.std.proofs.Common.{remove, position, nat_eq, nat_lt, is_some, None, Some, Result, Ok, Err, IfOk, IfErr}
 use Rattle.std.proofs.Common.{refl, sym, ap, subst, arith}
 use Rattle.std.specs.Cmp.{nat_eq_equiv}
@@ -10,8 +10,8 @@ use Rattle.std.proofs.lemmas.List.Sums.{position_or_len_is}
 use Rattle.std.proofs.lemmas.Map.Keys.{IsDistinct-push, apart_from_distinct}
 use Rattle.std.proofs.Math.ListN.{get_or-map}
 use Rattle.std.proofs.Math.Seq.{map-set_same}
-use Rattle.share_model.specs.link.Buffers.{Buffer, is_buffer_of, buffer_of, new_buffer, is_full, with_packet, opened}
-use Rattle.share_model.specs.lists.Laws.{is_some-find_number}
+use Rattle.share_model.specs.link.Buffers.{Buffer, is_buffer_of, buffer_of, new_buffer, is_full, with_packet, open_in}
+use Rattle.share_model.proofs.lemmas.lists.Laws.{is_some-find_number}
 use Rattle.share_flows.specs.Places.{AreApart}
 
 pub apart-none : (bs : List Buffer) → bs ≡ [] → AreApart bs
@@ -36,9 +36,9 @@ none_are : (f : ℕ) (bs : List Buffer) → buffer_of bs f ≡ None
 none_are f bs none = sym (is_some-find_number (λ (b : Buffer). b.flow) f bs) ∙ ap is_some none
 
 -- the buffer of a flow that has none comes to the others
-pub apart-opened : (bs : List Buffer) (f limit : ℕ) → buffer_of bs f ≡ None → AreApart bs
-    → AreApart (opened bs f limit)
-apart-opened bs f limit none apart =
+pub apart-open_in : (bs : List Buffer) (f limit : ℕ) → buffer_of bs f ≡ None → AreApart bs
+    → AreApart (open_in bs f limit)
+apart-open_in bs f limit none apart =
     subst (IsDistinct nat_eq) (sym (map-append (λ (b : Buffer). b.flow) bs (new_buffer f limit ∷ [])))
     (IsDistinct-push nat_eq_equiv (map (λ (b : Buffer). b.flow) bs) f apart (none_are f bs none))
 

@@ -4,13 +4,13 @@ use Rattle.std.proofs.Common.{Option, None, Some, IfSome, MatchOption, option_ma
 use Rattle.std.proofs.Common.{Result, Ok, Err, IfOk, IfErr, sym, ap, subst}
 use Rattle.std.proofs.lemmas.List.{set-get_or}
 use Rattle.share_model.specs.link.Frame.{Packet}
-use Rattle.share_model.specs.link.BufferLaws.{head_of-flow}
-use Rattle.share_model.specs.link.Buffers.{Buffer, is_buffer_of, buffer_of, with_packet, without_head, pushed, popped}
+use Rattle.share_model.proofs.lemmas.link.BufferLaws.{head_of-flow}
+use Rattle.share_model.specs.link.Buffers.{Buffer, is_buffer_of, buffer_of, with_packet, without_head, push_in, pop_in}
 use Rattle.share_model.specs.link.Buffers.{is_full, head_in, head_of_buffer, head_of, is_some_packet}
 use Rattle.share_model.specs.link.Buffers.{holds_packet, is_busy}
 use Rattle.share_flows.specs.declared.buffers.Place.{Place}
 use Rattle.share_flows.specs.Places.{Stands}
-use Rattle.share_flows.specs.PlaceLaws.{changed, found}
+use Rattle.share_flows.proofs.PlaceLaws.{changed, found}
 
 -- the rings rs are the buffers bs, and the ring r stands at the place
 module _ (rs bs : List Buffer) (place : Place) (r : Buffer) (same : rs ≡ bs) (stands : Stands bs place)
@@ -49,10 +49,10 @@ module _ (rs bs : List Buffer) (place : Place) (r : Buffer) (same : rs ≡ bs) (
       → option_map (λ (h : Packet). h.payload) (head_of bs place.flow) ≡ Some p
   head_popped p ps first = ap (option_map (λ (h : Packet). h.payload)) (headed ∙ ap (head_in r) first)
 
-  pub after_pop : (new : Buffer) → new ≡ without_head r → set rs place.at new ≡ popped bs place.flow
+  pub after_pop : (new : Buffer) → new ≡ without_head r → set rs place.at new ≡ pop_in bs place.flow
   after_pop new is =
       changed (is_buffer_of place.flow) without_head rs place.at r new own read is
-      ∙ ap (λ xs. popped xs place.flow) same
+      ∙ ap (λ xs. pop_in xs place.flow) same
 
   pub may_push : IfSome (buffer_of bs place.flow) (λ b. is_full b ≡ false → b.next < 2 ^ 32)
       → is_full r ≡ false → r.next < 2 ^ 32
@@ -61,11 +61,11 @@ module _ (rs bs : List Buffer) (place : Place) (r : Buffer) (same : rs ≡ bs) (
   pub after_push : (o : Result ℕ (List ℕ)) (new : Buffer) (body : List ℕ)
       → IfOk o (λ n. (n ≡ r.next) × (is_full r ≡ false) × (new ≡ with_packet body r))
       → IfOk o (λ n. IfSome (buffer_of bs place.flow) (λ b. (n ≡ b.next) × (is_full b ≡ false))
-      × (set rs place.at new ≡ pushed bs place.flow body))
+      × (set rs place.at new ≡ push_in bs place.flow body))
   after_push (Ok n) new body is = (
     subst (λ (o : Option Buffer). IfSome o (λ b. (n ≡ b.next) × (is_full b ≡ false))) (sym standing) (is.0, is.1),
     changed (is_buffer_of place.flow) (with_packet body) rs place.at r new own read is.2
-        ∙ ap (λ xs. pushed xs place.flow body) same,
+        ∙ ap (λ xs. push_in xs place.flow body) same,
   )
   after_push (Err back) new body is = tt
 

@@ -1,3 +1,2 @@
 pub mod Limit
-pub mod PlaceLaws
 pub mod Places

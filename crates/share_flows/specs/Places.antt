@@ -1,10 +1,10 @@
--- Where the buffer of a flow stands.
+-- Where the buffer of a flow is.
 use Rattle.std.specs.Prelude.{◌≡◌, List, map, position, nat_eq, Some}
 use Rattle.std.specs.List.{IsDistinct}
 use Rattle.share_model.specs.link.Buffers.{Buffer, is_buffer_of}
 use Rattle.share_flows.specs.declared.buffers.Place.{Place}
 
--- the first buffer of the flow stands there
+-- the first buffer of the flow is at this place
 abbrev pub Stands : List Buffer → Place → Type 0
 Stands bs place = position (is_buffer_of place.flow) bs ≡ Some place.at
 

@@ -3,7 +3,7 @@ ghost use Rattle.std.specs.Prelude.{◌≡◌, ◌<◌, ◌≤◌, ◌^◌, [], 
 ghost use Rattle.std.specs.Prelude.{length, slice_get, MatchOption, None, Some, IsSome, IfSome, IsTrue, option_map};
 ghost use Rattle.share_base.specs.Refusal.{IsRefused};
 ghost use Rattle.share_base.specs.declared.refusal.Refusal.TheVariants.{NoMemory};
-ghost use Rattle.share_model.specs.link.Buffers.{buffer_of, is_buffer_of, opened, closed, count_in, pushed, popped};
+ghost use Rattle.share_model.specs.link.Buffers.{buffer_of, is_buffer_of, open_in, close_in, count_in, push_in, pop_in};
 ghost use Rattle.share_model.specs.link.Buffers.{is_full, head_of, is_busy};
 ghost use Rattle.share_flows.specs.Places.{Stands, AreApart};
 ghost use Rattle.share_flows.specs.Limit.{limit_refusal};
@@ -13,10 +13,10 @@ use share_base::{Body, FlowNo, Refusal};
 use std::alloc::Global;
 use std::marker::Model;
 
-/// For how many buffers room is made at the start. A buffer beyond them takes memory for its place when it is opened.
+/// How many buffers there is room for at the start. A buffer beyond them takes memory for its place when it is opened.
 const ROOM: usize = 64;
 
-/// Where the buffer of a flow stands, as `find` gave it. It is good while no buffer is opened or closed.
+/// Where the buffer of a flow is, as `find` gave it. It is good while no buffer is opened or closed.
 #[derive(Clone, Copy, Debug)]
 pub struct Place {
     pub flow: FlowNo,
@@ -24,7 +24,7 @@ pub struct Place {
 }
 
 /// A buffer for each open flow. A contract sees them as a list in order of opening: each with its flow, its limit, the
-/// payloads that it holds and the sequence number that is given next.
+/// payloads that it holds and the next sequence number.
 #[derive(Drop)]
 pub struct Buffers {
     alloc: Global,
@@ -44,7 +44,7 @@ impl Model for Buffers {
 }
 
 impl Buffers {
-    /// No buffer. `NoMemory` where the memory for the places of 64 buffers is refused.
+    /// No buffers, with places for 64. `NoMemory` if the memory for these is refused.
     pub fn new(alloc: Global) -> Result<Buffers, Refusal>
         ensures ok { IfOk result (λ b. b ≡ []) }
         ensures refused { IfErr result (λ e. e ≡ NoMemory) }
@@ -54,11 +54,11 @@ impl Buffers {
     }
 
     /// Opens the buffer of a flow that has none, with room for `limit` packets, 1 to 1024. No later call takes memory
-    /// for it. `Range` where the limit is none of these, `NoMemory` where a growth is refused; nothing changes then.
+    /// for it. `Range` if the limit is out of range, `NoMemory` if memory is refused; then nothing changes.
     pub fn open(&mut self, flow: FlowNo, limit: u64) -> Result<(), Refusal>
         requires { buffer_of self.old flow ≡ None }
         ensures ok { OnOk result
-            ((self.new ≡ opened self.old flow limit) × (limit_refusal limit ≡ None)) }
+            ((self.new ≡ open_in self.old flow limit) × (limit_refusal limit ≡ None)) }
         ensures refused { IfErr result
             (λ e. (self.new ≡ self.old) × IsRefused (limit_refusal limit) e) }
     {
@@ -71,7 +71,7 @@ impl Buffers {
         Ok(())
     }
 
-    /// Where the buffer of a flow stands, if it is open. It takes no memory.
+    /// Where the buffer of a flow is. `None` if the flow is not open. It takes no memory.
     pub fn find(&self, flow: FlowNo) -> Option<Place>
         ensures { MatchOption result (buffer_of self.now flow ≡ None)
             (λ place. (place.flow ≡ flow) × IsSome (buffer_of self.now flow) × Stands self.now place) }
@@ -82,13 +82,16 @@ impl Buffers {
         }
     }
 
-    // Where the buffer of an open flow stands.
+    // Where the buffer of an open flow is.
     fn place(&self, flow: FlowNo) -> Place
         requires { IsSome (buffer_of self.now flow) }
         ensures flow { result.flow ≡ flow }
         ensures stands { Stands self.now result }
     {
-        self.find(flow).unwrap()
+        match self.find(flow) {
+            None => unreachable!(),
+            Some(place) => place,
+        }
     }
 
     /// The sequence number that the next packet of a flow takes. It takes no memory.
@@ -100,15 +103,15 @@ impl Buffers {
         self.rings[place.at].next_number()
     }
 
-    /// Puts a packet at the back of a flow's buffer and gives its sequence number, which counts the packets from 1.
-    /// Where the buffer is full it hands the packet back, and nothing changes: no number is taken. It takes no memory.
+    /// Puts a packet at the back of a flow's buffer and gives its sequence number, which counts the packets from 1. If
+    /// the buffer is full, it gives the packet back, takes no number and changes nothing. It takes no memory.
     pub fn push(&mut self, flow: FlowNo, body: Body) -> Result<u32, Body>
         requires there { IsSome (buffer_of self.old flow) }
         requires numbers { IfSome (buffer_of self.old flow)
             (λ b. is_full b ≡ false → b.next < 2 ^ 32) }
         ensures ok { IfOk result (λ number.
             IfSome (buffer_of self.old flow) (λ b. (number ≡ b.next) × (is_full b ≡ false))
-            × (self.new ≡ pushed self.old flow body)) }
+            × (self.new ≡ push_in self.old flow body)) }
         ensures full { IfErr result (λ back.
             (back ≡ body)
             × IfSome (buffer_of self.old flow) (λ b. is_full b ≡ true)
@@ -118,14 +121,14 @@ impl Buffers {
         self.push_at(&place, body)
     }
 
-    /// The same, at a place, which is good afterwards too.
+    /// The same, at a place, which stays good.
     pub fn push_at(&mut self, place: &Place, body: Body) -> Result<u32, Body>
         requires there { Stands self.old place.now }
         requires numbers { IfSome (buffer_of self.old place.now.flow)
             (λ b. is_full b ≡ false → b.next < 2 ^ 32) }
         ensures ok { IfOk result (λ number.
             IfSome (buffer_of self.old place.now.flow) (λ b. (number ≡ b.next) × (is_full b ≡ false))
-            × (self.new ≡ pushed self.old place.now.flow body)) }
+            × (self.new ≡ push_in self.old place.now.flow body)) }
         ensures full { IfErr result (λ back.
             (back ≡ body)
             × IfSome (buffer_of self.old place.now.flow) (λ b. is_full b ≡ true)
@@ -142,13 +145,16 @@ impl Buffers {
         ensures { head_of self.now flow
             ≡ Some (record { flow = flow; seq = result.0; payload = result.1.now }) }
     {
-        match self.find(flow) {
+        let Some(place) = self.find(flow) else {
+            unreachable!()
+        };
+        match self.head_at(&place) {
             None => unreachable!(),
-            Some(place) => self.head_at(&place).unwrap(),
+            Some(head) => head,
         }
     }
 
-    /// The sequence number and the payload of the head packet at a place, `None` where the buffer is empty. It takes no
+    /// The sequence number and the payload of the head packet at a place. `None` if the buffer is empty. It takes no
     /// memory.
     pub fn head_at(&self, place: &Place) -> Option<(u32, &Body)>
         requires { Stands self.now place.now }
@@ -163,7 +169,7 @@ impl Buffers {
     pub fn pop(&mut self, flow: FlowNo) -> Body
         requires { IsTrue (is_busy self.old flow) }
         ensures head { option_map (λ h. h.payload) (head_of self.old flow) ≡ Some result }
-        ensures after { self.new ≡ popped self.old flow }
+        ensures after { self.new ≡ pop_in self.old flow }
     {
         match self.find(flow) {
             None => unreachable!(),
@@ -171,19 +177,19 @@ impl Buffers {
         }
     }
 
-    /// The same, at a place, which is good afterwards too.
+    /// The same, at a place, which stays good.
     pub fn pop_at(&mut self, place: &Place) -> Body
         requires there { Stands self.old place.now }
         requires busy { IsTrue (is_busy self.old place.now.flow) }
         ensures head { option_map (λ h. h.payload) (head_of self.old place.now.flow) ≡ Some result }
-        ensures after { self.new ≡ popped self.old place.now.flow }
+        ensures after { self.new ≡ pop_in self.old place.now.flow }
         ensures stands { Stands self.new place.now }
     {
         let ring = &mut self.rings[place.at];
         ring.pop()
     }
 
-    /// How many packets a flow's buffer holds, at most its limit, and 0 where the flow is not open. It takes no memory.
+    /// How many packets a flow's buffer holds, at most its limit; 0 if the flow is not open. It takes no memory.
     pub fn len(&self, flow: FlowNo) -> u32
         ensures count { result ≡ count_in self.now flow }
         ensures limit { IfSome (buffer_of self.now flow) (λ b. result ≤ b.limit) }
@@ -194,7 +200,7 @@ impl Buffers {
         }
     }
 
-    /// Whether a flow's buffer holds a packet. It takes no memory.
+    /// Whether a flow is open and its buffer holds a packet. It takes no memory.
     pub fn is_busy(&self, flow: FlowNo) -> bool
         ensures { result ≡ is_busy self.now flow }
     {
@@ -212,11 +218,11 @@ impl Buffers {
         self.rings[place.at].is_busy()
     }
 
-    /// Closes the buffer of a flow, and says how many packets it held; they are dropped. It takes no memory.
+    /// Closes the buffer of a flow, drops its packets and says how many they were. It takes no memory.
     pub fn close(&mut self, flow: FlowNo) -> u32
         requires { IsSome (buffer_of self.old flow) }
         ensures held { result ≡ count_in self.old flow }
-        ensures after { self.new ≡ closed self.old flow }
+        ensures after { self.new ≡ close_in self.old flow }
     {
         let place = self.place(flow);
         let ring = self.rings.remove(place.at);
@@ -224,9 +230,9 @@ impl Buffers {
     }
 }
 
-// Where the ring of a flow stands, if there is one. Flows are mostly opened in the order of their numbers. So the place
-// is tried at which it stands where none between it and the first was closed; then it is sought by halves, and only
-// where it is not found that way is each ring asked.
+// Where the ring of a flow is, if there is one. Flows are mostly opened in the order of their numbers, so first the
+// place is tried where it is if no flow between the first one and it was closed; then a search by halves; and only then
+// each ring in turn.
 fn place_of(rings: &[Ring], flow: FlowNo) -> Option<usize>
     requires { AreApart rings.now }
     ensures { result ≡ position (is_buffer_of flow) rings.now }
@@ -250,7 +256,7 @@ fn stands_at(rings: &[Ring], flow: FlowNo, place: usize) -> bool
     place < rings.len() && rings[place].is_of(flow)
 }
 
-// As many places past the first ring as the flow's number is past that of the first.
+// How far the flow's number is past that of the first ring, and 0 if it is not past it.
 fn past_first(rings: &[Ring], flow: FlowNo) -> usize
     ensures { MatchOption (slice_get rings.now 0) (result ≡ 0) (λ first. result ≡ flow - first.flow) }
 {
@@ -260,7 +266,7 @@ fn past_first(rings: &[Ring], flow: FlowNo) -> usize
     }
 }
 
-// Where the ring of a flow stands if the rings are in the order of their flows' numbers, and it is one of them.
+// Where the ring of a flow is, if it is there and the rings are in the order of flow numbers.
 fn by_halves(rings: &[Ring], flow: FlowNo) -> usize
     ensures { result ≤ length rings.now }
 {

@@ -1,4 +1,4 @@
-//! The buffers of the open flows: a ring of packets for each, whose whole room is made when the flow is opened.
+//! The buffers of the open flows: a ring of packets for each. All its memory is taken when the flow is opened.
 #![tactic(auto)]
 
 mod buffers;

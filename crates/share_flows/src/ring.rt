@@ -12,12 +12,12 @@ use std::marker::Model;
 /// The greatest limit of a buffer, in packets.
 pub const MAX_LIMIT: u64 = 1024;
 
-/// The packets of a flow in order of arrival, and the sequence number given next. The limit of the buffer is the
-/// capacity of the ring.
+/// The packets of a flow in order of arrival, and the next sequence number. The limit of the buffer is the capacity of
+/// the ring.
 #[derive(Drop)]
 pub struct Ring {
     flow: FlowNo,
-    // One past the greatest number of 32 bits is a number that is never given.
+    // 2^32 when all numbers are used up: it is never given.
     next: u64,
     packets: HeapCircularBuffer<Body>,
 }
@@ -25,6 +25,7 @@ pub struct Ring {
 impl Model for Ring {
     ghost use Rattle.std.specs.Prelude.{◌≤◌, ◌<◌, ◌^◌, length};
     ghost use Rattle.share_model.specs.link.Buffers.{Buffer};
+    ghost use Rattle.share_flows.specs.declared.ring.TheConstants.{MAX_LIMIT};
 
     ghost Value = { Buffer };
 
@@ -32,7 +33,7 @@ impl Model for Ring {
         record { flow = r.flow; limit = r.packets.capacity; next = r.next; packets = r.packets.items } };
 
     ghost invariant = { λ r.
-        (r.packets.capacity ≤ 1024)
+        (r.packets.capacity ≤ MAX_LIMIT)
         × (length r.packets.items ≤ r.packets.capacity)
         × (length r.packets.items < r.next)
         × (r.next ≤ 2 ^ 32) };
@@ -41,7 +42,7 @@ impl Model for Ring {
 impl Ring {
     /// An empty buffer, with room for its limit.
     pub fn new(alloc: Global, flow: FlowNo, limit: usize) -> Result<Ring, AllocError>
-        requires { limit ≤ 1024 }
+        requires { limit ≤ MAX_LIMIT }
         ensures { IfOk result (λ r. r ≡ new_buffer flow limit) }
     {
         let packets = HeapCircularBuffer::with_capacity(alloc, limit)?;
@@ -59,14 +60,14 @@ impl Ring {
         flow.number() == self.flow.number()
     }
 
-    /// How far the number of a flow is past that of its own, and 0 where it is not.
+    /// How far a flow's number is past that of its own flow, and 0 if it is not past it.
     pub fn numbers_to(&self, flow: FlowNo) -> u32
         ensures { result ≡ flow - self.now.flow }
     {
         flow.number().saturating_sub(self.flow.number())
     }
 
-    /// Whether the number of its flow is less than this one.
+    /// Whether its own flow's number is less than this one.
     pub fn is_before(&self, flow: FlowNo) -> bool
         ensures { result ≡ nat_lt self.now.flow flow }
     {
@@ -95,8 +96,8 @@ impl Ring {
         !self.packets.is_empty()
     }
 
-    /// Puts a packet at the back and gives its sequence number, or hands it back where the buffer is full. It takes no
-    /// memory.
+    /// Puts a packet at the back and gives its sequence number. If the buffer is full, it gives the packet back. It
+    /// takes no memory.
     pub fn push(&mut self, body: Body) -> Result<u32, Body>
         requires { is_full self.old ≡ false → self.old.next < 2 ^ 32 }
         ensures ok { IfOk result (λ number.
@@ -124,7 +125,10 @@ impl Ring {
         ensures head { self.old.packets ≡ result ∷ self.new.packets }
         ensures after { self.new ≡ without_head self.old }
     {
-        self.packets.pop_front().unwrap()
+        match self.packets.pop_front() {
+            None => unreachable!(),
+            Some(body) => body,
+        }
     }
 
     /// The sequence number of the head packet, and its payload.

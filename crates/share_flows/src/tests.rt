@@ -7,13 +7,13 @@ use share_base::{Body, FlowNo, Refusal};
 use std::alloc::Global;
 use std::process::Abort;
 
-/// A step of a worked example: a call on the buffer of a flow, and what it answers. A packet is told by the byte of its
+/// A step of a worked example: a call on the buffer of a flow, and its answer. A packet is named by the one byte of its
 /// payload.
 #[derive(Clone, Copy, Debug)]
 enum Row {
-    /// A buffer for so many packets is opened; `None` where it is open already.
+    /// A buffer with this limit is opened; `None` if it is open already.
     Open(u32, u64, Option<Result<(), Refusal>>),
-    /// A packet is put in: it is given a number, or given back; `None` where no buffer is open.
+    /// A packet is put in: it gets a number, or comes back; `None` if no buffer is open.
     Push(u32, u8, Option<Result<u32, u8>>),
     /// The head packet and its number.
     Head(u32, Option<(u32, u8)>),
@@ -21,9 +21,9 @@ enum Row {
     Pop(u32, Option<u8>),
     /// A packet is put in at the flow's place, and the head packet and its number are taken out.
     Through(u32, u8, Option<(u32, u8)>),
-    /// The buffer is closed, and the packets that it held are told.
+    /// The buffer is closed: how many packets it held.
     Close(u32, Option<u32>),
-    /// Whether a buffer is open, whether it is busy, and the packets that it holds.
+    /// Whether a buffer is open, whether it holds a packet, and how many.
     Shows(u32, bool, bool, u32),
 }
 
@@ -32,7 +32,7 @@ fn body(rt: &impl Abort, alloc: Global, byte: u8) -> Body {
     Body::new(alloc, &[byte]).expect(rt, "a payload")
 }
 
-// The call of a row answers what the row says.
+// Whether the call of a row gives the row's answer.
 fn holds(rt: &impl Abort, alloc: Global, buffers: &mut Buffers, row: Row) -> bool {
     match row {
         Row::Open(flow, limit, answer) => open(buffers, FlowNo(flow), limit) == answer,
@@ -96,7 +96,7 @@ fn closing_tells_the_packets_held(rt: HostRuntime) {
         Row::Shows(1, false, false, 0),
         Row::Close(1, None),
         Row::Open(1, 4, Some(Ok(()))),
-        // numbers begin anew
+        // numbers start from 1 again
         Row::Push(1, 9, Some(Ok(1))),
     ];
     plays(&rt, rt.alloc(), &rows);

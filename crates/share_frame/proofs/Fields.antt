@@ -9,7 +9,7 @@ use Rattle.std.proofs.lemmas.List.{get_or_default, get_or_past, take-append-le, 
 use Rattle.std.proofs.lemmas.Nat.{be_bytes_2, be_bytes_4}
 use Rattle.share_model.specs.link.Fields.{is_byte}
 use Rattle.share_model.specs.link.Frame.{Packet, FitsFrame, header, frame}
-use Rattle.share_model.specs.link.FrameLaws.{length-frame}
+use Rattle.share_model.proofs.lemmas.link.FrameLaws.{length-frame}
 use Rattle.share_model.specs.run.History.{IsBeginning}
 use Rattle.share_frame.specs.Fields.{number_in, length_in}
 

@@ -4,10 +4,10 @@ use Rattle.std.proofs.Common.{◌∙◌, refl, sym, ap, subst, inl, inr, append_
 use Rattle.std.proofs.lemmas.Bool.{cases_lt}
 use Rattle.std.proofs.lemmas.List.{take-take, take_all, take-append-le, take-append-drop, length-drop, length-take-le}
 use Rattle.share_model.specs.link.Frame.{Packet, FitsFrame, frame}
-use Rattle.share_model.specs.link.FrameLaws.{length-frame, frame-prefix}
+use Rattle.share_model.proofs.lemmas.link.FrameLaws.{length-frame, frame-prefix}
 use Rattle.share_model.specs.run.History.{IsBeginning}
-use Rattle.share_frame.specs.declared.reading.Place.{Place}
-use Rattle.share_frame.specs.declared.reading.Place.TheVariants.{Magic, Version, Flow, Seq, Len}
+use Rattle.share_frame.specs.declared.reading.Field.{Field}
+use Rattle.share_frame.specs.declared.reading.Field.TheVariants.{Magic, Version, Flow, Seq, Len}
 use Rattle.share_frame.specs.declared.reading.FrameRead.{FrameRead}
 use Rattle.share_frame.specs.declared.reading.FrameRead.TheVariants.{Frame, More, Bad}
 use Rattle.share_frame.specs.Reading.{BeginsWithFrame, IsFirstBad, start_of, end_of}
@@ -65,7 +65,7 @@ frame-whole head rest x fits is b =
     no_rest rest left some (frame-prefix head b.head (rest ++ left) [] fits b.fits whole).1
 
 -- two fields are the same, or one ends before the other begins
-order : (p q : Place) → (p ≡ q) ⊎ ((end_of p ≤ start_of q) ⊎ (end_of q ≤ start_of p))
+order : (p q : Field) → (p ≡ q) ⊎ ((end_of p ≤ start_of q) ⊎ (end_of q ≤ start_of p))
 order Magic Magic = inl refl
 order Magic Version = inr (inl (omega arith))
 order Magic Flow = inr (inl (omega arith))
@@ -92,7 +92,7 @@ order Len Flow = inr (inr (omega arith))
 order Len Seq = inr (inr (omega arith))
 order Len Len = inl refl
 
-end-few : (p : Place) → end_of p ≤ 12
+end-few : (p : Field) → end_of p ≤ 12
 end-few Magic = omega arith
 end-few Version = omega arith
 end-few Flow = omega arith
@@ -100,12 +100,12 @@ end-few Seq = omega arith
 end-few Len = omega arith
 
 -- before a first bad field there is no other
-bad-first : (p q : Place) (x : List ℕ) → IsFirstBad p x → IsFirstBad q x → end_of p ≤ start_of q → ⊥
+bad-first : (p q : Field) (x : List ℕ) → IsFirstBad p x → IsFirstBad q x → end_of p ≤ start_of q → ⊥
 bad-first p q x a b before =
     a.within (subst IsBeginning (take-take (end_of p) (start_of q) x before)
     (less-begins (end_of p) (take (start_of q) x) b.before))
 
-same_bad : (p q : Place) (x : List ℕ) → IsFirstBad p x → IsFirstBad q x → ◌≡◌ {A = FrameRead} (Bad p) (Bad q)
+same_bad : (p q : Field) (x : List ℕ) → IsFirstBad p x → IsFirstBad q x → ◌≡◌ {A = FrameRead} (Bad p) (Bad q)
 same_bad p q x a b =
     elim (order p q) [
       | inl same ↦ ap Bad same

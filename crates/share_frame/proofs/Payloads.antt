@@ -8,7 +8,7 @@ use Rattle.std.proofs.lemmas.List.{length-take-le, length-drop, take-append-drop
 use Rattle.std.proofs.lemmas.List.Folds.{list_all-append}
 use Rattle.share_model.specs.link.Fields.{is_byte}
 use Rattle.share_model.specs.link.Frame.{Packet, FitsFrame, header, frame}
-use Rattle.share_model.specs.link.FrameLaws.{length-frame}
+use Rattle.share_model.proofs.lemmas.link.FrameLaws.{length-frame}
 use Rattle.share_model.specs.run.History.{IsBeginning}
 use Rattle.share_frame.specs.Reading.{BeginsWithFrame}
 use Rattle.share_frame.specs.Fields.{number_in, length_in}

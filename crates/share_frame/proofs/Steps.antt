@@ -3,8 +3,8 @@ use Rattle.std.specs.Prelude.{◌≡◌, ◌<◌, ◌≤◌, ◌+◌, ℕ, Bool,
 use Rattle.std.proofs.Common.{◌∙◌, suc, zero, get_or, arith}
 use Rattle.std.proofs.lemmas.List.{get_or-take, length-take}
 use Rattle.share_model.specs.run.History.{IsBeginning}
-use Rattle.share_frame.specs.declared.reading.Place.{Place}
-use Rattle.share_frame.specs.declared.reading.Place.TheVariants.{Magic, Version, Flow, Seq, Len}
+use Rattle.share_frame.specs.declared.reading.Field.{Field}
+use Rattle.share_frame.specs.declared.reading.Field.TheVariants.{Magic, Version, Flow, Seq, Len}
 use Rattle.share_frame.specs.Reading.{IsFirstBad, start_of, end_of}
 use Rattle.share_frame.specs.Fields.{number_in, length_in}
 use Rattle.share_frame.proofs.Fields.{four_same, two_same, AreBytes, GoodTo, good-begins}
@@ -125,7 +125,7 @@ good_12 x good has = record {
 }
 
 -- a field that is not good, behind fields that are, is the first that no frame has
-pub bad-at : (p : Place) (x : List ℕ) → start_of p ≤ 12 → AreBytes x → GoodTo (start_of p) x
+pub bad-at : (p : Field) (x : List ℕ) → start_of p ≤ 12 → AreBytes x → GoodTo (start_of p) x
     → (GoodTo (end_of p) x → ⊥) → IsFirstBad p x
 bad-at p x most bytes good bad = record {
   before = good-front (start_of p) x most bytes good;

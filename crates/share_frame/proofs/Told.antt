@@ -5,7 +5,7 @@ use Rattle.std.proofs.lemmas.List.{get_or-take, length-take, length-take-le}
 use Rattle.std.proofs.lemmas.List.Prefix.{front_reads}
 use Rattle.std.proofs.lemmas.Nat.{from_be_bytes-to_be_bytes_2, from_be_bytes-to_be_bytes_4}
 use Rattle.share_model.specs.link.Frame.{Packet, header, frame}
-use Rattle.share_model.specs.link.FrameLaws.{length-header}
+use Rattle.share_model.proofs.lemmas.link.FrameLaws.{length-header}
 use Rattle.share_model.specs.run.History.{IsBeginning}
 use Rattle.share_frame.specs.Fields.{number_in, length_in}
 use Rattle.share_frame.proofs.Fields.{four_same, two_same, GoodTo}

@@ -5,12 +5,12 @@ use Rattle.share_model.specs.link.Frame.{Packet, FitsFrame, header, frame}
 use Rattle.share_model.specs.run.History.{IsBeginning}
 use Rattle.share_frame.specs.Reading.{BeginsWithFrame}
 
-abbrev packet : ℕ → ℕ → List ℕ → Packet
-packet flow seq payload = record { flow = flow; seq = seq; payload = payload }
+abbrev packet_row : ℕ → ℕ → List ℕ → Packet
+packet_row flow seq payload = record { flow = flow; seq = seq; payload = payload }
 
 -- the first packet of flow 1, with the payload `hi`
 abbrev hi : Packet
-hi = packet 1 1 (codes "hi")
+hi = packet_row 1 1 (codes "hi")
 
 hi_fits : FitsFrame hi
 hi_fits = record {
@@ -31,7 +31,7 @@ greatest_header : header 4294967295 4294967295 1490
 unfolding header
 greatest_header = refl
 
--- a frame, with other bytes behind it
+-- a frame, with other bytes after it
 hi_read : BeginsWithFrame 1 1 2 (76 ∷ 1 ∷ 0 ∷ 0 ∷ 0 ∷ 1 ∷ 0 ∷ 0 ∷ 0 ∷ 1 ∷ 0 ∷ 2 ∷ 104 ∷ 105 ∷ 77 ∷ [])
 unfolding frame header
 hi_read = record {
@@ -57,9 +57,9 @@ all_but_the_last : IsBeginning (76 ∷ 1 ∷ 0 ∷ 0 ∷ 0 ∷ 1 ∷ 0 ∷ 0 ∷
 unfolding frame header
 all_but_the_last = record { head = hi; fits = hi_fits; at = 13; few = omega arith; is = refl }
 
--- the high byte of a length, which more bytes of payload than 1280 have
+-- the high byte of a length of more than 1280
 long_packet : Packet
-long_packet = packet 1 1 (replicate 1281 0)
+long_packet = packet_row 1 1 (replicate 1281 0)
 
 long_fits : FitsFrame long_packet
 unfolding long_packet

@@ -8,5 +8,5 @@ mod tests;
 mod writing;
 
 pub use laws::no_frame_begins_another;
-pub use reading::{FrameRead, Place, read_frame};
+pub use reading::{Field, FrameRead, read_frame};
 pub use writing::{HEADER, header};

@@ -1,14 +1,14 @@
-//! What bytes begin with: a frame, a part of one, or a field that no frame has.
+//! What bytes begin with: a frame, a part of a frame, or a field that no frame has.
 ghost use Rattle.std.specs.Prelude.{◌≡◌, ◌<◌, ◌≤◌, ◌+◌, ◌↔◌, ℕ, IsTrue, MatchOption, length, take, slice_index};
 ghost use Rattle.share_model.specs.run.History.{IsBeginning};
 ghost use Rattle.share_frame.specs.Reading.{BeginsWithFrame, IsFirstBad};
 ghost use Rattle.share_frame.specs.Fields.{number_in, length_in};
-ghost use Rattle.share_frame.specs.declared.reading.Place.{Place};
+ghost use Rattle.share_frame.specs.declared.reading.Field.{Field};
 
 use crate::writing::{HEADER, MAGIC, VERSION};
 use share_base::{FlowNo, MAX_PAYLOAD};
 
-/// The high byte of the greatest length.
+/// The high byte of the greatest length of a payload.
 const MAX_HIGH: u8 = 5;
 
 /// Where the flow number, the sequence number and the length of the payload begin.
@@ -20,7 +20,7 @@ const LEN: usize = 10;
 
 /// A field of a frame's header.
 #[derive(Clone, Copy, Debug, PartialEq, Eq)]
-pub enum Place {
+pub enum Field {
     /// The byte that names the format.
     Magic,
     /// The byte that names the version of the format.
@@ -33,19 +33,19 @@ pub enum Place {
     Len,
 }
 
-impl Place {
+impl Field {
     ghost use Rattle.share_frame.specs.Reading.{start_of};
 
-    /// How many bytes of a frame stand before the field: 0, 1, 2, 6 or 10.
+    /// How many bytes of a frame are before the field: 0, 1, 2, 6 or 10.
     pub fn start(self) -> usize
         ensures { result ≡ start_of self }
     {
         match self {
-            Place::Magic => 0,
-            Place::Version => 1,
-            Place::Flow => FLOW,
-            Place::Seq => SEQ,
-            Place::Len => LEN,
+            Field::Magic => 0,
+            Field::Version => 1,
+            Field::Flow => FLOW,
+            Field::Seq => SEQ,
+            Field::Len => LEN,
         }
     }
 }
@@ -55,18 +55,18 @@ impl Place {
 pub enum FrameRead {
     /// A frame, with the numbers of its packet and how many bytes of payload it has.
     Frame { flow: FlowNo, seq: u32, len: u16 },
-    /// The beginning of a frame, and not the whole; no bytes at all are one too.
+    /// The beginning of a frame, and not the whole. No bytes at all are such a beginning.
     More,
-    /// A field that no frame has: the first such.
-    Bad(Place),
+    /// The first field that no frame has.
+    Bad(Field),
 }
 
-/// What the bytes begin with. It takes no memory.
+/// Says what the bytes begin with. It takes no memory.
 pub fn read_frame(bytes: &[u8]) -> FrameRead
     ensures frame { (flow seq len : ℕ) → (result ≡ FrameRead.Frame flow seq len)
         ↔ BeginsWithFrame flow seq len bytes.now }
     ensures more { (result ≡ FrameRead.More) ↔ IsBeginning bytes.now }
-    ensures bad { (place : Place) → (result ≡ FrameRead.Bad place) ↔ IsFirstBad place bytes.now }
+    ensures bad { (place : Field) → (result ≡ FrameRead.Bad place) ↔ IsFirstBad place bytes.now }
 {
     if let Some(place) = first_bad(bytes) {
         return FrameRead::Bad(place);
@@ -86,47 +86,47 @@ pub fn read_frame(bytes: &[u8]) -> FrameRead
 }
 
 // The first field of the header that no frame has, as far as the bytes go.
-fn first_bad(bytes: &[u8]) -> Option<Place>
-    ensures { MatchOption result (IsBeginning (take 12 bytes.now)) (λ place. IsFirstBad place bytes.now) }
+fn first_bad(bytes: &[u8]) -> Option<Field>
+    ensures { MatchOption result (IsBeginning (take HEADER bytes.now)) (λ place. IsFirstBad place bytes.now) }
 {
     if !is_good_byte(bytes, 0, MAGIC) {
-        return Some(Place::Magic);
+        return Some(Field::Magic);
     }
     if !is_good_byte(bytes, 1, VERSION) {
-        return Some(Place::Version);
+        return Some(Field::Version);
     }
     if !is_good_number(bytes, FLOW) {
-        return Some(Place::Flow);
+        return Some(Field::Flow);
     }
     if !is_good_number(bytes, SEQ) {
-        return Some(Place::Seq);
+        return Some(Field::Seq);
     }
     if !is_good_length(bytes) {
-        return Some(Place::Len);
+        return Some(Field::Len);
     }
     None
 }
 
-// Whether the byte at a place, if it is there, is this one.
+// Whether the byte at a place is this one, or not there yet.
 fn is_good_byte(bytes: &[u8], at: usize, byte: u8) -> bool
     ensures { IsTrue result ↔ (at < length bytes.now → slice_index bytes.now at ≡ byte) }
 {
     bytes.len() <= at || bytes[at] == byte
 }
 
-// Whether the number at a place, if all its bytes are there, is at least 1.
+// Whether the number at a place is at least 1, or not all there yet.
 fn is_good_number(bytes: &[u8], at: usize) -> bool
-    requires { at ≤ 6 }
+    requires { at ≤ SEQ }
     ensures { IsTrue result ↔ (at + 3 < length bytes.now → 1 ≤ number_in bytes.now at) }
 {
     bytes.len() < at + 4 || number_at(bytes, at) != 0
 }
 
-// Whether the length of the payload, as far as its bytes are there, is one of 1 to 1490.
+// Whether the length of the payload, as far as its bytes are there, can be 1 to 1490.
 fn is_good_length(bytes: &[u8]) -> bool
-    ensures { IsTrue result ↔ ((10 < length bytes.now → slice_index bytes.now 10 ≤ 5)
-        × (11 < length bytes.now → 1 ≤ length_in bytes.now)
-        × (11 < length bytes.now → length_in bytes.now ≤ 1490)) }
+    ensures { IsTrue result ↔ ((LEN < length bytes.now → slice_index bytes.now LEN ≤ MAX_HIGH)
+        × (LEN + 1 < length bytes.now → 1 ≤ length_in bytes.now)
+        × (LEN + 1 < length bytes.now → length_in bytes.now ≤ MAX_PAYLOAD)) }
 {
     if bytes.len() < HEADER {
         return bytes.len() <= LEN || bytes[LEN] <= MAX_HIGH;
@@ -145,7 +145,7 @@ fn number_at(bytes: &[u8], at: usize) -> u32
 
 // The length of the payload, in the last two bytes of the header.
 fn length_of(bytes: &[u8]) -> u16
-    requires { 12 ≤ length bytes.now }
+    requires { HEADER ≤ length bytes.now }
     ensures { result ≡ length_in bytes.now }
 {
     u16::from_be_bytes([bytes[LEN], bytes[LEN + 1]])

@@ -1,5 +1,5 @@
 //! Worked frames: their headers, and what bytes are read as.
-use crate::{FrameRead, HEADER, Place, header, no_frame_begins_another, read_frame};
+use crate::{Field, FrameRead, HEADER, header, no_frame_begins_another, read_frame};
 use share_base::FlowNo;
 
 /// The frame of the payload `hi`, the first packet of flow 1.
@@ -20,13 +20,13 @@ const ROWS: [(&[u8], FrameRead); 15] = [
         b"\x4c\x01\x00\x00\x00\x01\x00\x00\x00\x01\x00\x02h",
         FrameRead::More,
     ),
-    (b"\x4d", FrameRead::Bad(Place::Magic)),
-    (b"\x4c\x02", FrameRead::Bad(Place::Version)),
+    (b"\x4d", FrameRead::Bad(Field::Magic)),
+    (b"\x4c\x02", FrameRead::Bad(Field::Version)),
     (b"\x4c\x01\x00", FrameRead::More),
-    (b"\x4c\x01\x00\x00\x00\x00", FrameRead::Bad(Place::Flow)),
+    (b"\x4c\x01\x00\x00\x00\x00", FrameRead::Bad(Field::Flow)),
     (
         b"\x4c\x01\x00\x00\x00\x01\x00\x00\x00\x00",
-        FrameRead::Bad(Place::Seq),
+        FrameRead::Bad(Field::Seq),
     ),
     (
         b"\x4c\x01\x00\x00\x00\x01\x00\x00\x00\x01\x05",
@@ -34,26 +34,26 @@ const ROWS: [(&[u8], FrameRead); 15] = [
     ),
     (
         b"\x4c\x01\x00\x00\x00\x01\x00\x00\x00\x01\x05\xd3",
-        FrameRead::Bad(Place::Len),
+        FrameRead::Bad(Field::Len),
     ),
     (
         b"\x4c\x01\x00\x00\x00\x01\x00\x00\x00\x01\x06",
-        FrameRead::Bad(Place::Len),
+        FrameRead::Bad(Field::Len),
     ),
     (
         b"\x4c\x01\x00\x00\x00\x01\x00\x00\x00\x01\x00\x00",
-        FrameRead::Bad(Place::Len),
+        FrameRead::Bad(Field::Len),
     ),
     // the first of several bad fields
     (
         b"\x4d\x02\x00\x00\x00\x00\x00\x00\x00\x00\x06\x00",
-        FrameRead::Bad(Place::Magic),
+        FrameRead::Bad(Field::Magic),
     ),
     (
         b"\x4c\x01\x00\x00\x00\x00\x00\x00\x00\x00\x06\x00",
-        FrameRead::Bad(Place::Flow),
+        FrameRead::Bad(Field::Flow),
     ),
-    // other bytes behind a frame
+    // other bytes after a frame
     (
         b"\x4c\x01\x00\x00\x00\x01\x00\x00\x00\x01\x00\x02hi\x4d",
         READ,
@@ -70,11 +70,11 @@ fn bytes_are_read(rt: HostRuntime) {
 #[test]
 fn fields_have_places(rt: HostRuntime) {
     for (place, start) in [
-        (Place::Magic, 0),
-        (Place::Version, 1),
-        (Place::Flow, 2),
-        (Place::Seq, 6),
-        (Place::Len, 10),
+        (Field::Magic, 0),
+        (Field::Version, 1),
+        (Field::Flow, 2),
+        (Field::Seq, 6),
+        (Field::Len, 10),
     ] {
         assert!(rt; place.start() == start, "{place:?}");
     }
@@ -108,7 +108,7 @@ fn headers_are_read_again(rt: HostRuntime) {
     }
 }
 
-// The header before a payload of so many zeros is read as a frame, and as less than one where its end is cut off.
+// Whether a header and a payload of `len` zeros are read as a frame, and as part of one if the end is cut off.
 fn is_read_again(header: [u8; HEADER], flow: u32, seq: u32, len: u16) -> bool {
     let mut bytes = [0; 1502];
     bytes[..HEADER].copy_from_slice(&header);

@@ -15,10 +15,10 @@ pub(crate) const VERSION: u8 = 1;
 
 /// The first 12 bytes of a frame: two that name the format, the flow number, the sequence number, and `len`, which is
 /// how many bytes the payload has, each high byte first. It takes no memory.
-pub fn header(flow: FlowNo, seq: u32, len: u16) -> [u8; 12]
+pub fn header(flow: FlowNo, seq: u32, len: u16) -> [u8; HEADER]
     ensures bytes { result ≡ header flow seq len }
 
-    // With a payload of this length behind it, it is the frame.
+    // With a payload of this length after it, it is the frame.
     ensures frame { (payload : List ℕ) → length payload ≡ len
         → result ++ payload ≡ frame (record { flow = flow; seq = seq; payload = payload }) }
 {

@@ -5,12 +5,12 @@ use Rattle.std.proofs.lemmas.List.{length-append}
 use Rattle.share_model.specs.declared.ingress.Ended.{Ended}
 use Rattle.share_model.specs.declared.reader.Got.{Got}
 use Rattle.share_model.specs.io.Calls.{Reads, no_reads}
-use Rattle.share_model.specs.io.CallsLaws.{reads_more}
-use Rattle.share_ingress.specs.Ends.{EndView, with_offer, raised, raises, CameBack}
+use Rattle.share_model.proofs.lemmas.io.CallsLaws.{reads_more}
+use Rattle.share_ingress.specs.Ends.{EndView, with_offer, one_higher, raises, CameBack}
 use Rattle.share_ingress.specs.GateCalls.{GateCall, item_next, item_queued, queue_full}
 use Rattle.share_ingress.specs.Gates.{WasFull, not_again, once_again, Waits, Drops, Queueing, none_queued, one_queued}
-use Rattle.share_ingress.specs.Gates.{Spends, EndsNow, DropsNext, Finishes, Ran, Refuses, MayDrop}
-use Rattle.share_ingress.specs.Reader.{Reading, GoesOn, Stands, Answers}
+use Rattle.share_ingress.specs.Gates.{Spends, EndsNow, DropsNext, Finishes, WorkerRan, CountsRefusals, MayDrop}
+use Rattle.share_ingress.specs.Reader.{Reading, GoesOnReading, EndStands, Answers}
 use Rattle.share_ingress.specs.declared.reader.Next.TheVariants.{Ended as Answered}
 use Rattle.share_ingress.specs.declared.workers.Why.{Why}
 use Rattle.share_ingress.specs.declared.workers.Why.TheVariants.{Ended as Over, Stopped, NotStarted}
@@ -23,7 +23,7 @@ pub refused_more : (e old new : EndView) → old ≡ record e { refused = old.re
 refused_more e old new same (inl all) =
     all.1 ∙ same ∙ ap (λ n. record e { refused = n }) (sym (ap (λ (d : EndView). d.refused) all.1))
 refused_more e old new same (inr full) =
-    full.0 ∙ ap (λ (d : EndView). record d { refused = raised old.refused }) same
+    full.0 ∙ ap (λ (d : EndView). record d { refused = one_higher old.refused }) same
     ∙ ap (λ n. record e { refused = n }) (sym (ap (λ (d : EndView). d.refused) full.0))
 
 pub was_full : (e old new : EndView) → old ≡ record e { refused = old.refused } → CameBack old new → WasFull e
@@ -32,12 +32,12 @@ was_full e old new same (inr full) = subst (λ (d : EndView). WasFull d) same (i
 
 -- and was counted
 pub came_back : (e old new : EndView) (rounds : ℕ) → old ≡ record e { refused = old.refused }
-    → Refuses e rounds old.refused → CameBack old new → Refuses e (rounds + 1) new.refused
+    → CountsRefusals e rounds old.refused → CameBack old new → CountsRefusals e (rounds + 1) new.refused
 came_back e old new rounds same asked (inl all) = inl (ap (λ (d : EndView). length d.pushed) (sym same) ∙ all.0)
 came_back e old new rounds same (inl most) (inr full) = inl most
 came_back e old new rounds same (inr counted) (inr full) =
     let next : suc rounds ≡ rounds + 1 = omega arith in
-    inr (ap (λ (d : EndView). d.refused) full.0 ∙ ap raised counted ∙ ap (λ n. raises e.refused n) next)
+    inr (ap (λ (d : EndView). d.refused) full.0 ∙ ap one_higher counted ∙ ap (λ n. raises e.refused n) next)
 
 module _ {G : Type 0} (told : G → GateCall → G → Type 0) where
   pub waits_none : (e : EndView) (turns : ℕ) (g : G) → Waits told e turns g turns e.refused g
@@ -73,7 +73,7 @@ module _ {G : Type 0} (told : G → GateCall → G → Type 0) where
 
 -- A worker at work: the items that were queued, and what they took
 
-pub record Running {R G : Type 0} (gives : R → List ℕ → Got → R → Type 0) (told : G → GateCall → G → Type 0)
+pub record HasQueuedSome {R G : Type 0} (gives : R → List ℕ → Got → R → Type 0) (told : G → GateCall → G → Type 0)
     (reader : Reading R) (start : EndView) (gate : G) (now : Reading R) (e : EndView) (g : G) : Type 0 where
   pub items : ℕ
   pub rounds : ℕ
@@ -83,7 +83,7 @@ pub record Running {R G : Type 0} (gives : R → List ℕ → Got → R → Type
 
 module _ {R G : Type 0} (gives : R → List ℕ → Got → R → Type 0) (told : G → GateCall → G → Type 0) where
   pub running_none : (reader : Reading R) (start : EndView) (gate : G)
-      → Running gives told reader start gate reader start gate
+      → HasQueuedSome gives told reader start gate reader start gate
   running_none reader start gate =
       record {
         items = 0;
@@ -94,9 +94,9 @@ module _ {R G : Type 0} (gives : R → List ℕ → Got → R → Type 0) (told 
       }
 
   module _ (reader : Reading R) (start : EndView) (gate : G) (now : Reading R) (e : EndView) (g : G)
-      (f : Running gives told reader start gate now e g) where
+      (f : HasQueuedSome gives told reader start gate now e g) where
     -- an item was read
-    read_more : (new : Reading R) → GoesOn gives now new → Spends gives reader f.rounds new
+    read_more : (new : Reading R) → GoesOnReading gives now new → Spends gives reader f.rounds new
     read_more new calls =
         record {
           count = f.spent.count + calls.count;
@@ -108,7 +108,7 @@ module _ {R G : Type 0} (gives : R → List ℕ → Got → R → Type 0) (told 
         → n ≡ f.items + 1
     numbered n first count a b c = omega (arith, f.long, a, b, c)
 
-    module _ (new : Reading R) (calls : GoesOn gives now new) (n first count : ℕ)
+    module _ (new : Reading R) (calls : GoesOnReading gives now new) (n first count : ℕ)
         (first_is : first ≡ length start.pushed) (count_is : count ≡ length e.pushed) (n_is : n ≡ count - first + 1)
         (asked : G) (next : told g (item_next n) asked) where
       n_items : n ≡ f.items + 1
@@ -121,7 +121,7 @@ module _ {R G : Type 0} (gives : R → List ℕ → Got → R → Type 0) (told 
       pub running_more : (after : Reading R) (waited last : G) (done : EndView) (name payload : List ℕ)
           → after ≡ record new { turns = after.turns } → Waits told e new.turns asked after.turns done.refused waited
           → told waited (item_queued n) last → done ≡ record (with_offer e name payload) { refused = done.refused }
-          → Running gives told reader start gate after done last
+          → HasQueuedSome gives told reader start gate after done last
       running_more after waited last done name payload turned waits queued put =
           let spent = read_more new calls in
           let same : after.reader ≡ new.reader = ap (λ (r : Reading R). r.reader) turned in
@@ -158,7 +158,7 @@ module _ {R G : Type 0} (gives : R → List ℕ → Got → R → Type 0) (told 
         -- and dropped
         pub ran_dropped : (why : Why) (last : G) (done : EndView)
             → Drops told e new.turns asked left.turns done.refused why last → done ≡ record e { refused = done.refused }
-            → Ran gives told reader start gate (n - 1) why done last left
+            → WorkerRan gives told reader start gate (n - 1) why done last left
         ran_dropped why last done dropped same =
             let one_less : n - 1 ≡ f.items = omega (arith, n_items) in
             rw one_less
@@ -174,7 +174,7 @@ module _ {R G : Type 0} (gives : R → List ℕ → Got → R → Type 0) (told 
 
     ends_by : (o : Option Ended) (new : Reading R) (over : Ended) (left : R → Option (List ℕ)) → now.ended ≡ o
         → IfSome o (λ ended. (Answered over ≡ Answered ended) × (new ≡ now))
-        → (now.ended ≡ None → Answers gives left now (Answered over) new) → Stands gives new over
+        → (now.ended ≡ None → Answers gives left now (Answered over) new) → EndStands gives new over
         → EndsNow gives now over new
     ends_by None new over left e again once stands = let stops = once e in (stops.1, stands, inl (e, stops.0.calls))
     ends_by (Some ended) new over left e again once stands =
@@ -184,8 +184,9 @@ module _ {R G : Type 0} (gives : R → List ℕ → Got → R → Type 0) (told 
     -- the reader ended
     pub ran_over : (new : Reading R) (over : Ended) (left : R → Option (List ℕ)) (tally : ℕ)
         → IfSome now.ended (λ ended. (Answered over ≡ Answered ended) × (new ≡ now))
-        → (now.ended ≡ None → Answers gives left now (Answered over) new) → Stands gives new over
-        → tally ≡ length e.pushed - length start.pushed → Ran gives told reader start gate tally (Over over) e g new
+        → (now.ended ≡ None → Answers gives left now (Answered over) new) → EndStands gives new over
+        → tally ≡ length e.pushed - length start.pushed
+        → WorkerRan gives told reader start gate tally (Over over) e g new
     ran_over new over left tally again once stands counted =
         let items : tally ≡ f.items = omega (arith, f.long, counted) in
         rw items

@@ -11,7 +11,7 @@ use Rattle.share_model.specs.declared.ingress.Offer.{Offer}
 use Rattle.share_model.specs.declared.ingress.QueueView.{QueueView}
 use Rattle.share_model.specs.ingress.Queue.{an_intake, of_worker, has, Begins, IsWorker, Taken}
 use Rattle.share_model.specs.lists.Each.{Each}
-use Rattle.share_ingress.specs.Ends.{EndView, IntakeView, Counts}
+use Rattle.share_ingress.specs.Ends.{EndView, IntakeView, CountsByWorker}
 use Rattle.share_ingress.specs.Gathers.{has_end, IsWhole, tallies_of}
 use Rattle.share_ingress.proofs.Offers.{same_or_not, of_same, of_other, of_snoc_same, of_snoc_other}
 use Rattle.share_ingress.proofs.Offers.{each_snoc}
@@ -19,9 +19,10 @@ use Rattle.share_ingress.proofs.Offers.{each_snoc}
 -- Counts
 
 -- an offer of this worker is popped, whose number is the next
-counts_more : (counts : List ℕ) (os : List Offer) (o : Offer) → Counts counts os → (1 ≤ o.worker) → (o.worker ≤ 8)
+counts_more : (counts : List ℕ) (os : List Offer) (o : Offer) → CountsByWorker counts os → (1 ≤ o.worker)
+    → (o.worker ≤ 8)
     → o.n ≡ suc (length (of_worker o.worker os))
-    → Counts (slice_set counts (o.worker - 1) o.n) (os ++ o ∷ [])
+    → CountsByWorker (slice_set counts (o.worker - 1) o.n) (os ++ o ∷ [])
 counts_more counts os o h low high next = (
   length-set counts (o.worker - 1) o.n ∙ h.0,
   λ w below. ⊎_elim
@@ -57,12 +58,12 @@ module _ (v w : QueueView) (o : Offer) (workers : ℕ) (is : v ≡ an_intake wor
   known_after h = subst (λ t. Each (λ (x : Offer). IsWorker workers x.worker) t) popped_is
       (each_snoc (λ (x : Offer). IsWorker workers x.worker) v.popped o h worker_is)
 
-  pub counts_after : (counts : List ℕ) → Counts counts v.popped → workers ≤ 8
-      → Counts (slice_set counts (o.worker - 1) o.n) w.popped
-  counts_after counts h most = subst (λ t. Counts (slice_set counts (o.worker - 1) o.n) t) popped_is
+  pub counts_after : (counts : List ℕ) → CountsByWorker counts v.popped → workers ≤ 8
+      → CountsByWorker (slice_set counts (o.worker - 1) o.n) w.popped
+  counts_after counts h most = subst (λ t. CountsByWorker (slice_set counts (o.worker - 1) o.n) t) popped_is
       (counts_more counts v.popped o h worker_is.0 (omega (arith, worker_is.1, most)) taken.number)
 
-pub tallies_are : (n : ℕ) (counts : List ℕ) (os : List Offer) → n ≤ 8 → Counts counts os
+pub tallies_are : (n : ℕ) (counts : List ℕ) (os : List Offer) → n ≤ 8 → CountsByWorker counts os
     → take n counts ≡ tallies_of n os
 tallies_are zero counts os most h = refl
 tallies_are (suc n) counts os most h =
@@ -126,7 +127,7 @@ whole_by e d i j p q h = subst (λ (y : EndView × IntakeView). IsWhole y.1.popp
 
 -- Ends that were joined, the last one first
 
-pub record Closed (first : IntakeView) (all : List EndView) (now : IntakeView) (left : List EndView) : Type 0 where
+pub record ClosedEnds (first : IntakeView) (all : List EndView) (now : IntakeView) (left : List EndView) : Type 0 where
   pub joined : List EndView
   pub split : all ≡ left ++ joined
   pub same : now ≡ record first { closed = now.closed }

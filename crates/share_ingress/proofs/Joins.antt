@@ -7,12 +7,12 @@ use lib.ListN.{get_elem?}
 use Rattle.crossbeam_queue.specs.Fifo.{Forks, Merges, Learns}
 use Rattle.share_model.specs.declared.ingress.Offer.{Offer}
 use Rattle.share_model.specs.declared.ingress.QueueView.{QueueView}
-use Rattle.share_model.specs.ingress.Queue.{of_worker, Begins, an_end, an_intake, a_host, spent, IsEnd}
+use Rattle.share_model.specs.ingress.Queue.{of_worker, Begins, an_end, an_intake, a_host, a_spent_side, IsEnd}
 use Rattle.share_model.specs.ingress.Queue.{IsIntake, IsWorker, KeepsOrder, Behind}
 use Rattle.share_ingress.proofs.Offers.{same_or_not, other_test, views_set}
 use Rattle.share_ingress.proofs.Offers.{views_snoc, length_set}
 use Rattle.crossbeam_queue.proofs.Lists.{at_set}
-use Rattle.share_ingress.proofs.Moves.{not_true, moved, moved_here, moved_else}
+use Rattle.share_ingress.proofs.Moves.{not_true, passes_with, moved_here, moved_else}
 
 -- An end joined to the intake
 
@@ -25,39 +25,39 @@ module _ (pass made : ℕ) (popped ahead : List Offer) (closed : List ℕ) (othe
   -- An end laid beside the intake
 
   lays_end : Merges KeepsOrder pass (an_intake made popped ahead closed) other (an_end w pushed)
-      (a_host (an_intake made popped ahead closed) (an_end w pushed)) spent
+      (a_host (an_intake made popped ahead closed) (an_end w pushed)) a_spent_side
   lays_end items views h at two at' =
       let was = h.intake pass (an_intake made popped ahead closed) at refl in
       let now = a_host (an_intake made popped ahead closed) (an_end w pushed) in
       let theirs = h.ends other (an_end w pushed) (end_was views now two at') refl in
       record {
         reader = h.reader;
-        seat = moved h.seat w pass;
+        pass_of = passes_with h.pass_of w pass;
         got = h.got;
         made = h.made;
         shut = h.shut;
         known = h.known;
         numbered = h.numbered;
         emptied = h.emptied;
-        ends = views_set (λ j v. v.sends ≡ true → IsEnd (moved h.seat w pass) h.got items h.made h.shut j v)
-            (set views pass now) other spent (λ s. absurd (not_true s))
+        ends = views_set (λ j v. v.sends ≡ true → IsEnd (passes_with h.pass_of w pass) h.got items h.made h.shut j v)
+            (set views pass now) other a_spent_side (λ s. absurd (not_true s))
             (λ j v apart e. views_set
-            (λ j v. j ≢ other → v.sends ≡ true → IsEnd (moved h.seat w pass) h.got items h.made h.shut j v)
+            (λ j v. j ≢ other → v.sends ≡ true → IsEnd (passes_with h.pass_of w pass) h.got items h.made h.shut j v)
             views pass now (λ _ s. record {
-              alone = moved_here h.seat w pass w refl;
+              alone = moved_here h.pass_of w pass w refl;
               known = theirs.known;
               still = theirs.still;
               pushed = theirs.pushed;
             }) (λ j v _ e apart s. let old = h.ends j v e s in
             record {
-              alone = old.alone ∙ moved_else h.seat w pass v.worker
-                  (λ f. apart (old.alone ∙ ap h.seat f ∙ sym theirs.alone));
+              alone = old.alone ∙ moved_else h.pass_of w pass v.worker
+                  (λ f. apart (old.alone ∙ ap h.pass_of f ∙ sym theirs.alone));
               known = old.known;
               still = old.still;
               pushed = old.pushed;
             }) j v e apart);
         intake = views_set (λ j v. v.gets ≡ true → IsIntake h.reader h.got items h.made h.shut j v)
-            (set views pass now) other spent (λ s. absurd (not_true s))
+            (set views pass now) other a_spent_side (λ s. absurd (not_true s))
             (λ j v apart e. views_set (λ j v. v.gets ≡ true → IsIntake h.reader h.got items h.made h.shut j v) views
             pass now (λ s. record {
               alone = was.alone;
@@ -72,7 +72,7 @@ module _ (pass made : ℕ) (popped ahead : List Offer) (closed : List ℕ) (othe
   -- An end of which all was popped is joined to the intake
 
   closes_end : pushed ≡ of_worker w popped → Merges KeepsOrder pass (an_intake made popped ahead closed) other
-      (an_end w pushed) (an_intake made popped ahead (w ∷ closed)) spent
+      (an_end w pushed) (an_intake made popped ahead (w ∷ closed)) a_spent_side
   closes_end whole items views h at two at' =
       let was = h.intake pass (an_intake made popped ahead closed) at refl in
       let now = an_intake made popped ahead (w ∷ closed) in
@@ -82,7 +82,7 @@ module _ (pass made : ℕ) (popped ahead : List Offer) (closed : List ℕ) (othe
       let shut : ℕ → Bool = λ u. nat_eq w u || h.shut u in
       record {
         reader = h.reader;
-        seat = h.seat;
+        pass_of = h.pass_of;
         got = h.got;
         made = h.made;
         shut = shut;
@@ -91,20 +91,20 @@ module _ (pass made : ℕ) (popped ahead : List Offer) (closed : List ℕ) (othe
         emptied = λ u s. ⊎_elim
             (λ (e : w ≡ u). subst (λ x. IsWorker h.made x × (of_worker x items ≡ [])) e (theirs.known, none))
             (λ (e : w ≢ u). h.emptied u (ap (λ b. b || h.shut u) (sym (other_test w u e)) ∙ s)) (same_or_not w u);
-        ends = views_set (λ j v. v.sends ≡ true → IsEnd h.seat h.got items h.made shut j v)
-            (set views pass now) other spent (λ s. absurd (not_true s))
+        ends = views_set (λ j v. v.sends ≡ true → IsEnd h.pass_of h.got items h.made shut j v)
+            (set views pass now) other a_spent_side (λ s. absurd (not_true s))
             (λ j v apart e. views_set
-            (λ j v. j ≢ other → v.sends ≡ true → IsEnd h.seat h.got items h.made shut j v)
+            (λ j v. j ≢ other → v.sends ≡ true → IsEnd h.pass_of h.got items h.made shut j v)
             views pass now (λ _ s. absurd (not_true s)) (λ j v _ e apart s. let old = h.ends j v e s in
             record {
               alone = old.alone;
               known = old.known;
               still = ap (λ b. b || h.shut v.worker) (other_test w v.worker
-                  (λ f. apart (old.alone ∙ ap h.seat (sym f) ∙ sym theirs.alone))) ∙ old.still;
+                  (λ f. apart (old.alone ∙ ap h.pass_of (sym f) ∙ sym theirs.alone))) ∙ old.still;
               pushed = old.pushed;
             }) j v e apart);
         intake = views_set (λ j v. v.gets ≡ true → IsIntake h.reader h.got items h.made shut j v)
-            (set views pass now) other spent (λ s. absurd (not_true s))
+            (set views pass now) other a_spent_side (λ s. absurd (not_true s))
             (λ j v apart e. views_set (λ j v. v.gets ≡ true → IsIntake h.reader h.got items h.made shut j v) views
             pass now (λ s. record {
               alone = was.alone;
@@ -131,7 +131,7 @@ module _ (pass made : ℕ) (popped ahead : List Offer) (closed : List ℕ) (w : 
       let now = an_intake made popped ahead closed in
       record {
         reader = h.reader;
-        seat = moved h.seat w (length views);
+        pass_of = passes_with h.pass_of w (length views);
         got = h.got;
         made = h.made;
         shut = h.shut;
@@ -139,18 +139,18 @@ module _ (pass made : ℕ) (popped ahead : List Offer) (closed : List ℕ) (w : 
         numbered = h.numbered;
         emptied = h.emptied;
         ends = views_snoc
-            (λ j v. v.sends ≡ true → IsEnd (moved h.seat w (length views)) h.got items h.made h.shut j v)
+            (λ j v. v.sends ≡ true → IsEnd (passes_with h.pass_of w (length views)) h.got items h.made h.shut j v)
             (set views pass now) (an_end w pushed)
             (views_set _ views pass now (λ s. absurd (not_true s)) (λ j v apart e s. let old = h.ends j v e s in
             record {
-              alone = old.alone ∙ moved_else h.seat w (length views) v.worker
-                  (λ f. apart (old.alone ∙ ap h.seat f ∙ sym theirs.alone));
+              alone = old.alone ∙ moved_else h.pass_of w (length views) v.worker
+                  (λ f. apart (old.alone ∙ ap h.pass_of f ∙ sym theirs.alone));
               known = old.known;
               still = old.still;
               pushed = old.pushed;
             }))
             (λ s. record {
-              alone = length_set views pass now ∙ moved_here h.seat w (length views) w refl;
+              alone = length_set views pass now ∙ moved_here h.pass_of w (length views) w refl;
               known = theirs.known;
               still = theirs.still;
               pushed = theirs.pushed;
@@ -170,18 +170,18 @@ module _ (pass made : ℕ) (popped ahead : List Offer) (closed : List ℕ) (w : 
 
 module _ (pass : ℕ) (v i e : QueueView) (made : ℕ) (popped ahead : List Offer) (closed : List ℕ) (w : ℕ)
     (pushed : List Offer) (intake : i ≡ an_intake made popped ahead closed) (end : e ≡ an_end w pushed) where
-  pub lays : (other : ℕ) → Merges KeepsOrder pass i other e (a_host i e) spent
+  pub lays : (other : ℕ) → Merges KeepsOrder pass i other e (a_host i e) a_spent_side
   lays other =
-      subst (λ (y : QueueView × QueueView). Merges KeepsOrder pass y.0 other y.1 (a_host y.0 y.1) spent)
+      subst (λ (y : QueueView × QueueView). Merges KeepsOrder pass y.0 other y.1 (a_host y.0 y.1) a_spent_side)
       (λ k. (sym intake k, sym end k)) (lays_end pass made popped ahead closed other w pushed)
 
   pub closes : (other : ℕ) → e.pushed ≡ of_worker w i.popped
-      → Merges KeepsOrder pass i other e (an_intake i.made i.popped i.ahead (e.worker ∷ i.closed)) spent
+      → Merges KeepsOrder pass i other e (an_intake i.made i.popped i.ahead (e.worker ∷ i.closed)) a_spent_side
   closes other whole =
       let all : pushed ≡ of_worker w popped = subst (λ (y : QueueView × QueueView). y.1.pushed ≡ of_worker w y.0.popped)
       (λ k. (intake k, end k)) whole in
       subst (λ (y : QueueView × QueueView). Merges KeepsOrder pass y.0 other y.1
-      (an_intake y.0.made y.0.popped y.0.ahead (y.1.worker ∷ y.0.closed)) spent)
+      (an_intake y.0.made y.0.popped y.0.ahead (y.1.worker ∷ y.0.closed)) a_spent_side)
       (λ k. (sym intake k, sym end k)) (closes_end pass made popped ahead closed other w pushed all)
 
   hosted : v ≡ a_host i e → v ≡ host pass made popped ahead closed w pushed

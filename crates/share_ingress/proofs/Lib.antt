@@ -1,6 +1,7 @@
 pub mod RecordSteps
 pub mod ReaderSteps
 pub mod Offers
+pub mod NewEnds
 pub mod Moves
 pub mod Joins
 pub mod Gathering

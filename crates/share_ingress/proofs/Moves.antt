@@ -9,7 +9,7 @@ use Rattle.share_model.specs.lists.Each.{Each}
 use Rattle.share_model.specs.declared.ingress.Offer.{Offer}
 use Rattle.share_model.specs.declared.ingress.QueueView.{QueueView}
 use Rattle.share_model.specs.ingress.Queue.{of_worker, Numbered, an_end, an_intake, IsEnd}
-use Rattle.share_model.specs.ingress.Queue.{IsIntake, IsWorker, KeepsOrder, Put, OwnLast, Taken, Seen}
+use Rattle.share_model.specs.ingress.Queue.{IsIntake, IsWorker, KeepsOrder, Put, OwnLast, Taken, StillAhead}
 use Rattle.share_ingress.proofs.Offers.{same_or_not, same_test, other_test, of_append, of_snoc_same, of_snoc_other}
 use Rattle.share_ingress.proofs.Offers.{of_same, of_moved, of_rest_none, of_first_some, of_stranger, numbered_snoc}
 use Rattle.share_ingress.proofs.Offers.{numbered_at}
@@ -25,7 +25,7 @@ pub begins_empty : KeepsOrder [] (an_intake 0 [] [] [] ∷ [])
 begins_empty =
     record {
       reader = 0;
-      seat = λ w. 0;
+      pass_of = λ w. 0;
       got = [];
       made = 0;
       shut = λ w. false;
@@ -58,7 +58,7 @@ module _ (pass w : ℕ) (pushed : List Offer) (x : Offer) (mine : x.worker ≡ w
         an_end w (pushed ++ x ∷ []),
         record {
           reader = h.reader;
-          seat = h.seat;
+          pass_of = h.pass_of;
           got = h.got;
           made = h.made;
           shut = h.shut;
@@ -72,11 +72,12 @@ module _ (pass w : ℕ) (pushed : List Offer) (x : Offer) (mine : x.worker ≡ w
           emptied = λ u s. let old = h.emptied u s in
               let apart : x.worker ≢ u = λ f. true≢false (sym s ∙ ap h.shut (sym f ∙ mine) ∙ was.still) in
               (old.0, of_snoc_other u items x apart ∙ old.1);
-          ends = views_set (λ j v. v.sends ≡ true → IsEnd h.seat h.got (items ++ x ∷ []) h.made h.shut j v) views pass _
+          ends = views_set (λ j v. v.sends ≡ true → IsEnd h.pass_of h.got (items ++ x ∷ []) h.made h.shut j v) views
+              pass _
               (λ s. record { alone = was.alone; known = was.known; still = was.still; pushed = all })
               (λ j v apart e s. let old = h.ends j v e s in
               let other : x.worker ≢ v.worker =
-              λ f. apart (old.alone ∙ ap h.seat (sym f ∙ mine) ∙ sym was.alone) in
+              λ f. apart (old.alone ∙ ap h.pass_of (sym f ∙ mine) ∙ sym was.alone) in
               record {
                 alone = old.alone;
                 known = old.known;
@@ -117,14 +118,15 @@ module _ (pass made : ℕ) (popped ahead : List Offer) (closed : List ℕ) where
         an_intake made (popped ++ x ∷ []) items closed,
         record {
           reader = h.reader;
-          seat = h.seat;
+          pass_of = h.pass_of;
           got = h.got ++ x ∷ [];
           made = h.made;
           shut = h.shut;
           known = rw (append_assoc h.got (x ∷ []) items) h.known;
           numbered = λ u. rw (of_moved u h.got items x) (h.numbered u);
           emptied = λ u s. ((h.emptied u s).0, of_rest_none u x items (h.emptied u s).1);
-          ends = views_set (λ j v. v.sends ≡ true → IsEnd h.seat (h.got ++ x ∷ []) items h.made h.shut j v) views pass _
+          ends = views_set (λ j v. v.sends ≡ true → IsEnd h.pass_of (h.got ++ x ∷ []) items h.made h.shut j v) views
+              pass _
               (λ s. absurd (not_true s)) (λ j v apart e s. let old = h.ends j v e s in
               record {
                 alone = old.alone;
@@ -164,9 +166,9 @@ pops pass v made popped ahead closed is =
     subst (λ u. Pops KeepsOrder pass u (Taken u)) (sym is) (pops_intake pass made popped ahead closed)
 
 pub seen : (pass : ℕ) (v : QueueView) (made : ℕ) (popped ahead : List Offer) (closed : List ℕ)
-    → v ≡ an_intake made popped ahead closed → Learns KeepsOrder pass v (Seen v)
+    → v ≡ an_intake made popped ahead closed → Learns KeepsOrder pass v (StillAhead v)
 seen pass v made popped ahead closed is =
-    subst (λ u. Learns KeepsOrder pass u (Seen u)) (sym is)
+    subst (λ u. Learns KeepsOrder pass u (StillAhead u)) (sym is)
     (λ items views h at. (h.intake pass (an_intake made popped ahead closed) at refl).ahead)
 
 -- A new end
@@ -176,14 +178,14 @@ pick true m n = m
 pick false m n = n
 
 -- the pass of a worker's end has changed
-abbrev pub moved : (ℕ → ℕ) → ℕ → ℕ → ℕ → ℕ
-moved seat w pass u = pick (nat_eq u w) pass (seat u)
+abbrev pub passes_with : (ℕ → ℕ) → ℕ → ℕ → ℕ → ℕ
+passes_with pass_of w pass u = pick (nat_eq u w) pass (pass_of u)
 
-pub moved_here : (seat : ℕ → ℕ) (w pass u : ℕ) → u ≡ w → pass ≡ moved seat w pass u
-moved_here seat w pass u e = rw (same_test u w e) refl
+pub moved_here : (pass_of : ℕ → ℕ) (w pass u : ℕ) → u ≡ w → pass ≡ passes_with pass_of w pass u
+moved_here pass_of w pass u e = rw (same_test u w e) refl
 
-pub moved_else : (seat : ℕ → ℕ) (w pass u : ℕ) → u ≢ w → seat u ≡ moved seat w pass u
-moved_else seat w pass u h = rw (other_test u w h) refl
+pub moved_else : (pass_of : ℕ → ℕ) (w pass u : ℕ) → u ≢ w → pass_of u ≡ passes_with pass_of w pass u
+moved_else pass_of w pass u h = rw (other_test u w h) refl
 
 module _ (pass made : ℕ) (popped ahead : List Offer) (closed : List ℕ) where
   forks_intake : Forks KeepsOrder pass (an_intake made popped ahead closed) (an_intake (suc made) popped ahead closed)
@@ -196,7 +198,7 @@ module _ (pass made : ℕ) (popped ahead : List Offer) (closed : List ℕ) where
       ∙ of_stranger h.made (suc h.made) (h.got ++ items) h.known (λ w. omega (arith, w.1)))) in
       record {
         reader = h.reader;
-        seat = moved h.seat (suc h.made) (length views);
+        pass_of = passes_with h.pass_of (suc h.made) (length views);
         got = h.got;
         made = suc h.made;
         shut = h.shut;
@@ -205,19 +207,19 @@ module _ (pass made : ℕ) (popped ahead : List Offer) (closed : List ℕ) where
         emptied = λ u s. let old = h.emptied u s in ((old.0.0, omega (arith, old.0.1)), old.1);
         ends = views_snoc
             (λ j v. v.sends ≡ true
-            → IsEnd (moved h.seat (suc h.made) (length views)) h.got items (suc h.made) h.shut j v)
+            → IsEnd (passes_with h.pass_of (suc h.made) (length views)) h.got items (suc h.made) h.shut j v)
             (set views pass now) (an_end (suc made) [])
             (views_set _ views pass now (λ s. absurd (not_true s)) (λ j v apart e s. let old = h.ends j v e s in
             record {
               alone = old.alone
-                  ∙ moved_else h.seat (suc h.made) (length views) v.worker (λ f. omega (arith, f, old.known.1));
+                  ∙ moved_else h.pass_of (suc h.made) (length views) v.worker (λ f. omega (arith, f, old.known.1));
               known = (old.known.0, omega (arith, old.known.1));
               still = old.still;
               pushed = old.pushed;
             }))
             (λ s. record {
               alone = length_set views pass now
-                  ∙ moved_here h.seat (suc h.made) (length views) (suc made) (ap (λ n. suc n) was.made_is);
+                  ∙ moved_here h.pass_of (suc h.made) (length views) (suc made) (ap (λ n. suc n) was.made_is);
               known = (omega arith, omega (arith, was.made_is));
               still = rw was.made_is (by_shut (h.shut (suc h.made)) refl);
               pushed = none;

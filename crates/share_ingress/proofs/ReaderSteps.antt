@@ -8,12 +8,13 @@ use Rattle.share_model.specs.declared.ingress.Ended.TheVariants.{End, Cut, BadRe
 use Rattle.share_model.specs.declared.reader.Got.{Got}
 use Rattle.share_model.specs.declared.reader.Got.TheVariants.{Bytes, End as EndOfInput, Interrupted, Failed}
 use Rattle.share_model.specs.io.Calls.{no_reads}
-use Rattle.share_model.specs.io.CallsLaws.{reads_once, reads_more}
+use Rattle.share_model.proofs.lemmas.io.CallsLaws.{reads_once, reads_more}
 use Rattle.share_model.specs.io.Given.{Gives}
 use Rattle.share_model.specs.ingress.Records.{Item, two_bytes, record_of, IsCut, IsBad}
 use Rattle.share_model.specs.ingress.Records.{bad_name_length, bad_name, bad_length}
 use Rattle.share_ingress.specs.Found.{BeginsWhole, NeedsMore}
-use Rattle.share_ingress.specs.Reader.{Reading, EndsInput, GoesOn, LastRead, EndsBy, Stands, ReadsOn, Takes}
+use Rattle.share_ingress.specs.Reader.{Reading, EndsInput, GoesOnReading, LastRead, EndsBy, EndStands, ReadsOn}
+use Rattle.share_ingress.specs.Reader.{TakesItem}
 use Rattle.share_ingress.specs.Reader.{Stops, Answers}
 use Rattle.share_ingress.specs.declared.reader.Next.{Next}
 use Rattle.share_ingress.specs.declared.reader.Next.TheVariants.{Item as Found, Ended as Over}
@@ -204,7 +205,7 @@ module _ {R : Type 0} (gives : R → List ℕ → Got → R → Type 0) (left : 
 
   -- Call after call
 
-  goes_later : {a b c : Reading R} → GoesOn gives a b → GoesOn gives b c → GoesOn gives a c
+  goes_later : {a b c : Reading R} → GoesOnReading gives a b → GoesOnReading gives b c → GoesOnReading gives a c
   goes_later f g =
       record {
         count = f.count + g.count;
@@ -212,7 +213,8 @@ module _ {R : Type 0} (gives : R → List ℕ → Got → R → Type 0) (left : 
         turns = omega (arith, f.turns, g.turns);
       }
 
-  last_later : {a b c : Reading R} {got : Got} → GoesOn gives a b → LastRead gives b got c → LastRead gives a got c
+  last_later : {a b c : Reading R} {got : Got} → GoesOnReading gives a b → LastRead gives b got c
+      → LastRead gives a got c
   last_later f g =
       record {
         count = f.count + g.count;
@@ -223,7 +225,8 @@ module _ {R : Type 0} (gives : R → List ℕ → Got → R → Type 0) (left : 
         turns = omega (arith, f.turns, g.turns);
       }
 
-  ends_later : (over : Ended) (a b c : Reading R) → GoesOn gives a b → EndsBy gives over b c → EndsBy gives over a c
+  ends_later : (over : Ended) (a b c : Reading R) → GoesOnReading gives a b → EndsBy gives over b c
+      → EndsBy gives over a c
   ends_later End a b c f g = last_later f g
   ends_later Cut a b c f g = last_later f g
   ends_later BadRecord a b c f g = goes_later f g
@@ -261,8 +264,8 @@ module _ {R : Type 0} (gives : R → List ℕ → Got → R → Type 0) (left : 
   answers_later (Over over) a b c f g = (stops_later over a b c f g.0, g.1)
 
   -- what is answered for good changes nothing else
-  goes_ended : {a : Reading R} (b : Reading R) (e : Option Ended) → GoesOn gives a b
-      → GoesOn gives a (record b { ended = e })
+  goes_ended : {a : Reading R} (b : Reading R) (e : Option Ended) → GoesOnReading gives a b
+      → GoesOnReading gives a (record b { ended = e })
   goes_ended b e f = record { count = f.count; reads = f.reads; turns = f.turns }
 
   last_ended : {a : Reading R} {got : Got} (b : Reading R) (e : Option Ended) → LastRead gives a got b
@@ -286,8 +289,8 @@ module _ {R : Type 0} (gives : R → List ℕ → Got → R → Type 0) (left : 
   by_ended NoMemory a b e f = goes_ended b e f
   by_ended Bound a b e f = goes_ended b e f
 
-  pub stands_ended : (over : Ended) (b : Reading R) (e : Option Ended) → Stands gives b over
-      → Stands gives (record b { ended = e }) over
+  pub stands_ended : (over : Ended) (b : Reading R) (e : Option Ended) → EndStands gives b over
+      → EndStands gives (record b { ended = e }) over
   stands_ended End b e f = f
   stands_ended Cut b e f = f
   stands_ended BadRecord b e f = f
@@ -329,7 +332,7 @@ module _ {R : Type 0} (gives : R → List ℕ → Got → R → Type 0) (left : 
   pub given_whole : (reader : R) (held name : List ℕ) (turns size start : ℕ) (ended : Option Ended)
       → BeginsWhole held name size → ended ≡ None → start ≡ 3 + length name → (parcel : List ℕ)
       → parcel ≡ take (start + size - start) (drop start held) → (rest : List ℕ) → rest ≡ drop (start + size) held
-      → Takes gives left (record { reader = reader; held = held; turns = turns; ended = ended })
+      → TakesItem gives left (record { reader = reader; held = held; turns = turns; ended = ended })
       (record { name = name; payload = parcel })
       (record { reader = reader; held = rest; turns = turns; ended = ended })
   given_whole reader held name turns size start ended whole still start_is parcel parcel_is rest rest_is =

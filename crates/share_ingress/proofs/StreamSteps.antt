@@ -12,7 +12,7 @@ use Rattle.share_model.specs.declared.ingress.Ended.TheVariants.{End, Cut, BadRe
 use Rattle.share_model.specs.ingress.Records.{Item, IsItem, two_bytes, record_of, records_of, is_name_length, IsCut}
 use Rattle.share_model.specs.ingress.Records.{cut_in_name, cut_in_length, cut_in_payload, IsBad, bad_name_length}
 use Rattle.share_model.specs.ingress.Records.{bad_name, bad_length, EndsAs, Front, IsRecords}
-use Rattle.share_model.specs.link.FrameLaws.{same_parts}
+use Rattle.share_model.proofs.lemmas.link.FrameLaws.{same_parts}
 use Rattle.share_model.specs.lists.Each.{Each}
 use Rattle.share_ingress.specs.Streams.{EndsStream}
 use Rattle.share_ingress.proofs.RecordSteps.{two_bytes_are, joined}
@@ -171,7 +171,7 @@ ends_once a Bound bs _ last f g = absurd last
 -- Records in front of a stream
 
 -- what stands in front of a stream stands in front of its records, and the rest of these in what is left
-record Split (items all : List Item) (rest last : List ℕ) : Type 0 where
+record SplitStream (items all : List Item) (rest last : List ℕ) : Type 0 where
   more : List Item
   good : Each IsItem more
   all_is : all ≡ items ++ more
@@ -179,7 +179,7 @@ record Split (items all : List Item) (rest last : List ℕ) : Type 0 where
 
 split_by : (items all : List Item) (rest last : List ℕ) (ended : Ended) → EndsStream ended → EndsAs ended last
     → Each IsItem items → Each IsItem all → records_of items ++ rest ≡ records_of all ++ last
-    → Split items all rest last
+    → SplitStream items all rest last
 split_by [] all rest last ended over ends good goods same =
     record { more = all; good = goods; all_is = refl; rest_is = same }
 split_by (i ∷ items) [] rest last ended over ends good goods same =

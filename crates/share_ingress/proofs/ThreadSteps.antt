@@ -12,7 +12,7 @@ use Rattle.share_ingress.specs.declared.threads.Job.{Job}
 use Rattle.share_ingress.specs.declared.workers.Done.{Done}
 
 -- all after these jobs were begun, the last one first
-pub record Begun {A B : Type 0} (all jobs : List A) (slots : List B) (P : A → B → Type 0) : Type 0 where
+pub record AreBegun {A B : Type 0} (all jobs : List A) (slots : List B) (P : A → B → Type 0) : Type 0 where
   pub rest : List A
   pub split : all ≡ jobs ++ rest
   pub begun : Matches P rest (reverse slots)
@@ -26,11 +26,12 @@ pub record Joined {A B C : Type 0} (all : List A) (slots : List B) (dones : List
   pub joined : Matches Q front dones
   pub begun : Matches P rest (reverse slots)
 
-pub begun_none : {A B : Type 0} (all : List A) (P : A → B → Type 0) → Begun all all [] P
+pub begun_none : {A B : Type 0} (all : List A) (P : A → B → Type 0) → AreBegun all all [] P
 begun_none all P = record { rest = []; split = sym (append-nil all); begun = tt }
 
 pub begun_more : {A B : Type 0} (all jobs before : List A) (slots after : List B) (P : A → B → Type 0) (x : A) (y : B)
-    → Begun all jobs slots P → jobs ≡ before ++ x ∷ [] → after ≡ slots ++ y ∷ [] → P x y → Begun all before after P
+    → AreBegun all jobs slots P → jobs ≡ before ++ x ∷ [] → after ≡ slots ++ y ∷ [] → P x y
+    → AreBegun all before after P
 begun_more all jobs before slots after P x y f e g p =
     record {
       rest = x ∷ f.rest;
@@ -52,7 +53,7 @@ matches_none P [] f = refl
 matches_none P (x ∷ xs) f = absurd f
 
 pub joined_none : {A B C : Type 0} (all jobs : List A) (slots : List B) (dones : List C) (P : A → B → Type 0)
-    (Q : A → C → Type 0) → Begun all jobs slots P → jobs ≡ [] → dones ≡ [] → Joined all slots dones P Q
+    (Q : A → C → Type 0) → AreBegun all jobs slots P → jobs ≡ [] → dones ≡ [] → Joined all slots dones P Q
 joined_none all jobs slots dones P Q f none first =
     record {
       front = [];

@@ -13,7 +13,7 @@ use Rattle.share_model.specs.ingress.Queue.{offer}
 use Rattle.share_model.specs.ingress.Records.{Item, IsItem, record_of, records_of, IsRecords, EndsAs, IsCut}
 use Rattle.share_ingress.specs.Ends.{EndView, with_offer}
 use Rattle.share_ingress.specs.Gates.{MayDrop}
-use Rattle.share_ingress.specs.Reader.{Reading, left_of, Stands, Takes, Answers}
+use Rattle.share_ingress.specs.Reader.{Reading, left_of, EndStands, TakesItem, Answers}
 use Rattle.share_ingress.specs.Workers.{offers_of, Queues, Worked}
 use Rattle.share_ingress.specs.declared.reader.Next.TheVariants.{Item as Found, Ended as Answered}
 use Rattle.share_ingress.specs.declared.workers.Why.{Why}
@@ -135,14 +135,14 @@ module _ {R : Type 0} (gives : R → List ℕ → Got → R → Type 0) (left : 
   takes_by : (o : Option Ended) (now new : Reading R) (name parcel : List ℕ) → now.ended ≡ o
       → IfSome o (λ ended. (Found name parcel ≡ Answered ended) × (new ≡ now))
       → (now.ended ≡ None → Answers gives left now (Found name parcel) new)
-      → Takes gives left now (record { name = name; payload = parcel }) new
+      → TakesItem gives left now (record { name = name; payload = parcel }) new
   takes_by None now new name parcel e again first = first e
   takes_by (Some ended) now new name parcel e again first = let wrong = again.0 in cc
 
   pub takes : (now new : Reading R) (name parcel : List ℕ)
       → IfSome now.ended (λ ended. (Found name parcel ≡ Answered ended) × (new ≡ now))
       → (now.ended ≡ None → Answers gives left now (Found name parcel) new)
-      → Takes gives left now (record { name = name; payload = parcel }) new
+      → TakesItem gives left now (record { name = name; payload = parcel }) new
   takes now new name parcel again first = takes_by now.ended now new name parcel refl again first
 
   keeps_by : (o : Option Ended) (now new : Reading R) (over : Ended) → now.ended ≡ o
@@ -153,7 +153,7 @@ module _ {R : Type 0} (gives : R → List ℕ → Got → R → Type 0) (left : 
       subst (λ r. Keeps (left_of left now) (left_of left r)) (sym again.1) (keeps_refl _)
 
   stands_told : ((before : R) (buffer : List ℕ) (got : Got) (after : R) → gives before buffer got after
-      → Gives (left before) buffer got (left after)) → (over : Ended) (r : Reading R) → Stands gives r over
+      → Gives (left before) buffer got (left after)) → (over : Ended) (r : Reading R) → EndStands gives r over
       → IfSome (left_of left r) (EndsAs over)
   stands_told tells End r h = let gave = h.1 in
       at_end_known r.held (left r.reader) (λ bs. bs ≡ []) (tells gave.0 gave.1 _ r.reader gave.2).1 h.0
@@ -169,7 +169,7 @@ module _ {R : Type 0} (gives : R → List ℕ → Got → R → Type 0) (left : 
       Ended)
       (tally : ℕ) → Working left first now before after
       → IfSome now.ended (λ ended. (Answered over ≡ Answered ended) × (new ≡ now))
-      → (now.ended ≡ None → Answers gives left now (Answered over) new) → Stands gives new over
+      → (now.ended ≡ None → Answers gives left now (Answered over) new) → EndStands gives new over
       → tally ≡ length after.pushed - length before.pushed → Worked (left_of left first) before after tally (Over over)
   worked_over tells first now new before after over tally f again once stands counted =
       record {
@@ -181,7 +181,7 @@ module _ {R : Type 0} (gives : R → List ℕ → Got → R → Type 0) (left : 
       }
 
   module _ (first now new after_it : Reading R) (before after done : EndView) (item : Item)
-      (f : Working left first now before after) (takes : Takes gives left now item new)
+      (f : Working left first now before after) (takes : TakesItem gives left now item new)
       (turned : after_it ≡ record new { turns = after_it.turns }) where
     taken_after : Consumes (left_of left now) (left_of left after_it) (record_of item)
     taken_after = subst (λ (r : Reading R). Consumes (left_of left now) (left_of left r) (record_of item)) (sym

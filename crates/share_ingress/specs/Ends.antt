@@ -11,7 +11,7 @@ use Rattle.share_ingress.specs.Names.{LinkName}
 use Rattle.share_ingress.specs.declared.ends.Offered.{Offered}
 use Rattle.share_ingress.specs.declared.ends.Offered.TheVariants.{Queued, Full}
 
--- the queue by its name, how many offers it holds at most, the worker, what this end pushed, and how many of its offers
+-- the name of the queue, how many offers it holds at most, the worker, what this end pushed, and how many of its offers
 -- a full queue refused
 pub record EndView : Type 0 where
   pub link : LinkName
@@ -20,8 +20,8 @@ pub record EndView : Type 0 where
   pub pushed : List Offer
   pub refused : ℕ
 
--- the queue by its name, how many offers it holds at most, how many workers it has, what was popped, what it held just
--- after the last pop, the workers whose ends were joined to the intake, and how many pops found none
+-- the name of the queue, how many offers it holds at most, how many workers it has, what was popped, what it held just
+-- after the last pop, the workers whose ends were joined to the intake, and how many pops found nothing
 pub record IntakeView : Type 0 where
   pub link : LinkName
   pub capacity : ℕ
@@ -32,27 +32,27 @@ pub record IntakeView : Type 0 where
   pub missed : ℕ
 
 -- how many of these offers are of each of eight workers
-abbrev pub Counts : List ℕ → List Offer → Type 0
-Counts counts os =
+abbrev pub CountsByWorker : List ℕ → List Offer → Type 0
+CountsByWorker counts os =
     (length counts ≡ 8) × ((w : ℕ) → w < 8 → slice_index counts w ≡ length (of_worker (suc w) os))
 
--- a count, once more: it stays where a word has no greater number
-abbrev pub raised : ℕ → ℕ
-raised n = min (n + 1) (2 ^ 64 - 1)
+-- a count raised by one, up to the greatest number of 64 bits
+abbrev pub one_higher : ℕ → ℕ
+one_higher n = min (n + 1) (2 ^ 64 - 1)
 
 abbrev pub raises : ℕ → ℕ → ℕ
 raises n zero = n
-raises n (suc k) = raised (raises n k)
+raises n (suc k) = one_higher (raises n k)
 
 -- A new queue
 
 abbrev pub is_out_of_range : ℕ → ℕ → Bool
 is_out_of_range most n = not (nat_le 1 n && nat_le n most)
 
--- what is answered where a queue is made, memory aside: it has 1 to 1024 places, and 1 or 2 workers
+-- why no queue is made, memory aside: it has 1 to 1024 places, and 1 to 8 workers
 abbrev pub queue_refusal : ℕ → ℕ → Option Refusal
 queue_refusal capacity workers =
-    first_refusal ((is_out_of_range 1024 capacity || is_out_of_range 2 workers, Range) ∷ [])
+    first_refusal ((is_out_of_range 1024 capacity || is_out_of_range 8 workers, Range) ∷ [])
 
 abbrev pub new_end : LinkName → ℕ → ℕ → EndView
 new_end link capacity worker = record {
@@ -87,14 +87,14 @@ with_offer e name parcel =
 
 -- one more offer came back
 abbrev pub with_refusal : EndView → EndView
-with_refusal e = record e { refused = raised e.refused }
+with_refusal e = record e { refused = one_higher e.refused }
 
--- one more pop found none
+-- one more pop found nothing
 abbrev pub with_miss : IntakeView → IntakeView
-with_miss i = record i { missed = raised i.missed }
+with_miss i = record i { missed = one_higher i.missed }
 
--- an offer came back: the queue was full at some moment, with what it held of this worker the last of what this end
--- pushed, and that is counted; or the end has pushed 2^40, and the queue was not asked
+-- an offer came back: the queue was full at some moment, when it held of this worker what this end pushed last, and
+-- that is counted; or the end has pushed 2^40 offers, and the queue was not asked
 abbrev pub CameBack : EndView → EndView → Type 0
 CameBack old new =
     ((length old.pushed ≡ 2 ^ 40) × (new ≡ old))
@@ -102,11 +102,11 @@ CameBack old new =
     × Held old.capacity (λ items. (before : List Offer) × (old.pushed ≡ before ++ of_worker old.worker items)))
 
 -- it was queued as the next offer of this worker, or came back
-abbrev pub Offers : EndView → List ℕ → List ℕ → Offered → EndView → Type 0
-Offers old name parcel (Queued n) new = (n ≡ suc (length old.pushed)) × (new ≡ with_offer old name parcel)
-Offers old name parcel (Full back) new = (back ≡ parcel) × CameBack old new
+abbrev pub OfferCall : EndView → List ℕ → List ℕ → Offered → EndView → Type 0
+OfferCall old name parcel (Queued n) new = (n ≡ suc (length old.pushed)) × (new ≡ with_offer old name parcel)
+OfferCall old name parcel (Full back) new = (back ≡ parcel) × CameBack old new
 
--- the first of what was ahead was popped: from a worker of the queue that is not closed, with its next number
+-- the first of what was ahead was popped: it has the next number of a worker whose end is not closed
 pub record IsTake (old : IntakeView) (o : Offer) (new : IntakeView) : Type 0 where
   pub popped : new ≡ record old { popped = old.popped ++ o ∷ []; ahead = new.ahead }
   pub front : Begins (o ∷ new.ahead) old.ahead

@@ -4,7 +4,7 @@ use Rattle.share_model.specs.ingress.Records.{IsItem, record_of, IsCut, IsBad}
 use Rattle.share_ingress.specs.declared.record.Found.{Found}
 use Rattle.share_ingress.specs.declared.record.Found.TheVariants.{Whole, Bad, Part}
 
--- a whole record, with this name and so many bytes of payload
+-- a whole record, with this name and a payload of this length
 pub record BeginsWhole (bs name : List ℕ) (size : ℕ) : Type 0 where
   pub payload : List ℕ
   pub rest : List ℕ

@@ -1,8 +1,8 @@
 -- A call of a gate.
 use Rattle.std.specs.Prelude.{ℕ, Bool}
 
--- the item with this number is about to be offered for the first time; it is queued; or the queue was full, and this is
--- whether the item is to be offered again
+-- the item with this number is about to be offered for the first time; the item is queued; the queue was full, and the
+-- answer says whether to offer the item again
 pub data GateCall : Type 0 where
   item_next : ℕ → GateCall
   item_queued : ℕ → GateCall

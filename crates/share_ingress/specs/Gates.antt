@@ -10,11 +10,11 @@ use Rattle.share_model.specs.ingress.Queue.{of_worker}
 use Rattle.share_model.specs.io.Calls.{Reads}
 use Rattle.share_ingress.specs.Ends.{EndView, with_offer, raises}
 use Rattle.share_ingress.specs.GateCalls.{GateCall, item_next, item_queued, queue_full}
-use Rattle.share_ingress.specs.Reader.{Reading, EndsBy, Stands}
+use Rattle.share_ingress.specs.Reader.{Reading, EndsBy, EndStands}
 use Rattle.share_ingress.specs.declared.workers.Why.{Why}
 use Rattle.share_ingress.specs.declared.workers.Why.TheVariants.{Ended as Over, Stopped, NotStarted}
 
--- the queue was full at some moment of an offer by this end, or the end has pushed 2^40
+-- the queue was full at some moment of an offer by this end, or the end has pushed 2^40 offers
 abbrev pub WasFull : EndView → Type 0
 WasFull e =
     (length e.pushed ≡ 2 ^ 40)
@@ -22,23 +22,23 @@ WasFull e =
 
 -- Calls: a relation `told` says what a call does to a gate, and what it answers
 
--- so often in turn the queue was full, and the gate answered that the item is to be offered again
+-- n times in turn the queue was full, and the gate answered that the item is to be offered again
 pub data Again {G : Type 0} (told : G → GateCall → G → Type 0) (e : EndView) (first : G) : ℕ → G → Type 0 where
   not_again : Again told e first 0 first
   once_again : (n : ℕ) (before after : G) → Again told e first n before → WasFull e
       → told before (queue_full true) after → Again told e first (n + 1) after
 
--- the end's count tells that so many of its offers came back, where the queue was asked
-abbrev pub Refuses : EndView → ℕ → ℕ → Type 0
-Refuses e rounds refused = (length e.pushed ≡ 2 ^ 40) ⊎ (refused ≡ raises e.refused rounds)
+-- the end's count was raised once for each round, unless the end has pushed 2^40 offers and the queue is not asked
+abbrev pub CountsRefusals : EndView → ℕ → ℕ → Type 0
+CountsRefusals e rounds refused = (length e.pushed ≡ 2 ^ 40) ⊎ (refused ≡ raises e.refused rounds)
 
--- the same, each time for one of these turns, and for one offer that came back
+-- the same, and each time used up one of these turns, and was counted by the end
 pub record Waits {G : Type 0} (told : G → GateCall → G → Type 0) (e : EndView) (turns : ℕ) (first : G) (left : ℕ)
     (refused : ℕ) (last : G) : Type 0 where
   pub rounds : ℕ
   pub again : Again told e first rounds last
   pub spent : rounds + left ≡ turns
-  pub came_back : Refuses e rounds refused
+  pub came_back : CountsRefusals e rounds refused
 
 -- the gate stopped the worker; or the item was to be offered again, and no turn was left
 abbrev pub MayDrop : Why → Bool → ℕ → Type 0
@@ -51,42 +51,42 @@ MayDrop (Over Bound) again left = (again ≡ true) × (left ≡ 0)
 MayDrop Stopped again left = again ≡ false
 MayDrop NotStarted again left = ⊥
 
--- an item was offered for some of these turns, and dropped when the queue was full once more
+-- an item was offered again for some of these turns, and dropped when the queue was full once more
 pub record Drops {G : Type 0} (told : G → GateCall → G → Type 0) (e : EndView) (turns : ℕ) (first : G) (left : ℕ)
     (refused : ℕ) (why : Why) (last : G) : Type 0 where
   pub asked : G
   pub earlier : ℕ
   pub waits : Waits told e turns first left earlier asked
   pub full : WasFull e
-  pub came_back : Refuses e (waits.rounds + 1) refused
+  pub came_back : CountsRefusals e (waits.rounds + 1) refused
   pub again : Bool
   pub answered : told asked (queue_full again) last
   pub reason : MayDrop why again left
 
--- so many items were queued, one after the other: the gate was told before each was offered and once it was queued,
--- and between these once for each of its offers that came back, so many times in all
+-- items were queued one after the other: the gate was told before each was offered and when it was queued, and between
+-- these once for each of its offers that came back; the second number is how often that was in all
 pub data Queueing {G : Type 0} (told : G → GateCall → G → Type 0) (start : EndView) (first : G)
     : ℕ → ℕ → EndView → G → Type 0 where
   none_queued : Queueing told start first 0 0 start first
   one_queued : (items rounds more refused : ℕ) (e : EndView) (name payload : List ℕ) (before asked waited after : G)
       → Queueing told start first items rounds e before → told before (item_next (items + 1)) asked
-      → Again told e asked more waited → Refuses e more refused → told waited (item_queued (items + 1)) after
+      → Again told e asked more waited → CountsRefusals e more refused → told waited (item_queued (items + 1)) after
       → Queueing told start first (items + 1) (rounds + more)
       (record (with_offer e name payload) { refused = refused }) after
 
 -- The work of a worker
 
--- reads that gave bytes or were interrupted, and so many rounds on a full queue, each of which took a turn
+-- reads that gave bytes or were interrupted, and rounds on a full queue; each used up a turn
 pub record Spends {R : Type 0} (gives : R → List ℕ → Got → R → Type 0) (old : Reading R) (rounds : ℕ) (new : Reading R)
     : Type 0 where
   pub count : ℕ
   pub reads : Reads gives old.reader count new.reader
   pub turns : count + rounds + new.turns ≡ old.turns
 
--- the reader ended so by its next reads, or had ended so before, and then read no more
+-- the reader ended so by its next reads, or had ended so already, and then read no more
 abbrev pub EndsNow : {R : Type 0} → (R → List ℕ → Got → R → Type 0) → Reading R → Ended → Reading R → Type 0
 EndsNow gives now over left =
-    (left.ended ≡ Some over) × Stands gives left over
+    (left.ended ≡ Some over) × EndStands gives left over
     × (((now.ended ≡ None) × EndsBy gives over now left) ⊎ (left ≡ now))
 
 module _ {R G : Type 0} (gives : R → List ℕ → Got → R → Type 0) (told : G → GateCall → G → Type 0) where
@@ -107,9 +107,10 @@ module _ {R G : Type 0} (gives : R → List ℕ → Got → R → Type 0) (told 
   Finishes n e now first Stopped end last left = DropsNext n e now Stopped first end last left
   Finishes n e now first NotStarted end last left = ⊥
 
-  -- a worker queued so many items, stopped for this reason and left its reader so: the calls of its reader and of its
-  -- gate, and the turns that were spent
-  pub record Ran (reader : Reading R) (start : EndView) (gate : G) (tally : ℕ) (why : Why) (end : EndView) (last : G)
+  -- a worker queued `tally` items, stopped for this reason and left its reader so: the calls of its reader and of its
+  -- gate, and the turns that were used up
+  pub record WorkerRan (reader : Reading R) (start : EndView) (gate : G) (tally : ℕ) (why : Why) (end : EndView)
+      (last : G)
       (left : Reading R) : Type 0 where
     pub rounds : ℕ
     pub now : Reading R
@@ -119,6 +120,7 @@ module _ {R G : Type 0} (gives : R → List ℕ → Got → R → Type 0) (told 
     pub spent : Spends gives reader rounds now
     pub finished : Finishes (tally + 1) before now asked why end last left
 
-  -- the same of a worker whose reader was dropped then
-  abbrev pub RanOut : Reading R → EndView → G → ℕ → Why → EndView → G → Type 0
-  RanOut reader start gate tally why end last = (left : Reading R) × Ran reader start gate tally why end last left
+  -- the same of a worker whose reader was then dropped
+  abbrev pub WorkerRanOut : Reading R → EndView → G → ℕ → Why → EndView → G → Type 0
+  WorkerRanOut reader start gate tally why end last = (left : Reading R)
+      × WorkerRan reader start gate tally why end last left

@@ -1,4 +1,4 @@
--- What comes of joining all ends of a queue to its intake.
+-- What becomes of a queue whose ends are joined to its intake.
 use Rattle.std.specs.Prelude.{◌≡◌, ◌≤◌, ◌<◌, ℕ, suc, zero, Bool, true, false, nat_eq, List, [], ◌∷◌, ◌++◌, length}
 use Rattle.std.specs.Prelude.{Any, sum}
 use Rattle.std.specs.List.{list_any}
@@ -17,15 +17,15 @@ has_end w ends = list_any (λ e. nat_eq e.worker w) ends
 abbrev pub AllThere : ℕ → List EndView → Type 0
 AllThere workers ends = (w : ℕ) → IsWorker workers w → has_end w ends ≡ true
 
--- that of some worker is not
+-- the end of some worker is not there
 abbrev pub IsMissing : ℕ → List EndView → Type 0
 IsMissing workers ends = (w : ℕ) × IsWorker workers w × (has_end w ends ≡ false)
 
--- as many offers were popped of its worker as the end queued, or more
+-- at least as many offers were popped of its worker as the end queued
 abbrev pub IsTaken : List Offer → EndView → Type 0
 IsTaken popped e = length e.pushed ≤ length (of_worker e.worker popped)
 
--- it has queued more than was popped of its worker
+-- the end has queued more than was popped of its worker
 abbrev pub HasLeft : List Offer → EndView → Type 0
 HasLeft popped e = length (of_worker e.worker popped) < length e.pushed
 
@@ -49,8 +49,8 @@ pub record Gathered (i : IntakeView) (ends : List EndView) (after : IntakeView) 
   pub tallies_are : tallies ≡ tallies_of i.workers i.popped
   pub total : sum tallies ≡ length i.popped
 
--- why they were not, in the order of the tests
-abbrev pub Refuses : WhyNot → IntakeView → List EndView → Type 0
-Refuses Mismatch i ends = IsMissing i.workers ends
-Refuses LeftOver i ends = AllThere i.workers ends × Any (HasLeft i.popped) ends
-Refuses NoMemory i ends = AllThere i.workers ends × Each (IsTaken i.popped) ends
+-- why the ends were not joined, in the order of the tests
+abbrev pub RefusesToGather : WhyNot → IntakeView → List EndView → Type 0
+RefusesToGather Mismatch i ends = IsMissing i.workers ends
+RefusesToGather LeftOver i ends = AllThere i.workers ends × Any (HasLeft i.popped) ends
+RefusesToGather NoMemory i ends = AllThere i.workers ends × Each (IsTaken i.popped) ends

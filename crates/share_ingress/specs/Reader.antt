@@ -12,19 +12,19 @@ use Rattle.share_ingress.specs.Found.{NeedsMore}
 use Rattle.share_ingress.specs.declared.reader.Next.{Next}
 use Rattle.share_ingress.specs.declared.reader.Next.TheVariants.{Item as Found, Ended as Over}
 
--- the reader below, the bytes that were read and not yet given, the reads that it may still make, and its last answer,
--- where that was the last
+-- the reader below, the bytes that were read and not given yet, the reads that it may still make, and how it ended, if
+-- it did
 pub record Reading (R : Type 0) : Type 0 where
   pub reader : R
   pub held : List ℕ
   pub turns : ℕ
   pub ended : Option Ended
 
--- the bytes of the stream that are left, where the reader below tells its own
+-- the bytes of the stream that are left, if the reader below tells its own
 abbrev pub left_of : {R : Type 0} → (R → Option (List ℕ)) → Reading R → Option (List ℕ)
 left_of left r = prepend_known r.held (left r.reader)
 
--- how a stream ends whose reader below has no more
+-- how a stream ends when there is nothing more to read and these bytes are held
 abbrev pub EndsInput : List ℕ → Ended → Type 0
 EndsInput held End = held ≡ []
 EndsInput held Cut = IsCut held
@@ -34,8 +34,8 @@ EndsInput held NoMemory = ⊥
 EndsInput held Bound = ⊥
 
 module _ {R : Type 0} (gives : R → List ℕ → Got → R → Type 0) where
-  -- reads that gave bytes or were interrupted, each of which took a turn
-  pub record GoesOn (old new : Reading R) : Type 0 where
+  -- reads that gave bytes or were interrupted, each of which used up a turn
+  pub record GoesOnReading (old new : Reading R) : Type 0 where
     pub count : ℕ
     pub reads : Reads gives old.reader count new.reader
     pub turns : count + new.turns ≡ old.turns
@@ -53,51 +53,51 @@ module _ {R : Type 0} (gives : R → List ℕ → Got → R → Type 0) where
   abbrev pub EndsBy : Ended → Reading R → Reading R → Type 0
   EndsBy End old new = LastRead old EndOfInput new
   EndsBy Cut old new = LastRead old EndOfInput new
-  EndsBy BadRecord old new = GoesOn old new
+  EndsBy BadRecord old new = GoesOnReading old new
   EndsBy Fault old new = LastRead old Failed new
-  EndsBy NoMemory old new = GoesOn old new
-  EndsBy Bound old new = GoesOn old new
+  EndsBy NoMemory old new = GoesOnReading old new
+  EndsBy Bound old new = GoesOnReading old new
 
   -- the last read of the reader below had this answer
   abbrev pub Gave : Got → R → Type 0
   Gave got reader = (before : R) × (buffer : List ℕ) × gives before buffer got reader
 
-  -- why it ended so, in whatever call: the last read gave no more, or failed; or there was no turn left for one
-  abbrev pub Stands : Reading R → Ended → Type 0
-  Stands r End = (r.held ≡ []) × Gave EndOfInput r.reader
-  Stands r Cut = IsCut r.held × Gave EndOfInput r.reader
-  Stands r BadRecord = IsBad r.held
-  Stands r Fault = Gave Failed r.reader
-  Stands r NoMemory = ⊤
-  Stands r Bound = (r.turns ≡ 0) × NeedsMore r.held
+  -- why it ended so, in this call or an earlier one: the last read found the end, or failed; or no turn was left
+  abbrev pub EndStands : Reading R → Ended → Type 0
+  EndStands r End = (r.held ≡ []) × Gave EndOfInput r.reader
+  EndStands r Cut = IsCut r.held × Gave EndOfInput r.reader
+  EndStands r BadRecord = IsBad r.held
+  EndStands r Fault = Gave Failed r.reader
+  EndStands r NoMemory = ⊤
+  EndStands r Bound = (r.turns ≡ 0) × NeedsMore r.held
 
   module _ (left : R → Option (List ℕ)) where
     -- more was read, and nothing given
     pub record ReadsOn (old new : Reading R) : Type 0 where
-      pub calls : GoesOn old new
+      pub calls : GoesOnReading old new
       pub kept : Keeps (left_of left old) (left_of left new)
       pub open_still : new.ended ≡ None
 
-    -- an item was given, whose record stood in front of the stream
-    pub record Takes (old : Reading R) (item : Item) (new : Reading R) : Type 0 where
-      pub calls : GoesOn old new
+    -- an item was given, whose record was at the front of the stream
+    pub record TakesItem (old : Reading R) (item : Item) (new : Reading R) : Type 0 where
+      pub calls : GoesOnReading old new
       pub good : IsItem item
       pub taken : Consumes (left_of left old) (left_of left new) (record_of item)
       pub open_still : new.ended ≡ None
 
-    -- it ended; the stream is as it was, and ends so
+    -- the reader ended; the stream did not change, and ends so
     pub record Stops (old : Reading R) (ended : Ended) (new : Reading R) : Type 0 where
       pub calls : EndsBy ended old new
       pub kept : Keeps (left_of left old) (left_of left new)
       pub ends : IfSome (left_of left old) (EndsAs ended)
-      pub stands : Stands new ended
+      pub stands : EndStands new ended
 
     -- the answer of a reader that has not ended
     abbrev pub Answers : Reading R → Next → Reading R → Type 0
-    Answers old (Found name parcel) new = Takes old (record { name = name; payload = parcel }) new
+    Answers old (Found name parcel) new = TakesItem old (record { name = name; payload = parcel }) new
     Answers old (Over ended) new = Stops old ended new × (new.ended ≡ Some ended)
 
   -- an answer that ends it has its reason
   abbrev pub HasReason : Next → Reading R → Type 0
   HasReason (Found name parcel) r = ⊤
-  HasReason (Over ended) r = Stands r ended
+  HasReason (Over ended) r = EndStands r ended

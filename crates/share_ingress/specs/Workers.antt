@@ -12,15 +12,15 @@ abbrev pub offers_of : ℕ → ℕ → List Item → List Offer
 offers_of worker k [] = []
 offers_of worker k (i ∷ is) = offer worker (suc k) i.name i.payload ∷ offers_of worker (suc k) is
 
--- the items stand in front of the bytes: all that there are, where the reader ended after them; not all, where the
--- worker was stopped; and none, where it was not started
+-- the items are those at the front of the bytes: all of them if the reader ended; not all if the worker was stopped;
+-- none if it was not started
 abbrev pub Queues : List ℕ → List Item → Why → Type 0
 Queues bytes items (Over ended) = IsRecords bytes items ended
 Queues bytes items Stopped = (next : Item) × (rest : List ℕ) × Front bytes (items ++ next ∷ []) rest
 Queues bytes items NotStarted = items ≡ []
 
--- the end queued these items, in order, and they are so many; they are those of the bytes that were left, where the
--- reader tells them
+-- the end queued these items, in order, `tally` of them; if the reader tells its bytes, they are those of the bytes
+-- that were left
 pub record Worked (left : Option (List ℕ)) (before after : EndView) (tally : ℕ) (why : Why) : Type 0 where
   pub items : List Item
   pub counted : tally ≡ length items

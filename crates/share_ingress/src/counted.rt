@@ -1,14 +1,14 @@
-//! A pass of a queue under a rule that counts what the queue refused: its pops that found nothing, or its pushes that
-//! found the queue full.
+//! A side of a queue under a rule, with a count of what the queue refused: pops that found nothing, or pushes that
+//! found it full.
 //!
-//! All pops and pushes go through this module. Its functions are generic in the rule and in what a call learns, so that
-//! none of them can make up what it tells of the queue, and no other module can raise the count. No contract refuses a
-//! further function here that raises it without a call: so the module holds `new`, `pop`, `push`, `beside` and
-//! `absorb`, and nothing else.
+//! All pops and pushes go through this module. Its functions are generic in the rule and in what a call learns, so none
+//! of them can invent what it tells of the queue, and no other module can raise the count. No contract rules out one
+//! more function here that raises it without a call. So the module has `new`, `pop`, `push`, `beside` and `absorb`, and
+//! nothing else.
 ghost use Rattle.std.specs.Prelude.{◌≡◌, List, MatchOption, MatchResult};
 ghost use Rattle.crossbeam_queue.specs.Fifo.{Pushes, Pops, Forks, Merges, Learns, Held};
 ghost use Rattle.crossbeam_queue.specs.Passes.{view, IsSamePass, IsPassOf, ruled_capacity};
-ghost use Rattle.share_ingress.specs.Ends.{raised};
+ghost use Rattle.share_ingress.specs.Ends.{one_higher};
 
 use crossbeam_queue::protocol::{Join, Lesson, Outcome, Protocol, Split};
 use crossbeam_queue::{Pass, RuledArrayQueue};
@@ -23,7 +23,7 @@ pub(crate) struct Counted<T, V> {
 }
 
 impl<T, V> Counted<T, V> {
-    /// A pass of which no call was refused.
+    /// A pass, none of whose calls was refused.
     pub(crate) fn new(pass: Pass<T, V>) -> Counted<T, V>
         ensures pass { result.pass ≡ pass }
         ensures count { result.count ≡ 0 }
@@ -31,7 +31,7 @@ impl<T, V> Counted<T, V> {
         Counted { pass, count: 0 }
     }
 
-    /// Pops; it is counted where the queue was empty at some moment of the call.
+    /// Pops. If the queue was empty at some moment of the call, it gives `None` and is counted.
     pub(crate) fn pop<P: Protocol<T, V>, M: Outcome<T, V> + Lesson<T, V>, R: Wait>(
         &mut self,
         queue: &RuledArrayQueue<T, V, P, Global>,
@@ -43,7 +43,7 @@ impl<T, V> Counted<T, V> {
         ensures queue { IsSamePass self.old.pass self.new.pass }
         ensures rule { MatchOption result
             ((view self.new.pass ≡ view self.old.pass) × Held 0 (M.fact (view self.old.pass))
-            × (self.new.count ≡ raised self.old.count))
+            × (self.new.count ≡ one_higher self.old.count))
             (λ x. M.then (view self.old.pass) x (view self.new.pass) × (self.new.count ≡ self.old.count)) }
     {
         match queue.pop_as::<M, R>(rt, &mut self.pass) {
@@ -55,7 +55,7 @@ impl<T, V> Counted<T, V> {
         }
     }
 
-    /// Pushes; it is counted where the queue was full at some moment of the call.
+    /// Pushes. If the queue was full at some moment of the call, it gives the item back and is counted.
     pub(crate) fn push<P: Protocol<T, V>, M: Outcome<T, V> + Lesson<T, V>, R: Wait>(
         &mut self,
         queue: &RuledArrayQueue<T, V, P, Global>,
@@ -71,7 +71,7 @@ impl<T, V> Counted<T, V> {
             (λ _. M.then (view self.old.pass) item (view self.new.pass) × (self.new.count ≡ self.old.count))
             (λ back. (back ≡ item) × (view self.new.pass ≡ view self.old.pass)
             × Held (ruled_capacity queue.now) (M.fact (view self.old.pass))
-            × (self.new.count ≡ raised self.old.count)) }
+            × (self.new.count ≡ one_higher self.old.count)) }
     {
         match queue.push_as::<M, R>(rt, &mut self.pass, item) {
             Ok(()) => Ok(()),
@@ -82,7 +82,7 @@ impl<T, V> Counted<T, V> {
         }
     }
 
-    /// Lays another pass beside this one, learns of the queue, and takes it away again. Neither count changes.
+    /// Holds another pass beside this one to learn what the queue's rule says of both. Neither count changes.
     pub(crate) fn beside<P: Protocol<T, V>, J: Join<V> + Lesson<T, V> + Split<V>>(
         &mut self,
         queue: &RuledArrayQueue<T, V, P, Global>,
@@ -109,7 +109,7 @@ impl<T, V> Counted<T, V> {
         Counted { pass, count }
     }
 
-    /// Takes in another pass, which is spent. The count of this one stays.
+    /// Joins another pass to this one. It is used up. The count of this one does not change.
     pub(crate) fn absorb<P: Protocol<T, V>, J: Join<V>>(
         &mut self,
         queue: &RuledArrayQueue<T, V, P, Global>,

@@ -5,14 +5,14 @@ ghost use Rattle.crossbeam_queue.specs.Passes.{view, IsPassOf, ruled_capacity};
 ghost use Rattle.share_base.specs.Refusal.{IsRefused};
 ghost use Rattle.share_model.specs.ingress.Queue.{an_intake, of_worker, Begins, IsWorker};
 ghost use Rattle.share_model.specs.lists.Each.{Each};
-ghost use Rattle.share_ingress.specs.Ends.{queue_refusal, new_end, new_ends, new_intake, Offers, IsTake};
+ghost use Rattle.share_ingress.specs.Ends.{queue_refusal, new_end, new_ends, new_intake, OfferCall, IsTake};
 ghost use Rattle.share_ingress.specs.Ends.{with_miss};
 ghost use Rattle.share_ingress.specs.Ends.{is_out_of_range};
 
 mod gather;
 
 use crate::counted::Counted;
-use crate::held::{Beside, Ends, InOrder, Line, Puts, Takes, Token};
+use crate::held::{Beside, Ends, InOrder, OfferQueue, Puts, Takes, Token};
 pub use gather::{Ungathered, WhyNot};
 use share_base::{Name, Parcel, Refusal};
 use share_model::{Offer, QueueView};
@@ -24,7 +24,7 @@ use std::sync::{Arc, Wait};
 const MAX_CAPACITY: usize = 1024;
 
 /// How many workers a queue has at most.
-const MAX_WORKERS: usize = 2;
+const MAX_WORKERS: usize = 8;
 
 /// How many offers an end queues at most.
 const MAX_OFFERS: u64 = 1 << 40;
@@ -32,18 +32,18 @@ const MAX_OFFERS: u64 = 1 << 40;
 /// What an end answers to an offer.
 #[derive(Drop)]
 pub enum Offered {
-    /// It is queued, and is the n-th offer that this end queued.
+    /// It is queued, as the n-th offer of this end.
     Queued(u64),
-    /// It is not, and here is the parcel: the queue was full, or the end has queued 2^40 offers.
+    /// The queue was full, or the end has queued 2^40 offers. The parcel comes back.
     Full(Parcel),
 }
 
-/// A worker's end of the queue, which alone queues this worker's offers. A contract sees the queue by its name, how
-/// many offers it holds at most, the worker, counted from 1, what the end pushed, and how many of its offers a full
+/// A worker's end of the queue, the only one that queues this worker's offers. A contract sees the name of the queue,
+/// how many offers it holds at most, the worker, counted from 1, what the end pushed, and how many of its offers a full
 /// queue refused, counted up to 2^64 - 1.
 #[derive(Drop)]
 pub struct IngressEnd {
-    queue: Arc<Line, Global>,
+    queue: Arc<OfferQueue, Global>,
     token: Counted<Offer, QueueView>,
     worker: u64,
     count: u64,
@@ -73,16 +73,16 @@ impl Model for IngressEnd {
         × (e.count ≤ 2 ^ 40) };
 }
 
-/// The link's side of the queue, which alone pops. A contract sees the queue by its name, how many offers it holds at
-/// most, how many workers it has, what was popped, what the queue held just after the last pop, the workers whose ends
-/// were joined to the intake, and how many pops found the queue empty, counted up to 2^64 - 1.
+/// The link's side of the queue, the only one that pops. A contract sees the name of the queue, how many offers it
+/// holds at most, how many workers it has, what was popped, what the queue held just after the last pop, the workers
+/// whose ends were joined to the intake, and how many pops found the queue empty, counted up to 2^64 - 1.
 #[derive(Drop)]
 pub struct Intake {
-    queue: Arc<Line, Global>,
+    queue: Arc<OfferQueue, Global>,
     token: Counted<Offer, QueueView>,
     workers: u64,
     // How many offers were popped of each worker.
-    counts: [u64; 8],
+    counts: [u64; MAX_WORKERS],
 }
 
 impl Model for Intake {
@@ -91,7 +91,8 @@ impl Model for Intake {
     ghost use Rattle.crossbeam_queue.specs.Passes.{view as known, IsPassOf, ruled_capacity};
     ghost use Rattle.share_model.specs.ingress.Queue.{an_intake, IsWorker};
     ghost use Rattle.share_model.specs.lists.Each.{Each};
-    ghost use Rattle.share_ingress.specs.Ends.{IntakeView, Counts};
+    ghost use Rattle.share_ingress.specs.Ends.{IntakeView, CountsByWorker};
+    ghost use Rattle.share_ingress.specs.declared.ends.TheConstants.{MAX_WORKERS};
 
     ghost Value = { IntakeView };
 
@@ -110,13 +111,13 @@ impl Model for Intake {
         × (known i.token.pass
         ≡ an_intake i.workers (known i.token.pass).popped (known i.token.pass).ahead
         (known i.token.pass).closed)
-        × (i.workers ≤ 8)
+        × (i.workers ≤ MAX_WORKERS)
         × Each (λ o. IsWorker i.workers o.worker) (known i.token.pass).popped
-        × Counts i.counts (known i.token.pass).popped };
+        × CountsByWorker i.counts (known i.token.pass).popped };
 }
 
-/// A new queue of so many places, 1 to 1024, with an end for each of so many workers, 1 or 2, in their order. Refusals:
-/// `Range` where a number is none of these, `NoMemory` where a growth was refused.
+/// Makes a queue of `capacity` places, 1 to 1024, with an end for each of 1 to 8 workers, in their order. `Range` if a
+/// number is out of range, `NoMemory` if memory was refused.
 pub fn queue(
     alloc: Global,
     capacity: usize,
@@ -133,7 +134,7 @@ pub fn queue(
         return Err(Refusal::Range);
     }
     let mut ends = Vec::with_capacity(alloc, workers)?;
-    let (line, mut token) = Line::ruled(alloc, capacity)?;
+    let (line, mut token) = OfferQueue::ruled(alloc, capacity)?;
     let queue = Arc::new(alloc, line)?;
     for made in 0..workers {
         ends.push(another_end(&queue, &mut token, made as u64 + 1)?)?;
@@ -142,7 +143,7 @@ pub fn queue(
         queue,
         token: Counted::new(token),
         workers: workers as u64,
-        counts: [0; 8],
+        counts: [0; MAX_WORKERS],
     };
     Ok((intake, ends))
 }
@@ -155,7 +156,7 @@ fn is_out_of_range(most: usize, number: usize) -> bool
 
 // The end of one more worker.
 fn another_end(
-    queue: &Arc<Line, Global>,
+    queue: &Arc<OfferQueue, Global>,
     token: &mut Token,
     worker: u64,
 ) -> Result<IngressEnd, AllocError>
@@ -186,11 +187,11 @@ impl IngressEnd {
         self.count
     }
 
-    /// Offers a record to the queue. It is queued as this worker's next offer, or comes back: only where the queue was
+    /// Offers a record to the queue. It is queued as this worker's next offer, or comes back, but only if the queue was
     /// full at some moment of the call, or this end has queued 2^40 offers. It takes no memory, and may spin while
     /// another thread is in the middle of a push or a pop.
     pub fn offer<R: Wait>(&mut self, rt: &R, name: Name, parcel: Parcel) -> Offered
-        ensures { Offers self.old name parcel result self.new }
+        ensures { OfferCall self.old name parcel result self.new }
     {
         if self.count == MAX_OFFERS {
             return Offered::Full(parcel);
@@ -222,8 +223,8 @@ impl Intake {
         self.queue.capacity()
     }
 
-    /// Takes the offer in front, or `None` where the queue was empty at some moment of the call. It takes no memory,
-    /// and may spin while another thread is in the middle of a push.
+    /// Takes the offer in front. `None` if the queue was empty at some moment of the call. It takes no memory, and may
+    /// spin while another thread is in the middle of a push.
     pub fn take<R: Wait>(&mut self, rt: &R) -> Option<Offer>
         ensures some { IfSome result (λ offer. IsTake self.old offer self.new) }
         ensures none { IfNone result ((self.new ≡ with_miss self.old) × (self.old.ahead ≡ [])) }
@@ -233,8 +234,8 @@ impl Intake {
         Some(offer)
     }
 
-    /// Lays an end of this queue beside the intake and gives it back: what was popped of its worker is, in order, the
-    /// beginning of what it pushed. It takes no memory.
+    /// Gives an end of this queue back as it was, and says that what was popped of its worker is, in order, the
+    /// beginning of what the end pushed. It takes no memory.
     pub fn compare(&mut self, end: IngressEnd) -> IngressEnd
         requires { end.link ≡ self.old.link }
         ensures same { (self.new ≡ self.old) × (result ≡ end) }

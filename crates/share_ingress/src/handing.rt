@@ -1,11 +1,11 @@
-//! An item is handed over to a thread that has been started, with what is known of it.
+//! Hands an item over to a thread that runs already, with what is known of it.
 ghost use Rattle.std.specs.Prelude.{⊤};
 
 use std::marker::{Brand, Model, PhantomData};
 use std::sync::{Mutex, Wait};
 use std::thread;
 
-/// What the thread that takes an item knows of it. Who hands the item over picks it.
+/// What the thread that takes an item knows of it. The thread that hands it over chooses this.
 pub(crate) trait Known<X> {
     ghost is: { X → Type 0 };
 }
@@ -14,7 +14,7 @@ impl<X> Known<X> for Brand {
     ghost is = { λ _. ⊤ };
 }
 
-/// An item of which this is known.
+/// An item of which `K` is known.
 #[derive(Drop)]
 pub(crate) struct Handed<X, K: Known<X>> {
     item: X,

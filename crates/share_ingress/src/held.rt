@@ -1,12 +1,13 @@
 //! The rule of the queue, and the steps on it.
 ghost use Rattle.std.specs.Prelude.{suc, [], ◌∷◌};
-ghost use Rattle.share_model.specs.ingress.Queue.{Put, OwnLast, Taken, Seen, Behind, an_end, an_intake, a_host, spent};
+ghost use Rattle.share_model.specs.ingress.Queue.{Put, OwnLast, Taken, StillAhead, Behind, an_end, an_intake, a_host};
+ghost use Rattle.share_model.specs.ingress.Queue.{a_spent_side};
 
 use crossbeam_queue::protocol::{Join, Lesson, Outcome, Protocol, Split};
 use crossbeam_queue::{Pass, RuledArrayQueue};
 use share_model::{Offer, QueueView};
 
-/// Of each worker, what was pushed is what was popped and then what is held.
+/// What the end of a worker pushed is what the intake popped of it, and then what the queue holds of it.
 pub struct InOrder;
 
 impl Protocol<Offer, QueueView> for InOrder {
@@ -19,12 +20,12 @@ impl Protocol<Offer, QueueView> for InOrder {
 }
 
 /// The queue.
-pub type Line = RuledArrayQueue<Offer, QueueView, InOrder>;
+pub type OfferQueue = RuledArrayQueue<Offer, QueueView, InOrder>;
 
-/// What an end, or the intake, has of the queue.
+/// What an end, or the intake, has in order to call the queue.
 pub type Token = Pass<Offer, QueueView>;
 
-/// A push by an end, or one that was refused.
+/// A push by an end, also one that was refused.
 pub(crate) struct Puts;
 
 impl Outcome<Offer, QueueView> for Puts {
@@ -35,7 +36,7 @@ impl Lesson<Offer, QueueView> for Puts {
     ghost fact = { OwnLast };
 }
 
-/// A pop by the intake, or one that found nothing.
+/// A pop by the intake, also one that found nothing.
 pub(crate) struct Takes;
 
 impl Outcome<Offer, QueueView> for Takes {
@@ -43,7 +44,7 @@ impl Outcome<Offer, QueueView> for Takes {
 }
 
 impl Lesson<Offer, QueueView> for Takes {
-    ghost fact = { Seen };
+    ghost fact = { StillAhead };
 }
 
 /// The end of one more worker is split off from the intake.
@@ -55,13 +56,13 @@ impl Split<QueueView> for Ends {
     ghost right = { λ v. an_end (suc v.made) [] };
 }
 
-/// An end is laid beside the intake, looked at, and taken away again.
+/// An end is held beside the intake, and taken away again.
 pub(crate) struct Beside;
 
 impl Join<QueueView> for Beside {
     ghost both = { a_host };
 
-    ghost spent = { spent };
+    ghost spent = { a_spent_side };
 }
 
 impl Lesson<Offer, QueueView> for Beside {
@@ -80,5 +81,5 @@ pub(crate) struct Closes;
 impl Join<QueueView> for Closes {
     ghost both = { λ v u. an_intake v.made v.popped v.ahead (u.worker ∷ v.closed) };
 
-    ghost spent = { spent };
+    ghost spent = { a_spent_side };
 }

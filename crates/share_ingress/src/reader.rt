@@ -3,19 +3,19 @@ ghost use Rattle.std.specs.Prelude.{◌≡◌, ◌<◌, ◌+◌, [], None, Some,
 ghost use Rattle.share_base.specs.Refusal.{IsRefused};
 ghost use Rattle.share_ingress.specs.Found.{BeginsWhole, NeedsMore};
 ghost use Rattle.share_ingress.specs.declared.reader.Next.TheVariants.{Ended as Over};
-ghost use Rattle.share_ingress.specs.Reader.{Answers, HasReason, Stands, Stops, ReadsOn, EndsInput};
+ghost use Rattle.share_ingress.specs.Reader.{Answers, HasReason, EndStands, Stops, ReadsOn, EndsInput};
 
 use crate::record::{FRAMING, Found, first_record};
 use bytes::BytesMut;
 use share_base::{Name, Parcel, Refusal};
-use share_model::{Ended, Got, Source};
+use share_model::{Ended, Got, TellingReader};
 use std::alloc::{AllocError, Global};
 use std::marker::Model;
 
 /// How many bytes are read in one call, at most.
 const CHUNK: usize = 65536;
 
-/// How many bytes of a part of a record may stand before those of a read.
+/// How many bytes a part of a record may have, which is kept from one read to the next.
 const CARRIED: usize = 2048;
 
 /// What a reader answers.
@@ -23,39 +23,39 @@ const CARRIED: usize = 2048;
 pub enum Next {
     /// The item of the next record.
     Item { name: Name, parcel: Parcel },
-    /// There is none, for this reason.
+    /// There is no next record, for this reason.
     Ended(Ended),
 }
 
 /// A reader of records over a reader of bytes. It holds at most the bytes of one read and a part of a record.
 #[derive(Drop)]
-pub struct IngressReader<R: Source> {
+pub struct IngressReader<R: TellingReader> {
     alloc: Global,
     reader: R,
-    // Read and not yet given.
+    // The bytes that were read and not given yet.
     held: BytesMut,
-    // What one read fills.
+    // The buffer of one read.
     chunk: Vec<u8>,
     turns: u64,
     ended: Option<Ended>,
 }
 
-impl<R: Source> Model for IngressReader<R> {
+impl<R: TellingReader> Model for IngressReader<R> {
     ghost use Rattle.std.specs.Prelude.{◌≡◌, ◌<◌, length, Option, None, IfSome};
-    ghost use Rattle.share_ingress.specs.Reader.{Reading, Stands};
+    ghost use Rattle.share_ingress.specs.Reader.{Reading, EndStands};
 
     ghost Value = { Reading R };
 
     ghost view = { λ r. record { reader = r.reader; held = r.held.items; turns = r.turns; ended = r.ended } };
 
     ghost invariant = { λ r. (length r.chunk.items ≡ 65536)
-        × IfSome r.ended (Stands R.gives
+        × IfSome r.ended (EndStands R.gives
         (record { reader = r.reader; held = r.held.items; turns = r.turns; ended = r.ended })) };
 }
 
-impl<R: Source + Drop> IngressReader<R> {
-    /// A reader that makes at most so many read calls. `NoMemory` where no buffer was to be had; the reader is
-    /// dropped then.
+impl<R: TellingReader + Drop> IngressReader<R> {
+    /// A reader that makes at most this many read calls. `NoMemory` if memory for its buffers is refused; then the
+    /// reader is dropped.
     pub fn new(alloc: Global, reader: R, bound: u64) -> Result<IngressReader<R>, Refusal>
         ensures ok { IfOk result (λ r. r ≡ record { reader = reader; held = []; turns = bound; ended = None }) }
         ensures refused { IfErr result (IsRefused None) }
@@ -73,14 +73,14 @@ impl<R: Source + Drop> IngressReader<R> {
     }
 }
 
-impl<R: Source> IngressReader<R> {
-    /// The next item of the stream, or why there is none: `End` after a whole record or where the stream is empty,
-    /// `Cut` inside a record, `BadRecord` at a field out of its range, `Fault` where a read failed, `NoMemory` where a
-    /// growth was refused, `Bound` where all reads were used up and another one was needed. What is answered after the
-    /// items is answered for good, and nothing is read then.
+impl<R: TellingReader> IngressReader<R> {
+    /// The next item of the stream, or why there is none: `End` after a whole record or in an empty stream, `Cut`
+    /// inside a record, `BadRecord` at a field out of its range, `Fault` if a read failed, `NoMemory` if memory was
+    /// refused, `Bound` if all reads were used up and one more was needed. Once there is no next item, each further
+    /// call gives the same answer, and reads nothing.
     ///
-    /// A record is the length of a name in one byte, the name, the length of a payload in two bytes, the greater part
-    /// first, and the payload. An interrupted read is made again; each read is counted.
+    /// A record is the length of a name in one byte, the name, the length of a payload in two bytes, high byte first,
+    /// and the payload. An interrupted read is made again; each read is counted.
     pub fn next(&mut self) -> Next
         ensures again { IfSome self.old.ended (λ ended. (result ≡ Over ended) × (self.new ≡ self.old)) }
         ensures first { self.old.ended ≡ None → Answers R.gives R.left self.old result self.new }
@@ -92,7 +92,7 @@ impl<R: Source> IngressReader<R> {
         }
     }
 
-    /// Uses up a turn without a read, where one is left.
+    /// Uses up one of the reads that are left without reading. Returns false if none is left.
     pub(crate) fn turn(&mut self) -> bool
         requires { self.old.ended ≡ None }
         ensures { MatchBool result ((self.new ≡ record self.old { turns = self.new.turns })
@@ -105,7 +105,7 @@ impl<R: Source> IngressReader<R> {
         true
     }
 
-    // Reads up to the end of a record, or of the stream.
+    // Reads until a record is whole, or there is none.
     fn read_on(&mut self) -> Next
         requires { self.old.ended ≡ None }
         ensures { Answers R.gives R.left self.old result self.new }
@@ -138,9 +138,9 @@ impl<R: Source> IngressReader<R> {
         }
     }
 
-    // The answer from here on.
+    // Gives the answer of this call and of all later ones.
     fn end(&mut self, ended: Ended) -> Next
-        requires { Stands R.gives self.old ended }
+        requires { EndStands R.gives self.old ended }
         ensures answer { result ≡ Over ended }
         ensures same { self.new ≡ record self.old { ended = Some ended } }
     {
@@ -176,7 +176,7 @@ impl<R: Source> IngressReader<R> {
     }
 }
 
-// How a stream ends whose reader below has no more, and of which this much is held.
+// How a stream ends when there is nothing more to read and these bytes are held.
 fn end_of_input(held: &[u8]) -> Ended
     requires { NeedsMore held.now }
     ensures { EndsInput held.now result }

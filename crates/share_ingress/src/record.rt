@@ -5,12 +5,12 @@ ghost use Rattle.share_ingress.specs.Found.{IsFound};
 
 use share_base::{MAX_NAME, MAX_PAYLOAD, Name};
 
-/// How many bytes a record has beside its name and its payload.
+/// How many bytes a record has besides its name and its payload.
 pub(crate) const FRAMING: usize = 3;
 
 /// What bytes begin with.
 pub(crate) enum Found {
-    /// A whole record with this name, and so many bytes of payload.
+    /// A whole record with this name and a payload of this length.
     Whole(Name, usize),
     /// A whole field that is out of its range.
     Bad,
@@ -18,7 +18,7 @@ pub(crate) enum Found {
     Part,
 }
 
-/// What bytes begin with. Fields are read one after the other, and each is checked when it is whole.
+/// Says what bytes begin with. Fields are read in order, and each is checked when it is whole.
 pub(crate) fn first_record(bytes: &[u8]) -> Found
     ensures { IsFound bytes.now result }
 {
@@ -38,7 +38,7 @@ pub(crate) fn first_record(bytes: &[u8]) -> Found
     }
 }
 
-// What a name, with its length before it, and the bytes after it begin with.
+// The same, of a name and the bytes after it.
 fn after_name(name: Name, tail: &[u8]) -> Found
     requires { is_name name ≡ true }
     ensures { IsFound ((length name ∷ name) ++ tail.now) result }

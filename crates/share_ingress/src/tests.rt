@@ -1,4 +1,4 @@
-//! Readers, the queue and workers in use: the worked examples, and what no contract says.
+//! Readers, the queue and workers in use: worked examples, and what no contract says.
 
 mod beside;
 mod gathering;

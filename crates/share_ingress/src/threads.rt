@@ -9,7 +9,7 @@ use crate::handing;
 use crate::handing::{Inbox, Known};
 use crate::reader::IngressReader;
 use crate::workers::{Done, Gate, Why, run_worker};
-use share_model::Source;
+use share_model::TellingReader;
 use std::alloc::Global;
 use std::marker::Brand;
 use std::snapshot::Snapshot;
@@ -19,28 +19,28 @@ use std::thread::{Promise, PromisedHandle, Scope, Threads};
 
 /// What a worker is to do: whose records it queues, where, and its gate.
 #[derive(Drop)]
-pub struct Job<R: Source, G> {
+pub struct Job<R: TellingReader, G> {
     pub reader: IngressReader<R>,
     pub end: IngressEnd,
     pub gate: G,
 }
 
-// That a worker did its job.
+// The promise that a worker did this job.
 #[derive(Drop)]
-struct WorkOf<R: Source, G>(Snapshot<Job<R, G>>);
+struct WorkOf<R: TellingReader, G>(Snapshot<Job<R, G>>);
 
-impl<R: Source, G: Gate> Promise<Done<G>> for WorkOf<R, G> {
+impl<R: TellingReader, G: Gate> Promise<Done<G>> for WorkOf<R, G> {
     ghost use Rattle.share_ingress.specs.Threads.{IsWorkDone};
 
     ghost kept_by = { λ p done. IsWorkDone R.gives R.left G.told p.0.value done };
 }
 
-// A worker at work, or one that was not started.
+// A worker at work, or what is left of one that was not started.
 type Begun<R, G> = Result<PromisedHandle<Done<G>, WorkOf<R, G>>, Done<G>>;
 
-/// Runs each job in a thread of its own, joins all, and answers what they leave, in the order of the jobs: each end is
-/// of its job's queue. A job whose thread was not to be had is not started: its reader is dropped. The jobs come back
-/// where no room for their results was to be had, before any was started.
+/// Runs each job in a thread of its own, joins all, and gives what they leave, in the order of the jobs: each end is of
+/// its job's queue. A job whose thread is refused is not started: its reader is dropped. If there is no memory for the
+/// results, no job is started, and all come back.
 pub fn run_workers<T, R, G>(
     rt: &T,
     alloc: Global,
@@ -48,7 +48,7 @@ pub fn run_workers<T, R, G>(
 ) -> Result<Vec<Done<G>>, Vec<Job<R, G>>>
 where
     T: Threads + Wait + Sync,
-    R: Source + Send + Drop,
+    R: TellingReader + Send + Drop,
     G: Gate + Send + Drop,
     ensures each { IfOk result (λ all. Matches (IsJobDone R.gives R.left G.told) jobs.items all.items) }
     ensures linked { IfOk result (λ all. Matches (λ job done. done.end.link ≡ job.end.link) jobs.items all.items) }
@@ -66,7 +66,7 @@ where
     )
 }
 
-// The same, with threads that end before this scope does.
+// The same, with threads of this scope.
 fn run_in<'s, E, T, R, G>(
     scope: &Scope<'s, E>,
     rt: &'s T,
@@ -75,7 +75,7 @@ fn run_in<'s, E, T, R, G>(
 ) -> Result<Vec<Done<G>>, Vec<Job<R, G>>>
 where
     T: Threads + Wait + Sync,
-    R: Source + Send + Drop + 's,
+    R: TellingReader + Send + Drop + 's,
     G: Gate + Send + Drop + 's,
     ensures each { IfOk result (λ all. Matches (IsJobDone R.gives R.left G.told) jobs.items all.items) }
     ensures back { IfErr result (λ back. back ≡ jobs) }
@@ -107,8 +107,8 @@ fn put_last<A: Drop>(list: &mut Vec<A>, item: A)
     };
 }
 
-// Starts a job in a thread of its own. It is handed over once the thread is there: where none was to be had, it is
-// still here.
+// Starts a job in a thread of its own. The job is handed over once the thread runs, so it is still here if there is
+// none.
 fn start<'s, E, T, R, G>(
     scope: &Scope<'s, E>,
     rt: &'s T,
@@ -117,14 +117,14 @@ fn start<'s, E, T, R, G>(
 ) -> Begun<R, G>
 where
     T: Threads + Wait + Sync,
-    R: Source + Send + Drop + 's,
+    R: TellingReader + Send + Drop + 's,
     G: Gate + Send + Drop + 's,
     ensures { MatchResult result (λ handle. handle.promise.0.value ≡ job) (IsNotStarted job) }
 {
     start_as::<E, T, R, G, Brand>(scope, rt, alloc, job)
 }
 
-// The same, where the thread knows of the job that it takes that it is this one.
+// The same. The thread knows that the job that it takes is this one.
 fn start_as<'s, E, T, R, G, K>(
     scope: &Scope<'s, E>,
     rt: &'s T,
@@ -133,7 +133,7 @@ fn start_as<'s, E, T, R, G, K>(
 ) -> Begun<R, G>
 where
     T: Threads + Wait + Sync,
-    R: Source + Send + Drop + 's,
+    R: TellingReader + Send + Drop + 's,
     G: Gate + Send + Drop + 's,
     K: Known<Job<R, G>> + Send + 's,
     requires { IsOnly K.is job }
@@ -155,11 +155,11 @@ where
     }
 }
 
-// Does the job that is handed over.
+// Takes the job that is handed over, and does it.
 fn work_on_next<T, R, G, K>(rt: &T, inbox: &Inbox<Job<R, G>, K>) -> Done<G>
 where
     T: Wait,
-    R: Source + Drop,
+    R: TellingReader + Drop,
     G: Gate + Drop,
     K: Known<Job<R, G>>,
     ensures { IsDoneOfOne K.is R.gives R.left G.told result }
@@ -169,7 +169,7 @@ where
     run_worker(rt, reader, end, gate)
 }
 
-fn not_started<R: Source + Drop, G: Gate + Drop>(job: Job<R, G>) -> Done<G>
+fn not_started<R: TellingReader + Drop, G: Gate + Drop>(job: Job<R, G>) -> Done<G>
     ensures { IsNotStarted job result }
 {
     let Job {
@@ -185,7 +185,7 @@ fn not_started<R: Source + Drop, G: Gate + Drop>(job: Job<R, G>) -> Done<G>
     }
 }
 
-fn finish<T: Threads, R: Source, G: Gate>(rt: &T, begun: Begun<R, G>) -> Done<G>
+fn finish<T: Threads, R: TellingReader, G: Gate>(rt: &T, begun: Begun<R, G>) -> Done<G>
     ensures { MatchResult begun (λ handle. IsWorkDone R.gives R.left G.told handle.promise.0.value result)
         (λ done. result ≡ done) }
 {

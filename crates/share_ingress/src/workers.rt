@@ -2,7 +2,7 @@
 ghost use Rattle.std.specs.Prelude.{◌≡◌, ◌≢◌, None, MatchResult};
 ghost use Rattle.share_ingress.specs.Ends.{with_offer};
 ghost use Rattle.share_ingress.specs.GateCalls.{GateCall, item_next, item_queued, queue_full};
-ghost use Rattle.share_ingress.specs.Gates.{Waits, Drops, Ran, RanOut};
+ghost use Rattle.share_ingress.specs.Gates.{Waits, Drops, WorkerRan, WorkerRanOut};
 ghost use Rattle.share_ingress.specs.Reader.{left_of};
 ghost use Rattle.share_ingress.specs.Workers.{Worked};
 ghost use Rattle.share_ingress.specs.declared.workers.Why.TheVariants.{NotStarted};
@@ -10,12 +10,12 @@ ghost use Rattle.share_ingress.specs.declared.workers.Why.TheVariants.{NotStarte
 use crate::ends::{IngressEnd, Offered};
 use crate::reader::{IngressReader, Next};
 use share_base::{Name, Parcel};
-use share_model::{Ended, Source};
+use share_model::{Ended, TellingReader};
 use std::snapshot::Snapshot;
 use std::sync::Wait;
 
-/// What a worker tells of its work, and who may stop it where the queue is full. Items are counted from 1 in each run
-/// of a worker. What is `told` is what contracts know of a call.
+/// Is told of a worker's work, and may stop it when the queue is full. Items are counted from 1 in each run of a
+/// worker. `told` is what contracts know of a call.
 pub trait Gate {
     /// The gate before a call, the call with its answer, and the gate after.
     ghost told: { Self → GateCall → Self → Type 0 };
@@ -28,7 +28,7 @@ pub trait Gate {
     fn offered(&mut self, n: u64)
         ensures { told self.old (item_queued n) self.new };
 
-    /// The queue was full. Whether the item is to be offered again: the worker stops where it is not.
+    /// The queue was full. Whether to offer the item again; if not, the worker stops.
     fn full(&mut self) -> bool
         ensures { told self.old (queue_full result) self.new };
 }
@@ -36,11 +36,11 @@ pub trait Gate {
 /// Why a worker stopped.
 #[derive(Clone, Copy, Debug, PartialEq, Eq)]
 pub enum Why {
-    /// This was the reader's last answer; or all turns were used up while the queue was full, which is `Bound`.
+    /// The reader ended so; or the bound was used up while the queue was full, which is `Bound`.
     Ended(Ended),
     /// The gate stopped it. The item in hand was dropped.
     Stopped,
-    /// It was not started. Nothing was read, and the reader was dropped.
+    /// It was never started. Nothing was read, and the reader was dropped.
     NotStarted,
 }
 
@@ -54,9 +54,9 @@ pub struct Done<G> {
 }
 
 /// Reads records and queues their items, in order, until the reader ends or the gate stops it. While the queue is full,
-/// the item in hand is offered again and again, each time for a turn of the reader's bound; an item that is not queued
-/// at the end is dropped, and nothing is read after it. The reader is dropped.
-pub fn run_worker<T: Wait, R: Source + Drop, G: Gate>(
+/// the item in hand is offered again, and each such offer uses up a read of the reader's bound. An item that is not
+/// queued at the end is dropped, and nothing is read after it. The reader is dropped.
+pub fn run_worker<T: Wait, R: TellingReader + Drop, G: Gate>(
     rt: &T,
     reader: IngressReader<R>,
     end: IngressEnd,
@@ -64,7 +64,7 @@ pub fn run_worker<T: Wait, R: Source + Drop, G: Gate>(
 ) -> Done<G>
     ensures started { result.why ≢ NotStarted }
     ensures worked { Worked (left_of R.left reader) end result.end result.tally result.why }
-    ensures ran { RanOut R.gives G.told reader end gate result.tally result.why result.end result.gate }
+    ensures ran { WorkerRanOut R.gives G.told reader end gate result.tally result.why result.end result.gate }
 {
     let mut reader = reader;
     let mut end = end;
@@ -79,15 +79,15 @@ pub fn run_worker<T: Wait, R: Source + Drop, G: Gate>(
     }
 }
 
-// Works until the reader ends or the gate stops it: why, how many items were queued, and how the reader was left.
-fn work<T: Wait, R: Source, G: Gate>(
+// Works until the reader ends or the gate stops it. Gives why, how many items were queued, and the reader.
+fn work<T: Wait, R: TellingReader, G: Gate>(
     rt: &T,
     reader: &mut IngressReader<R>,
     end: &mut IngressEnd,
     gate: &mut G,
 ) -> (Why, u64, Snapshot<IngressReader<R>>)
     ensures worked { Worked (left_of R.left reader.old) end.old end.new result.1 result.0 }
-    ensures ran { Ran R.gives G.told reader.old end.old gate.old result.1 result.0 end.new gate.new reader.new }
+    ensures ran { WorkerRan R.gives G.told reader.old end.old gate.old result.1 result.0 end.new gate.new reader.new }
     ensures left { result.2.value ≡ reader.new }
 {
     let first = end.queued();
@@ -113,7 +113,7 @@ fn work<T: Wait, R: Source, G: Gate>(
     unreachable!()
 }
 
-// Drops a reader as it was left. Nothing of it can be called here, since this is said of every type.
+// Drops a reader. It is generic, so it can call nothing of the reader.
 fn let_go<A: Drop>(reader: A, left: Snapshot<A>)
     requires { reader ≡ left.value }
 {
@@ -121,8 +121,8 @@ fn let_go<A: Drop>(reader: A, left: Snapshot<A>)
     drop(reader);
 }
 
-// Offers an item until it is queued, the gate stops the worker, or no turn is left.
-fn put<T: Wait, R: Source, G: Gate>(
+// Offers an item until it is queued, the gate stops the worker, or the bound is used up.
+fn put<T: Wait, R: TellingReader, G: Gate>(
     rt: &T,
     reader: &mut IngressReader<R>,
     end: &mut IngressEnd,

@@ -8,19 +8,19 @@ use Rattle.std.proofs.lemmas.List.{map-append, append-nil}
 use mathlib.Core.List.{append_assoc}
 use Rattle.std.proofs.lemmas.Grind.{flat_map-append}
 use Rattle.share_model.specs.io.Printing.{AppendsPart}
-use Rattle.share_model.specs.io.PrintingLaws.{part_after, part_longer}
+use Rattle.share_model.proofs.lemmas.io.PrintingLaws.{part_after, part_longer}
 use Rattle.share_model.specs.io.Told.{Told}
-use Rattle.share_model.specs.link.Seen.{Seen}
+use Rattle.share_model.specs.link.View.{LinkView}
 use Rattle.share_model.specs.run.Ends.{TellsRun}
 use Rattle.share_model.specs.run.Events.{writes_in}
 use Rattle.share_model.specs.run.Fold.{State, run, out}
 use Rattle.share_model.specs.text.Audit.{event_line, written_line, audit, IsAmple}
-use Rattle.share_model.specs.text.AuditLaws.{lines-audit, audit-replays}
-use Rattle.share_model.specs.text.LackLaws.{FoundAll, talk-found}
-use Rattle.share_model.specs.text.Talk.{Progress, start, talk, lines_of, FoundMemory}
+use Rattle.share_model.proofs.lemmas.text.AuditLaws.{lines-audit, audit-replays}
+use Rattle.share_model.proofs.lemmas.text.LackLaws.{talk-found}
+use Rattle.share_model.specs.text.Talk.{Progress, start_of_script, talk, lines_of, FoundMemory}
 use Rattle.share_model.specs.text.Texts.{line_text}
 use Rattle.share_journal.specs.declared.entry.Entry.{Entry}
-use Rattle.share_journal.specs.Entries.{events_of}
+use Rattle.share_journal.specs.Entries.{events_in}
 use Rattle.share_journal.specs.Records.{IsRunNow}
 use Rattle.share_journal.specs.Replays.{IsReplayOf}
 
@@ -28,13 +28,13 @@ use Rattle.share_journal.specs.Replays.{IsReplayOf}
 
 -- the lines of the events of these entries
 abbrev pub written : List Entry → List ℕ
-written entries = flat_map written_line (map event_line (events_of entries))
+written entries = flat_map written_line (map event_line (events_in entries))
 
 written-append : (xs ys : List Entry) → written (xs ++ ys) ≡ written xs ++ written ys
 written-append xs ys =
     ap (λ es. flat_map written_line (map event_line es)) (map-append (λ (e : Entry). e.event) xs ys)
-    ∙ ap (flat_map written_line) (map-append event_line (events_of xs) (events_of ys))
-    ∙ flat_map-append written_line (map event_line (events_of xs)) (map event_line (events_of ys))
+    ∙ ap (flat_map written_line) (map-append event_line (events_in xs) (events_in ys))
+    ∙ flat_map-append written_line (map event_line (events_in xs)) (map event_line (events_in ys))
 
 -- of these entries, those before the rest were written
 pub record WrittenBefore (a now : Option (List ℕ)) (entries rest : List Entry) : Type 0 where
@@ -92,11 +92,11 @@ pub told_counts : (o : Option Told) (ks : List ℕ) (s : State) → IfSome o (Te
 told_counts None ks s tells = tt
 told_counts (Some r) ks s tells = tells.counts
 
-pub replay : {W : Type 0} (told : W → Option Told) (link : Seen W) (entries : List Entry)
+pub replay : {W : Type 0} (told : W → Option Told) (link : LinkView W) (entries : List Entry)
     → IsRunNow told link entries → (life : ℕ) (lacks : List Bool) → link.life ≤ life → IsAmple lacks
     → IsReplayOf told link entries life lacks
 replay told link entries was life lacks longer ample =
-    let es = events_of entries in
+    let es = events_in entries in
     let answers = audit-replays link.life life link.rates es was.range was.may longer in
     let state = answers.state lacks ample in record {
       lines = lines-audit link.life link.rates es was.range was.may;
@@ -107,12 +107,12 @@ replay told link entries was life lacks longer ample =
     }
 
 -- the same by the text that the audit is answered with, where no line of it says that memory was lacking
-pub replay_told : {W : Type 0} (told : W → Option Told) (link : Seen W) (entries : List Entry)
+pub replay_told : {W : Type 0} (told : W → Option Told) (link : LinkView W) (entries : List Entry)
     → IsRunNow told link entries → (life : ℕ) (lacks : List Bool) → link.life ≤ life
-    → FoundMemory (talk life link.rates start lacks (lines_of (audit (events_of entries))))
+    → FoundMemory (talk life link.rates start_of_script lacks (lines_of (audit (events_in entries))))
     → IsReplayOf told link entries life lacks
 replay_told told link entries was life lacks longer found =
-    let all = talk-found life link.rates start lacks (lines_of (audit (events_of entries))) found in
+    let all = talk-found life link.rates start_of_script lacks (lines_of (audit (events_in entries))) found in
     let same = replay told link entries was life [] longer refl in
     let P : Progress → Type 0 = λ p. IfSome (told link.writer) (λ t. t.bytes ≡ out p.state) in record {
       lines = same.lines;

@@ -1,3 +1,4 @@
 pub mod Answered
+pub mod ArrivalLaws
 pub mod AuditLemmas
 pub mod Runs

@@ -1,6 +1,6 @@
 -- A recorder's journal is a run: it begins as one, and each call goes on with it.
 use Rattle.std.specs.Prelude.{◌≡◌, ◌<◌, ◌≤◌, ℕ, List, [], ◌∷◌, ◌++◌, length, Option, None, Some, IfSome, Bool, true}
-use Rattle.std.specs.Prelude.{false, nat_lt, suc}
+use Rattle.std.specs.Prelude.{false, nat_lt}
 use Rattle.std.proofs.Common.{refl, ap, sym, ◌∙◌, subst, arith}
 use Rattle.std.proofs.lemmas.Bool.{ltb-true, ltb-false}
 use Rattle.std.proofs.lemmas.List.{map-append, length-map, length-append, append-nil}
@@ -14,19 +14,19 @@ use Rattle.share_base.specs.declared.command.Turn.TheVariants.{Wrote, Torn, Idle
 use Rattle.share_model.specs.declared.rates.Rate.{Rate}
 use Rattle.share_model.specs.io.Told.{Told}
 use Rattle.share_model.specs.link.Live.{Live, empty_link}
-use Rattle.share_model.specs.link.Seen.{Seen}
+use Rattle.share_model.specs.link.View.{LinkView}
 use Rattle.share_model.specs.link.Tariff.{AreInRange}
 use Rattle.share_model.specs.run.Ends.{IsEndOf, TellsRun}
 use Rattle.share_model.specs.run.Events.{MayFollow, write_of, writes_in}
 use Rattle.share_model.specs.run.Fold.{State, empty_state, run, state_after, outcomes, out}
-use Rattle.share_model.specs.run.FoldLaws.{state-empty, state_after-append, outcomes-append, may_follow-append}
-use Rattle.share_model.specs.run.FoldLaws.{events-after}
-use Rattle.share_model.specs.run.Laws.{Ran, turn_events, turn_outcomes}
-use Rattle.share_model.specs.run.Laws.{Asked, asked_spent, asked_no_memory, asked_made}
+use Rattle.share_model.proofs.lemmas.run.FoldLaws.{state-empty, state_after-append, outcomes-append, may_follow-append}
+use Rattle.share_model.proofs.lemmas.run.FoldLaws.{events-after}
+use Rattle.share_model.proofs.lemmas.run.Laws.{Ran, turn_events, turn_outcomes}
+use Rattle.share_model.proofs.lemmas.run.Laws.{AskedOutcome, asked_spent, asked_no_memory, asked_made}
 use Rattle.share_model.specs.run.Sound.{Sound}
 use Rattle.share_journal.specs.declared.entry.Entry.{Entry}
 use Rattle.share_journal.specs.declared.entry.Source.{Source}
-use Rattle.share_journal.specs.Entries.{JournalSeen, noted, events_of, replies_of, turn_entries}
+use Rattle.share_journal.specs.Entries.{JournalView, with_entries, events_in, replies_of, turn_entries}
 use Rattle.share_journal.specs.Records.{IsRun, IsRunNow, IsRunOf, AcceptedNothing, entry_if}
 
 -- The run of no event
@@ -72,7 +72,7 @@ module _ {told : Option Told} {life : ℕ} {rates : List Rate} {live : Live} {es
 
 -- A run goes on
 
-module _ {W : Type 0} (told : W → Option Told) (old new : Seen W) (es fs : List Event) (os ps : List Outcome) where
+module _ {W : Type 0} (told : W → Option Told) (old new : LinkView W) (es fs : List Event) (os ps : List Outcome) where
   run_on : IsRunOf (told old.writer) old.life old.rates old.live es os → Ran told old fs ps new
       → IsRunOf (told new.writer) old.life old.rates new.live (es ++ fs) (os ++ ps)
   run_on was ran = record {
@@ -105,25 +105,25 @@ run_as : (told : Option Told) (life : ℕ) (rates : List Rate) (live : Live) (es
     → es ≡ es' → os ≡ os' → IsRunOf told life rates live es' os' → IsRunOf told life rates live es os
 run_as told life rates live es es' os os' e o ran = rw (e, o) ran
 
-module _ {W : Type 0} (told : W → Option Told) (old new : Seen W) (entries : List Entry)
+module _ {W : Type 0} (told : W → Option Told) (old new : LinkView W) (entries : List Entry)
     (was : IsRun (told old.writer) old.life old.rates old.live entries) where
   -- by the entries of its events
-  pub run-more : (more : List Entry) → Ran told old (events_of more) (replies_of more) new
+  pub run-more : (more : List Entry) → Ran told old (events_in more) (replies_of more) new
       → IsRun (told new.writer) new.life new.rates new.live (entries ++ more)
   run-more more ran =
       run_as (told new.writer) new.life new.rates new.live _ _ _ _
       (map-append (λ (e : Entry). e.event) entries more) (map-append (λ (e : Entry). e.reply) entries more)
-      (run_more told old new (events_of entries) (events_of more) (replies_of entries) (replies_of more) was ran)
+      (run_more told old new (events_in entries) (events_in more) (replies_of entries) (replies_of more) was ran)
 
   -- where there is room for the entries of what an engine's call made
-  pub run-room : (more : List Entry) → Ran told old (events_of more) (replies_of more) new
+  pub run-room : (more : List Entry) → Ran told old (events_in more) (replies_of more) new
       → length (entries ++ more) ≤ old.life
   run-room more ran =
-      let few : length (events_of entries ++ events_of more) ≤ old.life =
-      run-few (run_on told old new (events_of entries) (events_of more) (replies_of entries) (replies_of more) was
+      let few : length (events_in entries ++ events_in more) ≤ old.life =
+      run-few (run_on told old new (events_in entries) (events_in more) (replies_of entries) (replies_of more) was
       ran) in
       let one = length-append entries more in
-      let all = length-append (events_of entries) (events_of more) in
+      let all = length-append (events_in entries) (events_in more) in
       omega (
         arith,
         few,
@@ -136,35 +136,36 @@ module _ {W : Type 0} (told : W → Option Told) (old new : Seen W) (entries : L
 -- The journal beside the link
 
 -- the journal is that of the link
-abbrev pub IsKept : {W : Type 0} → (W → Option Told) → Seen W → JournalSeen → Type 0
-IsKept told link journal = (journal.life ≡ link.life) × IsRunNow told link journal.entries
+abbrev pub IsJournalOf : {W : Type 0} → (W → Option Told) → LinkView W → JournalView → Type 0
+IsJournalOf told link journal = (journal.life ≡ link.life) × IsRunNow told link journal.entries
 
-kept_noted : {W : Type 0} (told : W → Option Told) (old new : Seen W) (journal after : JournalSeen) (more : List Entry)
-    → journal.life ≡ old.life → new.life ≡ old.life → after ≡ noted journal more
-    → IsRunNow told new (journal.entries ++ more) → IsKept told new after
+kept_noted : {W : Type 0} (told : W → Option Told) (old new : LinkView W) (journal after : JournalView)
+    (more : List Entry)
+    → journal.life ≡ old.life → new.life ≡ old.life → after ≡ with_entries journal more
+    → IsRunNow told new (journal.entries ++ more) → IsJournalOf told new after
 kept_noted told old new journal after more life same noted_is run =
-    subst (λ (j : JournalSeen). IsKept told new j) (sym noted_is) (life ∙ sym same, run)
+    subst (λ (j : JournalView). IsJournalOf told new j) (sym noted_is) (life ∙ sym same, run)
 
 -- what follows from what the engine's call made
-module _ {W : Type 0} (told : W → Option Told) (old new : Seen W) (journal : JournalSeen)
-    (was : IsKept told old journal) where
-  ran_room : (more : List Entry) → Ran told old (events_of more) (replies_of more) new
+module _ {W : Type 0} (told : W → Option Told) (old new : LinkView W) (journal : JournalView)
+    (was : IsJournalOf told old journal) where
+  ran_room : (more : List Entry) → Ran told old (events_in more) (replies_of more) new
       → length (journal.entries ++ more) ≤ journal.life
   ran_room more ran =
       let few = run-room told old new journal.entries was.1 more ran in omega (arith, few, was.0)
 
-  ran_kept : (after : JournalSeen) (more : List Entry)
-      → Ran told old (events_of more) (replies_of more) new → after ≡ noted journal more
-      → IsKept told new after
+  ran_kept : (after : JournalView) (more : List Entry)
+      → Ran told old (events_in more) (replies_of more) new → after ≡ with_entries journal more
+      → IsJournalOf told new after
   ran_kept after more ran noted_is =
       kept_noted told old new journal after more was.0 ran.life noted_is
       (run-more told old new journal.entries was.1 more ran)
 
 -- Turns and faults
 
-turn_ran : {W : Type 0} (told : W → Option Told) (old new : Seen W) (turn : Turn)
+turn_ran : {W : Type 0} (told : W → Option Told) (old new : LinkView W) (turn : Turn)
     → Ran told old (turn_events turn) (turn_outcomes turn) new
-    → Ran told old (events_of (turn_entries turn)) (replies_of (turn_entries turn)) new
+    → Ran told old (events_in (turn_entries turn)) (replies_of (turn_entries turn)) new
 turn_ran told old new (Wrote flow seq k whole) ran = ran
 turn_ran told old new (Torn flow seq j) ran = ran
 turn_ran told old new Idle ran = ran
@@ -172,18 +173,18 @@ turn_ran told old new Again ran = ran
 turn_ran told old new Broken ran = ran
 turn_ran told old new Spent ran = ran
 
-module _ {W : Type 0} (told : W → Option Told) (old new : Seen W) (journal : JournalSeen) (turn : Turn)
-    (was : IsKept told old journal)
+module _ {W : Type 0} (told : W → Option Told) (old new : LinkView W) (journal : JournalView) (turn : Turn)
+    (was : IsJournalOf told old journal)
     (ran : Ran told old (turn_events turn) (turn_outcomes turn) new) where
   pub turn-room : length (journal.entries ++ turn_entries turn) ≤ journal.life
   turn-room = ran_room told old new journal was (turn_entries turn) (turn_ran told old new turn ran)
 
-  pub turn-kept : (after : JournalSeen) → after ≡ noted journal (turn_entries turn) → IsKept told new after
+  pub turn-kept : (after : JournalView) → after ≡ with_entries journal (turn_entries turn) → IsJournalOf told new after
   turn-kept after noted_is =
       ran_kept told old new journal was after (turn_entries turn) (turn_ran told old new turn ran) noted_is
 
 -- no event
-ran_nothing : {W : Type 0} (told : W → Option Told) (old : Seen W) → Ran told old [] [] old
+ran_nothing : {W : Type 0} (told : W → Option Told) (old : LinkView W) → Ran told old [] [] old
 unfolding MayFollow state_after outcomes
 ran_nothing told old = record {
   life = refl;
@@ -204,12 +205,13 @@ replied_entry e reply source = record { event = e; reply = Replied reply; source
 pub same_test : {a b c d : ℕ} → a ≡ c → b ≡ d → nat_lt a b ≡ nat_lt c d
 same_test {b = b} {c = c} one other = ap (λ n. nat_lt n b) one ∙ ap (λ n. nat_lt c n) other
 
-count_of : {W : Type 0} (old new : Seen W) → new ≡ old → new.live.counts.events ≡ old.live.counts.events
-count_of old new same = ap (λ (s : Seen _). s.live.counts.events) same
+count_of : {W : Type 0} (old new : LinkView W) → new ≡ old → new.live.counts.events ≡ old.live.counts.events
+count_of old new same = ap (λ (s : LinkView _). s.live.counts.events) same
 
-module _ {W : Type 0} (told : W → Option Told) (old new : Seen W) (journal : JournalSeen) (e : Event) (reply : Reply)
-    (source : Source) (was : IsKept told old journal) where
-  asked_ran : Asked told old e reply new → old.live.counts.events < new.live.counts.events
+module _ {W : Type 0} (told : W → Option Told) (old new : LinkView W) (journal : JournalView) (e : Event)
+    (reply : Reply)
+    (source : Source) (was : IsJournalOf told old journal) where
+  asked_ran : AskedOutcome told old e reply new → old.live.counts.events < new.live.counts.events
       → Ran told old (e ∷ []) (Replied reply ∷ []) new
   asked_ran (asked_spent spent is same) more = let count = count_of old new same in absurd (omega (arith, count, more))
   asked_ran (asked_no_memory living is same) more =
@@ -219,18 +221,18 @@ module _ {W : Type 0} (told : W → Option Told) (old new : Seen W) (journal : J
   pub made_more : Ran told old (e ∷ []) (Replied reply ∷ []) new
       → old.live.counts.events < new.live.counts.events
   made_more ran =
-      let es = events_of journal.entries in
+      let es = events_in journal.entries in
       let now = run-count (run_on told old new es (e ∷ []) (replies_of journal.entries) (Replied reply ∷ []) was.1
       ran) in
       let before = run-count was.1 in omega (arith, now, before, length-append es (e ∷ []))
 
   none_ran : new ≡ old → Ran told old [] [] new
-  none_ran same = subst (λ (s : Seen W). Ran told old [] [] s) (sym same) (ran_nothing told old)
+  none_ran same = subst (λ (s : LinkView W). Ran told old [] [] s) (sym same) (ran_nothing told old)
 
   -- what the call made, by whether the count of events grew
   asked_by : (made : Bool) → nat_lt old.live.counts.events new.live.counts.events ≡ made
-      → Asked told old e reply new
-      → Ran told old (events_of (entry_if made (replied_entry e reply source)))
+      → AskedOutcome told old e reply new
+      → Ran told old (events_in (entry_if made (replied_entry e reply source)))
       (replies_of (entry_if made (replied_entry e reply source))) new
   asked_by true test asked = asked_ran asked (ltb-true old.live.counts.events new.live.counts.events test)
   asked_by false test (asked_spent spent is same) = none_ran same
@@ -239,7 +241,7 @@ module _ {W : Type 0} (told : W → Option Told) (old new : Seen W) (journal : J
       let more = made_more ran in
       let few = ltb-false old.live.counts.events new.live.counts.events test in absurd (omega (arith, more, few))
 
-  module _ (asked : Asked told old e reply new) (made : Bool) (entry : Entry)
+  module _ (asked : AskedOutcome told old e reply new) (made : Bool) (entry : Entry)
       (test : made ≡ nat_lt old.live.counts.events new.live.counts.events)
       (is : entry ≡ replied_entry e reply source) where
     pub asked-room : length (journal.entries ++ entry_if made entry) ≤ journal.life
@@ -248,7 +250,8 @@ module _ {W : Type 0} (told : W → Option Told) (old new : Seen W) (journal : J
         let few = ran_room told old new journal was more (asked_by made (sym test) asked) in
         subst (λ (x : Entry). length (journal.entries ++ entry_if made x) ≤ journal.life) (sym is) few
 
-    pub asked-kept : (after : JournalSeen) → after ≡ noted journal (entry_if made entry) → IsKept told new after
+    pub asked-kept : (after : JournalView) → after ≡ with_entries journal (entry_if made entry)
+        → IsJournalOf told new after
     asked-kept after noted_is =
         ran_kept told old new journal was after (entry_if made (replied_entry e reply source))
-        (asked_by made (sym test) asked) (noted_is ∙ ap (λ (x : Entry). noted journal (entry_if made x)) is)
+        (asked_by made (sym test) asked) (noted_is ∙ ap (λ (x : Entry). with_entries journal (entry_if made x)) is)

@@ -13,14 +13,14 @@ use Rattle.share_journal.specs.declared.entry.Source.TheVariants.{Clerk, Worker,
 abbrev pub next_of : List Offer → ℕ → List ℕ → List ℕ → Offer
 next_of before worker name body = offer worker (suc (length (of_worker worker before))) name body
 
-abbrev pub with_packet : List Offer → Source → List ℕ → List ℕ → List Offer
-with_packet before (Clerk n) name body = before
-with_packet before (Worker n) name body = before ++ next_of before n name body ∷ []
-with_packet before Link name body = before
+abbrev pub with_arrival : List Offer → Source → List ℕ → List ℕ → List Offer
+with_arrival before (Clerk n) name body = before
+with_arrival before (Worker n) name body = before ++ next_of before n name body ∷ []
+with_arrival before Link name body = before
 
 abbrev pub with_event : List Offer → Source → Event → List Offer
 with_event before source (Commanded c) = before
-with_event before source (Arrived name body) = with_packet before source name body
+with_event before source (Arrived name body) = with_arrival before source name body
 with_event before source (Written k) = before
 with_event before source Faulted = before
 

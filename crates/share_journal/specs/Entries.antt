@@ -12,7 +12,7 @@ use Rattle.share_journal.specs.declared.entry.Entry.{Entry}
 use Rattle.share_journal.specs.declared.entry.Source.TheVariants.{Clerk, Worker, Link}
 
 -- how many entries it has room for, and those that it holds, in order
-pub record JournalSeen : Type 0 where
+pub record JournalView : Type 0 where
   pub life : ℕ
   pub entries : List Entry
 
@@ -22,14 +22,14 @@ entry_at entries zero = None
 entry_at entries (suc n) = slice_get entries n
 
 -- the same journal with more entries at its end
-abbrev pub noted : JournalSeen → List Entry → JournalSeen
-noted journal more = record { life = journal.life; entries = journal.entries ++ more }
+abbrev pub with_entries : JournalView → List Entry → JournalView
+with_entries journal more = record { life = journal.life; entries = journal.entries ++ more }
 
 -- What a list of entries tells
 
 -- the events
-abbrev pub events_of : List Entry → List Event
-events_of entries = map (λ (e : Entry). e.event) entries
+abbrev pub events_in : List Entry → List Event
+events_in entries = map (λ (e : Entry). e.event) entries
 
 -- the replies
 abbrev pub replies_of : List Entry → List Outcome

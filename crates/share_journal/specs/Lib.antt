@@ -1,4 +1,3 @@
-pub mod ArrivalLaws
 pub mod ArrivalRows
 pub mod Arrivals
 pub mod Entries

@@ -6,17 +6,17 @@ use Rattle.share_base.specs.declared.command.Outcome.{Outcome}
 use Rattle.share_model.specs.declared.rates.Rate.{Rate}
 use Rattle.share_model.specs.io.Told.{Told}
 use Rattle.share_model.specs.link.Live.{Live}
-use Rattle.share_model.specs.link.Seen.{Seen}
+use Rattle.share_model.specs.link.View.{LinkView}
 use Rattle.share_model.specs.link.Tariff.{AreInRange}
 use Rattle.share_model.specs.run.Ends.{IsEndOf, TellsRun}
-use Rattle.share_model.specs.run.Events.{MayFollow, writes_in}
+use Rattle.share_model.specs.run.Events.{MayRun, writes_in}
 use Rattle.share_model.specs.run.Fold.{empty_state, run, outcomes}
 use Rattle.share_journal.specs.declared.entry.Entry.{Entry}
-use Rattle.share_journal.specs.Entries.{JournalSeen, events_of, replies_of}
+use Rattle.share_journal.specs.Entries.{JournalView, events_in, replies_of}
 
 -- the link, and the entries of its journal
-pub record Recorded (W : Type 0) : Type 0 where
-  pub link : Seen W
+pub record RecorderView (W : Type 0) : Type 0 where
+  pub link : LinkView W
   pub entries : List Entry
 
 -- the events are a run of a link, with these replies, and the link holds what the run left; and where the writer tells,
@@ -24,7 +24,7 @@ pub record Recorded (W : Type 0) : Type 0 where
 pub record IsRunOf (told : Option Told) (life : ℕ) (rates : List Rate) (live : Live) (events : List Event)
     (replies : List Outcome) : Type 0 where
   pub range : AreInRange rates
-  pub may : MayFollow life rates empty_state events
+  pub may : MayRun life rates events
   pub replies_are : outcomes rates empty_state events ≡ replies
   pub ends : IsEndOf life rates (run rates events) live
   pub tells : IfSome told (TellsRun (run rates events) (writes_in events))
@@ -32,10 +32,10 @@ pub record IsRunOf (told : Option Told) (life : ℕ) (rates : List Rate) (live :
 -- the same of the events and the replies of these entries
 abbrev pub IsRun : Option Told → ℕ → List Rate → Live → List Entry → Type 0
 IsRun told life rates live entries =
-    IsRunOf told life rates live (events_of entries) (replies_of entries)
+    IsRunOf told life rates live (events_in entries) (replies_of entries)
 
 -- the same of a link and its journal as they are, where `told` says what a writer tells
-abbrev pub IsRunNow : {W : Type 0} → (W → Option Told) → Seen W → List Entry → Type 0
+abbrev pub IsRunNow : {W : Type 0} → (W → Option Told) → LinkView W → List Entry → Type 0
 IsRunNow told link entries = IsRun (told link.writer) link.life link.rates link.live entries
 
 -- no byte was accepted yet
@@ -44,12 +44,12 @@ pub record AcceptedNothing (t : Told) : Type 0 where
   pub counts : filter (nat_lt 0) t.counts ≡ []
 
 -- the link made no event, the journal holds none, and both have the same life
-abbrev pub are_new : {W : Type 0} → Seen W → JournalSeen → Bool
+abbrev pub are_new : {W : Type 0} → LinkView W → JournalView → Bool
 are_new link journal =
     nat_eq link.live.counts.events 0 && nat_eq (length journal.entries) 0 && nat_eq link.life journal.life
 
 -- the call made an event, by the count of events
-abbrev pub made_event : {W : Type 0} → Seen W → Seen W → Bool
+abbrev pub made_event : {W : Type 0} → LinkView W → LinkView W → Bool
 made_event old new = nat_lt old.live.counts.events new.live.counts.events
 
 -- one entry where the call made an event, and else none

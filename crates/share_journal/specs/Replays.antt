@@ -1,24 +1,24 @@
 -- What the audit of a recorder's journal comes to, where it is run as a script.
 use Rattle.std.specs.Prelude.{◌≡◌, ℕ, Bool, List, flat_map, map, Option, IfSome}
 use Rattle.share_model.specs.io.Told.{Told}
-use Rattle.share_model.specs.link.Seen.{Seen}
+use Rattle.share_model.specs.link.View.{LinkView}
 use Rattle.share_model.specs.run.Fold.{run, out}
 use Rattle.share_model.specs.text.Audit.{audit_lines, audit}
-use Rattle.share_model.specs.text.Lines.{spelled}
-use Rattle.share_model.specs.text.Talk.{start, talk, after, lines_of}
+use Rattle.share_model.specs.text.Lines.{spelling_of}
+use Rattle.share_model.specs.text.Talk.{start_of_script, talk, after, lines_of}
 use Rattle.share_model.specs.text.Texts.{line_text}
 use Rattle.share_journal.specs.declared.entry.Entry.{Entry}
-use Rattle.share_journal.specs.Entries.{events_of, replies_of}
+use Rattle.share_journal.specs.Entries.{events_in, replies_of}
 
 -- the bytes of the audit are read as its lines; these are answered by the journal's replies, and come to the state of
 -- the run, which is what the link holds; and where its writer tells its bytes, they are those of that state
-pub record IsReplayOf {W : Type 0} (told : W → Option Told) (link : Seen W) (entries : List Entry) (life : ℕ)
+pub record IsReplayOf {W : Type 0} (told : W → Option Told) (link : LinkView W) (entries : List Entry) (life : ℕ)
     (lacks : List Bool) : Type 0 where
-  pub lines : lines_of (audit (events_of entries)) ≡ map spelled (audit_lines (events_of entries))
-  pub text : talk life link.rates start lacks (lines_of (audit (events_of entries)))
+  pub lines : lines_of (audit (events_in entries)) ≡ map spelling_of (audit_lines (events_in entries))
+  pub text : talk life link.rates start_of_script lacks (lines_of (audit (events_in entries)))
       ≡ flat_map line_text (replies_of entries)
-  pub state : (after life link.rates start lacks (lines_of (audit (events_of entries)))).state
-      ≡ run link.rates (events_of entries)
-  pub live : (after life link.rates start lacks (lines_of (audit (events_of entries)))).state.live ≡ link.live
+  pub state : (after life link.rates start_of_script lacks (lines_of (audit (events_in entries)))).state
+      ≡ run link.rates (events_in entries)
+  pub live : (after life link.rates start_of_script lacks (lines_of (audit (events_in entries)))).state.live ≡ link.live
   pub bytes : IfSome (told link.writer)
-      (λ t. t.bytes ≡ out (after life link.rates start lacks (lines_of (audit (events_of entries)))).state)
+      (λ t. t.bytes ≡ out (after life link.rates start_of_script lacks (lines_of (audit (events_in entries)))).state)

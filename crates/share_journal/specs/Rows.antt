@@ -6,17 +6,17 @@ use Rattle.share_base.specs.declared.command.Outcome.TheVariants.{Replied}
 use Rattle.share_base.specs.declared.command.Reply.TheVariants.{Done}
 use Rattle.share_base.specs.declared.command.Turn.TheVariants.{Wrote, Torn, Idle, Again}
 use Rattle.share_model.specs.link.Live.{empty_link, life_is_spent}
-use Rattle.share_model.specs.link.Seen.{Seen}
+use Rattle.share_model.specs.link.View.{LinkView}
 use Rattle.share_model.specs.run.Events.{writes_in}
 use Rattle.share_model.specs.run.Fold.{empty_state, state_after, run, outcomes}
 use Rattle.share_journal.specs.declared.entry.Entry.{Entry}
 use Rattle.share_journal.specs.declared.entry.Source.TheVariants.{Clerk}
-use Rattle.share_journal.specs.Entries.{entry_at, events_of, replies_of, turn_entries}
+use Rattle.share_journal.specs.Entries.{entry_at, events_in, replies_of, turn_entries}
 use Rattle.share_journal.specs.Records.{are_new}
 
 -- a link and a journal that are new, of the lives 4 and 5, and both of the life 4
 
-new_link : ℕ → Seen (Unit {0})
+new_link : ℕ → LinkView (Unit {0})
 new_link life = record { life = life; rates = []; live = empty_link; writer = tt }
 
 lives_differ : are_new (new_link 4) (record { life = 5; entries = [] }) ≡ false
@@ -35,11 +35,11 @@ x = codes "x"
 made : List Entry
 made = record { event = Commanded (MakeCurrency x); reply = Replied Done; source = Clerk 1 } ∷ []
 
-made_says : outcomes [] empty_state (events_of made) ≡ replies_of made
+made_says : outcomes [] empty_state (events_in made) ≡ replies_of made
 unfolding made x outcomes
 made_says = refl
 
-made_spends : life_is_spent 1 (run [] (events_of made)).live ≡ true
+made_spends : life_is_spent 1 (run [] (events_in made)).live ≡ true
 unfolding made x state_after
 made_spends = refl
 
@@ -60,6 +60,6 @@ turns =
     turn_entries (Wrote 1 1 5 false) ++ turn_entries Again ++ turn_entries (Wrote 1 1 9 true) ++ turn_entries Idle
     ++ turn_entries (Torn 1 2 0)
 
-turns_write : writes_in (events_of turns) ≡ 5 ∷ 9 ∷ []
+turns_write : writes_in (events_in turns) ≡ 5 ∷ 9 ∷ []
 unfolding turns
 turns_write = refl

@@ -1,53 +1,24 @@
 //! The audit of a journal: a script that makes its events again.
-ghost use Rattle.std.specs.Prelude.{map, flat_map, MatchResult};
-ghost use Rattle.std.specs.Io.KnownBytes.{Appends};
-ghost use Rattle.share_model.specs.io.Calls.{Offers, OfferRefused};
-ghost use Rattle.share_model.specs.io.Printing.{bytes_told, AppendsPart};
+ghost use Rattle.std.specs.Prelude.{map, flat_map};
+ghost use Rattle.share_model.specs.io.Printing.{WritesText};
 ghost use Rattle.share_model.specs.text.Audit.{audit, event_line, written_line};
-ghost use Rattle.share_journal.specs.Entries.{events_of};
+ghost use Rattle.share_journal.specs.Entries.{events_in};
 
 use crate::entry::Entry;
-use share_model::{Line, NotWritten, Telling};
+use share_model::{Fault, Line, TellingWriter};
 use share_script::{write_event, write_line};
-use thiserror::Error;
 
-/// The writer refused an offer of an audit's text: the offer failed, was interrupted, or no byte of it was accepted.
-#[derive(Clone, Copy, Debug, PartialEq, Eq, Error)]
-#[error("cannot write the audit")]
-pub struct Fault;
-
-impl From<NotWritten> for Fault {
-    ghost use Rattle.std.specs.Prelude.{⊤};
-
-    ghost from_gives = { λ _ _. ⊤ };
-
-    fn from(_refused: NotWritten) -> Fault {
-        Fault
-    }
-}
-
-/// Writes the line of the version, and then the line of the event of each entry.
-pub fn write_audit<V: Telling>(entries: &[Entry], output: &mut V) -> Result<(), NotWritten>
-    ensures bytes { MatchResult result
-        (λ _. Appends (bytes_told (V.told output.old)) (bytes_told (V.told output.new))
-        (audit (events_of entries.now)))
-        (λ _. AppendsPart (bytes_told (V.told output.old)) (bytes_told (V.told output.new))
-        (audit (events_of entries.now))) }
-    ensures offers { MatchResult result (λ _. Offers V.answers output.old output.new)
-        (λ _. OfferRefused V.answers output.old output.new) }
+/// Writes the line of the version, and then for each entry the line that makes its event.
+pub fn write_audit<V: TellingWriter>(entries: &[Entry], output: &mut V) -> Result<(), Fault>
+    ensures { WritesText V.told V.answers output.old output.new (audit (events_in entries.now)) result }
 {
     write_line(&Line::Audit, output)?;
     write_events(entries, output)
 }
 
-fn write_events<V: Telling>(entries: &[Entry], output: &mut V) -> Result<(), NotWritten>
-    ensures bytes { MatchResult result
-        (λ _. Appends (bytes_told (V.told output.old)) (bytes_told (V.told output.new))
-        (flat_map written_line (map event_line (events_of entries.now))))
-        (λ _. AppendsPart (bytes_told (V.told output.old)) (bytes_told (V.told output.new))
-        (flat_map written_line (map event_line (events_of entries.now)))) }
-    ensures offers { MatchResult result (λ _. Offers V.answers output.old output.new)
-        (λ _. OfferRefused V.answers output.old output.new) }
+fn write_events<V: TellingWriter>(entries: &[Entry], output: &mut V) -> Result<(), Fault>
+    ensures { WritesText V.told V.answers output.old output.new
+        (flat_map written_line (map event_line (events_in entries.now))) result }
 {
     let mut rest = entries;
     while let Some((first, after)) = rest.split_first() {

@@ -26,21 +26,21 @@ pub struct Entry {
 }
 
 /// The event of a command.
-pub fn commanded(command: &Command) -> Event
+pub fn event_of_command(command: &Command) -> Event
     ensures { result ≡ Commanded command.now }
 {
     Event::Commanded(*command)
 }
 
 /// The event of an arrival.
-pub fn arrived(flow: Name, body: Body) -> Event
+pub fn event_of_arrival(flow: Name, body: Body) -> Event
     ensures { result ≡ Arrived flow body }
 {
     Event::Arrived { flow, body }
 }
 
 /// The entry of a command or an arrival.
-pub fn replied(event: Event, reply: &Reply, source: Source) -> Entry
+pub fn entry_of_reply(event: Event, reply: &Reply, source: Source) -> Entry
     ensures { result ≡ record { event = event; reply = Replied reply.now; source = source } }
 {
     Entry {
@@ -51,7 +51,7 @@ pub fn replied(event: Event, reply: &Reply, source: Source) -> Entry
 }
 
 /// The entry of a turn of the link that made this event.
-pub fn turned(event: Event, turn: &Turn) -> Entry
+pub fn entry_of_turn(event: Event, turn: &Turn) -> Entry
     ensures { result ≡ record { event = event; reply = Turned turn.now; source = Link } }
 {
     Entry {

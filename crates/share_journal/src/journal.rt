@@ -1,19 +1,16 @@
 //! The list of the events of a link, in order.
 ghost use Rattle.std.specs.Prelude.{◌≡◌, ◌<◌, ◌≤◌, ◌^◌, [], ◌∷◌, length, IfOk, IfErr, None, option_copied};
-ghost use Rattle.std.specs.Prelude.{MatchResult};
-ghost use Rattle.std.specs.Io.KnownBytes.{Appends};
 ghost use Rattle.share_base.specs.Refusal.{IsRefused};
-ghost use Rattle.share_model.specs.io.Calls.{Offers, OfferRefused};
-ghost use Rattle.share_model.specs.io.Printing.{bytes_told, AppendsPart};
+ghost use Rattle.share_model.specs.io.Printing.{WritesText};
 ghost use Rattle.share_model.specs.text.Audit.{audit};
 ghost use Rattle.share_core.specs.Life.{life_refusal};
-ghost use Rattle.share_journal.specs.Entries.{JournalSeen, entry_at, noted, events_of};
+ghost use Rattle.share_journal.specs.Entries.{JournalView, entry_at, with_entries, events_in};
 
-use crate::audit::{Fault, write_audit};
+use crate::audit::write_audit;
 use crate::entry::Entry;
 use share_base::Refusal;
 use share_core::MAX_LIFE;
-use share_model::Telling;
+use share_model::{Fault, TellingWriter};
 use std::alloc::Global;
 use std::marker::Model;
 
@@ -27,9 +24,9 @@ pub struct Journal {
 
 impl Model for Journal {
     ghost use Rattle.std.specs.Prelude.{◌≤◌, ◌^◌, length, vec_capacity};
-    ghost use Rattle.share_journal.specs.Entries.{JournalSeen};
+    ghost use Rattle.share_journal.specs.Entries.{JournalView};
 
-    ghost Value = { JournalSeen };
+    ghost Value = { JournalView };
 
     ghost view = { λ j. record { life = j.life; entries = j.entries.items } };
 
@@ -40,8 +37,8 @@ impl Model for Journal {
 }
 
 impl Journal {
-    /// An empty journal for a life of 1 to 2^24 events, with room for all of them. Refusals, in order: `Range` where
-    /// the life is none of these, `NoMemory` where the room was refused.
+    /// An empty journal for a life of 1 to 2^24 events, with room for all of them. Refusals, in order: `Range` if the
+    /// life is another number, `NoMemory` if the room was refused.
     pub fn new(alloc: Global, life: u64) -> Result<Journal, Refusal>
         ensures ok { IfOk result (λ j.
             (j ≡ record { life = life; entries = [] })
@@ -70,7 +67,7 @@ impl Journal {
         self.entries.len() as u64
     }
 
-    /// The entry of a number, from 1. `None` where none has it.
+    /// The entry of a number, from 1. `None` if no entry has this number.
     pub fn entry(&self, number: u64) -> Option<&Entry>
         ensures { option_copied result ≡ entry_at self.now.entries number }
     {
@@ -90,7 +87,7 @@ impl Journal {
     /// Puts an entry at the end of a journal that is not full. It takes no memory.
     pub fn push(&mut self, entry: Entry)
         requires { length self.old.entries < self.old.life }
-        ensures { self.new ≡ noted self.old (entry ∷ []) }
+        ensures { self.new ≡ with_entries self.old (entry ∷ []) }
     {
         self.entries.push_reserved(entry);
     }
@@ -98,17 +95,10 @@ impl Journal {
     /// Writes the audit: the line `audit 1`, and then for each entry, in order, the line that makes its event again. A
     /// command is spelled as its line, a packet as `send` with the audit copy of its payload, a write of k bytes as
     /// `turn k`, and a fault as `torn`. It takes no memory: each line is put together on the stack, and a writer that
-    /// accepts it whole is called once for it. On a fault a beginning of the audit is written.
-    pub fn audit<V: Telling>(&self, output: &mut V) -> Result<(), Fault>
-        ensures bytes { MatchResult result
-            (λ _. Appends (bytes_told (V.told output.old)) (bytes_told (V.told output.new))
-            (audit (events_of self.now.entries)))
-            (λ _. AppendsPart (bytes_told (V.told output.old)) (bytes_told (V.told output.new))
-            (audit (events_of self.now.entries))) }
-        ensures offers { MatchResult result (λ _. Offers V.answers output.old output.new)
-            (λ _. OfferRefused V.answers output.old output.new) }
+    /// accepts it whole is called once for it. If an offer is refused, a beginning of the audit was written.
+    pub fn audit<V: TellingWriter>(&self, output: &mut V) -> Result<(), Fault>
+        ensures { WritesText V.told V.answers output.old output.new (audit (events_in self.now.entries)) result }
     {
-        write_audit(self.entries.as_slice(), output)?;
-        Ok(())
+        write_audit(self.entries.as_slice(), output)
     }
 }

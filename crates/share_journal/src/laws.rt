@@ -2,25 +2,25 @@
 //! with it.
 ghost use Rattle.std.specs.Prelude.{◌≡◌, ◌≤◌, ◌++◌, ◌∷◌, [], ℕ, Bool, List};
 ghost use Rattle.share_model.specs.text.Audit.{IsAmple, audit};
-ghost use Rattle.share_model.specs.text.Talk.{start, talk, lines_of, FoundMemory};
+ghost use Rattle.share_model.specs.text.Talk.{start_of_script, talk, lines_of, FoundMemory};
 ghost use Rattle.share_model.specs.Headline.{Headline};
 ghost use Rattle.share_base.specs.declared.command.Command.{Command};
 ghost use Rattle.share_base.specs.declared.command.Reply.{Reply};
 ghost use Rattle.share_base.specs.declared.command.Turn.{Turn};
 ghost use Rattle.share_model.specs.ingress.Queue.{Numbered};
 ghost use Rattle.share_journal.specs.Arrivals.{arrivals, arrivals_of, next_of};
-ghost use Rattle.share_journal.specs.Entries.{events_of, replies_of, command_entry, arrival_entry, turn_entries};
+ghost use Rattle.share_journal.specs.Entries.{events_in, replies_of, command_entry, arrival_entry, turn_entries};
 ghost use Rattle.share_journal.specs.declared.entry.Entry.{Entry};
 ghost use Rattle.share_journal.specs.Replays.{IsReplayOf};
 
 use crate::recorder::Recorder;
-use share_model::{Rates, Telling};
+use share_model::{Rates, TellingWriter};
 
 /// The sentence that this project stands for, of every recorder: whatever was called, whatever each write accepted and
 /// up to the writer's first fault, the replies, the accounts and the bytes are those of one plain fold, in which each
 /// next frame carries the head packet of the flow with the least pass, on tickets computed from scratch.
-pub fn recorders_are_one_fold<W: Telling, S: Rates>(recorder: &Recorder<W, S>)
-    ensures { Headline recorder.now.link.life recorder.now.link.rates (events_of recorder.now.entries)
+pub fn recorders_are_one_fold<W: TellingWriter, S: Rates>(recorder: &Recorder<W, S>)
+    ensures { Headline recorder.now.link.life recorder.now.link.rates (events_in recorder.now.entries)
         (replies_of recorder.now.entries) recorder.now.link.live (W.told recorder.now.link.writer) }
 {
     // What they answer is not used: their contracts say that the entries are a run, and how long a life is at most.
@@ -31,14 +31,14 @@ pub fn recorders_are_one_fold<W: Telling, S: Rates>(recorder: &Recorder<W, S>)
 /// The audit of a recorder's journal makes its run again, whatever its writer accepted: as a script, on a new link with
 /// the same tariffs and a life that is not shorter, where no line finds that memory is lacking, it is answered by the
 /// journal's replies, one line each, and comes to the state of the run, so that the link then holds what the
-/// recorder's holds, and its tape the bytes that the recorder's writer tells. Whether a line lacked memory stands in
-/// the answers: where none of their lines is `no 1 NoMemory`, none did.
-pub fn audits_replay<W: Telling, S: Rates>(recorder: &Recorder<W, S>)
+/// recorder's holds, and its tape the bytes that the recorder's writer tells. Whether a line lacked memory is seen in
+/// the answers: if none of their lines is `no 1 NoMemory`, none did.
+pub fn audits_replay<W: TellingWriter, S: Rates>(recorder: &Recorder<W, S>)
     ensures ample { (life : ℕ) (lacks : List Bool) → recorder.now.link.life ≤ life → IsAmple lacks
         → IsReplayOf W.told recorder.now.link recorder.now.entries life lacks }
     ensures answered { (life : ℕ) (lacks : List Bool) → recorder.now.link.life ≤ life
-        → FoundMemory (talk life recorder.now.link.rates start lacks
-        (lines_of (audit (events_of recorder.now.entries))))
+        → FoundMemory (talk life recorder.now.link.rates start_of_script lacks
+        (lines_of (audit (events_in recorder.now.entries))))
         → IsReplayOf W.told recorder.now.link recorder.now.entries life lacks }
 {
     // What `journal` answers is not used: its contract says that the entries are a run.

@@ -10,8 +10,8 @@ mod recorder;
 #[cfg(test)]
 mod tests;
 
-pub use audit::Fault;
 pub use entry::{Entry, Source};
 pub use journal::Journal;
 pub use laws::{arrivals_are_numbered, audits_replay, recorders_are_one_fold};
 pub use recorder::Recorder;
+pub use share_model::Fault;

@@ -1,34 +1,34 @@
 //! A link with its journal.
 ghost use Rattle.std.specs.Prelude.{◌≡◌, ◌<◌, ◌≤◌, ◌++◌, [], length, IfOk, IfErr, IfSome, true, false};
 ghost use Rattle.share_model.specs.link.Answers.{answers_event};
-ghost use Rattle.share_model.specs.link.Did.{Steps, CommandDid, TurnDid, TearDid};
-ghost use Rattle.share_model.specs.link.Live.{arrive_step};
-ghost use Rattle.share_journal.specs.Entries.{command_entry, arrival_entry, turn_entries, noted};
-ghost use Rattle.share_journal.specs.Records.{Recorded, IsRunNow, AcceptedNothing, are_new, made_event};
+ghost use Rattle.share_model.specs.link.Calls.{Steps, CommandCall, TurnCall, TearCall};
+ghost use Rattle.share_model.specs.link.Arrivals.{arrive_step};
+ghost use Rattle.share_journal.specs.Entries.{command_entry, arrival_entry, turn_entries, with_entries};
+ghost use Rattle.share_journal.specs.Records.{RecorderView, IsRunNow, AcceptedNothing, are_new, made_event};
 ghost use Rattle.share_journal.specs.Records.{entry_if};
 
 use crate::entry::{self, Entry, Source};
 use crate::journal::Journal;
 use share_base::{Command, Event, Name, Parcel, Reply, Turn};
 use share_core::Engine;
-use share_model::{Rates, Telling};
+use share_model::{Rates, TellingWriter};
 use std::marker::Model;
 
 /// A link with its journal: each call makes the call of the link and its entry together. A contract sees the link and
 /// the entries. At every moment the events of the entries are the run of the link, as `journal` says.
 #[derive(Drop)]
-pub struct Recorder<W: Telling, S: Rates> {
+pub struct Recorder<W: TellingWriter, S: Rates> {
     engine: Engine<W, S>,
     journal: Journal,
 }
 
-impl<W: Telling, S: Rates> Model for Recorder<W, S> {
+impl<W: TellingWriter, S: Rates> Model for Recorder<W, S> {
     ghost use Rattle.std.specs.Prelude.{◌≡◌};
     ghost use Rattle.std.specs.Coded.{codes};
     ghost use Rattle.share_model.specs.stride.Moves.{coded_stride};
-    ghost use Rattle.share_journal.specs.Records.{Recorded, IsRunNow};
+    ghost use Rattle.share_journal.specs.Records.{RecorderView, IsRunNow};
 
-    ghost Value = { Recorded W };
+    ghost Value = { RecorderView W };
 
     ghost coded = { Prim.hlevel (codes, coded_stride) };
 
@@ -39,7 +39,7 @@ impl<W: Telling, S: Rates> Model for Recorder<W, S> {
         × IsRunNow W.told r.engine r.journal.entries };
 }
 
-impl<W: Telling, S: Rates> Recorder<W, S> {
+impl<W: TellingWriter, S: Rates> Recorder<W, S> {
     /// A link and its journal, both new and of the same life; else both come back. The condition: a writer that tells
     /// has accepted nothing yet. It takes no memory.
     pub fn new(
@@ -99,21 +99,21 @@ impl<W: Telling, S: Rates> Recorder<W, S> {
     /// The command of a clerk, as `Engine::command` makes it, and its entry where it was an event: where the answer is
     /// neither `Spent` nor `NoMemory`.
     pub fn command(&mut self, clerk: u64, command: Command) -> Reply
-        ensures did { CommandDid self.old.link command result self.new.link }
+        ensures did { CommandCall self.old.link command result self.new.link }
         ensures entry { self.new.entries
             ≡ self.old.entries
             ++ entry_if (made_event self.old.link self.new.link)
             (command_entry clerk command result) }
         ensures event { made_event self.old.link self.new.link ≡ answers_event result }
     {
-        let event = entry::commanded(&command);
+        let event = entry::event_of_command(&command);
         let before = self.engine.events();
         let reply = self.engine.command(command);
         let made = self.engine.events() > before;
         note_if(
             &mut self.journal,
             made,
-            entry::replied(event, &reply, Source::Clerk(clerk)),
+            entry::entry_of_reply(event, &reply, Source::Clerk(clerk)),
         );
         reply
     }
@@ -130,14 +130,14 @@ impl<W: Telling, S: Rates> Recorder<W, S> {
         ensures event { made_event self.old.link self.new.link ≡ answers_event result }
     {
         let (sending, body) = parcel.split();
-        let event = entry::arrived(flow, body);
+        let event = entry::event_of_arrival(flow, body);
         let before = self.engine.events();
         let reply = self.engine.arrive(flow, sending);
         let made = self.engine.events() > before;
         note_if(
             &mut self.journal,
             made,
-            entry::replied(event, &reply, Source::Worker(worker)),
+            entry::entry_of_reply(event, &reply, Source::Worker(worker)),
         );
         reply
     }
@@ -146,7 +146,7 @@ impl<W: Telling, S: Rates> Recorder<W, S> {
     /// or the frame was torn. It takes no memory.
     pub fn turn(&mut self, most: u32) -> Turn
         requires { 1 ≤ most }
-        ensures did { TurnDid W.answers self.old.link most result self.new.link }
+        ensures did { TurnCall W.answers self.old.link most result self.new.link }
         ensures entry { self.new.entries ≡ self.old.entries ++ turn_entries result }
     {
         let turn = self.engine.turn(most);
@@ -156,7 +156,7 @@ impl<W: Telling, S: Rates> Recorder<W, S> {
 
     /// A declared fault, as `Engine::tear` makes it, and its entry where the frame was torn. It takes no memory.
     pub fn tear(&mut self) -> Turn
-        ensures did { TearDid self.old.link result self.new.link }
+        ensures did { TearCall self.old.link result self.new.link }
         ensures entry { self.new.entries ≡ self.old.entries ++ turn_entries result }
     {
         let turn = self.engine.tear();
@@ -168,7 +168,7 @@ impl<W: Telling, S: Rates> Recorder<W, S> {
 // Puts the entry of a call at the end of a journal, where the call made an event.
 fn note_if(journal: &mut Journal, made: bool, entry: Entry)
     requires { length (journal.old.entries ++ entry_if made entry) ≤ journal.old.life }
-    ensures { journal.new ≡ noted journal.old (entry_if made entry) }
+    ensures { journal.new ≡ with_entries journal.old (entry_if made entry) }
 {
     if made {
         journal.push(entry);
@@ -178,11 +178,11 @@ fn note_if(journal: &mut Journal, made: bool, entry: Entry)
 // Puts the entry of a turn at the end of a journal, where the turn was an event.
 fn note_turn(journal: &mut Journal, turn: &Turn)
     requires { length (journal.old.entries ++ turn_entries turn.now) ≤ journal.old.life }
-    ensures { journal.new ≡ noted journal.old (turn_entries turn.now) }
+    ensures { journal.new ≡ with_entries journal.old (turn_entries turn.now) }
 {
     match turn {
-        Turn::Wrote { k, .. } => journal.push(entry::turned(Event::Written(*k), turn)),
-        Turn::Torn { .. } => journal.push(entry::turned(Event::Faulted, turn)),
+        Turn::Wrote { k, .. } => journal.push(entry::entry_of_turn(Event::Written(*k), turn)),
+        Turn::Torn { .. } => journal.push(entry::entry_of_turn(Event::Faulted, turn)),
         Turn::Idle => {}
         Turn::Again => {}
         Turn::Broken => {}

@@ -12,7 +12,7 @@ use crate::{Entry, Journal, Recorder, Source};
 use runs::{Call, RUNS, Row, Run, Wanted};
 use share_base::{Body, Command, Event, Name, Outcome, Parcel, Refusal, Reply, Turn};
 use share_core::Engine;
-use share_model::{Answer, Rates, Scripted, Telling};
+use share_model::{Answer, Rates, Scripted, TellingWriter};
 use std::alloc::Global;
 use std::process::Abort;
 use std::test::Fail;
@@ -58,7 +58,7 @@ fn command_of(rt: &impl Abort, call: &Call) -> Option<Command> {
     }
 }
 
-fn ask<W: Telling, S: Rates>(
+fn ask<W: TellingWriter, S: Rates>(
     rt: &impl Abort,
     alloc: Global,
     recorder: &mut Recorder<W, S>,
@@ -113,7 +113,7 @@ fn is_of(rt: &impl Abort, alloc: Global, event: &Event, call: &Call, outcome: &O
 }
 
 // Compares the last entry with the call that made it.
-fn compare_last<W: Telling, S: Rates>(
+fn compare_last<W: TellingWriter, S: Rates>(
     rt: &impl Abort,
     alloc: Global,
     recorder: &Recorder<W, S>,
@@ -128,16 +128,16 @@ fn compare_last<W: Telling, S: Rates>(
     assert_eq!(rt; entry.source, source_of(number, call));
 }
 
-fn entries<W: Telling, S: Rates>(recorder: &Recorder<W, S>) -> u64 {
+fn entries<W: TellingWriter, S: Rates>(recorder: &Recorder<W, S>) -> u64 {
     recorder.journal().len()
 }
 
-fn events<W: Telling, S: Rates>(recorder: &Recorder<W, S>) -> u64 {
+fn events<W: TellingWriter, S: Rates>(recorder: &Recorder<W, S>) -> u64 {
     recorder.engine().events()
 }
 
 // Makes each call, and compares its outcome. Where a row says so, the call has made one entry, and else none.
-fn play<W: Telling, S: Rates>(
+fn play<W: TellingWriter, S: Rates>(
     rt: &impl Abort,
     alloc: Global,
     recorder: &mut Recorder<W, S>,
@@ -156,7 +156,7 @@ fn play<W: Telling, S: Rates>(
     }
 }
 
-fn linked<W: Telling + Drop, S: Rates + Copy>(
+fn linked<W: TellingWriter + Drop, S: Rates + Copy>(
     rt: &impl Abort,
     alloc: Global,
     shelf: S,
@@ -169,7 +169,7 @@ fn linked<W: Telling + Drop, S: Rates + Copy>(
     Engine::new(alloc, shelf, life, writer).expect(rt, "a link")
 }
 
-fn recording<W: Telling + Drop, S: Rates + Copy>(
+fn recording<W: TellingWriter + Drop, S: Rates + Copy>(
     rt: &impl Abort,
     alloc: Global,
     shelf: S,

@@ -11,60 +11,66 @@ use Rattle.share_model.specs.declared.funding.Holder.TheVariants.{Nobody, Curren
 use Rattle.share_model.specs.declared.funding.Ticket.{Ticket}
 use Rattle.share_model.specs.funding.Changes.{is_numbered, is_held, is_found_held, held_by, ticket_of, with_holder}
 use Rattle.share_model.specs.funding.Changes.{found_denomination}
-use Rattle.share_model.specs.funding.Graph.{NameBytes, base, Graph, is_held_by_currency, issued, leads_on, chain}
+use Rattle.share_model.specs.funding.Graph.{NameBytes, base, Graph, is_held_by_currency, denominated_in, leads_on}
+use Rattle.share_model.specs.funding.Graph.{chain}
 use Rattle.share_model.specs.funding.Graph.{chain_within, is_deep}
 use Rattle.share_model.specs.funding.Kept.{names_of, times, IsHolderKnown, IsKept}
-use Rattle.share_model.specs.lists.CountLaws.{any-filter}
+use Rattle.share_model.proofs.lemmas.lists.CountLaws.{any-filter}
 use Rattle.share_model.specs.lists.Each.{Each}
-use Rattle.share_model.specs.lists.Laws.{each_map, each-change_first, each-find}
-use Rattle.share_model.specs.lists.SumLaws.{same_name, name_refl, name_sym}
-use Rattle.share_model.specs.funding.SettleLaws.{any-same}
-use Rattle.share_model.proofs.FundingLong.{cycle-is-backing}
+use Rattle.share_model.proofs.lemmas.lists.Laws.{each_map, each-change_first, each-find}
+use Rattle.share_model.proofs.lemmas.lists.SumLaws.{same_name, name_refl, name_sym}
+use Rattle.share_model.proofs.lemmas.funding.SettleLaws.{any-same}
+use Rattle.share_model.proofs.lemmas.funding.Long.{cycle-is-backing}
 use Rattle.share_ledger.specs.Chains.{AreBacked}
 use Rattle.share_ledger.specs.Places.{place}
-use Rattle.share_ledger.specs.Ranks.{AreRanks, AreOrdered, IsBelow, is_tall}
-use Rattle.share_ledger.specs.Seats.{seats_at, AreSeated, backs_of}
-use Rattle.share_ledger.specs.declared.seats.Seat.{Seat}
+use Rattle.share_ledger.specs.Ranks.{AreRanks, AreOrdered, IsRankedBelow, is_tall}
+use Rattle.share_ledger.specs.FundingTickets.{funding_tickets_at, AreTicketed, backs_of}
+use Rattle.share_ledger.specs.declared.funding_tickets.FundingTicket.{FundingTicket}
 use Rattle.share_ledger.proofs.Lists.{any-changed, any-left}
 use Rattle.share_ledger.proofs.NetSteps.{not-next, before-next, next-before}
 use Rattle.share_ledger.proofs.Places.{IsPlaced, placed, place-same, past-base}
 use Rattle.share_ledger.proofs.RankChains.{ranks-stand}
 use Rattle.share_ledger.proofs.RouteWorths.{below}
-use Rattle.share_ledger.proofs.SeatChains.{found, backs, seat-ticket, ticket-seat, backer, tall-deep}
+use Rattle.share_ledger.proofs.FundingChains.{found, backs, funding_ticket-ticket, ticket-funding_ticket, backer}
+use Rattle.share_ledger.proofs.FundingChains.{tall-deep}
 
--- the next place in an order is flagged or not, by what its seats come from
-module _ (ss : List (List Seat)) (order : ℕ → ℕ) (o : AreOrdered ss order) (i : ℕ) (up : 0 < i) (lt : i < 65)
+-- the next place in an order is flagged or not, by what its funding tickets come from
+module _ (ss : List (List FundingTicket)) (order : ℕ → ℕ) (o : AreOrdered ss order) (i : ℕ) (up : 0 < i) (lt : i < 65)
     (first : ℕ) (flag next : ℕ → Bool) (n : Bool)
     (set_one : (k : ℕ) → next k ≡ cond (nat_eq (order i) k) n (flag k))
-    (here : n ≡ (nat_eq (order i) first || list_any (λ (s : Seat). flag s.from) (seats_at ss (order i))))
+    (here : n ≡ (nat_eq (order i) first
+    || list_any (λ (s : FundingTicket). flag s.from) (funding_tickets_at ss (order i))))
     (before : (k : ℕ) → 0 < k → k < 65 → o.spot k < i
-    → flag k ≡ (nat_eq k first || list_any (λ (s : Seat). flag s.from) (seats_at ss k))) where
+    → flag k ≡ (nat_eq k first || list_any (λ (s : FundingTicket). flag s.from) (funding_tickets_at ss k))) where
   left : (j : ℕ) → o.spot j < i → flag j ≡ next j
   left j l = sym (set_one j ∙ ap (λ b. cond b n (flag j)) (before-next ss order o i up lt j l))
 
-  still : (xs : List Seat) (m : ℕ) → m ≤ i → Each (λ (s : Seat). (s.from < 65) × (o.spot s.from < m)) xs
-      → list_any (λ (s : Seat). flag s.from) xs ≡ list_any (λ (s : Seat). next s.from) xs
+  still : (xs : List FundingTicket) (m : ℕ) → m ≤ i
+      → Each (λ (s : FundingTicket). (s.from < 65) × (o.spot s.from < m)) xs
+      → list_any (λ (s : FundingTicket). flag s.from) xs ≡ list_any (λ (s : FundingTicket). next s.from) xs
   still xs m le each = grind (arith, nat_tests, any-same, each_map, left)
 
   pub backed-more : (k : ℕ) → 0 < k → k < 65 → o.spot k < i + 1
-      → next k ≡ (nat_eq k first || list_any (λ (s : Seat). next s.from) (seats_at ss k))
+      → next k ≡ (nat_eq k first || list_any (λ (s : FundingTicket). next s.from) (funding_tickets_at ss k))
   backed-more k above below under = by (nat_eq (order i) k) refl
     where
       by : (b : Bool) → nat_eq (order i) k ≡ b
-          → next k ≡ (nat_eq k first || list_any (λ (s : Seat). next s.from) (seats_at ss k))
+          → next k ≡ (nat_eq k first || list_any (λ (s : FundingTicket). next s.from) (funding_tickets_at ss k))
       by true e =
           set_one k ∙ ap (λ b. cond b n (flag k)) e ∙ here
           ∙ ap (λ b. nat_eq (order i) first || b)
-          (still (seats_at ss (order i)) i (omega arith) (next-before ss order o i up lt))
-          ∙ ap (λ p. nat_eq p first || list_any (λ (s : Seat). next s.from) (seats_at ss p)) (eqb-true (order i) k e)
+          (still (funding_tickets_at ss (order i)) i (omega arith) (next-before ss order o i up lt))
+          ∙ ap (λ p. nat_eq p first || list_any (λ (s : FundingTicket). next s.from) (funding_tickets_at ss p))
+          (eqb-true (order i) k e)
       by false e =
           let earlier = not-next ss order o i up lt k below e under in
           set_one k ∙ ap (λ b. cond b n (flag k)) e ∙ before k above below earlier
           ∙ ap (λ b. nat_eq k first || b)
-          (still (seats_at ss k) (o.spot k) (omega arith) (o.before k above below))
+          (still (funding_tickets_at ss k) (o.spot k) (omega arith) (o.before k above below))
 
 -- The flagged places are those of the currencies that one backs
-module _ (g : Graph) (ok : IsKept g) (ss : List (List Seat)) (seated : AreSeated (backs_of g) ss) (rank : ℕ → ℕ)
+module _ (g : Graph) (ok : IsKept g) (ss : List (List FundingTicket)) (ticketed : AreTicketed (backs_of g) ss)
+    (rank : ℕ → ℕ)
     (ranks : AreRanks ss rank) (c : NameBytes) (made : bytes_eq c base ≡ false) (known : 1 ≤ times c (names_of g))
     (flag : ℕ → Bool) (backed : AreBacked ss (place (names_of g) c) flag) where
   abbrev is_flagged : NameBytes → Bool
@@ -81,7 +87,7 @@ module _ (g : Graph) (ok : IsKept g) (ss : List (List Seat)) (seated : AreSeated
 
   -- what is flagged leads on to what is flagged
   leads-flag : (n : ℕ) (a b : NameBytes) → is_flagged a ≡ true → chain g.tickets n a b ≡ true → is_flagged b ≡ true
-  unfolding chain issued
+  unfolding chain denominated_in
   leads-flag zero a b lit e = ap is_flagged (sym (same_name a b e)) ∙ lit
   leads-flag (suc n) a b lit e =
       let one =
@@ -106,20 +112,20 @@ module _ (g : Graph) (ok : IsKept g) (ss : List (List Seat)) (seated : AreSeated
           let stands = subst (IsHolderKnown g) held at.holder_known in
           let lt = below g ok d stands in
           let up = past-base g d (name_sym d base ∙ sym (ap (is_held_by_currency base) held) ∙ at.unbacked) in
-          let ticket : backs g ss seated flag p t ≡ true =
+          let ticket : backs g ss ticketed flag p t ≡ true =
           ap (λ h. leads_on (λ e. nat_eq p (place (names_of g) e)) h && is_flagged t.denomination) held
           ∙ ap (λ b. b && is_flagged t.denomination) (eq-eqb p p refl) ∙ from in
           rest d
           (backed.step p up lt
           ∙ ap (λ b. nat_eq p (place (names_of g) c) || b)
-          (ticket-seat g ss seated flag p lt (there (backs g ss seated flag p) ticket))
+          (ticket-funding_ticket g ss ticketed flag p lt (there (backs g ss ticketed flag p) ticket))
           ∙ or-true (nat_eq p (place (names_of g) c))) on
 
   -- a chain goes on from a ticket to its holder
   chain-on : (t : Ticket) (e d : NameBytes) (k : ℕ) → t.holder ≡ Currency e
       → ((h : Ticket → Bool) → h t ≡ true → list_any h g.tickets ≡ true) → chain g.tickets k e d ≡ true
       → chain g.tickets (suc k) t.denomination d ≡ true
-  unfolding chain issued
+  unfolding chain denominated_in
   chain-on t e d k held there on = grind (arith, nat_tests, any-filter, name_refl)
 
   -- a place is flagged, and of a lower rank
@@ -132,7 +138,8 @@ module _ (g : Graph) (ok : IsKept g) (ss : List (List Seat)) (seated : AreSeated
       → is_flagged e ≡ true → chain g.tickets (suc k) e d ≡ true → (j : ℕ) × (chain g.tickets j c d ≡ true))
       → (j : ℕ) × (chain g.tickets j c d ≡ true)
   flag-step k a d there lit on rest =
-      by (nat_eq p (place (names_of g) c)) refl (list_any (λ (s : Seat). flag s.from) (seats_at ss p)) refl
+      by (nat_eq p (place (names_of g) c)) refl
+      (list_any (λ (s : FundingTicket). flag s.from) (funding_tickets_at ss p)) refl
       (sym (backed.step p up lt) ∙ lit)
     where
       p : ℕ
@@ -149,7 +156,7 @@ module _ (g : Graph) (ok : IsKept g) (ss : List (List Seat)) (seated : AreSeated
       up = above p (λ e. true≢false (sym lit ∙ ap flag e ∙ backed.base))
 
       by : (x : Bool) → nat_eq p (place (names_of g) c) ≡ x → (y : Bool)
-          → list_any (λ (s : Seat). flag s.from) (seats_at ss p) ≡ y → (x || y) ≡ true
+          → list_any (λ (s : FundingTicket). flag s.from) (funding_tickets_at ss p) ≡ y → (x || y) ≡ true
           → (j : ℕ) × (chain g.tickets j c d ≡ true)
       by true is y some e = (
         k,
@@ -157,18 +164,19 @@ module _ (g : Graph) (ok : IsKept g) (ss : List (List Seat)) (seated : AreSeated
       )
       by false is false some e = absurd (true≢false (sym e))
       by false is true some e =
-          let seat =
-          found (λ (s : Seat). rank s.from < rank p) (λ (s : Seat). flag s.from) (seats_at ss p) (ranks.above p up lt)
+          let funding_ticket =
+          found (λ (s : FundingTicket). rank s.from < rank p) (λ (s : FundingTicket). flag s.from)
+          (funding_tickets_at ss p) (ranks.above p up lt)
           some in
           let near =
-          seat.1.1.1 (λ (s : Seat). nearer p s.from)
-          (ap (λ b. b && nat_lt (rank seat.0.from) (rank p)) seat.1.1.0
-          ∙ lt-ltb (rank seat.0.from) (rank p) seat.1.0) in
+          funding_ticket.1.1.1 (λ (s : FundingTicket). nearer p s.from)
+          (ap (λ b. b && nat_lt (rank funding_ticket.0.from) (rank p)) funding_ticket.1.1.0
+          ∙ lt-ltb (rank funding_ticket.0.from) (rank p) funding_ticket.1.0) in
           let one =
-          found (IsPlaced g) (backs g ss seated (nearer p) p) g.tickets (placed g ok)
-          (seat-ticket g ss seated (nearer p) p lt near) in
+          found (IsPlaced g) (backs g ss ticketed (nearer p) p) g.tickets (placed g ok)
+          (funding_ticket-ticket g ss ticketed (nearer p) p lt near) in
           let t = one.0 in
-          let back = backer g ss seated (nearer p) p t one.1.1.0 in
+          let back = backer g ss ticketed (nearer p) p t one.1.1.0 in
           let q = place (names_of g) t.denomination in
           let two = both (flag q) (nat_lt (rank q) (rank p)) back.passes in
           let same =
@@ -203,8 +211,9 @@ module _ (g : Graph) (ok : IsKept g) (ss : List (List Seat)) (seated : AreSeated
           let leads = (cycle-is-backing g ok.shallow c d).0 f in
           absurd (true≢false (sym (leads-flag leads.0 c d lit leads.1) ∙ e))
 
--- What the seats say of funding a currency by the ticket of a number
-module _ (g : Graph) (ok : IsKept g) (ss : List (List Seat)) (seated : AreSeated (backs_of g) ss) (rank : ℕ → ℕ)
+-- What the funding tickets say of funding a currency by the ticket of a number
+module _ (g : Graph) (ok : IsKept g) (ss : List (List FundingTicket)) (ticketed : AreTicketed (backs_of g) ss)
+    (rank : ℕ → ℕ)
     (ranks : AreRanks ss rank) (n : ℕ) (c : NameBytes) (t : Ticket) (made : bytes_eq c base ≡ false)
     (known : 1 ≤ times c (names_of g)) (there : ticket_of g n ≡ Some t) (from to : ℕ)
     (from_is : from ≡ place (names_of g) t.denomination) (to_is : to ≡ place (names_of g) c) where
@@ -218,15 +227,15 @@ module _ (g : Graph) (ok : IsKept g) (ss : List (List Seat)) (seated : AreSeated
   cycle-backs flag backed =
       ap (λ o. chain_within g.tickets 8 c (found_denomination o)) there
       ∙ sym
-      (backs-within g ok ss seated rank ranks c made known flag (subst (λ p. AreBacked ss p flag) to_is backed)
+      (backs-within g ok ss ticketed rank ranks c made known flag (subst (λ p. AreBacked ss p flag) to_is backed)
       t.denomination (each-find (IsPlaced g) (is_numbered n) g.tickets t (placed g ok) there).denomination_known)
       ∙ ap flag (sym from_is)
 
-  pub below-stands : IsBelow ss from to → (is_cycle ≡ false) × (is_deep funded ≡ false)
+  pub below-stands : IsRankedBelow ss from to → (is_cycle ≡ false) × (is_deep funded ≡ false)
   below-stands under =
       let high = under.0 in
       let stand =
-      ranks-stand g ok ss seated high under.1.0 n c t there
+      ranks-stand g ok ss ticketed high under.1.0 n c t there
       (subst (λ p. high p < high (place (names_of g) c)) from_is (subst (λ p. high from < high p) to_is under.1.1)) in
       (ap (λ o. chain_within g.tickets 8 c (found_denomination o)) there ∙ stand.0, stand.1)
 
@@ -243,12 +252,12 @@ module _ (g : Graph) (ok : IsKept g) (ss : List (List Seat)) (seated : AreSeated
         g.tickets (placed g ok)
 
     never : (test : ℕ → Bool) (p : ℕ) (h : Holder) → t.holder ≡ h → is_held h ≡ false
-        → backs g ss seated test p t ≡ false
+        → backs g ss ticketed test p t ≡ false
     never test p Nobody is e =
         ap (λ h. leads_on (λ d. nat_eq p (place (names_of g) d)) h && test (place (names_of g) t.denomination)) is
     never test p (Currency d) is e = absurd (true≢false e)
     never test p (Flow f) is e = absurd (true≢false e)
 
-    -- a chain of seats that is too long with one more is one of the graph in which the ticket funds
+    -- a chain of funding tickets that is too long with one more is one of the graph in which the ticket funds
     pub tall-funded : (p : ℕ) → p < 65 → is_tall ss from to 8 p ≡ true → is_deep funded ≡ true
     tall-funded p lt tall = grind (arith, nat_tests, tall-deep, funded-placed, any-left, backs, never, any-changed)

@@ -9,15 +9,16 @@ use Rattle.std.proofs.lemmas.Option.{same_Some}
 use Rattle.std.proofs.Math.Bool.{beq}
 use Rattle.indexmap.specs.IndexMap.{set_value_at}
 use Rattle.share_model.specs.lists.Each.{Each}
-use Rattle.share_model.specs.lists.Laws.{has_number, rises-fresh}
+use Rattle.share_model.specs.lists.Rises.{has_number}
+use Rattle.share_model.proofs.lemmas.lists.Laws.{rises-fresh}
 use Rattle.share_model.specs.lists.Rises.{Rises}
 use Rattle.share_model.specs.declared.funding.OpenFlow.{OpenFlow}
 use Rattle.share_model.specs.funding.Graph.{NameBytes, Graph, flow_numbers, tickets}
 use Rattle.share_model.specs.funding.Changes.{is_open_as, added_flow, add_flow}
 use Rattle.share_model.specs.funding.Kept.{IsKept}
-use Rattle.share_model.proofs.FundingHeld.{idle-none, leaves-tickets}
+use Rattle.share_model.proofs.lemmas.funding.Held.{idle-none, leaves-tickets}
 use Rattle.share_ledger.proofs.Positions.{IsFirstAt, position-first, position-none, flow-first, flow-none}
-use Rattle.share_ledger.specs.Shares.{shares_of}
+use Rattle.share_ledger.specs.Cache.{ticket_list}
 
 -- either a call is done or it is refused
 pub answered : {T E : Type 0} (r : Result T E) (A : T → Type 0) (B : E → Type 0) (P : Type 0)
@@ -27,20 +28,21 @@ answered (Err e) A B P done refused one two = two e refused
 
 -- the tickets that are kept fit the graph
 abbrev pub AreShares : List ℕ → Graph → Type 0
-AreShares shares g = take (length g.flows) shares ≡ shares_of g
+AreShares tickets_of_all g = take (length g.flows) tickets_of_all ≡ ticket_list g
 
-shares-same : (g h : Graph) (es : List (NameBytes × OpenFlow)) → ((f : ℕ) → tickets g f ≡ tickets h f)
+tickets_of_all-same : (g h : Graph) (es : List (NameBytes × OpenFlow)) → ((f : ℕ) → tickets g f ≡ tickets h f)
     → map (λ (e : NameBytes × OpenFlow). tickets g e.1.number) es
     ≡ map (λ (e : NameBytes × OpenFlow). tickets h e.1.number) es
-shares-same g h [] same = refl
-shares-same g h (e ∷ es) same =
+tickets_of_all-same g h [] same = refl
+tickets_of_all-same g h (e ∷ es) same =
     ap (λ n. n ∷ map (λ (e : NameBytes × OpenFlow). tickets g e.1.number) es) (same e.1.number)
-    ∙ ap (λ ns. tickets h e.1.number ∷ ns) (shares-same g h es same)
+    ∙ ap (λ ns. tickets h e.1.number ∷ ns) (tickets_of_all-same g h es same)
 
 -- they still fit where the flows and their tickets are the same
-pub shares-left : (shares : List ℕ) (g h : Graph) → g.flows ≡ h.flows → ((f : ℕ) → tickets g f ≡ tickets h f)
-    → AreShares shares g → AreShares shares h
-shares-left shares g h flows same kept = grind (arith, nat_tests, shares-same)
+pub tickets_of_all-left : (tickets_of_all : List ℕ) (g h : Graph) → g.flows ≡ h.flows
+    → ((f : ℕ) → tickets g f ≡ tickets h f)
+    → AreShares tickets_of_all g → AreShares tickets_of_all h
+tickets_of_all-left tickets_of_all g h flows same kept = grind (arith, nat_tests, tickets_of_all-same)
 
 -- The place of a flow
 found-share : (share : ℕ → ℕ) (f : ℕ) (es : List (NameBytes × OpenFlow)) (i : ℕ) → IsFirstAt (is_open_as f) es i
@@ -87,16 +89,18 @@ fresh-idle f (e ∷ es) fresh = by (nat_eq f e.1.number) fresh (fresh-idle f es)
     by true fresh rest = absurd cc
     by false fresh rest = rest fresh
 
-pub shares-opened : (before after : List ℕ) (g : Graph) (name : NameBytes) (n : ℕ) → IsKept g → n ≡ length g.flows
+pub tickets_of_all-opened : (before after : List ℕ) (g : Graph) (name : NameBytes) (n : ℕ) → IsKept g → n
+    ≡ length g.flows
     → take (n + 1) after ≡ take n before ++ 0 ∷ [] → AreShares before g → AreShares after (add_flow g name)
 unfolding Rises
-shares-opened before after g name n ok at more kept =
+tickets_of_all-opened before after g name n ok at more kept =
     let e : NameBytes × OpenFlow = (name, added_flow g) in
     let idle = fresh-idle g.next_flow g.flows (rises-fresh g.next_flow (flow_numbers g.flows) ok.numbered.flows.2) in
     let none = (leaves-tickets g).add_flow name g.next_flow ∙ idle-none g g.next_flow idle in
     ap (λ k. take k after) (length-append g.flows (e ∷ []) ∙ ap (λ k. k + 1) (sym at))
     ∙ more ∙ ap (λ k. take k before ++ 0 ∷ []) at ∙ ap (λ ns. ns ++ 0 ∷ []) kept
-    ∙ ap (λ ns. ns ++ 0 ∷ []) (shares-same g (add_flow g name) g.flows (λ f. sym ((leaves-tickets g).add_flow name f)))
+    ∙ ap (λ ns. ns ++ 0 ∷ []) (tickets_of_all-same g (add_flow g name) g.flows
+    (λ f. sym ((leaves-tickets g).add_flow name f)))
     ∙ ap (λ k. map (λ (e : NameBytes × OpenFlow). tickets (add_flow g name) e.1.number) g.flows ++ k ∷ []) (sym none)
     ∙ sym (map-append (λ (e : NameBytes × OpenFlow). tickets (add_flow g name) e.1.number) g.flows (e ∷ []))
 

@@ -10,8 +10,8 @@ use Rattle.share_model.specs.declared.funding.Ticket.{Ticket}
 use Rattle.share_model.specs.declared.funding.OpenFlow.{OpenFlow}
 use Rattle.share_model.specs.funding.Graph.{NameBytes, base, Graph}
 use Rattle.share_model.specs.funding.Changes.{is_currency, make_currency_refusal, add_flow_refusal, flow_named}
-use Rattle.share_model.specs.funding.ChangeLaws.{not-refused}
-use Rattle.share_model.specs.lists.RemoveLaws.{none_from}
+use Rattle.share_model.proofs.lemmas.funding.ChangeLaws.{not-refused}
+use Rattle.share_model.proofs.lemmas.lists.RemoveLaws.{none_from}
 
 -- the graph of the tables by their parts
 abbrev pub lay : List NameBytes → List Ticket → ℕ → List (NameBytes × OpenFlow) → ℕ → Graph

@@ -20,7 +20,7 @@ pub no-term : {X : Type 0} (f : X → ℕ) (xs : List X) → sum_by f xs ≡ 0 �
 no-term f [] none = tt
 no-term f (x ∷ xs) none = let sum = sum_by-cons f x xs in (omega arith, no-term f xs (omega arith))
 
--- a sum is at most so many terms, each of at most m
+-- a sum of terms of at most m each is at most their number times m
 pub sum_by-bound : {X : Type 0} (P : X → Type 0) (f : X → ℕ) (m : ℕ) (xs : List X) → Each P xs
     → ((x : X) → P x → f x ≤ m) → sum_by f xs ≤ length xs * m
 sum_by-bound P f m [] each small = omega arith

@@ -9,18 +9,18 @@ use Rattle.share_model.specs.declared.funding.Holder.{Holder}
 use Rattle.share_model.specs.declared.funding.Holder.TheVariants.{Nobody, Currency, Flow}
 use Rattle.share_model.specs.declared.funding.Ticket.{Ticket}
 use Rattle.share_model.specs.funding.Graph.{NameBytes, Graph}
-use Rattle.share_model.specs.funding.ChangeLaws.{not-refused}
+use Rattle.share_model.proofs.lemmas.funding.ChangeLaws.{not-refused}
 use Rattle.share_model.specs.funding.Changes.{fund_currency_refusal, fund_flow_refusal}
 use Rattle.share_model.specs.funding.Changes.{unfund_refusal}
 use Rattle.share_model.specs.funding.Changes.{ticket_of, is_numbered, is_held, held_by, with_holder, is_found_held}
-use Rattle.share_model.specs.lists.Laws.{find-change_first}
+use Rattle.share_model.proofs.lemmas.lists.Laws.{find-change_first}
 use Rattle.share_model.specs.lists.Change.{change_first}
 use Rattle.share_ledger.specs.declared.net.Net.{Net}
 use Rattle.share_ledger.specs.declared.routes.Route.{Route}
-use Rattle.share_ledger.specs.Nets.{activity_of, GrowsBy, ComesToFund, CeasesToFund, IsBegun}
+use Rattle.share_ledger.specs.Nets.{activity_of, GrowsBy, ComesToFund, CeasesToFund, HasInputs}
 use Rattle.share_ledger.specs.Routes.{is_kind, route_of, routes_of, IsRouted}
-use Rattle.share_ledger.specs.Seats.{backs_of}
-use Rattle.share_ledger.specs.Seats.{funds_of}
+use Rattle.share_ledger.specs.FundingTickets.{backs_of}
+use Rattle.share_ledger.specs.FundingTickets.{funds_of}
 use Rattle.share_ledger.proofs.RouteWorths.{sum-routes}
 use Rattle.std.proofs.lemmas.Bool.Decides.{nat_tests}
 
@@ -89,7 +89,7 @@ IsFree g n = (not (is_some (ticket_of g n)) ≡ false) × (is_found_held (ticket
 
 pub comes-to-fund : (g h : Graph) (n : ℕ) (o : Holder) (net : Net) (r : Route) (b : Bool)
     → h ≡ record g { tickets = with_holder n o g.tickets } → IsFree g n
-    → IsBegun net (backs_of g) (funds_of g) (activity_of g) → IsRouted h n r b → ComesToFund net h r b
+    → HasInputs net (backs_of g) (funds_of g) (activity_of g) → IsRouted h n r b → ComesToFund net h r b
 comes-to-fund g h n o net r b e free begun routed =
     subst (λ h. IsRouted h n r b → ComesToFund net h r b) (sym e) (λ found. by found (ticket_of g n) refl) routed
   where
@@ -122,7 +122,7 @@ comes-to-fund g h n o net r b e free begun routed =
 
 pub ceases-to-fund : (g h : Graph) (n : ℕ) (net : Net) (r : Route) (b : Bool)
     → h ≡ record g { tickets = with_holder n Nobody g.tickets }
-    → IsBegun net (backs_of g) (funds_of g) (activity_of g) → IsRouted g n r b → CeasesToFund net h r b
+    → HasInputs net (backs_of g) (funds_of g) (activity_of g) → IsRouted g n r b → CeasesToFund net h r b
 ceases-to-fund g h n net r b e begun found =
     subst (λ h. CeasesToFund net h r b) (sym e)
     (let t = found.0 in (

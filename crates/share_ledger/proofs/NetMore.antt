@@ -1,4 +1,4 @@
--- One seat more or fewer: sums over routes that grow, and what weighs on the places.
+-- One funding ticket more or fewer: sums over routes that grow, and what weighs on the places.
 use Rattle.std.proofs.Common.{◌≡◌, ◌≤◌, ◌<◌, ◌+◌, ◌^◌, ℕ, Bool, true, false, cond, ◌&&◌, List, [], ◌∷◌, ◌++◌}
 use Rattle.std.proofs.Common.{nat_eq, nat_lt, nat_le, sum_by, length, refl, sym, ap, subst, ◌∙◌}
 use Rattle.std.proofs.Common.{arith}
@@ -8,44 +8,50 @@ use Rattle.std.proofs.lemmas.Bool.{and_parts, eqb-true, le-leb, leb-true, lt-ltb
 use Rattle.share_model.specs.funding.Graph.{Graph}
 use Rattle.share_model.specs.funding.Kept.{IsKept}
 use Rattle.share_model.specs.lists.Each.{Each}
-use Rattle.share_model.specs.lists.Laws.{each_map}
+use Rattle.share_model.proofs.lemmas.lists.Laws.{each_map}
 use Rattle.share_ledger.specs.declared.routes.Route.{Route}
-use Rattle.share_ledger.specs.declared.seats.Seat.{Seat}
+use Rattle.share_ledger.specs.declared.funding_tickets.FundingTicket.{FundingTicket}
 use Rattle.share_ledger.specs.Nets.{GrowsBy}
-use Rattle.share_ledger.specs.Routes.{IsRouteWithin, gathered}
-use Rattle.share_ledger.specs.Seats.{AreSeated, IsSeatWithin, seat_of, seats_at, AreCounted, backs_of}
+use Rattle.share_ledger.specs.Routes.{IsRouteWithin, weight_from}
+use Rattle.share_ledger.specs.FundingTickets.{AreTicketed, IsFundingTicketWithin, funding_ticket_of, funding_tickets_at}
+use Rattle.share_ledger.specs.FundingTickets.{AreCounted, backs_of}
 use Rattle.share_ledger.specs.Ranks.{AreRanks}
-use Rattle.share_ledger.specs.Seats.{funds_of}
-use Rattle.share_ledger.proofs.RouteLists.{gathered-bound}
+use Rattle.share_ledger.specs.FundingTickets.{funds_of}
+use Rattle.share_ledger.proofs.RouteLists.{weight_from-bound}
 use Rattle.share_ledger.proofs.RoutesDone.{done-within, done-few}
-use Rattle.share_ledger.proofs.NetSeats.{sum-joined, each-joined}
+use Rattle.share_ledger.proofs.NetFundings.{sum-joined, each-joined}
 use Rattle.share_ledger.proofs.RouteWorths.{cond_and}
 
--- one seat more
-pub seated-more : (rs more : List Route) (r : Route) (ss next : List (List Seat)) → AreSeated rs ss → IsRouteWithin r
+-- one funding ticket more
+pub ticketed-more : (rs more : List Route) (r : Route) (ss next : List (List FundingTicket)) → AreTicketed rs ss
+    → IsRouteWithin r
     → GrowsBy true rs more r
-    → ((k : ℕ) → seats_at next k ≡ cond (nat_eq r.to k) (seats_at ss k ++ seat_of r ∷ []) (seats_at ss k))
-    → length next ≡ 65 → AreSeated more next
-seated-more rs more r ss next s within grows joined long = record {
-  seated = λ F p lt. sum-joined ss next r joined F p
-      ∙ ap (λ n. n + cond (nat_eq p r.to) (F (seat_of r)) 0) (s.seated F p lt)
-      ∙ sym (grows (λ (q : Route). cond (nat_eq p q.to) (F (seat_of q)) 0));
-  within = λ p lt. each-joined ss next r joined (λ _ s. IsSeatWithin s) p (s.within p lt)
+    → ((k : ℕ) → funding_tickets_at next k
+    ≡ cond (nat_eq r.to k) (funding_tickets_at ss k ++ funding_ticket_of r ∷ []) (funding_tickets_at ss k))
+    → length next ≡ 65 → AreTicketed more next
+ticketed-more rs more r ss next s within grows joined long = record {
+  ticketed = λ F p lt. sum-joined ss next r joined F p
+      ∙ ap (λ n. n + cond (nat_eq p r.to) (F (funding_ticket_of r)) 0) (s.ticketed F p lt)
+      ∙ sym (grows (λ (q : Route). cond (nat_eq p q.to) (F (funding_ticket_of q)) 0));
+  within = λ p lt. each-joined ss next r joined (λ _ s. IsFundingTicketWithin s) p (s.within p lt)
       (λ e. record { from_place = within.from_place; small = within.small });
   places = long;
 }
 
-pub ranked-more : (ss next : List (List Seat)) (r : Route) (rank : ℕ → ℕ) → AreRanks ss rank → rank r.from < rank r.to
-    → ((k : ℕ) → seats_at next k ≡ cond (nat_eq r.to k) (seats_at ss k ++ seat_of r ∷ []) (seats_at ss k))
+pub ranked-more : (ss next : List (List FundingTicket)) (r : Route) (rank : ℕ → ℕ) → AreRanks ss rank → rank r.from
+    < rank r.to
+    → ((k : ℕ) → funding_tickets_at next k
+    ≡ cond (nat_eq r.to k) (funding_tickets_at ss k ++ funding_ticket_of r ∷ []) (funding_tickets_at ss k))
     → AreRanks next rank
 ranked-more ss next r rank ranked before joined = record {
   low = ranked.low;
   high = ranked.high;
-  above = λ p up lt. each-joined ss next r joined (λ p (s : Seat). rank s.from < rank p) p (ranked.above p up lt)
+  above = λ p up lt. each-joined ss next r joined (λ p (s : FundingTicket). rank s.from < rank p) p
+      (ranked.above p up lt)
       (λ e. subst (λ k. rank r.from < rank k) e before);
 }
 
--- Seats that go
+-- Funding tickets that go
 fails-zero : {X : Type 0} (test : X → Bool) (xs : List X) → Each (λ x. test x ≡ true) xs
     → sum_by (λ x. cond (test x) 0 1) xs ≡ 0
 fails-zero test [] each = refl
@@ -66,76 +72,84 @@ zero-fails test (x ∷ xs) none =
     by true e = refl
     by false e = absurd (omega arith)
 
--- what holds of each seat holds of those that are left
-each-left : (P : Seat → Type 0) (test : Seat → Bool) (all left : List Seat) (out : Seat)
-    → ((s : Seat) → P s → test s ≡ true) → ((s : Seat) → test s ≡ true → P s)
-    → ((F : Seat → ℕ) → sum_by F left + F out ≡ sum_by F all) → Each P all → Each P left
+-- what holds of each funding ticket holds of those that are left
+each-left : (P : FundingTicket → Type 0) (test : FundingTicket → Bool) (all left : List FundingTicket)
+    (out : FundingTicket)
+    → ((s : FundingTicket) → P s → test s ≡ true) → ((s : FundingTicket) → test s ≡ true → P s)
+    → ((F : FundingTicket → ℕ) → sum_by F left + F out ≡ sum_by F all) → Each P all → Each P left
 each-left P test all left out into back gone each =
     let none = fails-zero test all (each_map P (λ s. test s ≡ true) into all each) in
     let sum = gone (λ s. cond (test s) 0 1) in
     each_map (λ s. test s ≡ true) P back left (zero-fails test left (omega (arith, none, sum)))
 
-module _ (rs less : List Route) (r : Route) (ss next : List (List Seat)) (s : AreSeated rs ss)
+module _ (rs less : List Route) (r : Route) (ss next : List (List FundingTicket)) (s : AreTicketed rs ss)
     (grows : GrowsBy true less rs r)
-    (others : (k : ℕ) → nat_eq r.to k ≡ false → seats_at next k ≡ seats_at ss k)
-    (out : (F : Seat → ℕ) → sum_by F (seats_at next r.to) + F (seat_of r) ≡ sum_by F (seats_at ss r.to)) where
+    (others : (k : ℕ) → nat_eq r.to k ≡ false → funding_tickets_at next k ≡ funding_tickets_at ss k)
+    (out : (F : FundingTicket → ℕ) → sum_by F (funding_tickets_at next r.to) + F (funding_ticket_of r)
+    ≡ sum_by F (funding_tickets_at ss r.to)) where
   other_to : (a b : ℕ) → nat_eq a b ≡ nat_eq b a
   other_to a b = grind (arith, nat_tests)
 
-  left-at : (P : ℕ → Seat → Type 0) (test : ℕ → Seat → Bool) (p : ℕ)
-      → ((s : Seat) → P p s → test p s ≡ true) → ((s : Seat) → test p s ≡ true → P p s)
-      → Each (P p) (seats_at ss p) → Each (P p) (seats_at next p)
+  left-at : (P : ℕ → FundingTicket → Type 0) (test : ℕ → FundingTicket → Bool) (p : ℕ)
+      → ((s : FundingTicket) → P p s → test p s ≡ true) → ((s : FundingTicket) → test p s ≡ true → P p s)
+      → Each (P p) (funding_tickets_at ss p) → Each (P p) (funding_tickets_at next p)
   left-at P test p into back each = by (nat_eq r.to p) refl
     where
-      by : (b : Bool) → nat_eq r.to p ≡ b → Each (P p) (seats_at next p)
+      by : (b : Bool) → nat_eq r.to p ≡ b → Each (P p) (funding_tickets_at next p)
       by true e =
           let at = eqb-true r.to p e in
-          each-left (P p) (test p) (seats_at ss p) (seats_at next p) (seat_of r) into back
-          (subst (λ k. (F : Seat → ℕ) → sum_by F (seats_at next k) + F (seat_of r) ≡ sum_by F (seats_at ss k)) at out)
+          each-left (P p) (test p) (funding_tickets_at ss p) (funding_tickets_at next p) (funding_ticket_of r) into back
+          (subst (λ k. (F : FundingTicket → ℕ) → sum_by F (funding_tickets_at next k) + F (funding_ticket_of r)
+          ≡ sum_by F (funding_tickets_at ss k)) at out)
           each
       by false e = subst (Each (P p)) (sym (others p e)) each
 
-  sum-left : (F : Seat → ℕ) (p : ℕ) → p < 65
-      → sum_by F (seats_at next p) ≡ sum_by (λ (q : Route). cond (nat_eq p q.to) (F (seat_of q)) 0) less
+  sum-left : (F : FundingTicket → ℕ) (p : ℕ) → p < 65
+      → sum_by F (funding_tickets_at next p)
+      ≡ sum_by (λ (q : Route). cond (nat_eq p q.to) (F (funding_ticket_of q)) 0) less
   sum-left F p lt = grind (arith, nat_tests, eqb-true, other_to)
 
-  pub seated-less : length next ≡ 65 → AreSeated less next
-  seated-less long = record {
-    seated = sum-left;
-    within = λ p lt. left-at (λ _ o. IsSeatWithin o) (λ _ (o : Seat). nat_lt o.from 65 && nat_le o.amount (2 ^ 20)) p
+  pub ticketed-less : length next ≡ 65 → AreTicketed less next
+  ticketed-less long = record {
+    ticketed = sum-left;
+    within = λ p lt. left-at (λ _ o. IsFundingTicketWithin o)
+        (λ _ (o : FundingTicket). nat_lt o.from 65 && nat_le o.amount (2 ^ 20)) p
         (λ o w. into o w) (λ o e. back o e) (s.within p lt);
     places = long;
   }
     where
-      into : (o : Seat) → IsSeatWithin o → (nat_lt o.from 65 && nat_le o.amount (2 ^ 20)) ≡ true
+      into : (o : FundingTicket) → IsFundingTicketWithin o → (nat_lt o.from 65 && nat_le o.amount (2 ^ 20)) ≡ true
       into o w =
           ap (λ b. b && nat_le o.amount (2 ^ 20)) (lt-ltb o.from 65 w.from_place) ∙ le-leb o.amount (2 ^ 20) w.small
 
-      back : (o : Seat) → (nat_lt o.from 65 && nat_le o.amount (2 ^ 20)) ≡ true → IsSeatWithin o
+      back : (o : FundingTicket) → (nat_lt o.from 65 && nat_le o.amount (2 ^ 20)) ≡ true → IsFundingTicketWithin o
       back o e = grind (arith, nat_tests, and_parts, ltb-true, leb-true)
 
   pub ranked-less : (rank : ℕ → ℕ) → AreRanks ss rank → AreRanks next rank
   ranked-less rank ranked = record {
     low = ranked.low;
     high = ranked.high;
-    above = λ p up lt. left-at (λ q (o : Seat). rank o.from < rank q) (λ q (o : Seat). nat_lt (rank o.from) (rank q)) p
+    above = λ p up lt. left-at (λ q (o : FundingTicket). rank o.from < rank q)
+        (λ q (o : FundingTicket). nat_lt (rank o.from) (rank q)) p
         (λ o l. lt-ltb (rank o.from) (rank p) l) (λ o e. ltb-true (rank o.from) (rank p) e) (ranked.above p up lt);
   }
 
--- the same seats for other routes of the same sums
-pub seated-same : (rs more : List Route) (r : Route) (ss : List (List Seat)) → AreSeated rs ss → GrowsBy false rs more r
-    → AreSeated more ss
-seated-same rs more r ss s grows = grind (arith, nat_tests)
+-- the same funding tickets for other routes of the same sums
+pub ticketed-same : (rs more : List Route) (r : Route) (ss : List (List FundingTicket)) → AreTicketed rs ss
+    → GrowsBy false rs more r
+    → AreTicketed more ss
+ticketed-same rs more r ss s grows = grind (arith, nat_tests)
 
-pub seated-back : (rs less : List Route) (r : Route) (ss : List (List Seat)) → AreSeated rs ss → GrowsBy false less rs r
-    → AreSeated less ss
-seated-back rs less r ss s grows = grind (arith, nat_tests)
+pub ticketed-back : (rs less : List Route) (r : Route) (ss : List (List FundingTicket)) → AreTicketed rs ss
+    → GrowsBy false less rs r
+    → AreTicketed less ss
+ticketed-back rs less r ss s grows = grind (arith, nat_tests)
 
 -- what is gathered from routes that grow
-gathered-by : (b : Bool) (rs more : List Route) (r : Route) (on : ℕ → Bool) (x : ℕ) → GrowsBy b rs more r
-    → gathered more on x ≡ gathered rs on x + cond b (cond (nat_eq x r.from) (cond (on r.to) r.amount 0) 0) 0
-unfolding gathered
-gathered-by b rs more r on x grows =
+weight_from-by : (b : Bool) (rs more : List Route) (r : Route) (on : ℕ → Bool) (x : ℕ) → GrowsBy b rs more r
+    → weight_from more on x ≡ weight_from rs on x + cond b (cond (nat_eq x r.from) (cond (on r.to) r.amount 0) 0) 0
+unfolding weight_from
+weight_from-by b rs more r on x grows =
     grows (λ (q : Route). cond (nat_eq x q.from && on q.to) q.amount 0)
     ∙ ap (λ n. sum_by (λ (q : Route). cond (nat_eq x q.from && on q.to) q.amount 0) rs + cond b n 0)
     (cond_and (nat_eq x r.from) (on r.to) r.amount)
@@ -147,16 +161,16 @@ module _ (backs funds more_backs more_funds : List Route) (r : Route) (a b : Boo
   gain x = cond a (cond (nat_eq x r.from) (cond (on r.to) r.amount 0) 0) 0
       + cond b (cond (nat_eq x r.from) (cond (active r.to) r.amount 0) 0) 0
 
-  all-gathered : (x : ℕ) → gathered more_backs on x + gathered more_funds active x
-      ≡ gathered backs on x + gathered funds active x + gain x
-  all-gathered x = grind (arith, nat_tests, gathered-by)
+  all-weight_from : (x : ℕ) → weight_from more_backs on x + weight_from more_funds active x
+      ≡ weight_from backs on x + weight_from funds active x + gain x
+  all-weight_from x = grind (arith, nat_tests, weight_from-by)
 
   pub counted-given : (whole next : ℕ → ℕ) → AreCounted backs funds on active whole
       → ((x : ℕ) → x < 65 → next x ≡ whole x + gain x) → AreCounted more_backs more_funds on active next
   counted-given whole next counted grew x lt =
       let was = counted x lt in
       let now = grew x lt in
-      let sum = all-gathered x in
+      let sum = all-weight_from x in
       omega (arith, was, now, sum)
 
   pub counted-taken : (whole next : ℕ → ℕ) → AreCounted more_backs more_funds on active whole
@@ -164,29 +178,29 @@ module _ (backs funds more_backs more_funds : List Route) (r : Route) (a b : Boo
   counted-taken whole next counted shrank x lt =
       let was = counted x lt in
       let now = shrank x lt in
-      let sum = all-gathered x in
+      let sum = all-weight_from x in
       omega (arith, was, now, sum)
 
   pub less-bound : (whole : ℕ → ℕ) → AreCounted backs funds on active whole → (x n : ℕ) → x < 65
-      → gathered more_backs on x + gathered more_funds active x ≤ n → whole x ≤ n
+      → weight_from more_backs on x + weight_from more_funds active x ≤ n → whole x ≤ n
   less-bound whole counted x n lt bound =
       let was = counted x lt in
-      let sum = all-gathered x in
+      let sum = all-weight_from x in
       omega (arith, was, sum, bound)
 
   pub gain-held : (whole : ℕ → ℕ) → AreCounted more_backs more_funds on active whole → (x : ℕ) → x < 65
       → gain x ≤ whole x
   gain-held whole counted x lt =
       let was = counted x lt in
-      let sum = all-gathered x in
+      let sum = all-weight_from x in
       omega (arith, was, sum)
 
 -- what is gathered together is small
 pub sum-bound : (g : Graph) (on active : ℕ → Bool) → IsKept g → (x : ℕ)
-    → gathered (backs_of g) on x + gathered (funds_of g) active x ≤ 2 ^ 31
+    → weight_from (backs_of g) on x + weight_from (funds_of g) active x ≤ 2 ^ 31
 sum-bound g on active ok x =
-    let one = gathered-bound (backs_of g) on x (done-within g ok true (backs_of g) refl)
+    let one = weight_from-bound (backs_of g) on x (done-within g ok true (backs_of g) refl)
     (done-few g ok true (backs_of g) refl) in
-    let two = gathered-bound (funds_of g) active x (done-within g ok false (funds_of g) refl)
+    let two = weight_from-bound (funds_of g) active x (done-within g ok false (funds_of g) refl)
     (done-few g ok false (funds_of g) refl) in
     omega arith

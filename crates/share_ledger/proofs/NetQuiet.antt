@@ -1,4 +1,4 @@
--- A flow that wakes or rests where its seats come from `base` alone: nothing else changes.
+-- A flow that wakes or rests where its funding tickets come from `base` alone: nothing else changes.
 use Rattle.std.proofs.Common.{◌≡◌, ◌<◌, ◌*◌, ◌/◌, ℕ, zero, suc, Bool, true, false, cond, List, [], ◌∷◌, map}
 use Rattle.std.proofs.Common.{nat_eq, get_or, refl, sym, ap, ◌∙◌, arith}
 use Rattle.std.specs.List.{list_all}
@@ -9,32 +9,35 @@ use Rattle.share_model.specs.funding.Graph.{NameBytes}
 use Rattle.share_model.specs.funding.Changes.{is_open_as, active_as, with_activity}
 use Rattle.share_model.specs.lists.Change.{change_first}
 use Rattle.share_model.specs.lists.Each.{Each}
-use Rattle.share_model.specs.lists.SumLaws.{sum_by-same_of}
+use Rattle.share_model.proofs.lemmas.lists.SumLaws.{sum_by-same_of}
 use Rattle.share_ledger.specs.declared.net.Net.{Net}
 use Rattle.share_ledger.specs.declared.routes.Route.{Route}
-use Rattle.share_ledger.specs.declared.seats.Seat.{Seat}
+use Rattle.share_ledger.specs.declared.funding_tickets.FundingTicket.{FundingTicket}
 use Rattle.share_ledger.specs.Nets.{IsReady}
-use Rattle.share_ledger.specs.Seats.{IsSeatWithin, seat_worth, seats_at, taken, weighed}
+use Rattle.share_ledger.specs.FundingTickets.{IsFundingTicketWithin, funding_ticket_worth, funding_tickets_at}
+use Rattle.share_ledger.specs.FundingTickets.{amount_from, worth_at}
 use Rattle.share_ledger.proofs.Positions.{IsFirstAt}
 
--- seats of `base` count for no other place
-pub taken-base : (ss : List Seat) (k : ℕ) → list_all (λ (s : Seat). nat_eq s.from 0) ss ≡ true → 0 < k → taken ss k ≡ 0
-taken-base [] k all above = refl
-taken-base (s ∷ ss) k all above = grind (arith, nat_tests, sum_by-cons, taken-base ss k)
+-- funding tickets of `base` count for no other place
+pub amount_from-base : (ss : List FundingTicket) (k : ℕ) → list_all (λ (s : FundingTicket). nat_eq s.from 0) ss ≡ true
+    → 0 < k → amount_from ss k ≡ 0
+amount_from-base [] k all above = refl
+amount_from-base (s ∷ ss) k all above = grind (arith, nat_tests, sum_by-cons, amount_from-base ss k)
 
--- weights of other places than that of `base` alone matter to what seats are worth
-pub weighed-quiet : (ss : List (List Seat)) (on : ℕ → Bool) (v w u : ℕ → ℕ) (p : ℕ)
-    → Each IsSeatWithin (seats_at ss p) → ((k : ℕ) → 0 < k → k < 65 → u k ≡ w k)
-    → weighed ss on v w p ≡ weighed ss on v u p
-weighed-quiet ss on v w u p within same =
+-- weights of other places than that of `base` alone matter to what funding tickets are worth
+pub worth_at-quiet : (ss : List (List FundingTicket)) (on : ℕ → Bool) (v w u : ℕ → ℕ) (p : ℕ)
+    → Each IsFundingTicketWithin (funding_tickets_at ss p) → ((k : ℕ) → 0 < k → k < 65 → u k ≡ w k)
+    → worth_at ss on v w p ≡ worth_at ss on v u p
+worth_at-quiet ss on v w u p within same =
     ap (λ n. cond (on p) n 0)
-    (sum_by-same_of IsSeatWithin (seat_worth v w) (seat_worth v u) (seats_at ss p) within
+    (sum_by-same_of IsFundingTicketWithin (funding_ticket_worth v w) (funding_ticket_worth v u)
+    (funding_tickets_at ss p) within
     (λ s ok. by (nat_eq s.from 0) s refl ok.from_place))
   where
     above : (n : ℕ) → nat_eq n 0 ≡ false → 0 < n
     above n e = grind (arith, nat_tests)
 
-    by : (b : Bool) → (s : Seat) → nat_eq s.from 0 ≡ b → s.from < 65
+    by : (b : Bool) → (s : FundingTicket) → nat_eq s.from 0 ≡ b → s.from < 65
         → cond b s.amount (v s.from * s.amount / w s.from) ≡ cond b s.amount (v s.from * s.amount / u s.from)
     by true s e lt = refl
     by false s e lt = ap (λ n. v s.from * s.amount / n) (sym (same s.from (above s.from e) lt))
@@ -72,10 +75,11 @@ activity-turned f a (x ∷ es) (suc i) (suc k) first =
     both : (n m : ℕ) → nat_eq (suc n) (suc m) ≡ nat_eq n m
     both n m = grind (arith, nat_tests)
 
--- the same seats and numbers under activity that is the same
-pub relit : (n : Net) (shares : List ℕ) (backs funds : List Route) (lit other : ℕ → Bool)
-    → IsReady n shares backs funds lit → ((k : ℕ) → lit k ≡ other k) → IsReady n shares backs funds other
-relit n shares backs funds lit other ready same = record {
+-- the same funding tickets and numbers under activity that is the same
+pub relit : (n : Net) (tickets_of_all : List ℕ) (backs funds : List Route) (lit other : ℕ → Bool)
+    → IsReady n tickets_of_all backs funds lit → ((k : ℕ) → lit k ≡ other k)
+    → IsReady n tickets_of_all backs funds other
+relit n tickets_of_all backs funds lit other ready same = record {
   begun = record {
     backing = ready.begun.backing;
     funding = ready.begun.funding;

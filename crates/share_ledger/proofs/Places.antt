@@ -7,9 +7,9 @@ use Rattle.share_model.specs.declared.funding.Ticket.{Ticket}
 use Rattle.share_model.specs.funding.Graph.{NameBytes, base, Graph, is_held_by_currency}
 use Rattle.share_model.specs.lists.Each.{Each}
 use Rattle.share_model.specs.funding.Kept.{names_of, times, IsHolderKnown, IsKept}
-use Rattle.share_model.specs.lists.SumLaws.{same_name, name_same, name_sym}
-use Rattle.share_model.specs.funding.SettleLaws.{none_any}
-use Rattle.share_model.specs.funding.ChangeLaws.{absent}
+use Rattle.share_model.proofs.lemmas.lists.SumLaws.{same_name, name_same, name_sym}
+use Rattle.share_model.proofs.lemmas.funding.SettleLaws.{none_any}
+use Rattle.share_model.proofs.lemmas.funding.ChangeLaws.{absent}
 use Rattle.share_ledger.specs.Places.{place}
 use Rattle.share_ledger.proofs.Positions.{IsFirstAt}
 

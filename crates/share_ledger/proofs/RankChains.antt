@@ -8,42 +8,42 @@ use Rattle.std.proofs.lemmas.Bool.{lt-ltb}
 use Rattle.share_model.specs.declared.funding.Holder.{Holder}
 use Rattle.share_model.specs.declared.funding.Holder.TheVariants.{Nobody, Currency, Flow}
 use Rattle.share_model.specs.declared.funding.Ticket.{Ticket}
-use Rattle.share_model.specs.funding.Graph.{NameBytes, base, Graph, issued, leads_on, chain}
+use Rattle.share_model.specs.funding.Graph.{NameBytes, base, Graph, denominated_in, leads_on, chain}
 use Rattle.share_model.specs.funding.Graph.{chain_within, runs, is_deep}
 use Rattle.share_model.specs.funding.Changes.{is_numbered, held_by, ticket_of, with_holder}
 use Rattle.share_model.specs.funding.Kept.{names_of, IsKept}
-use Rattle.share_model.specs.funding.SettleLaws.{none_any}
+use Rattle.share_model.proofs.lemmas.funding.SettleLaws.{none_any}
 use Rattle.share_model.specs.lists.Change.{change_first}
-use Rattle.share_model.specs.lists.CountLaws.{any-filter}
+use Rattle.share_model.proofs.lemmas.lists.CountLaws.{any-filter}
 use Rattle.share_model.specs.lists.Each.{Each}
-use Rattle.share_model.specs.lists.Laws.{each_map, each-change_first}
-use Rattle.share_model.specs.lists.SumLaws.{same_name, name_sym}
-use Rattle.share_ledger.specs.declared.seats.Seat.{Seat}
+use Rattle.share_model.proofs.lemmas.lists.Laws.{each_map, each-change_first}
+use Rattle.share_model.proofs.lemmas.lists.SumLaws.{same_name, name_sym}
+use Rattle.share_ledger.specs.declared.funding_tickets.FundingTicket.{FundingTicket}
 use Rattle.share_ledger.specs.Ranks.{AreRanks}
 use Rattle.share_ledger.specs.Places.{place}
-use Rattle.share_ledger.specs.Seats.{seats_at, AreSeated, backs_of}
+use Rattle.share_ledger.specs.FundingTickets.{funding_tickets_at, AreTicketed, backs_of}
 use Rattle.share_ledger.proofs.Places.{past-base, IsPlaced, placed}
 use Rattle.share_ledger.proofs.RouteLists.{route-within}
 use Rattle.share_ledger.proofs.RouteWorths.{below}
-use Rattle.share_ledger.proofs.RoutesBefore.{ticket-part, seats-tell, route-tells}
+use Rattle.share_ledger.proofs.RoutesBefore.{ticket-part, funding_tickets-tell, route-tells}
 
 -- The ranks of the names of a graph rise along its chains
-abbrev Rises : Graph → (ℕ → ℕ) → ℕ → Holder → Type 0
-Rises g rank n Nobody = Unit {0}
-Rises g rank n (Flow f) = Unit {0}
-Rises g rank n (Currency c) = n < rank (place (names_of g) c)
+abbrev RankRises : Graph → (ℕ → ℕ) → ℕ → Holder → Type 0
+RankRises g rank n Nobody = Unit {0}
+RankRises g rank n (Flow f) = Unit {0}
+RankRises g rank n (Currency c) = n < rank (place (names_of g) c)
 
 abbrev rank_of : Graph → (ℕ → ℕ) → NameBytes → ℕ
 rank_of g rank a = rank (place (names_of g) a)
 
 abbrev RisesBy : Graph → (ℕ → ℕ) → Ticket → Type 0
-RisesBy g rank t = Rises g rank (rank_of g rank t.denomination) t.holder
+RisesBy g rank t = RankRises g rank (rank_of g rank t.denomination) t.holder
 
 module _ (g : Graph) (rank : ℕ → ℕ) where
   -- each step of a chain goes to a higher rank
   chain-none : (ts : List Ticket) → Each (RisesBy g rank) ts → (n : ℕ) (a b : NameBytes)
       → rank_of g rank b < rank_of g rank a + n → chain ts n a b ≡ false
-  unfolding chain issued
+  unfolding chain denominated_in
   chain-none ts each zero a b less = by (bytes_eq a b) refl
     where
       by : (x : Bool) → bytes_eq a b ≡ x → bytes_eq a b ≡ false
@@ -57,7 +57,7 @@ module _ (g : Graph) (rank : ℕ → ℕ) where
       (λ t up. by (λ c. chain-none ts each n c b) (bytes_eq a t.denomination) t refl up) ts each)
     where
       on : ((c : NameBytes) → rank_of g rank b < rank_of g rank c + n → chain ts n c b ≡ false) → (h : Holder)
-          → Rises g rank (rank_of g rank a) h → leads_on (λ c. chain ts n c b) h ≡ false
+          → RankRises g rank (rank_of g rank a) h → leads_on (λ c. chain ts n c b) h ≡ false
       on rest Nobody up = refl
       on rest (Flow f) up = refl
       on rest (Currency c) up = rest c (omega arith)
@@ -69,7 +69,7 @@ module _ (g : Graph) (rank : ℕ → ℕ) where
       by rest true t e up =
           ap (λ x. x && leads_on (λ c. chain ts n c b) t.holder) e
           ∙ on rest t.holder
-          (subst (λ d. Rises g rank (rank_of g rank d) t.holder) (sym (same_name a t.denomination e)) up)
+          (subst (λ d. RankRises g rank (rank_of g rank d) t.holder) (sym (same_name a t.denomination e)) up)
       by rest false t e up = ap (λ x. x && leads_on (λ c. chain ts n c b) t.holder) e
 
   pub within-none : (ts : List Ticket) → Each (RisesBy g rank) ts → (n : ℕ) (a b : NameBytes)
@@ -81,7 +81,7 @@ module _ (g : Graph) (rank : ℕ → ℕ) where
   -- and ranks are at most eight
   runs-none : (ts : List Ticket) → Each (RisesBy g rank) ts → ((p : ℕ) → rank p ≤ 8) → (n : ℕ) (a : NameBytes)
       → 8 < rank_of g rank a + n → runs ts n a ≡ false
-  unfolding runs issued
+  unfolding runs denominated_in
   runs-none ts each low zero a far = let here = low (place (names_of g) a) in absurd (omega arith)
   runs-none ts each low (suc n) a far =
       any-filter (λ (t : Ticket). bytes_eq a t.denomination) (λ (t : Ticket). leads_on (runs ts n) t.holder) ts
@@ -90,7 +90,7 @@ module _ (g : Graph) (rank : ℕ → ℕ) where
       (λ t up. by (λ c. runs-none ts each low n c) (bytes_eq a t.denomination) t refl up) ts each)
     where
       on : ((c : NameBytes) → 8 < rank_of g rank c + n → runs ts n c ≡ false) → (h : Holder)
-          → Rises g rank (rank_of g rank a) h → leads_on (runs ts n) h ≡ false
+          → RankRises g rank (rank_of g rank a) h → leads_on (runs ts n) h ≡ false
       on rest Nobody up = refl
       on rest (Flow f) up = refl
       on rest (Currency c) up = rest c (omega arith)
@@ -101,7 +101,7 @@ module _ (g : Graph) (rank : ℕ → ℕ) where
       by rest true t e up =
           ap (λ x. x && leads_on (runs ts n) t.holder) e
           ∙ on rest t.holder
-          (subst (λ d. Rises g rank (rank_of g rank d) t.holder) (sym (same_name a t.denomination e)) up)
+          (subst (λ d. RankRises g rank (rank_of g rank d) t.holder) (sym (same_name a t.denomination e)) up)
       by rest false t e up = ap (λ x. x && leads_on (runs ts n) t.holder) e
 
   pub deep-none : (ts : List Ticket) → Each (RisesBy g rank) ts → ((p : ℕ) → rank p ≤ 8)
@@ -125,22 +125,24 @@ module _ (g : Graph) (rank : ℕ → ℕ) where
       each-change_first (λ (t : Ticket). P t.denomination) (λ (t : Ticket). P t.denomination) (is_numbered n)
       (held_by (Currency c)) (λ t e. e) (λ t e. e) ts each
 
--- The seats of a graph that have ranks
-module _ (g : Graph) (ok : IsKept g) (ss : List (List Seat)) (seated : AreSeated (backs_of g) ss) (rank : ℕ → ℕ)
+-- The funding tickets of a graph that have ranks
+module _ (g : Graph) (ok : IsKept g) (ss : List (List FundingTicket)) (ticketed : AreTicketed (backs_of g) ss)
+    (rank : ℕ → ℕ)
     (ranks : AreRanks ss rank) where
-  -- a seat is below the place of its holder, unless that is `base`
-  abbrev is_low : ℕ → Seat → Bool
+  -- a funding ticket is below the place of its holder, unless that is `base`
+  abbrev is_low : ℕ → FundingTicket → Bool
   is_low p s = nat_eq p 0 || nat_lt (rank s.from) (rank p)
 
-  low-seats : (p : ℕ) → p < 65 → Each (λ s. is_low p s ≡ true) (seats_at ss p)
-  low-seats p lt = grind (arith, nat_tests, each_map, lt-ltb)
+  low-funding_tickets : (p : ℕ) → p < 65 → Each (λ s. is_low p s ≡ true) (funding_tickets_at ss p)
+  low-funding_tickets p lt = grind (arith, nat_tests, each_map, lt-ltb)
 
-  rises-at : (t : Ticket) → IsPlaced g t → ((p : ℕ) → p < 65 → ticket-part g true ss seated is_low low-seats p t ≡ 0)
+  rises-at : (t : Ticket) → IsPlaced g t
+      → ((p : ℕ) → p < 65 → ticket-part g true ss ticketed is_low low-funding_tickets p t ≡ 0)
       → RisesBy g rank t
-  rises-at t at none = grind (arith, nat_tests, route-tells, low-seats, route-within, past-base, name_sym)
+  rises-at t at none = grind (arith, nat_tests, route-tells, low-funding_tickets, route-within, past-base, name_sym)
 
   rises-each : (ts : List Ticket) → Each (IsPlaced g) ts
-      → Each (λ t. (p : ℕ) → p < 65 → ticket-part g true ss seated is_low low-seats p t ≡ 0) ts
+      → Each (λ t. (p : ℕ) → p < 65 → ticket-part g true ss ticketed is_low low-funding_tickets p t ≡ 0) ts
       → Each (RisesBy g rank) ts
   rises-each [] known none = tt
   rises-each (t ∷ ts) known none = (rises-at t known.0 none.0, rises-each ts known.1 none.1)
@@ -151,7 +153,7 @@ module _ (g : Graph) (ok : IsKept g) (ss : List (List Seat)) (seated : AreSeated
       → (chain_within g.tickets 8 c t.denomination ≡ false) × (is_deep (with_holder n (Currency c) g.tickets) ≡ false)
   ranks-stand n c t found less =
       let rises =
-      rises-each g.tickets (placed g ok) (seats-tell g true ss seated is_low low-seats) in
+      rises-each g.tickets (placed g ok) (funding_tickets-tell g true ss ticketed is_low low-funding_tickets) in
       let high =
       each_map (IsPlaced g) (λ (t : Ticket). bytes_eq t.denomination base ≡ false → 1 ≤ rank_of g rank t.denomination)
       (λ t known apart. ranks.high (place (names_of g) t.denomination) (past-base g t.denomination apart)

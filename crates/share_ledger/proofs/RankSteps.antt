@@ -8,12 +8,12 @@ use Rattle.std.proofs.lemmas.Bool.Decides.{nat_tests}
 use Rattle.std.proofs.lemmas.List.{length-set, get_or-replicate, get_or_past}
 use Rattle.std.proofs.lemmas.List.Sums.{sum_by-cons, sum_by-set}
 use Rattle.share_model.specs.lists.Each.{Each}
-use Rattle.share_ledger.specs.declared.seats.Seat.{Seat}
-use Rattle.share_ledger.specs.declared.ranks.Link.{Link}
+use Rattle.share_ledger.specs.declared.funding_tickets.FundingTicket.{FundingTicket}
+use Rattle.share_ledger.specs.declared.ranks.Edge.{Edge}
 use Rattle.share_ledger.specs.declared.ranks.Ranking.{Ranking}
 use Rattle.share_ledger.specs.Ranks.{AreRanks, AreListed, AreLongest, AreGiven, AreRankedTo, is_tall}
 use Rattle.share_ledger.specs.Arrays.{numbers_of}
-use Rattle.share_ledger.specs.Seats.{seats_at}
+use Rattle.share_ledger.specs.FundingTickets.{funding_tickets_at}
 use Rattle.share_ledger.proofs.NetSteps.{array-set}
 
 -- how many pass a test
@@ -78,39 +78,41 @@ one-fails test (x ∷ xs) d no-all =
         (suc found.0, ((let lt = found.1.0 in omega arith), found.1.1))
     by false off rest none = (0, (omega arith, off))
 
--- a place has no rank yet, and what its seats come from is below this one
-abbrev is_due : List (List Seat) → Link → Ranking → ℕ → ℕ → Bool
-is_due ss link r most p =
-    nat_eq (numbers_of r.ranks p) 9 && (not (nat_eq p link.to) || nat_lt (numbers_of r.ranks link.from) most)
-    && list_all (λ (s : Seat). nat_lt (numbers_of r.ranks s.from) most) (seats_at ss p)
+-- a place has no rank yet, and what its funding tickets come from is below this one
+abbrev is_due : List (List FundingTicket) → Edge → Ranking → ℕ → ℕ → Bool
+is_due ss edge r most p =
+    nat_eq (numbers_of r.ranks p) 9 && (not (nat_eq p edge.to) || nat_lt (numbers_of r.ranks edge.from) most)
+    && list_all (λ (s : FundingTicket). nat_lt (numbers_of r.ranks s.from) most) (funding_tickets_at ss p)
 
 -- a place gets the rank that it is due
-module _ (ss : List (List Seat)) (link : Link) (r : Ranking) (most p : ℕ)
-    (was : AreRankedTo ss link r most p) (some : 1 ≤ most) (few : most ≤ 8) (up : 0 < p) (lt : p < 65)
-    (from_lt : link.from < 65) where
+module _ (ss : List (List FundingTicket)) (edge : Edge) (r : Ranking) (most p : ℕ)
+    (was : AreRankedTo ss edge r most p) (some : 1 ≤ most) (few : most ≤ 8) (up : 0 < p) (lt : p < 65)
+    (from_lt : edge.from < 65) where
   abbrev next : Ranking
   next = record r { ranks = set r.ranks p most; order = set r.order r.count p; count = r.count + 1 }
 
-  below-from : (n : ℕ) (xs : List Seat) → list_all (λ (s : Seat). nat_lt (numbers_of r.ranks s.from) n) xs ≡ true
-      → Each (λ (s : Seat). numbers_of r.ranks s.from < n) xs
+  below-from : (n : ℕ) (xs : List FundingTicket)
+      → list_all (λ (s : FundingTicket). nat_lt (numbers_of r.ranks s.from) n) xs ≡ true
+      → Each (λ (s : FundingTicket). numbers_of r.ranks s.from < n) xs
   below-from n [] e = tt
   below-from n (x ∷ xs) e = by (λ t. below-from n xs t) (nat_lt (numbers_of r.ranks x.from) n) refl e
     where
-      by : (list_all (λ (s : Seat). nat_lt (numbers_of r.ranks s.from) n) xs ≡ true
-          → Each (λ (s : Seat). numbers_of r.ranks s.from < n) xs) → (b : Bool)
+      by : (list_all (λ (s : FundingTicket). nat_lt (numbers_of r.ranks s.from) n) xs ≡ true
+          → Each (λ (s : FundingTicket). numbers_of r.ranks s.from < n) xs) → (b : Bool)
           → nat_lt (numbers_of r.ranks x.from) n ≡ b
-          → (b && list_all (λ (s : Seat). nat_lt (numbers_of r.ranks s.from) n) xs) ≡ true
-          → Each (λ (s : Seat). numbers_of r.ranks s.from < n) (x ∷ xs)
+          → (b && list_all (λ (s : FundingTicket). nat_lt (numbers_of r.ranks s.from) n) xs) ≡ true
+          → Each (λ (s : FundingTicket). numbers_of r.ranks s.from < n) (x ∷ xs)
       by rest true b e = (ltb-true _ _ b, rest e)
       by rest false b e = absurd (true≢false (sym e))
 
-  module _ (free : numbers_of r.ranks p ≡ 9) (own : 0 < link.to → p ≡ link.to → numbers_of r.ranks link.from < most)
-      (below : Each (λ (s : Seat). numbers_of r.ranks s.from < most) (seats_at ss p)) where
+  module _ (free : numbers_of r.ranks p ≡ 9) (own : 0 < edge.to → p ≡ edge.to → numbers_of r.ranks edge.from < most)
+      (below : Each (λ (s : FundingTicket). numbers_of r.ranks s.from < most) (funding_tickets_at ss p)) where
     wrote : (k : ℕ) → numbers_of (set r.ranks p most) k ≡ cond (nat_eq p k) most (numbers_of r.ranks k)
     wrote k = array-set r.ranks p k most 0 (let long = was.given.ranks_long in omega arith)
 
-    keeps : (n m : ℕ) → n ≤ 9 → n ≤ m → (xs : List Seat) → Each (λ (s : Seat). numbers_of r.ranks s.from < n) xs
-        → Each (λ (s : Seat). numbers_of (set r.ranks p most) s.from < m) xs
+    keeps : (n m : ℕ) → n ≤ 9 → n ≤ m → (xs : List FundingTicket)
+        → Each (λ (s : FundingTicket). numbers_of r.ranks s.from < n) xs
+        → Each (λ (s : FundingTicket). numbers_of (set r.ranks p most) s.from < m) xs
     keeps n m le more [] each = tt
     keeps n m le more (x ∷ xs) each = grind (arith, nat_tests, wrote, keeps n m le more xs each.1)
 
@@ -126,7 +128,7 @@ module _ (ss : List (List Seat)) (link : Link) (r : Ranking) (most p : ℕ)
     abbrev spots : ℕ → ℕ
     spots k = cond (nat_eq p k) r.count (was.given.spot k)
 
-    given : AreGiven ss link next
+    given : AreGiven ss edge next
     given = record {
       ranks_long = length-set r.ranks p most ∙ was.given.ranks_long;
       order_long = length-set r.order r.count p ∙ was.given.order_long;
@@ -134,9 +136,9 @@ module _ (ss : List (List Seat)) (link : Link) (r : Ranking) (most p : ℕ)
       top = λ k. let w = wrote k in let le = was.given.top k in grind (arith, nat_tests);
       high = λ k above_k below_k. let w = wrote k in let le = was.given.high k above_k below_k in
           grind (arith, nat_tests);
-      above = λ k above_k below_k less. seats k above_k below_k less (nat_eq p k) refl;
-      more = λ on less. let w = wrote link.to in let v = wrote link.from in let mine = own on in
-          let before = was.given.more on in let f = free in let le = was.given.top link.to in
+      above = λ k above_k below_k less. funding_tickets k above_k below_k less (nat_eq p k) refl;
+      more = λ on less. let w = wrote edge.to in let v = wrote edge.from in let mine = own on in
+          let before = was.given.more on in let f = free in let le = was.given.top edge.to in
           grind (arith, nat_tests);
       spot = spots;
       first = let f = was.given.first in grind (arith, nat_tests);
@@ -151,88 +153,93 @@ module _ (ss : List (List Seat)) (link : Link) (r : Ranking) (most p : ℕ)
       counted = counts;
     }
       where
-        seats : (k : ℕ) → 0 < k → k < 65 → numbers_of (set r.ranks p most) k < 9 → (b : Bool) → nat_eq p k ≡ b
-            → Each (λ (s : Seat). numbers_of (set r.ranks p most) s.from < numbers_of (set r.ranks p most) k)
-            (seats_at ss k)
-        seats k above_k below_k less true e =
+        funding_tickets : (k : ℕ) → 0 < k → k < 65 → numbers_of (set r.ranks p most) k < 9 → (b : Bool) → nat_eq p k ≡ b
+            → Each (λ (s : FundingTicket). numbers_of (set r.ranks p most) s.from < numbers_of (set r.ranks p most) k)
+            (funding_tickets_at ss k)
+        funding_tickets k above_k below_k less true e =
             let n = wrote k ∙ ap (λ b. cond b most (numbers_of r.ranks k)) e in
-            keeps most (numbers_of (set r.ranks p most) k) (omega arith) (omega arith) (seats_at ss k)
-            (subst (λ q. Each (λ (s : Seat). numbers_of r.ranks s.from < most) (seats_at ss q)) (eqb-true p k e) below)
-        seats k above_k below_k less false e =
+            keeps most (numbers_of (set r.ranks p most) k) (omega arith) (omega arith) (funding_tickets_at ss k)
+            (subst (λ q. Each (λ (s : FundingTicket). numbers_of r.ranks s.from < most) (funding_tickets_at ss q))
+            (eqb-true p k e) below)
+        funding_tickets k above_k below_k less false e =
             let n = wrote k ∙ ap (λ b. cond b most (numbers_of r.ranks k)) e in
             keeps (numbers_of r.ranks k) (numbers_of (set r.ranks p most) k) (was.given.top k) (omega arith)
-            (seats_at ss k) (was.given.above k above_k below_k (omega arith))
+            (funding_tickets_at ss k) (was.given.above k above_k below_k (omega arith))
 
-    ranked-place : AreRankedTo ss link next most (p + 1)
+    ranked-place : AreRankedTo ss edge next most (p + 1)
     ranked-place = grind (arith, nat_tests, given, wrote)
 
   -- the place is due
-  pub placed : is_due ss link r most p ≡ true
-      → (r.count < 65) × AreRankedTo ss link next most (p + 1)
+  pub placed : is_due ss edge r most p ≡ true
+      → (r.count < 65) × AreRankedTo ss edge next most (p + 1)
   placed e =
-      by (nat_eq (numbers_of r.ranks p) 9) (nat_eq p link.to) (nat_lt (numbers_of r.ranks link.from) most)
+      by (nat_eq (numbers_of r.ranks p) 9) (nat_eq p edge.to) (nat_lt (numbers_of r.ranks edge.from) most)
       refl refl refl e
     where
-      by : (a b c : Bool) → nat_eq (numbers_of r.ranks p) 9 ≡ a → nat_eq p link.to ≡ b
-          → nat_lt (numbers_of r.ranks link.from) most ≡ c
-          → (a && (not b || c) && list_all (λ (s : Seat). nat_lt (numbers_of r.ranks s.from) most) (seats_at ss p))
+      by : (a b c : Bool) → nat_eq (numbers_of r.ranks p) 9 ≡ a → nat_eq p edge.to ≡ b
+          → nat_lt (numbers_of r.ranks edge.from) most ≡ c
+          → (a && (not b || c) && list_all (λ (s : FundingTicket). nat_lt (numbers_of r.ranks s.from) most)
+          (funding_tickets_at ss p))
           ≡ true
-          → (r.count < 65) × AreRankedTo ss link next most (p + 1)
+          → (r.count < 65) × AreRankedTo ss edge next most (p + 1)
       by true b c x y z e =
           let free = eqb-true (numbers_of r.ranks p) 9 x in
-          let seats = below-from most (seats_at ss p) (rest (not b || c) _ e).1 in
-          let mine : 0 < link.to → p ≡ link.to → numbers_of r.ranks link.from < most =
+          let funding_tickets = below-from most (funding_tickets_at ss p) (rest (not b || c) _ e).1 in
+          let mine : 0 < edge.to → p ≡ edge.to → numbers_of r.ranks edge.from < most =
           λ on is. let held = (rest (not b || c) _ e).0 in grind (arith, nat_tests) in
-          (room free mine seats, ranked-place free mine seats)
+          (room free mine funding_tickets, ranked-place free mine funding_tickets)
         where
           rest : (a b : Bool) → (a && b) ≡ true → (a ≡ true) × (b ≡ true)
           rest true b e = (refl, e)
           rest false b e = absurd (true≢false (sym e))
       by false b c x y z e = absurd (true≢false (sym e))
 
--- a place is not due: it has a rank, or a chain of so many steps ends there
-module _ (ss : List (List Seat)) (link : Link) (r : Ranking) (most p : ℕ)
-    (was : AreRankedTo ss link r most p) (some : 1 ≤ most) (up : 0 < p)
-    (lt : p < 65) (from_lt : link.from < 65) (within : Each (λ (s : Seat). s.from < 65) (seats_at ss p)) where
+-- a place is not due: it has a rank, or a chain of this many steps ends there
+module _ (ss : List (List FundingTicket)) (edge : Edge) (r : Ranking) (most p : ℕ)
+    (was : AreRankedTo ss edge r most p) (some : 1 ≤ most) (up : 0 < p)
+    (lt : p < 65) (from_lt : edge.from < 65)
+    (within : Each (λ (s : FundingTicket). s.from < 65) (funding_tickets_at ss p)) where
   or_true : (b : Bool) → (b || true) ≡ true
   or_true true = refl
   or_true false = refl
 
   -- a chain of one step fewer ends where the rank is no lower
   tall-from : (k m : ℕ) → most ≡ m + 1 → k < 65 → nat_lt (numbers_of r.ranks k) most ≡ false
-      → is_tall ss link.from link.to m k ≡ true
+      → is_tall ss edge.from edge.to m k ≡ true
   tall-from k m e below high = grind (arith, nat_tests)
 
-  tall-seats : (m : ℕ) → most ≡ m + 1 → (xs : List Seat) → Each (λ (s : Seat). s.from < 65) xs
-      → list_all (λ (s : Seat). nat_lt (numbers_of r.ranks s.from) most) xs ≡ false
-      → list_any (λ (s : Seat). is_tall ss link.from link.to m s.from) xs ≡ true
-  tall-seats m e [] inside none = absurd (true≢false none)
-  tall-seats m e (x ∷ xs) inside none =
-      by (λ n. tall-seats m e xs inside.1 n) (nat_lt (numbers_of r.ranks x.from) most) refl none
+  tall-funding_tickets : (m : ℕ) → most ≡ m + 1 → (xs : List FundingTicket)
+      → Each (λ (s : FundingTicket). s.from < 65) xs
+      → list_all (λ (s : FundingTicket). nat_lt (numbers_of r.ranks s.from) most) xs ≡ false
+      → list_any (λ (s : FundingTicket). is_tall ss edge.from edge.to m s.from) xs ≡ true
+  tall-funding_tickets m e [] inside none = absurd (true≢false none)
+  tall-funding_tickets m e (x ∷ xs) inside none =
+      by (λ n. tall-funding_tickets m e xs inside.1 n) (nat_lt (numbers_of r.ranks x.from) most) refl none
     where
-      by : (list_all (λ (s : Seat). nat_lt (numbers_of r.ranks s.from) most) xs ≡ false
-          → list_any (λ (s : Seat). is_tall ss link.from link.to m s.from) xs ≡ true)
+      by : (list_all (λ (s : FundingTicket). nat_lt (numbers_of r.ranks s.from) most) xs ≡ false
+          → list_any (λ (s : FundingTicket). is_tall ss edge.from edge.to m s.from) xs ≡ true)
           → (b : Bool) → nat_lt (numbers_of r.ranks x.from) most ≡ b
-          → (b && list_all (λ (s : Seat). nat_lt (numbers_of r.ranks s.from) most) xs) ≡ false
-          → list_any (λ (s : Seat). is_tall ss link.from link.to m s.from) (x ∷ xs) ≡ true
-      by rest true f none = rw (rest none) (or_true (is_tall ss link.from link.to m x.from))
+          → (b && list_all (λ (s : FundingTicket). nat_lt (numbers_of r.ranks s.from) most) xs) ≡ false
+          → list_any (λ (s : FundingTicket). is_tall ss edge.from edge.to m s.from) (x ∷ xs) ≡ true
+      by rest true f none = rw (rest none) (or_true (is_tall ss edge.from edge.to m x.from))
       by rest false f none = rw (tall-from x.from m e inside.0 f) refl
 
-  tall-here : (m : ℕ) → most ≡ m + 1 → (a b : Bool) → nat_eq p link.to ≡ a
-      → nat_lt (numbers_of r.ranks link.from) most ≡ b
-      → ((not a || b) && list_all (λ (s : Seat). nat_lt (numbers_of r.ranks s.from) most) (seats_at ss p)) ≡ false
-      → is_tall ss link.from link.to (suc m) p ≡ true
+  tall-here : (m : ℕ) → most ≡ m + 1 → (a b : Bool) → nat_eq p edge.to ≡ a
+      → nat_lt (numbers_of r.ranks edge.from) most ≡ b
+      → ((not a || b) && list_all (λ (s : FundingTicket). nat_lt (numbers_of r.ranks s.from) most)
+      (funding_tickets_at ss p)) ≡ false
+      → is_tall ss edge.from edge.to (suc m) p ≡ true
   unfolding is_tall
-  tall-here m e true false x y none = rw (x, tall-from link.from m e from_lt y) refl
+  tall-here m e true false x y none = rw (x, tall-from edge.from m e from_lt y) refl
   tall-here m e true true x y none =
-      rw (tall-seats m e (seats_at ss p) within none)
-      (or_true (nat_eq p link.to && is_tall ss link.from link.to m link.from))
+      rw (tall-funding_tickets m e (funding_tickets_at ss p) within none)
+      (or_true (nat_eq p edge.to && is_tall ss edge.from edge.to m edge.from))
   tall-here m e false b x y none =
-      rw (tall-seats m e (seats_at ss p) within none)
-      (or_true (nat_eq p link.to && is_tall ss link.from link.to m link.from))
+      rw (tall-funding_tickets m e (funding_tickets_at ss p) within none)
+      (or_true (nat_eq p edge.to && is_tall ss edge.from edge.to m edge.from))
 
-  pub passed : is_due ss link r most p ≡ false
-      → AreRankedTo ss link r most (p + 1)
+  pub passed : is_due ss edge r most p ≡ false
+      → AreRankedTo ss edge r most (p + 1)
   passed none = record {
     given = was.given;
     low = was.low;
@@ -240,21 +247,21 @@ module _ (ss : List (List Seat)) (link : Link) (r : Ranking) (most p : ℕ)
         by k n above_k below_k less le end (nat_eq p k) (nat_eq n most) refl refl;
   }
     where
-      here : (m : ℕ) → most ≡ m → numbers_of r.ranks p ≡ 9 → is_tall ss link.from link.to m p ≡ true
+      here : (m : ℕ) → most ≡ m → numbers_of r.ranks p ≡ 9 → is_tall ss edge.from edge.to m p ≡ true
       here zero e free = absurd (omega arith)
       here (suc m) e free =
-          tall-here m (omega arith) (nat_eq p link.to) (nat_lt (numbers_of r.ranks link.from) most) refl refl
+          tall-here m (omega arith) (nat_eq p edge.to) (nat_lt (numbers_of r.ranks edge.from) most) refl refl
           (rw (nine (numbers_of r.ranks p) free) at none)
         where
           nine : (n : ℕ) → n ≡ 9 → nat_eq n 9 ≡ true
           nine n e = grind (arith, nat_tests)
 
       by : (k n : ℕ) → 0 < k → k < 65 → n < numbers_of r.ranks k → n ≤ most → (n ≡ most → k < p + 1)
-          → (a b : Bool) → nat_eq p k ≡ a → nat_eq n most ≡ b → is_tall ss link.from link.to n k ≡ true
+          → (a b : Bool) → nat_eq p k ≡ a → nat_eq n most ≡ b → is_tall ss edge.from edge.to n k ≡ true
       by k n above_k below_k less le end true true e f =
           let is = eqb-true p k e in
           let all = eqb-true n most f in
-          subst (λ q. is_tall ss link.from link.to n q ≡ true) is (here n (sym all) (free (ap (numbers_of r.ranks) is)))
+          subst (λ q. is_tall ss edge.from edge.to n q ≡ true) is (here n (sym all) (free (ap (numbers_of r.ranks) is)))
         where
           -- a place that has a rank has none above this one
           free : numbers_of r.ranks p ≡ numbers_of r.ranks k → numbers_of r.ranks p ≡ 9
@@ -270,10 +277,10 @@ unranked = replicate 65 9
 abbrev unlisted : List ℕ
 unlisted = replicate 65 0
 
-pub ranks-begun : (ss : List (List Seat)) (link : Link) → link.to < 65
-    → AreRankedTo ss link (record { ranks = set unranked 0 0; order = unlisted; count = 1 }) 1 1
+pub ranks-begun : (ss : List (List FundingTicket)) (edge : Edge) → edge.to < 65
+    → AreRankedTo ss edge (record { ranks = set unranked 0 0; order = unlisted; count = 1 }) 1 1
 unfolding is_tall
-ranks-begun ss link to_lt = record {
+ranks-begun ss edge to_lt = record {
   given = record {
     ranks_long = refl;
     order_long = refl;
@@ -281,7 +288,7 @@ ranks-begun ss link to_lt = record {
     top = λ p. let w = wrote p in let n = others p in grind (arith, nat_tests);
     high = λ p up lt. let w = nine p up lt in omega arith;
     above = λ p up lt less. let w = nine p up lt in absurd (omega arith);
-    more = λ up less. let w = nine link.to up to_lt in absurd (omega arith);
+    more = λ up less. let w = nine edge.to up to_lt in absurd (omega arith);
     spot = λ k. 0;
     first = refl;
     there = λ p lt less. let w = nine p in let none : get_or unlisted 0 0 ≡ 0 = refl in grind arith;
@@ -313,17 +320,17 @@ ranks-begun ss link to_lt = record {
     at-first (suc i) less = absurd (omega arith)
 
     tall : (p n : ℕ) → 0 < p → p < 65 → n < get_or (set unranked 0 0) p 0 → n ≤ 1 → (n ≡ 1 → p < 1)
-        → is_tall ss link.from link.to n p ≡ true
+        → is_tall ss edge.from edge.to n p ≡ true
     tall p zero up lt less le end = let apart : nat_eq p 0 ≡ false = grind (arith, nat_tests) in ap not apart
     tall p (suc n) up lt less le end = let full = end (omega arith) in absurd (omega arith)
 
 -- from one round to the next
-pub next-round : (ss : List (List Seat)) (link : Link) (r : Ranking) (most : ℕ)
-    → AreRankedTo ss link r most 65 → AreRankedTo ss link r (most + 1) 1
-next-round ss link r most was = grind (arith, nat_tests)
+pub next-round : (ss : List (List FundingTicket)) (edge : Edge) (r : Ranking) (most : ℕ)
+    → AreRankedTo ss edge r most 65 → AreRankedTo ss edge r (most + 1) 1
+next-round ss edge r most was = grind (arith, nat_tests)
 
 -- where all places are listed
-module _ (ss : List (List Seat)) (link : Link) (r : Ranking) (most : ℕ) (all : AreRankedTo ss link r most 65)
+module _ (ss : List (List FundingTicket)) (edge : Edge) (r : Ranking) (most : ℕ) (all : AreRankedTo ss edge r most 65)
     (done : r.count ≡ 65) where
   ranked-all : (p : ℕ) → p < 65 → numbers_of r.ranks p < 9
   ranked-all p lt =
@@ -334,20 +341,21 @@ module _ (ss : List (List Seat)) (link : Link) (r : Ranking) (most : ℕ) (all :
   pub all-ranks : AreRanks ss (numbers_of r.ranks)
   all-ranks = grind (arith, nat_tests, cases_lt, ranked-all, get_or_past)
 
-  pub all-longest : AreLongest ss link.from link.to (numbers_of r.ranks)
+  pub all-longest : AreLongest ss edge.from edge.to (numbers_of r.ranks)
   all-longest p n up lt less =
       let le = all.low p lt (ranked-all p lt) in all.longest p n up lt less (omega arith) (λ full. lt)
 
-  pub all-more : link.to < 65 → 0 < link.to → numbers_of r.ranks link.from < numbers_of r.ranks link.to
-  all-more lt up = all.given.more up (ranked-all link.to lt)
+  pub all-more : edge.to < 65 → 0 < edge.to → numbers_of r.ranks edge.from < numbers_of r.ranks edge.to
+  all-more lt up = all.given.more up (ranked-all edge.to lt)
 
   pub all-listed : AreListed (numbers_of r.ranks) (numbers_of r.order)
   all-listed = grind (arith, nat_tests, ranked-all)
 
 -- where one place is not, a chain of eight steps ends there
-pub some-deep : (ss : List (List Seat)) (link : Link) (r : Ranking) → AreRankedTo ss link r 9 1 → (r.count ≡ 65 → ⊥)
-    → (p : ℕ) × ((0 < p) × ((p < 65) × (is_tall ss link.from link.to 8 p ≡ true)))
-some-deep ss link r was not-all =
+pub some-deep : (ss : List (List FundingTicket)) (edge : Edge) (r : Ranking) → AreRankedTo ss edge r 9 1
+    → (r.count ≡ 65 → ⊥)
+    → (p : ℕ) × ((0 < p) × ((p < 65) × (is_tall ss edge.from edge.to 8 p ≡ true)))
+some-deep ss edge r was not-all =
     let one =
     one-fails (λ (n : ℕ). nat_lt n 9) r.ranks 0 (λ e. not-all (was.given.counted ∙ e ∙ was.given.ranks_long)) in
     let lt : one.0 < 65 = (let inside = one.1.0 in let long = was.given.ranks_long in omega arith) in

@@ -11,11 +11,11 @@ use Rattle.share_model.specs.declared.funding.Ticket.{Ticket}
 use Rattle.share_model.specs.declared.funding.OpenFlow.{OpenFlow}
 use Rattle.share_model.specs.funding.Graph.{NameBytes, Graph, tickets}
 use Rattle.share_model.specs.funding.Changes.{is_open_as}
-use Rattle.share_model.specs.funding.Laws.{uncapped}
+use Rattle.share_model.specs.funding.Laws.{uncapped_tickets}
 use Rattle.share_model.specs.funding.Kept.{times_open, IsKept}
 use Rattle.share_model.specs.lists.Each.{Each}
 use Rattle.share_ledger.specs.declared.routes.Route.{Route}
-use Rattle.share_ledger.specs.Routes.{flow_place, route_of, is_kind, routes_of, IsRouteWithin, gathered}
+use Rattle.share_ledger.specs.Routes.{flow_place, route_of, is_kind, routes_of, IsRouteWithin, weight_from}
 use Rattle.share_ledger.proofs.Positions.{IsFirstAt}
 use Rattle.share_ledger.proofs.Lists.{sum_by-bound}
 use Rattle.share_ledger.proofs.Places.{place-below, IsPlaced, placed}
@@ -78,10 +78,10 @@ unfolding routes_of
 routes-few g b [] = omega arith
 routes-few g b (t ∷ ts) = grind (arith, nat_tests, routes-few g b ts)
 
-pub gathered-bound : (rs : List Route) (flag : ℕ → Bool) (p : ℕ) → Each IsRouteWithin rs → length rs ≤ 1024
-    → gathered rs flag p ≤ 2 ^ 30
-unfolding gathered
-gathered-bound rs flag p within few =
+pub weight_from-bound : (rs : List Route) (flag : ℕ → Bool) (p : ℕ) → Each IsRouteWithin rs → length rs ≤ 1024
+    → weight_from rs flag p ≤ 2 ^ 30
+unfolding weight_from
+weight_from-bound rs flag p within few =
     let all = sum_by-bound IsRouteWithin (λ (r : Route). cond (nat_eq p r.from && flag r.to) r.amount 0) (2 ^ 20) rs
     within
     (λ r v. by (nat_eq p r.from && flag r.to) r v.small) in
@@ -203,7 +203,8 @@ at-place share (e ∷ es) (suc i) k held lt once same =
     behind f known = grind (arith, nat_tests, turned, more)
 
 pub share-at : (g : Graph) (i n : ℕ) (held : ℕ → ℕ) → IsKept g → i < length g.flows
-    → ((f : ℕ) → 1 ≤ times_open f g.flows → held (flow_place g.flows f) ≡ uncapped g f) → n ≡ min (held i) (2 ^ 20)
+    → ((f : ℕ) → 1 ≤ times_open f g.flows → held (flow_place g.flows f) ≡ uncapped_tickets g f) → n
+    ≡ min (held i) (2 ^ 20)
     → option_map (λ (e : NameBytes × OpenFlow). tickets g e.1.number) (slice_get g.flows i) ≡ Some n
 unfolding tickets
 share-at g i n held ok lt same capped =

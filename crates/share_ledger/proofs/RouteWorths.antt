@@ -10,17 +10,19 @@ use Rattle.share_model.specs.declared.funding.Holder.TheVariants.{Nobody, Curren
 use Rattle.share_model.specs.declared.funding.Ticket.{Ticket}
 use Rattle.share_model.specs.declared.funding.OpenFlow.{OpenFlow}
 use Rattle.share_model.specs.funding.Graph.{NameBytes, base, Graph, is_held_by_currency, is_held_by_flow, funding}
-use Rattle.share_model.specs.funding.Graph.{issued, backing, is_active_flow, is_active_holder, act, is_active, active}
+use Rattle.share_model.specs.funding.Graph.{denominated_in, backing, is_active_flow, is_active_holder, act, is_active}
+use Rattle.share_model.specs.funding.Graph.{active}
 use Rattle.share_model.specs.funding.Graph.{worth_by, val, worth}
 use Rattle.share_model.specs.lists.Each.{Each}
-use Rattle.share_model.specs.lists.Laws.{each_map}
+use Rattle.share_model.proofs.lemmas.lists.Laws.{each_map}
 use Rattle.share_model.specs.funding.Kept.{names_of, times, times_open, IsHolderKnown, IsKept}
-use Rattle.share_model.specs.lists.SumLaws.{sum_by-filter, sum_by-le_of, sum_by-same_of}
-use Rattle.share_model.proofs.FundingShares.{active_amount, active-is, active-within, worths-within, vals-within}
+use Rattle.share_model.proofs.lemmas.lists.SumLaws.{sum_by-filter, sum_by-le_of, sum_by-same_of}
+use Rattle.share_model.proofs.lemmas.funding.Shares.{active_amount, active-is, active-within, worths-within}
+use Rattle.share_model.proofs.lemmas.funding.Shares.{vals-within}
 use Rattle.share_ledger.specs.declared.routes.Route.{Route}
 use Rattle.share_ledger.specs.Places.{place}
-use Rattle.share_ledger.specs.Routes.{flow_place, holder_place, route_of, is_kind, routes_of, gathered}
-use Rattle.share_ledger.specs.Routes.{carried, poured, valued}
+use Rattle.share_ledger.specs.Routes.{flow_place, holder_place, route_of, is_kind, routes_of, weight_from}
+use Rattle.share_ledger.specs.Routes.{carried_by, value_to, value_after}
 use Rattle.share_ledger.proofs.Places.{place-below, place-same, place-base, sum_by-map, IsPlaced, placed}
 
 -- Two sums that together make up one
@@ -68,13 +70,13 @@ lead g held (Flow f) = is_active_flow g f
 
 module _ (g : Graph) (ok : IsKept g) (lit held : ℕ → Bool)
     (flows : (f : ℕ) → 1 ≤ times_open f g.flows → lit (flow_place g.flows f) ≡ is_active_flow g f) where
-  pub gathered-is : (c : NameBytes) → 1 ≤ times c (names_of g)
-      → gathered (routes_of g true g.tickets) held (place (names_of g) c)
-      + gathered (routes_of g false g.tickets) lit (place (names_of g) c)
+  pub weight_from-is : (c : NameBytes) → 1 ≤ times c (names_of g)
+      → weight_from (routes_of g true g.tickets) held (place (names_of g) c)
+      + weight_from (routes_of g false g.tickets) lit (place (names_of g) c)
       ≡ sum_by (λ (t : Ticket). cond (bytes_eq c t.denomination) (cond (lead g held t.holder) t.amount 0) 0) g.tickets
-  unfolding gathered
-  gathered-is c known =
-      ap (λ n. n + gathered (routes_of g false g.tickets) lit (place (names_of g) c))
+  unfolding weight_from
+  weight_from-is c known =
+      ap (λ n. n + weight_from (routes_of g false g.tickets) lit (place (names_of g) c))
       (sum-routes g (λ (r : Route). cond (nat_eq (place (names_of g) c) r.from && held r.to) r.amount 0) true)
       ∙ ap (λ n. sum_by (part true held) g.tickets + n)
       (sum-routes g (λ (r : Route). cond (nat_eq (place (names_of g) c) r.from && lit r.to) r.amount 0) false)
@@ -112,15 +114,15 @@ module _ (g : Graph) (ok : IsKept g) (lit held : ℕ → Bool)
 module _ (g : Graph) (ok : IsKept g) (lit held : ℕ → Bool)
     (flows : (f : ℕ) → 1 ≤ times_open f g.flows → lit (flow_place g.flows f) ≡ is_active_flow g f)
     (held-are : (c : NameBytes) → 1 ≤ times c (names_of g)
-    → held (place (names_of g) c) ≡ list_any (act g 8) (issued g.tickets c)) where
+    → held (place (names_of g) c) ≡ list_any (act g 8) (denominated_in g.tickets c)) where
   -- Amounts
   pub whole-is : (whole : ℕ → ℕ)
       → ((p : ℕ) → p < 65
-      → whole p ≡ gathered (routes_of g true g.tickets) held p + gathered (routes_of g false g.tickets) lit p)
+      → whole p ≡ weight_from (routes_of g true g.tickets) held p + weight_from (routes_of g false g.tickets) lit p)
       → (c : NameBytes) → 1 ≤ times c (names_of g) → whole (place (names_of g) c) ≡ active g c
-  unfolding issued is_active act
+  unfolding denominated_in is_active act
   whole-is whole sum c known =
-      sum (place (names_of g) c) (below g ok c known) ∙ gathered-is g ok lit held flows c known
+      sum (place (names_of g) c) (below g ok c known) ∙ weight_from-is g ok lit held flows c known
       ∙ sum_by-same_of (IsPlaced g)
       (λ (t : Ticket). cond (bytes_eq c t.denomination) (cond (lead g held t.holder) t.amount 0) 0)
       (λ (t : Ticket). cond (bytes_eq c t.denomination) (active_amount g t) 0) g.tickets (placed g ok)
@@ -140,10 +142,10 @@ module _ (g : Graph) (ok : IsKept g) (lit held : ℕ → Bool)
     abbrev weight : (NameBytes → ℕ) → Ticket → ℕ
     weight w t = cond (bytes_eq t.denomination base) t.amount (w t.denomination * t.amount / active g t.denomination)
 
-    carried-is : (v : ℕ → ℕ) (w : NameBytes → ℕ)
+    carried_by-is : (v : ℕ → ℕ) (w : NameBytes → ℕ)
         → ((c : NameBytes) → 1 ≤ times c (names_of g) → v (place (names_of g) c) ≡ w c) → (t : Ticket) → IsPlaced g t
-        → carried v whole (route_of g t) ≡ weight w t
-    carried-is v w value t ok =
+        → carried_by v whole (route_of g t) ≡ weight w t
+    carried_by-is v w value t ok =
         let p = place (names_of g) t.denomination in
         ap (λ b. cond b t.amount (v p * t.amount / whole p)) (place-base g t.denomination)
         ∙ ap (λ n. cond (bytes_eq t.denomination base) t.amount (n * t.amount / whole p))
@@ -151,24 +153,24 @@ module _ (g : Graph) (ok : IsKept g) (lit held : ℕ → Bool)
         ∙ ap (λ n. cond (bytes_eq t.denomination base) t.amount (w t.denomination * t.amount / n))
         (wholes t.denomination ok.denomination_known)
 
-    pub poured-currency : (v : ℕ → ℕ) (w : NameBytes → ℕ)
+    pub value_to-currency : (v : ℕ → ℕ) (w : NameBytes → ℕ)
         → ((c : NameBytes) → 1 ≤ times c (names_of g) → v (place (names_of g) c) ≡ w c)
         → (c : NameBytes) → 1 ≤ times c (names_of g)
-        → poured (routes_of g true g.tickets) held (carried v whole) (place (names_of g) c)
+        → value_to (routes_of g true g.tickets) held (carried_by v whole) (place (names_of g) c)
         ≡ sum_by (worth_by g w) (backing g.tickets c)
-    unfolding poured backing worth_by is_active act
-    poured-currency v w value c known =
+    unfolding value_to backing worth_by is_active act
+    value_to-currency v w value c known =
         sum-routes g
-        (λ (r : Route). cond (nat_eq (place (names_of g) c) r.to && held r.to) (carried v whole r) 0) true
+        (λ (r : Route). cond (nat_eq (place (names_of g) c) r.to && held r.to) (carried_by v whole r) 0) true
         ∙ sum_by-same_of (IsPlaced g)
         (λ (t : Ticket). cond (is_kind true t.holder)
         (cond (nat_eq (place (names_of g) c) (holder_place g t.holder) && held (holder_place g t.holder))
-        (carried v whole (route_of g t)) 0) 0)
+        (carried_by v whole (route_of g t)) 0) 0)
         (λ (t : Ticket). cond (is_held_by_currency c t.holder) (worth_by g w t) 0) g.tickets (placed g ok)
         (λ t ok. ap
         (λ n. cond (is_kind true t.holder)
         (cond (nat_eq (place (names_of g) c) (holder_place g t.holder) && held (holder_place g t.holder)) n 0) 0)
-        (carried-is v w value t ok)
+        (carried_by-is v w value t ok)
         ∙ by (weight w t) t.holder ok.holder_known)
         ∙ sym (sum_by-filter (worth_by g w) (λ (t : Ticket). is_held_by_currency c t.holder) g.tickets)
       where
@@ -182,33 +184,33 @@ module _ (g : Graph) (ok : IsKept g) (lit held : ℕ → Bool)
         by n (Currency d) there =
             ap (λ b. cond (b && held (place (names_of g) d)) n 0) (place-same c d (names_of g) known)
             ∙ ap (λ b. cond (bytes_eq c d && b) n 0) (held-are d there)
-            ∙ cond_and (bytes_eq c d) (list_any (act g 8) (issued g.tickets d)) n
+            ∙ cond_and (bytes_eq c d) (list_any (act g 8) (denominated_in g.tickets d)) n
 
-    pub valued-is : (n : ℕ) (c : NameBytes) → 1 ≤ times c (names_of g)
-        → valued (routes_of g true g.tickets) held whole n (place (names_of g) c) ≡ val g n c
-    unfolding valued val
-    valued-is zero c known = refl
-    valued-is (suc n) c known =
-        poured-currency (valued (routes_of g true g.tickets) held whole n) (val g n) (valued-is n) c known
+    pub value_after-is : (n : ℕ) (c : NameBytes) → 1 ≤ times c (names_of g)
+        → value_after (routes_of g true g.tickets) held whole n (place (names_of g) c) ≡ val g n c
+    unfolding value_after val
+    value_after-is zero c known = refl
+    value_after-is (suc n) c known =
+        value_to-currency (value_after (routes_of g true g.tickets) held whole n) (val g n) (value_after-is n) c known
 
-    pub poured-flow : (v : ℕ → ℕ)
+    pub value_to-flow : (v : ℕ → ℕ)
         → ((c : NameBytes) → 1 ≤ times c (names_of g) → v (place (names_of g) c) ≡ val g 9 c)
         → (f : ℕ) → 1 ≤ times_open f g.flows
-        → poured (routes_of g false g.tickets) lit (carried v whole) (flow_place g.flows f)
+        → value_to (routes_of g false g.tickets) lit (carried_by v whole) (flow_place g.flows f)
         ≡ sum_by (worth g 9) (funding g.tickets f)
-    unfolding poured funding worth worth_by is_active act
-    poured-flow v value f known =
+    unfolding value_to funding worth worth_by is_active act
+    value_to-flow v value f known =
         sum-routes g
-        (λ (r : Route). cond (nat_eq (flow_place g.flows f) r.to && lit r.to) (carried v whole r) 0) false
+        (λ (r : Route). cond (nat_eq (flow_place g.flows f) r.to && lit r.to) (carried_by v whole r) 0) false
         ∙ sum_by-same_of (IsPlaced g)
         (λ (t : Ticket). cond (is_kind false t.holder)
         (cond (nat_eq (flow_place g.flows f) (holder_place g t.holder) && lit (holder_place g t.holder))
-        (carried v whole (route_of g t)) 0) 0)
+        (carried_by v whole (route_of g t)) 0) 0)
         (λ (t : Ticket). cond (is_held_by_flow f t.holder) (worth_by g (val g 9) t) 0) g.tickets (placed g ok)
         (λ t ok. ap
         (λ n. cond (is_kind false t.holder)
         (cond (nat_eq (flow_place g.flows f) (holder_place g t.holder) && lit (holder_place g t.holder)) n 0) 0)
-        (carried-is v (val g 9) value t ok)
+        (carried_by-is v (val g 9) value t ok)
         ∙ by (weight (val g 9) t) t.holder ok.holder_known)
         ∙ sym (sum_by-filter (worth_by g (val g 9)) (λ (t : Ticket). is_held_by_flow f t.holder) g.tickets)
       where
@@ -225,19 +227,19 @@ module _ (g : Graph) (ok : IsKept g) (lit held : ℕ → Bool)
             ∙ cond_and (nat_eq f k) (is_active_flow g k) n
 
     -- what one place gets is within what all tickets are worth
-    poured-within : (v : ℕ → ℕ) (w : NameBytes → ℕ)
+    value_to-within : (v : ℕ → ℕ) (w : NameBytes → ℕ)
         → ((c : NameBytes) → 1 ≤ times c (names_of g) → v (place (names_of g) c) ≡ w c) → (p : ℕ)
-        → poured (routes_of g true g.tickets) held (carried v whole) p ≤ sum_by (worth_by g w) g.tickets
-    unfolding poured worth_by is_active act
-    poured-within v w value p =
-        let same = sum-routes g (λ (r : Route). cond (nat_eq p r.to && held r.to) (carried v whole r) 0) true in
+        → value_to (routes_of g true g.tickets) held (carried_by v whole) p ≤ sum_by (worth_by g w) g.tickets
+    unfolding value_to worth_by is_active act
+    value_to-within v w value p =
+        let same = sum-routes g (λ (r : Route). cond (nat_eq p r.to && held r.to) (carried_by v whole r) 0) true in
         let less =
         sum_by-le_of (IsPlaced g)
         (λ (t : Ticket). cond (is_kind true t.holder)
-        (cond (nat_eq p (holder_place g t.holder) && held (holder_place g t.holder)) (carried v whole (route_of g
+        (cond (nat_eq p (holder_place g t.holder) && held (holder_place g t.holder)) (carried_by v whole (route_of g
         t)) 0) 0)
         (worth_by g w) g.tickets (placed g ok)
-        (λ t ok. rw (carried-is v w value t ok) (by (weight w t) t.holder ok.holder_known)) in
+        (λ t ok. rw (carried_by-is v w value t ok) (by (weight w t) t.holder ok.holder_known)) in
         omega arith
       where
         at_most : (a b : Bool) (n : ℕ) → cond (a && b) n 0 ≤ cond b n 0
@@ -252,13 +254,15 @@ module _ (g : Graph) (ok : IsKept g) (lit held : ℕ → Bool)
         by n (Flow f) there = omega arith
         by n (Currency d) there =
             rw (held-are d there) (at_most (nat_eq p (place (names_of g) d)) (list_any (act g 8)
-            (issued g.tickets d)) n)
+            (denominated_in g.tickets d)) n)
 
-    pub valued-bound : (n p : ℕ) → n ≤ 9 → p < 65 → valued (routes_of g true g.tickets) held whole n p ≤ 9 * 2 ^ 30
-    unfolding valued
-    valued-bound zero p few lt = omega arith
-    valued-bound (suc n) p few lt =
-        let here = poured-within (valued (routes_of g true g.tickets) held whole n) (val g n) (valued-is n) p in
+    pub value_after-bound : (n p : ℕ) → n ≤ 9 → p < 65 → value_after (routes_of g true g.tickets) held whole n p
+        ≤ 9 * 2 ^ 30
+    unfolding value_after
+    value_after-bound zero p few lt = omega arith
+    value_after-bound (suc n) p few lt =
+        let here = value_to-within (value_after (routes_of g true g.tickets) held whole n) (val g n) (value_after-is n)
+        p in
         let worths = worths-within g (val g n) ok.sound in
         let values = vals-within g n ok.sound in
         let some =

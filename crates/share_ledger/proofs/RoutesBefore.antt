@@ -12,16 +12,16 @@ use Rattle.share_model.specs.declared.funding.Holder.{Holder}
 use Rattle.share_model.specs.declared.funding.Holder.TheVariants.{Nobody, Currency, Flow}
 use Rattle.share_model.specs.declared.funding.Ticket.{Ticket}
 use Rattle.share_model.specs.funding.Graph.{NameBytes, base, Graph}
-use Rattle.share_model.specs.funding.ChangeLaws.{not-refused}
+use Rattle.share_model.proofs.lemmas.funding.ChangeLaws.{not-refused}
 use Rattle.share_model.specs.funding.Changes.{is_currency, remove_currency_refusal, remove_currency}
 use Rattle.share_model.specs.funding.Kept.{names_of, IsKept}
 use Rattle.share_model.specs.lists.Each.{Each}
 use Rattle.share_ledger.specs.Bounds.{AreBefore}
 use Rattle.share_ledger.specs.declared.routes.Route.{Route}
-use Rattle.share_ledger.specs.declared.seats.Seat.{Seat}
+use Rattle.share_ledger.specs.declared.funding_tickets.FundingTicket.{FundingTicket}
 use Rattle.share_ledger.specs.Places.{place}
 use Rattle.share_ledger.specs.Routes.{holder_place, is_kind, route_of, routes_of}
-use Rattle.share_ledger.specs.Seats.{seats_at, seat_of, AreSeated, backs_of, funds_of}
+use Rattle.share_ledger.specs.FundingTickets.{funding_tickets_at, funding_ticket_of, AreTicketed, backs_of, funds_of}
 use Rattle.share_ledger.proofs.Places.{IsPlaced, placed}
 use Rattle.share_ledger.proofs.RouteLists.{routes-cons, route-within}
 use Rattle.share_ledger.proofs.RouteWorths.{sum-routes}
@@ -35,17 +35,17 @@ unfolding place
 place-removed c d [] lt = absurd (omega arith)
 place-removed c d (x ∷ cs) lt = grind (arith, nat_tests, place-removed c d cs)
 
--- what holds of all seats holds of all routes
-module _ (g : Graph) (b : Bool) (ss : List (List Seat)) (seated : AreSeated (routes_of g b g.tickets) ss)
-    (Q : ℕ → Seat → Bool) (each : (p : ℕ) → p < 65 → Each (λ s. Q p s ≡ true) (seats_at ss p)) where
-  abbrev pub fault : ℕ → Seat → ℕ
+-- what holds of all funding tickets holds of all routes
+module _ (g : Graph) (b : Bool) (ss : List (List FundingTicket)) (ticketed : AreTicketed (routes_of g b g.tickets) ss)
+    (Q : ℕ → FundingTicket → Bool) (each : (p : ℕ) → p < 65 → Each (λ s. Q p s ≡ true) (funding_tickets_at ss p)) where
+  abbrev pub fault : ℕ → FundingTicket → ℕ
   fault p s = cond (Q p s) 0 1
 
   abbrev pub ticket-part : ℕ → Ticket → ℕ
   ticket-part p t =
-      cond (is_kind b t.holder) (cond (nat_eq p (route_of g t).to) (fault p (seat_of (route_of g t))) 0) 0
+      cond (is_kind b t.holder) (cond (nat_eq p (route_of g t).to) (fault p (funding_ticket_of (route_of g t))) 0) 0
 
-  no-faults : (p : ℕ) (xs : List Seat) → Each (λ s. Q p s ≡ true) xs → sum_by (fault p) xs ≡ 0
+  no-faults : (p : ℕ) (xs : List FundingTicket) → Each (λ s. Q p s ≡ true) xs → sum_by (fault p) xs ≡ 0
   no-faults p [] each = refl
   no-faults p (x ∷ xs) each = grind (arith, nat_tests, sum_by-cons, no-faults p xs each.1)
 
@@ -54,16 +54,16 @@ module _ (g : Graph) (b : Bool) (ss : List (List Seat)) (seated : AreSeated (rou
   each-swap R [] all = tt
   each-swap R (t ∷ ts) all = (λ p lt. (all p lt).0, each-swap R ts (λ p lt. (all p lt).1))
 
-  pub seats-tell : Each (λ t. (p : ℕ) → p < 65 → ticket-part p t ≡ 0) g.tickets
-  seats-tell =
+  pub funding_tickets-tell : Each (λ t. (p : ℕ) → p < 65 → ticket-part p t ≡ 0) g.tickets
+  funding_tickets-tell =
       each-swap (λ p t. ticket-part p t ≡ 0) g.tickets
       (λ p lt. no-term (ticket-part p) g.tickets
       (sym
-      (sym (no-faults p (seats_at ss p) (each p lt)) ∙ seated.seated (fault p) p lt
-      ∙ sum-routes g (λ (r : Route). cond (nat_eq p r.to) (fault p (seat_of r)) 0) b)))
+      (sym (no-faults p (funding_tickets_at ss p) (each p lt)) ∙ ticketed.ticketed (fault p) p lt
+      ∙ sum-routes g (λ (r : Route). cond (nat_eq p r.to) (fault p (funding_ticket_of r)) 0) b)))
 
   pub route-tells : (t : Ticket) → (route_of g t).to < 65 → is_kind b t.holder ≡ true
-      → ((p : ℕ) → p < 65 → ticket-part p t ≡ 0) → Q (route_of g t).to (seat_of (route_of g t)) ≡ true
+      → ((p : ℕ) → p < 65 → ticket-part p t ≡ 0) → Q (route_of g t).to (funding_ticket_of (route_of g t)) ≡ true
   route-tells t inside kind none = grind (arith, nat_tests, eq-eqb)
 
 all-each : {X : Type 0} (p : X → Bool) (xs : List X) → list_all p xs ≡ true → Each (λ x. p x ≡ true) xs
@@ -106,16 +106,17 @@ module _ (g : Graph) (ok : IsKept g) (c : NameBytes) (unused : remove_currency_r
   early-routes b (t ∷ ts) each =
       grind (arith, nat_tests, routes-cons, route-same, stays, early-holder, early-routes b ts each.1)
 
-  module _ (bs fs : List (List Seat)) (backs : AreSeated (backs_of g) bs) (funds : AreSeated (funds_of g) fs)
+  module _ (bs fs : List (List FundingTicket)) (backs : AreTicketed (backs_of g) bs)
+      (funds : AreTicketed (funds_of g) fs)
       (before : AreBefore bs fs (place (names_of g) c)) where
-    abbrev is_early : ℕ → Seat → Bool
+    abbrev is_early : ℕ → FundingTicket → Bool
     is_early p s = nat_lt p (place (names_of g) c) && nat_lt s.from (place (names_of g) c)
 
-    back-seats : (p : ℕ) → p < 65 → Each (λ s. is_early p s ≡ true) (seats_at bs p)
-    back-seats p lt = by (nat_lt p (place (names_of g) c)) refl
+    back-funding_tickets : (p : ℕ) → p < 65 → Each (λ s. is_early p s ≡ true) (funding_tickets_at bs p)
+    back-funding_tickets p lt = by (nat_lt p (place (names_of g) c)) refl
       where
-        all : nat_lt p (place (names_of g) c) ≡ true → (xs : List Seat)
-            → Each (λ (s : Seat). nat_lt s.from (place (names_of g) c) ≡ true) xs
+        all : nat_lt p (place (names_of g) c) ≡ true → (xs : List FundingTicket)
+            → Each (λ (s : FundingTicket). nat_lt s.from (place (names_of g) c) ≡ true) xs
             → Each (λ s. is_early p s ≡ true) xs
         all under [] each = tt
         all under (x ∷ xs) each = (
@@ -123,43 +124,48 @@ module _ (g : Graph) (ok : IsKept g) (c : NameBytes) (unused : remove_currency_r
           all under xs each.1,
         )
 
-        none : (xs : List Seat) → length xs ≡ 0 → Each (λ s. is_early p s ≡ true) xs
+        none : (xs : List FundingTicket) → length xs ≡ 0 → Each (λ s. is_early p s ≡ true) xs
         none [] e = tt
         none (x ∷ xs) e = absurd (omega arith)
 
-        by : (b : Bool) → nat_lt p (place (names_of g) c) ≡ b → Each (λ s. is_early p s ≡ true) (seats_at bs p)
+        by : (b : Bool) → nat_lt p (place (names_of g) c) ≡ b
+            → Each (λ s. is_early p s ≡ true) (funding_tickets_at bs p)
         by true e =
-            all e (seats_at bs p)
-            (all-each (λ (s : Seat). nat_lt s.from (place (names_of g) c)) (seats_at bs p) (before.backed p lt))
-        by false e = none (seats_at bs p) (before.empty p (ltb-false p (place (names_of g) c) e) lt)
+            all e (funding_tickets_at bs p)
+            (all-each (λ (s : FundingTicket). nat_lt s.from (place (names_of g) c)) (funding_tickets_at bs p)
+            (before.backed p lt))
+        by false e = none (funding_tickets_at bs p) (before.empty p (ltb-false p (place (names_of g) c) e) lt)
 
-    fund-seats : (p : ℕ) → p < 65 → Each (λ s. nat_lt s.from (place (names_of g) c) ≡ true) (seats_at fs p)
-    fund-seats p lt =
-        all-each (λ (s : Seat). nat_lt s.from (place (names_of g) c)) (seats_at fs p) (before.before p lt)
+    fund-funding_tickets : (p : ℕ) → p < 65
+        → Each (λ s. nat_lt s.from (place (names_of g) c) ≡ true) (funding_tickets_at fs p)
+    fund-funding_tickets p lt =
+        all-each (λ (s : FundingTicket). nat_lt s.from (place (names_of g) c)) (funding_tickets_at fs p)
+        (before.before p lt)
 
     early-backs : (ts : List Ticket) → Each (IsPlaced g) ts
-        → Each (λ t. (p : ℕ) → p < 65 → ticket-part g true bs backs is_early back-seats p t ≡ 0) ts
+        → Each (λ t. (p : ℕ) → p < 65 → ticket-part g true bs backs is_early back-funding_tickets p t ≡ 0) ts
         → Each (IsEarly true) ts
     early-backs [] known none = tt
     early-backs (t ∷ ts) known none = (
       λ kind.
           let inside = (route-within g ok t known.0).to_place in
           let told =
-          and_parts _ _ (route-tells g true bs backs is_early back-seats t inside kind none.0) in
+          and_parts _ _ (route-tells g true bs backs is_early back-funding_tickets t inside kind none.0) in
           (ltb-true _ _ told.1, λ _. ltb-true _ _ told.0),
       early-backs ts known.1 none.1,
     )
 
     early-funds : (ts : List Ticket) → Each (IsPlaced g) ts
         → Each (λ t. (p : ℕ) → p < 65 → ticket-part g false fs funds (λ p s. nat_lt s.from (place (names_of g) c))
-        fund-seats p t ≡ 0) ts
+        fund-funding_tickets p t ≡ 0) ts
         → Each (IsEarly false) ts
     early-funds [] known none = tt
     early-funds (t ∷ ts) known none = (
       λ kind.
           let inside = (route-within g ok t known.0).to_place in
           let told =
-          route-tells g false fs funds (λ p s. nat_lt s.from (place (names_of g) c)) fund-seats t inside kind none.0 in
+          route-tells g false fs funds (λ p s. nat_lt s.from (place (names_of g) c)) fund-funding_tickets t inside kind
+          none.0 in
           (ltb-true _ _ told, λ e. absurd (true≢false (sym e))),
       early-funds ts known.1 none.1,
     )
@@ -168,8 +174,8 @@ module _ (g : Graph) (ok : IsKept g) (c : NameBytes) (unused : remove_currency_r
         → routes_of g b g.tickets ≡ routes_of (remove_currency g c) b g.tickets
     routes-remove_currency true =
         early-routes true g.tickets
-        (early-backs g.tickets (placed g ok) (seats-tell g true bs backs is_early back-seats))
+        (early-backs g.tickets (placed g ok) (funding_tickets-tell g true bs backs is_early back-funding_tickets))
     routes-remove_currency false =
         early-routes false g.tickets
         (early-funds g.tickets (placed g ok)
-        (seats-tell g false fs funds (λ p s. nat_lt s.from (place (names_of g) c)) fund-seats))
+        (funding_tickets-tell g false fs funds (λ p s. nat_lt s.from (place (names_of g) c)) fund-funding_tickets))

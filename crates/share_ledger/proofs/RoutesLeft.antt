@@ -19,28 +19,28 @@ use Rattle.share_model.specs.funding.Changes.{remove_ticket_refusal, remove_tick
 use Rattle.share_model.specs.lists.Change.{change_first}
 use Rattle.share_model.specs.lists.Each.{Each}
 use Rattle.share_model.specs.funding.Kept.{names_of, times, times_open, IsHolderKnown, IsKept}
-use Rattle.share_model.specs.lists.SumLaws.{name_sym}
-use Rattle.share_model.specs.funding.ChangeLaws.{not-refused}
+use Rattle.share_model.proofs.lemmas.lists.SumLaws.{name_sym}
+use Rattle.share_model.proofs.lemmas.funding.ChangeLaws.{not-refused}
 use Rattle.share_ledger.specs.Places.{place}
 use Rattle.share_ledger.specs.Routes.{flow_place, holder_place, route_of, is_kind, routes_of}
 use Rattle.share_ledger.specs.declared.net.Net.{Net}
 use Rattle.share_ledger.specs.Nets.{IsReady, activity_of}
 use Rattle.share_ledger.specs.Arrays.{flags_of}
-use Rattle.share_ledger.specs.Seats.{backs_of, funds_of}
-use Rattle.share_ledger.specs.Shares.{AreKept}
+use Rattle.share_ledger.specs.FundingTickets.{backs_of, funds_of}
+use Rattle.share_ledger.specs.Cache.{IsCurrent}
 use Rattle.share_ledger.proofs.NetQuiet.{relit, activity-turned}
 use Rattle.share_ledger.proofs.Positions.{position-first, flow-first}
-use Rattle.share_ledger.proofs.SeatSums.{first-below}
-use Rattle.share_ledger.proofs.NetSeats.{activity-beyond}
-use Rattle.share_ledger.proofs.FlowShares.{shares-left, shares-opened}
+use Rattle.share_ledger.proofs.FundingSums.{first-below}
+use Rattle.share_ledger.proofs.NetFundings.{activity-beyond}
+use Rattle.share_ledger.proofs.FlowShares.{tickets_of_all-left, tickets_of_all-opened}
 use Rattle.share_ledger.proofs.Places.{IsPlaced, placed}
 use Rattle.share_ledger.proofs.RouteLists.{routes-cons, routes-append}
 
 -- what is kept of a graph fits another with the same routes and the same tickets of the same flows
-pub kept-left : (net : Net) (shares : List ℕ) (g h : Graph)
+pub kept-left : (net : Net) (tickets_of_all : List ℕ) (g h : Graph)
     → ((b : Bool) → routes_of g b g.tickets ≡ routes_of h b h.tickets) → g.flows ≡ h.flows
-    → ((f : ℕ) → tickets g f ≡ tickets h f) → AreKept net shares g → AreKept net shares h
-kept-left net shares g h routes flows same kept = grind (arith, nat_tests, shares-left, relit)
+    → ((f : ℕ) → tickets g f ≡ tickets h f) → IsCurrent net tickets_of_all g → IsCurrent net tickets_of_all h
+kept-left net tickets_of_all g h routes flows same kept = grind (arith, nat_tests, tickets_of_all-left, relit)
 
 -- routes of the same tickets
 pub routes-same : (g h : Graph) (b : Bool) (P : Ticket → Type 0) (ts : List Ticket) → Each P ts
@@ -139,10 +139,10 @@ activity-opened (e ∷ es) name f (suc k) = activity-opened es name f k
 pub kept-opened : (net : Net) (before after : List ℕ) (g : Graph) (name : NameBytes) (n : ℕ)
     → IsKept g → n ≡ length g.flows
     → ((k : ℕ) → get_or after k 0 ≡ cond (nat_eq n k) 0 (get_or before k 0))
-    → take (n + 1) after ≡ take n before ++ 0 ∷ [] → AreKept net before g
-    → AreKept net after (add_flow g name)
+    → take (n + 1) after ≡ take n before ++ 0 ∷ [] → IsCurrent net before g
+    → IsCurrent net after (add_flow g name)
 kept-opened net before after g name n ok at wrote more kept = record {
-  of_flows = shares-opened before after g name n ok at more kept.of_flows;
+  of_flows = tickets_of_all-opened before after g name n ok at more kept.of_flows;
   net_ready = relit net after (backs_of (add_flow g name)) (funds_of (add_flow g name)) (activity_of g)
       (activity_of (add_flow g name))
       (subst (λ rs. IsReady net after (backs_of (add_flow g name)) rs (activity_of g)) (routes-add_flow g ok name false)
@@ -156,7 +156,7 @@ kept-opened net before after g name n ok at wrote more kept = record {
     opened ready = grind (arith, nat_tests, activity-beyond, eqb-true)
 
 -- A flow that becomes active or idle leaves the routes
-module _ (g : Graph) (ok : IsKept g) (net : Net) (shares : List ℕ) (f : ℕ) (a : Bool) (i : ℕ)
+module _ (g : Graph) (ok : IsKept g) (net : Net) (tickets_of_all : List ℕ) (f : ℕ) (a : Bool) (i : ℕ)
     (found : position (λ (o : OpenFlow). nat_eq f o.number) (map (λ (e : NameBytes × OpenFlow). e.1) g.flows) ≡ Some i)
   where
     pub turned-below : i < 64
@@ -164,11 +164,12 @@ module _ (g : Graph) (ok : IsKept g) (net : Net) (shares : List ℕ) (f : ℕ) (
         let inside = first-below (is_open_as f) g.flows i (flow-first f g.flows i (position-first _ _ i found)) in
         let few = ok.few_flows in omega arith
 
-    pub turned-ready : IsReady net shares (backs_of g) (funds_of g) (activity_of g)
-        → IsReady net shares (backs_of (set_active g f a)) (funds_of (set_active g f a)) (flags_of net.active.value)
+    pub turned-ready : IsReady net tickets_of_all (backs_of g) (funds_of g) (activity_of g)
+        → IsReady net tickets_of_all (backs_of (set_active g f a)) (funds_of (set_active g f a))
+        (flags_of net.active.value)
     turned-ready ready = grind (arith, nat_tests, relit, routes-set_active)
 
-    pub turned-activity : IsReady net shares (backs_of g) (funds_of g) (activity_of g) → (k : ℕ)
+    pub turned-activity : IsReady net tickets_of_all (backs_of g) (funds_of g) (activity_of g) → (k : ℕ)
         → activity_of (set_active g f a) k ≡ cond (nat_eq i k) a (flags_of net.active.value k)
     turned-activity ready k =
         activity-turned f a g.flows i k (flow-first f g.flows i (position-first _ _ i found))

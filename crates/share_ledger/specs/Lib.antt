@@ -1,11 +1,11 @@
 pub mod Arrays
 pub mod Bounds
+pub mod Cache
 pub mod Chains
+pub mod FundingTickets
 pub mod Nets
 pub mod Numbers
 pub mod Places
 pub mod Ranks
 pub mod Routes
-pub mod Seats
-pub mod Shares
 pub mod Stale

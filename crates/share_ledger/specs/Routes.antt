@@ -1,4 +1,5 @@
--- Routes: what the tickets that have a holder do between places, and rounds over them.
+-- Routes: tickets that have a holder, each from the place of its denomination to that of its holder; and rounds over
+-- them.
 use Rattle.std.specs.Prelude.{◌≡◌, ◌≤◌, ◌<◌, ℕ, ◌*◌, ◌/◌, ◌^◌, zero, suc, Bool, true, false, not, ◌&&◌, List, []}
 use Rattle.std.specs.Prelude.{◌∷◌, map, Some, filter, sum_by, nat_eq, if◌then◌else◌}
 use Rattle.share_ledger.specs.declared.routes.Route.{Route}
@@ -11,7 +12,7 @@ use Rattle.share_model.specs.funding.Graph.{NameBytes, Graph}
 use Rattle.share_model.specs.funding.Changes.{ticket_of, is_held}
 use Rattle.share_model.specs.funding.Kept.{names_of}
 
--- where the flow of a number stands, or the number of flows
+-- the place of the flow of a number, or the number of flows if there is none
 unfoldable pub flow_place : List (NameBytes × OpenFlow) → ℕ → ℕ
 flow_place [] f = 0
 flow_place (e ∷ es) f = if nat_eq f e.1.number then 0 else suc (flow_place es f)
@@ -29,7 +30,7 @@ route_of g t = record {
   amount = t.amount;
 }
 
--- a holder is a currency, or it is a flow
+-- whether a holder is a currency, or whether it is a flow
 abbrev pub is_kind : Bool → Holder → Bool
 is_kind backing Nobody = false
 is_kind backing (Currency c) = backing
@@ -39,7 +40,7 @@ is_kind backing (Flow f) = not backing
 unfoldable pub routes_of : Graph → Bool → List Ticket → List Route
 routes_of g backing ts = map (route_of g) (filter (λ t. is_kind backing t.holder) ts)
 
--- the route of the ticket of a number, which has a holder, and whether that is a currency
+-- the route of the ticket of a number, which has a holder, and whether the holder is a currency
 abbrev pub IsRouted : Graph → ℕ → Route → Bool → Type 0
 IsRouted g n r backing = (t : Ticket) × ((ticket_of g n ≡ Some t) × (r ≡ route_of g t) × (is_held t.holder ≡ true)
     × (backing ≡ is_kind true t.holder))
@@ -51,18 +52,18 @@ pub record IsRouteWithin (r : Route) : Type 0 where
   pub small : r.amount ≤ 2 ^ 20
 
 -- the amounts of the routes from a place to flagged places
-unfoldable pub gathered : List Route → (ℕ → Bool) → ℕ → ℕ
-gathered rs flag p = sum_by (λ r. if nat_eq p r.from && flag r.to then r.amount else 0) rs
+unfoldable pub weight_from : List Route → (ℕ → Bool) → ℕ → ℕ
+weight_from rs flag p = sum_by (λ r. if nat_eq p r.from && flag r.to then r.amount else 0) rs
 
 -- what a route carries: its amount from the place of `base`, else its share of the value of its place
-abbrev pub carried : (ℕ → ℕ) → (ℕ → ℕ) → Route → ℕ
-carried value whole r = if nat_eq r.from 0 then r.amount else value r.from * r.amount / whole r.from
+abbrev pub carried_by : (ℕ → ℕ) → (ℕ → ℕ) → Route → ℕ
+carried_by value whole r = if nat_eq r.from 0 then r.amount else value r.from * r.amount / whole r.from
 
 -- what the routes carry to a place, if it is flagged
-unfoldable pub poured : List Route → (ℕ → Bool) → (Route → ℕ) → ℕ → ℕ
-poured rs flag carry p = sum_by (λ r. if nat_eq p r.to && flag r.to then carry r else 0) rs
+unfoldable pub value_to : List Route → (ℕ → Bool) → (Route → ℕ) → ℕ → ℕ
+value_to rs flag carry p = sum_by (λ r. if nat_eq p r.to && flag r.to then carry r else 0) rs
 
 -- the values of places after n rounds
-unfoldable pub valued : List Route → (ℕ → Bool) → (ℕ → ℕ) → ℕ → ℕ → ℕ
-valued rs flag whole zero p = 0
-valued rs flag whole (suc n) p = poured rs flag (carried (valued rs flag whole n) whole) p
+unfoldable pub value_after : List Route → (ℕ → Bool) → (ℕ → ℕ) → ℕ → ℕ → ℕ
+value_after rs flag whole zero p = 0
+value_after rs flag whole (suc n) p = value_to rs flag (carried_by (value_after rs flag whole n) whole) p

@@ -1,29 +1,33 @@
-//! Which currencies one backs, by however many steps.
+//! Which currencies a currency backs, by however many steps.
 ghost use Rattle.std.specs.Prelude.{◌<◌, ◌≡◌, ◌||◌, ℕ, length, nat_eq};
 ghost use Rattle.std.specs.List.{list_any};
 ghost use Rattle.share_model.specs.lists.Each.{Each};
 ghost use Rattle.share_ledger.specs.Arrays.{flags_of, numbers_of};
 ghost use Rattle.share_ledger.specs.Chains.{AreBacked};
 ghost use Rattle.share_ledger.specs.Ranks.{AreOrdered};
-ghost use Rattle.share_ledger.specs.Seats.{IsSeatWithin, seats_at};
+ghost use Rattle.share_ledger.specs.FundingTickets.{IsFundingTicketWithin, funding_tickets_at};
 
-use crate::seats::{Seats, come_from, seats_at};
+use crate::funding_tickets::{FundingTickets, come_from, funding_tickets_at};
 use crate::tables::PLACES;
 
-// Whether a place is the first one, or has a seat from a flagged one.
-fn is_backed(backing: &[Seats], flags: &[bool; PLACES], first: usize, place: usize) -> bool
-    requires within { (p : ℕ) → p < 65 → Each IsSeatWithin (seats_at backing.now p) }
+// Whether a place is `first`, or has a funding ticket from a flagged place.
+fn is_backed(backing: &[FundingTickets], flags: &[bool; PLACES], first: usize, place: usize) -> bool
+    requires within { (p : ℕ) → p < 65 → Each IsFundingTicketWithin (funding_tickets_at backing.now p) }
     requires places { length backing.now ≡ 65 }
     requires place { place < 65 }
     ensures { result ≡ (nat_eq place first
-        || list_any (λ s. flags_of flags.now s.from) (seats_at backing.now place)) }
+        || list_any (λ s. flags_of flags.now s.from) (funding_tickets_at backing.now place)) }
 {
-    place == first || come_from(seats_at(backing, place), flags)
+    place == first || come_from(funding_tickets_at(backing, place), flags)
 }
 
-/// The places of the currencies that the one at a place backs, by however many steps, itself among them.
-pub(crate) fn backed_by(backing: &[Seats], order: &[u8; PLACES], first: usize) -> [bool; PLACES]
-    requires within { (p : ℕ) → p < 65 → Each IsSeatWithin (seats_at backing.now p) }
+/// Flags the currency at the place `first` and all that it backs, by however many steps.
+pub(crate) fn backed_by(
+    backing: &[FundingTickets],
+    order: &[u8; PLACES],
+    first: usize,
+) -> [bool; PLACES]
+    requires within { (p : ℕ) → p < 65 → Each IsFundingTicketWithin (funding_tickets_at backing.now p) }
     requires places { length backing.now ≡ 65 }
     requires ordered { AreOrdered backing.now (numbers_of order.now) }
     ensures { AreBacked backing.now first (flags_of result) }

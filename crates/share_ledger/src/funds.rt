@@ -1,45 +1,45 @@
-//! What commands do to the net: a ticket that comes to fund or ceases to.
-ghost use Rattle.std.specs.Prelude.{◌≡◌, ◌<◌, ℕ, Bool, length, true, false, not};
+//! What commands do to the net: a ticket begins or ceases to fund.
+ghost use Rattle.std.specs.Prelude.{◌≡◌, ◌<◌, ℕ, Bool, length, true, false};
 ghost use Rattle.std.specs.Prelude.{take, if◌then◌else◌};
 ghost use Rattle.share_model.specs.lists.Each.{Each};
 ghost use Rattle.share_ledger.specs.Chains.{AreBacked};
-ghost use Rattle.share_ledger.specs.Ranks.{AreRanks, AreListed, IsBelow, is_tall};
+ghost use Rattle.share_ledger.specs.Ranks.{AreRanks, AreListed, IsRankedBelow, is_tall};
 ghost use Rattle.share_ledger.specs.Arrays.{numbers_of};
 ghost use Rattle.share_ledger.specs.Routes.{IsRouteWithin};
-ghost use Rattle.share_ledger.specs.Seats.{IsSeatWithin, seats_at, backs_of, funds_of};
-ghost use Rattle.share_ledger.specs.Nets.{activity_of, ComesToFund, CeasesToFund, IsBegun};
+ghost use Rattle.share_ledger.specs.FundingTickets.{IsFundingTicketWithin, funding_tickets_at, backs_of, funds_of};
+ghost use Rattle.share_ledger.specs.Nets.{activity_of, ComesToFund, CeasesToFund, HasInputs};
 ghost use Rattle.share_ledger.specs.Stale.{IsLeft};
 
 use crate::net::{self, Net};
-use crate::ranks::Link;
+use crate::ranks::Edge;
 use crate::routes::Route;
 use crate::tables::Tables;
-use crate::turns::{counted, seat, unseat};
+use crate::turns::{add_funding_ticket, amount_if, remove_funding_ticket};
 use crate::{chains, ranks};
 
 impl Net {
-    /// Whether all currencies have ranks with one more seat, from a place at another one: the seat makes no chain too
-    /// long, and none that leads back. It may be that the ranks that are kept show it.
+    /// Whether all currencies have ranks if a ticket of the currency at `from` also backs that at `to`: then no chain
+    /// is too long or leads back. Mostly the kept ranks tell it.
     pub(crate) fn has_ranks(&self, from: usize, to: usize) -> bool
-        requires within { (p : ℕ) → p < 65 → Each IsSeatWithin (seats_at self.now.backing.items p) }
+        requires within { (p : ℕ) → p < 65 → Each IsFundingTicketWithin (funding_tickets_at self.now.backing.items p) }
         requires places { length self.now.backing.items ≡ 65 }
         requires ranked { AreRanks self.now.backing.items (numbers_of self.now.ranks.value) }
         requires from_place { from < 65 }
         requires made { 0 < to }
         requires to_place { to < 65 }
-        ensures below { result ≡ true → IsBelow self.now.backing.items from to }
+        ensures below { result ≡ true → IsRankedBelow self.now.backing.items from to }
         ensures deep { result ≡ false
             → (p : ℕ) × ((0 < p) × ((p < 65) × (is_tall self.now.backing.items from to 8 p ≡ true))) }
     {
         if self.ranks[from] < self.ranks[to] {
             return true;
         }
-        ranks::list(&self.backing, Link { from, to }).is_some()
+        ranks::list(&self.backing, Edge { from, to }).is_some()
     }
 
-    /// Whether the currency at one place is that at another or backs it, by however many steps.
+    /// Whether the currency at `first` is that at `place` or backs it, by however many steps.
     pub(crate) fn backs(&self, first: usize, place: usize) -> bool
-        requires within { (p : ℕ) → p < 65 → Each IsSeatWithin (seats_at self.now.backing.items p) }
+        requires within { (p : ℕ) → p < 65 → Each IsFundingTicketWithin (funding_tickets_at self.now.backing.items p) }
         requires places { length self.now.backing.items ≡ 65 }
         requires ranked { AreRanks self.now.backing.items (numbers_of self.now.ranks.value) }
         requires listed { AreListed (numbers_of self.now.ranks.value) (numbers_of self.now.order.value) }
@@ -50,73 +50,73 @@ impl Net {
         flags[place]
     }
 
-    // One more ticket backs a currency.
+    // Adds a ticket that backs a currency.
     fn add_backing(&mut self, tables: &Tables, route: &Route)
         requires within { IsRouteWithin route.now }
         requires begun { ComesToFund self.old tables.now route.now true }
-        ensures begun { IsBegun self.new (backs_of tables.now) (funds_of tables.now) (activity_of tables.now) }
+        ensures begun { HasInputs self.new (backs_of tables.now) (funds_of tables.now) (activity_of tables.now) }
         ensures left { IsLeft self.old self.new route.now.to 64 }
     {
         tables.is_kept();
-        seat(route, &mut self.backing);
+        add_funding_ticket(route, &mut self.backing);
         ranks::renew(
             tables,
             &self.backing,
-            Link {
+            Edge {
                 from: route.from,
                 to: route.to,
             },
             &mut self.ranks,
             &mut self.order,
         );
-        let amount = counted(self.awake[route.to], route.amount);
+        let amount = amount_if(self.awake[route.to], route.amount);
         net::grow(&mut self.weights, route.from, amount);
     }
 
-    // One more ticket funds a flow.
+    // Adds a ticket that funds a flow.
     fn add_funding(&mut self, tables: &Tables, route: &Route)
         requires within { IsRouteWithin route.now }
         requires begun { ComesToFund self.old tables.now route.now false }
-        ensures begun { IsBegun self.new (backs_of tables.now) (funds_of tables.now) (activity_of tables.now) }
+        ensures begun { HasInputs self.new (backs_of tables.now) (funds_of tables.now) (activity_of tables.now) }
         ensures left { IsLeft self.old self.new 0 route.now.to }
     {
         tables.is_kept();
-        seat(route, &mut self.funding);
-        let amount = counted(self.active[route.to], route.amount);
+        add_funding_ticket(route, &mut self.funding);
+        let amount = amount_if(self.active[route.to], route.amount);
         net::grow(&mut self.weights, route.from, amount);
     }
 
-    // A ticket backs a currency no longer.
+    // Takes out a ticket that backed a currency.
     fn take_backing(&mut self, tables: &Tables, route: &Route)
         requires within { IsRouteWithin route.now }
         requires begun { CeasesToFund self.old tables.now route.now true }
-        ensures begun { IsBegun self.new (backs_of tables.now) (funds_of tables.now) (activity_of tables.now) }
+        ensures begun { HasInputs self.new (backs_of tables.now) (funds_of tables.now) (activity_of tables.now) }
         ensures left { IsLeft self.old self.new route.now.to 64 }
     {
         tables.is_kept();
-        unseat(route, &mut self.backing);
-        let amount = counted(self.awake[route.to], route.amount);
+        remove_funding_ticket(route, &mut self.backing);
+        let amount = amount_if(self.awake[route.to], route.amount);
         net::shrink(&mut self.weights, route.from, amount);
     }
 
-    // A ticket funds a flow no longer.
+    // Takes out a ticket that funded a flow.
     fn take_funding(&mut self, tables: &Tables, route: &Route)
         requires within { IsRouteWithin route.now }
         requires begun { CeasesToFund self.old tables.now route.now false }
-        ensures begun { IsBegun self.new (backs_of tables.now) (funds_of tables.now) (activity_of tables.now) }
+        ensures begun { HasInputs self.new (backs_of tables.now) (funds_of tables.now) (activity_of tables.now) }
         ensures left { IsLeft self.old self.new 0 route.now.to }
     {
         tables.is_kept();
-        unseat(route, &mut self.funding);
-        let amount = counted(self.active[route.to], route.amount);
+        remove_funding_ticket(route, &mut self.funding);
+        let amount = amount_if(self.active[route.to], route.amount);
         net::shrink(&mut self.weights, route.from, amount);
     }
 
-    /// A ticket backs one currency more or funds one flow more.
+    /// Adds a ticket that backs a currency or funds a flow.
     pub(crate) fn give(&mut self, tables: &Tables, route: &Route, backing: bool)
         requires within { IsRouteWithin route.now }
         requires begun { ComesToFund self.old tables.now route.now backing }
-        ensures begun { IsBegun self.new (backs_of tables.now) (funds_of tables.now) (activity_of tables.now) }
+        ensures begun { HasInputs self.new (backs_of tables.now) (funds_of tables.now) (activity_of tables.now) }
         ensures left { IsLeft self.old self.new
             (if backing then route.now.to else 0) (if backing then 64 else route.now.to) }
     {
@@ -127,11 +127,11 @@ impl Net {
         self.add_funding(tables, route);
     }
 
-    /// A ticket backs a currency or funds a flow no longer.
+    /// Takes out a ticket that backed a currency or funded a flow.
     pub(crate) fn take(&mut self, tables: &Tables, route: &Route, backing: bool)
         requires within { IsRouteWithin route.now }
         requires begun { CeasesToFund self.old tables.now route.now backing }
-        ensures begun { IsBegun self.new (backs_of tables.now) (funds_of tables.now) (activity_of tables.now) }
+        ensures begun { HasInputs self.new (backs_of tables.now) (funds_of tables.now) (activity_of tables.now) }
         ensures left { IsLeft self.old self.new
             (if backing then route.now.to else 0) (if backing then 64 else route.now.to) }
     {

@@ -1,4 +1,4 @@
-//! What a holder is.
+//! Tests of a holder.
 ghost use Rattle.std.specs.Prelude.{◌≡◌};
 ghost use Rattle.share_model.specs.funding.Graph.{is_held_by_currency, is_held_by_flow};
 ghost use Rattle.share_model.specs.funding.Changes.{is_held};
@@ -40,7 +40,7 @@ pub(crate) fn is_flow(holder: &Holder, flow: FlowNo) -> bool
     }
 }
 
-/// Whether the holder is a currency, or whether it is a flow.
+/// Whether the holder is a currency, or whether it is a flow, as `backing` asks.
 pub(crate) fn is_kind(holder: &Holder, backing: bool) -> bool
     ensures { result ≡ is_kind backing holder.now }
 {

@@ -10,7 +10,7 @@ ghost use Rattle.share_model.specs.funding.Changes.{fund_currency_refusal, fund_
 ghost use Rattle.share_model.specs.funding.Changes.{unfund_refusal, unfund, add_flow_refusal, add_flow, remove_flow};
 ghost use Rattle.share_model.specs.funding.Changes.{set_active};
 
-use crate::kept::Kept;
+use crate::cache::Cache;
 use crate::tables::Tables;
 use share_base::{FlowNo, Name, Refusal, TicketNo};
 use share_model::OpenFlow;
@@ -19,43 +19,41 @@ use std::marker::Model;
 
 /// The currency ledger. A contract sees it as its graph of currencies, tickets and flows.
 ///
-/// A refused call changes nothing and takes no number; where several refusals stand, it answers the one that its
-/// text names first. Only `new`, `make_currency`, `make_ticket` and `add_flow` take memory. Numbers count from 1,
-/// tickets and flows apart, and are never used again. Amounts are in units of the ticket's currency, worths in
-/// units of `base`.
+/// A refused call changes nothing and takes no number. If several refusals apply, it answers the first that its text
+/// names. Only `new`, `make_currency`, `make_ticket` and `add_flow` take memory. Numbers count from 1, tickets and
+/// flows apart, and are never used again. Amounts are in units of the ticket's currency, worths in units of `base`.
 #[derive(Drop)]
 pub struct Ledger {
     tables: Tables,
-    kept: Kept,
+    cache: Cache,
 }
 
 impl Model for Ledger {
     ghost use Rattle.share_model.specs.funding.Graph.{Graph};
-    ghost use Rattle.share_ledger.specs.Shares.{AreKept};
+    ghost use Rattle.share_ledger.specs.Cache.{IsCurrent};
 
     ghost Value = { Graph };
 
     ghost view = { λ l. l.tables };
 
     ghost invariant = { λ l.
-        AreKept l.kept.net l.kept.shares.value l.tables };
+        IsCurrent l.cache.net l.cache.tickets_of_all.value l.tables };
 }
 
 impl Ledger {
-    /// An empty ledger, whose numbers count from 1. `NoMemory` where the room for what is kept of its tickets was
-    /// refused.
+    /// An empty ledger, whose numbers count from 1. `NoMemory` if the memory for its cache was refused.
     pub fn new(alloc: Global) -> Result<Ledger, Refusal>
         ensures made { IfOk result (λ ledger. ledger ≡ empty_graph) }
         ensures refused { IfErr result (λ e. e ≡ Refusal.NoMemory) }
     {
-        let mut kept = Kept::new(alloc)?;
+        let mut cache = Cache::new(alloc)?;
         let tables = Tables::new(alloc);
-        kept.renew(&tables);
-        Ok(Ledger { tables, kept })
+        cache.renew(&tables);
+        Ok(Ledger { tables, cache })
     }
 
-    /// Makes a currency. `Taken` where there is one of this name, `TableFull` where there are 64 besides `base`,
-    /// `NoMemory` where a growth was refused.
+    /// Makes a currency. `Taken` if there is one of this name, `TableFull` if there are 64 besides `base`, `NoMemory`
+    /// if memory was refused.
     pub fn make_currency(&mut self, name: Name) -> Result<(), Refusal>
         ensures done { IfOk result
             (λ _. (make_currency_refusal self.old name ≡ None) × (self.new ≡ make_currency self.old name)) }
@@ -66,8 +64,8 @@ impl Ledger {
         self.tables.make_currency(name)
     }
 
-    /// Removes a currency. `NoCurrency` where none has this name, `Base` where it is `base`, `InUse` where a
-    /// ticket is denominated in it or funds it.
+    /// Removes a currency. `NoCurrency` if none has this name, `Base` if it is `base`, `InUse` if a ticket is
+    /// denominated in it or funds it.
     pub fn remove_currency(&mut self, name: Name) -> Result<(), Refusal>
         ensures done { IfOk result
             (λ _. (remove_currency_refusal self.old name ≡ None) × (self.new ≡ remove_currency self.old name)) }
@@ -78,17 +76,17 @@ impl Ledger {
         let place = self.tables.place_made(name);
         self.tables.remove_currency(name)?;
         if let Some(place) = place {
-            if self.kept.is_before(place) {
+            if self.cache.is_before(place) {
                 return Ok(());
             }
         }
-        self.kept.renew(&self.tables);
+        self.cache.renew(&self.tables);
         Ok(())
     }
 
-    /// Issues a ticket of 1 to 2^20 units of a currency, without a holder, and answers its number. `Range` where
-    /// the amount is none of these, `NoCurrency` where none has this name, `TableFull` where there are 1024
-    /// tickets, `NoMemory` where a growth was refused.
+    /// Issues a ticket of 1 to 2^20 units of a currency, without a holder, and gives its number. `Range` if the amount
+    /// is out of range, `NoCurrency` if none has this name, `TableFull` if there are 1024 tickets, `NoMemory` if memory
+    /// was refused.
     pub fn make_ticket(&mut self, amount: u64, currency: Name) -> Result<TicketNo, Refusal>
         requires { self.old.next_ticket < 2 ^ 32 - 1 }
         ensures done { IfOk result
@@ -100,7 +98,7 @@ impl Ledger {
         self.tables.make_ticket(amount, currency)
     }
 
-    /// Removes a ticket. `NoTicket` where none has this number, `Funding` where it has a holder.
+    /// Removes a ticket. `NoTicket` if none has this number, `Funding` if it has a holder.
     pub fn remove_ticket(&mut self, ticket: u64) -> Result<(), Refusal>
         ensures done { IfOk result
             (λ _. (remove_ticket_refusal self.old ticket ≡ None) × (self.new ≡ remove_ticket self.old ticket)) }
@@ -110,10 +108,10 @@ impl Ledger {
         self.tables.remove_ticket(ticket)
     }
 
-    /// Lets a ticket fund a currency. `NoTicket` where none has this number, `NoCurrency` where none has this
-    /// name, `Base` where it is `base`, `Funding` where the ticket has a holder, `Crowded` where 16 tickets fund
-    /// the currency, `Cycle` where the currency is the ticket's denomination or backs it, by however many steps,
-    /// `Deep` where nine currencies besides `base` would stand in a chain.
+    /// Makes a ticket fund a currency. `NoTicket` if none has this number, `NoCurrency` if none has this name, `Base`
+    /// if it is `base`, `Funding` if the ticket has a holder, `Crowded` if 16 tickets fund the currency, `Cycle` if the
+    /// currency is the ticket's denomination or backs it, by however many steps, `Deep` if nine currencies besides
+    /// `base` would be in a chain.
     pub fn fund_currency(&mut self, ticket: u64, currency: Name) -> Result<(), Refusal>
         ensures done { IfOk result
             (λ _. (fund_currency_refusal self.old ticket currency ≡ None)
@@ -122,14 +120,15 @@ impl Ledger {
             (λ e. (fund_currency_refusal self.old ticket currency ≡ Some e) × (self.new ≡ self.old)) }
     {
         self.tables.is_kept();
-        self.tables.fund_currency(ticket, currency, &self.kept.net)?;
+        self.tables
+            .fund_currency(ticket, currency, &self.cache.net)?;
         let (route, backing) = self.tables.route_of(ticket);
-        self.kept.give(&self.tables, &route, backing);
+        self.cache.give(&self.tables, &route, backing);
         Ok(())
     }
 
-    /// Lets a ticket fund a flow. `NoTicket` where none has this number, `NoFlow` where no open flow has this
-    /// name, `Funding` where the ticket has a holder, `Crowded` where 16 tickets fund the flow.
+    /// Makes a ticket fund a flow. `NoTicket` if none has this number, `NoFlow` if no open flow has this name,
+    /// `Funding` if the ticket has a holder, `Crowded` if 16 tickets fund the flow.
     pub fn fund_flow(&mut self, ticket: u64, flow: Name) -> Result<(), Refusal>
         ensures done { IfOk result
             (λ _. (fund_flow_refusal self.old ticket flow ≡ None) × (self.new ≡ fund_flow self.old ticket flow)) }
@@ -137,13 +136,13 @@ impl Ledger {
             (λ e. (fund_flow_refusal self.old ticket flow ≡ Some e) × (self.new ≡ self.old)) }
     {
         self.tables.is_kept();
-        self.tables.fund_flow(ticket, flow, &self.kept.net)?;
+        self.tables.fund_flow(ticket, flow, &self.cache.net)?;
         let (route, backing) = self.tables.route_of(ticket);
-        self.kept.give(&self.tables, &route, backing);
+        self.cache.give(&self.tables, &route, backing);
         Ok(())
     }
 
-    /// Takes a ticket's holder away. `NoTicket` where none has this number, `Unfunded` where it has no holder.
+    /// Takes a ticket from its holder. `NoTicket` if none has this number, `Unfunded` if it has no holder.
     pub fn unfund(&mut self, ticket: u64) -> Result<(), Refusal>
         ensures done { IfOk result
             (λ _. (unfund_refusal self.old ticket ≡ None) × (self.new ≡ unfund self.old ticket)) }
@@ -156,12 +155,12 @@ impl Ledger {
         }
         let (route, backing) = self.tables.route_of(ticket);
         self.tables.unfund(ticket);
-        self.kept.take(&self.tables, &route, backing);
+        self.cache.take(&self.tables, &route, backing);
         Ok(())
     }
 
-    /// Opens a flow, which is not active yet, and answers its number. `Taken` where an open flow has this name,
-    /// `TableFull` where 64 are open, `NoMemory` where a growth was refused.
+    /// Opens a flow, which is not active yet, and gives its number. `Taken` if an open flow has this name, `TableFull`
+    /// if 64 are open, `NoMemory` if memory was refused.
     pub fn add_flow(&mut self, name: Name) -> Result<FlowNo, Refusal>
         requires { self.old.next_flow < 2 ^ 32 - 1 }
         ensures done { IfOk result
@@ -173,11 +172,11 @@ impl Ledger {
         self.tables.is_kept();
         let count = self.tables.flow_count();
         let flow = self.tables.add_flow(name)?;
-        self.kept.append_none(count);
+        self.cache.append_none(count);
         Ok(flow)
     }
 
-    /// Closes a flow, if one of this number is open. Its tickets lose their holder.
+    /// Closes the flow of this number, if it is open. Its tickets lose their holder.
     pub fn remove_flow(&mut self, flow: FlowNo)
         ensures { self.new ≡ remove_flow self.old flow }
     {
@@ -185,20 +184,20 @@ impl Ledger {
         let place = self.tables.place_of_flow(flow);
         self.tables.remove_flow(flow);
         if let Some(place) = place {
-            if self.kept.is_idle(place) {
+            if self.cache.is_idle(place) {
                 return;
             }
         }
-        self.kept.renew(&self.tables);
+        self.cache.renew(&self.tables);
     }
 
-    /// Makes a flow active or idle, if one of this number is open.
+    /// Makes the flow of this number active or idle, if it is open.
     pub fn set_active(&mut self, flow: FlowNo, active: bool)
         ensures { self.new ≡ set_active self.old flow active }
     {
         self.tables.is_kept();
         if let Some(place) = self.tables.set_active(flow, active) {
-            self.kept.set_active(&self.tables, place, active);
+            self.cache.set_active(&self.tables, place, active);
         }
     }
 
@@ -209,8 +208,8 @@ impl Ledger {
         self.tables.flow(name)
     }
 
-    /// Why no flow can be opened under this name, want of memory aside: `Taken` where an open flow has it,
-    /// `TableFull` where 64 are open.
+    /// Why no flow can be opened under this name, memory aside: `Taken` if an open flow has it, `TableFull` if 64 are
+    /// open.
     pub fn add_flow_refusal(&self, name: Name) -> Option<Refusal>
         ensures { result ≡ add_flow_refusal self.now name }
     {
@@ -224,8 +223,8 @@ impl Ledger {
         self.tables.flow_count()
     }
 
-    /// The open flow at a place, and its name. Places count from 0 in the order of opening; `None` where fewer
-    /// flows are open.
+    /// The open flow at a place, and its name. Places count from 0 in the order of opening. `None` if fewer flows are
+    /// open.
     pub fn flow_at(&self, place: usize) -> Option<(Name, OpenFlow)>
         ensures { result ≡ slice_get self.now.flows place }
     {
@@ -246,8 +245,8 @@ impl Ledger {
         self.tables.next_flow()
     }
 
-    /// The tickets of a flow, in units of `base`: what those that fund it are worth together, at most 2^20, and 0
-    /// where it is idle or not open.
+    /// The tickets of a flow, in units of `base`: what the tickets that fund it are worth together, at most 2^20; 0 if
+    /// it is idle or not open.
     pub fn tickets(&self, flow: FlowNo) -> u32
         ensures { result ≡ tickets self.now flow }
     {
@@ -263,15 +262,15 @@ impl Ledger {
         ensures { option_map (λ e. tickets self.now e.1.number) (slice_get self.now.flows place) ≡ Some result }
     {
         self.tables.is_kept();
-        self.kept.shares[place]
+        self.cache.tickets_of_all[place]
     }
 
     /// The tickets of all open flows, as `tickets` gives them by their numbers, in the order of opening.
-    pub fn all_tickets(&self) -> &[u32]
+    pub fn ticket_counts(&self) -> &[u32]
         ensures { result.now ≡ map (λ e. tickets self.now e.1.number) self.now.flows }
     {
         self.tables.is_kept();
-        &self.kept.shares[..self.tables.flow_count()]
+        &self.cache.tickets_of_all[..self.tables.flow_count()]
     }
 
     pub(crate) fn tables(&self) -> &Tables
@@ -281,7 +280,7 @@ impl Ledger {
     }
 
     #[cfg(test)]
-    pub(crate) fn kept(&self) -> &Kept {
-        &self.kept
+    pub(crate) fn cache(&self) -> &Cache {
+        &self.cache
     }
 }

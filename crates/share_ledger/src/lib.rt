@@ -1,24 +1,24 @@
 //! The currency ledger: currencies, the tickets that are denominated in them, and what the tickets fund.
 //!
-//! A `Ledger` is seen as the `Graph` of share_model's room of funding. Each command changes it as `Changes`
-//! says, or is refused by the table there with nothing changed, and `tickets` gives the tickets of a flow on
-//! the graph as it is. What weighs on each currency and what it is worth is kept by its place, with a rank above those
-//! of the currencies that back it: a change goes up by weights and down by values, in one pass over the places each,
-//! rank by rank. Never is there a walk over the paths, of which there can be 16^9 from `base` to a flow.
+//! A contract sees a `Ledger` as a `Graph` of share_model. Each command changes it as `Changes` says, or is refused by
+//! the table there and changes nothing; `tickets` gives the tickets of a flow of the graph as it is. The weight and the
+//! value of each currency are kept, and its rank, which is above those of the currencies that back it. A change goes up
+//! through the weights and down through the values, in one pass over the places each, rank by rank. No path is ever
+//! walked: there can be 16^9 of them from `base` to a flow.
 #![tactic(auto)]
 
 mod bounds;
+mod cache;
 mod chains;
+mod funding_tickets;
 mod funds;
 mod holders;
-mod kept;
 mod laws;
 mod ledger;
 mod net;
 mod ranks;
+mod recomputing;
 mod routes;
-mod seats;
-mod settles;
 mod stale;
 mod tables;
 #[cfg(test)]

@@ -1,26 +1,27 @@
-//! What the funding of each currency and of each flow comes to. Amounts go upwards, from a holder to what its seats are
-//! denominated in, and values downwards. Each seat of a currency comes from a place of a lower rank, so one pass over
-//! the places rank by rank settles either.
+//! The weights and values that the funding gives the currencies, and the tickets that it gives the flows. Amounts go
+//! up, from a holder to what its funding tickets are denominated in, and values go down. Each funding ticket of a
+//! currency comes from a place of a lower rank, so one pass over the places, rank by rank, computes either.
 ghost use Rattle.std.specs.Prelude.{◌≡◌, ℕ, ◌+◌, ◌-◌, ◌*◌, ◌/◌, ◌^◌, ◌<◌, ◌≤◌, min, length, sum_by, true, false, not};
 ghost use Rattle.std.specs.Prelude.{nat_eq, nat_lt, if◌then◌else◌};
 ghost use Rattle.std.specs.List.{list_all};
 ghost use Rattle.share_model.specs.lists.Each.{Each};
 ghost use Rattle.share_ledger.specs.Arrays.{flags_of, numbers_of};
 ghost use Rattle.share_ledger.specs.Ranks.{AreOrdered};
-ghost use Rattle.share_ledger.specs.Seats.{IsSeatWithin, taken, seat_worth, seats_at, AreSeated};
-ghost use Rattle.share_ledger.specs.Seats.{AreCounted, AreAwake, AreValued, AreSmall, HaveValues, AreShared};
-ghost use Rattle.share_ledger.specs.Seats.{weighed, backs_of, funds_of};
+ghost use Rattle.share_ledger.specs.FundingTickets.{IsFundingTicketWithin, amount_from, funding_ticket_worth};
+ghost use Rattle.share_ledger.specs.FundingTickets.{funding_tickets_at, AreTicketed};
+ghost use Rattle.share_ledger.specs.FundingTickets.{AreCounted, AreAwake, AreValued, AreSmall, HaveValues, AreShared};
+ghost use Rattle.share_ledger.specs.FundingTickets.{worth_at, backs_of, funds_of};
 
-use crate::seats::{Seat, Seats, seats_at};
+use crate::funding_tickets::{FundingTicket, FundingTickets, funding_tickets_at};
 use crate::tables::{MAX_AMOUNT, MAX_FLOWS, PLACES, Tables};
 
-/// The seats of the currencies and of the flows by their places, which flows are active and which currencies awake,
-/// what weighs on each place and weighed on it when all was settled last, the value of each currency, and its rank,
-/// with the places listed rank by rank.
+/// The funding tickets of the currencies and of the flows by their places, which flows are active and which currencies
+/// are awake, the weight of each place, now and when all was computed last, the value of each currency, its rank, and
+/// the places listed rank by rank.
 #[derive(Drop)]
 pub(crate) struct Net {
-    pub(crate) backing: Vec<Seats>,
-    pub(crate) funding: Vec<Seats>,
+    pub(crate) backing: Vec<FundingTickets>,
+    pub(crate) funding: Vec<FundingTickets>,
     pub(crate) active: Box<[bool; PLACES]>,
     pub(crate) awake: Box<[bool; PLACES]>,
     pub(crate) weights: Box<[u32; PLACES]>,
@@ -30,28 +31,28 @@ pub(crate) struct Net {
     pub(crate) order: Box<[u8; PLACES]>,
 }
 
-/// Adds the amounts of seats to the weights of the places that they come from.
-pub(crate) fn raise(seats: &[Seat], weights: &mut [u32; PLACES])
-    requires within { Each IsSeatWithin seats.now }
-    requires few { length seats.now ≤ 16 }
+/// Adds the amounts of funding tickets to the weights of the places that they come from.
+pub(crate) fn raise(funding_tickets: &[FundingTicket], weights: &mut [u32; PLACES])
+    requires within { Each IsFundingTicketWithin funding_tickets.now }
+    requires few { length funding_tickets.now ≤ 16 }
     requires small { (p : ℕ) → p < 65 → numbers_of weights.old p ≤ 2 ^ 31 }
     ensures { (p : ℕ) → p < 65
-        → numbers_of weights.new p ≡ numbers_of weights.old p + taken seats.now p }
+        → numbers_of weights.new p ≡ numbers_of weights.old p + amount_from funding_tickets.now p }
 {
-    for seat in seats {
-        weights[seat.from as usize] += seat.amount;
+    for funding_ticket in funding_tickets {
+        weights[funding_ticket.from as usize] += funding_ticket.amount;
     }
 }
 
-/// Takes the amounts of seats from the weights of the places that they come from.
-pub(crate) fn lower(seats: &[Seat], weights: &mut [u32; PLACES])
-    requires within { Each IsSeatWithin seats.now }
-    requires held { (p : ℕ) → p < 65 → taken seats.now p ≤ numbers_of weights.old p }
+/// Takes the amounts of funding tickets from the weights of the places that they come from.
+pub(crate) fn lower(funding_tickets: &[FundingTicket], weights: &mut [u32; PLACES])
+    requires within { Each IsFundingTicketWithin funding_tickets.now }
+    requires held { (p : ℕ) → p < 65 → amount_from funding_tickets.now p ≤ numbers_of weights.old p }
     ensures { (p : ℕ) → p < 65
-        → numbers_of weights.new p + taken seats.now p ≡ numbers_of weights.old p }
+        → numbers_of weights.new p + amount_from funding_tickets.now p ≡ numbers_of weights.old p }
 {
-    for seat in seats {
-        weights[seat.from as usize] -= seat.amount;
+    for funding_ticket in funding_tickets {
+        weights[funding_ticket.from as usize] -= funding_ticket.amount;
     }
 }
 
@@ -76,7 +77,7 @@ pub(crate) fn shrink(weights: &mut [u32; PLACES], place: usize, amount: u32)
     weights[place] -= amount;
 }
 
-// The share of a value that an amount has of the whole, and 0 where the whole is 0.
+// The share of a value that an amount has of the whole; 0 if the whole is 0.
 fn share(value: u64, amount: u32, whole: u64) -> u64
     requires value_small { value ≤ 9 * 2 ^ 30 }
     requires amount_small { amount ≤ 2 ^ 20 }
@@ -85,51 +86,61 @@ fn share(value: u64, amount: u32, whole: u64) -> u64
     (value * u64::from(amount)).checked_div(whole).unwrap_or(0)
 }
 
-fn worth(seat: &Seat, values: &[u64; PLACES], weights: &[u32; PLACES]) -> u64
-    requires within { IsSeatWithin seat.now }
+fn worth(funding_ticket: &FundingTicket, values: &[u64; PLACES], weights: &[u32; PLACES]) -> u64
+    requires within { IsFundingTicketWithin funding_ticket.now }
     requires small { (p : ℕ) → p < 65 → numbers_of values.now p ≤ 9 * 2 ^ 30 }
-    ensures value { result ≡ seat_worth (numbers_of values.now) (numbers_of weights.now) seat.now }
+    ensures value { result ≡ funding_ticket_worth (numbers_of values.now) (numbers_of weights.now) funding_ticket.now }
     ensures bound { result ≤ 9 * 2 ^ 50 }
 {
-    if seat.from == 0 {
-        return u64::from(seat.amount);
+    if funding_ticket.from == 0 {
+        return u64::from(funding_ticket.amount);
     }
-    let from = seat.from as usize;
-    share(values[from], seat.amount, u64::from(weights[from]))
+    let from = funding_ticket.from as usize;
+    share(
+        values[from],
+        funding_ticket.amount,
+        u64::from(weights[from]),
+    )
 }
 
-/// What seats are worth together.
-pub(crate) fn weigh(seats: &[Seat], values: &[u64; PLACES], weights: &[u32; PLACES]) -> u64
-    requires within { Each IsSeatWithin seats.now }
-    requires few { length seats.now ≤ 16 }
+/// What these funding tickets are worth together.
+pub(crate) fn weigh(
+    funding_tickets: &[FundingTicket],
+    values: &[u64; PLACES],
+    weights: &[u32; PLACES],
+) -> u64
+    requires within { Each IsFundingTicketWithin funding_tickets.now }
+    requires few { length funding_tickets.now ≤ 16 }
     requires small { (p : ℕ) → p < 65 → numbers_of values.now p ≤ 9 * 2 ^ 30 }
     ensures { result
-        ≡ sum_by (seat_worth (numbers_of values.now) (numbers_of weights.now)) seats.now }
+        ≡ sum_by (funding_ticket_worth (numbers_of values.now) (numbers_of weights.now)) funding_tickets.now }
 {
     let mut sum = 0;
-    for seat in seats {
-        sum += worth(seat, values, weights);
+    for funding_ticket in funding_tickets {
+        sum += worth(funding_ticket, values, weights);
     }
     sum
 }
 
-/// Whether seats come from `base` alone.
-pub(crate) fn are_of_base(seats: &[Seat]) -> bool
-    ensures { result ≡ list_all (λ s. nat_eq s.from 0) seats.now }
+/// Whether these funding tickets come from `base` alone.
+pub(crate) fn are_of_base(funding_tickets: &[FundingTicket]) -> bool
+    ensures { result ≡ list_all (λ s. nat_eq s.from 0) funding_tickets.now }
 {
-    seats.iter().all(|seat| seat.from == 0)
+    funding_tickets
+        .iter()
+        .all(|funding_ticket| funding_ticket.from == 0)
 }
 
-/// A flow wakes.
+/// Makes a flow active, and adds the amounts of its funding tickets to the weights.
 pub(crate) fn wake(
     tables: &Tables,
-    funding: &[Seats],
+    funding: &[FundingTickets],
     awake: &[bool; PLACES],
     place: usize,
     active: &mut [bool; PLACES],
     weights: &mut [u32; PLACES],
 )
-    requires seated { AreSeated (funds_of tables.now) funding.now }
+    requires ticketed { AreTicketed (funds_of tables.now) funding.now }
     requires place { place < 65 }
     requires idle { flags_of active.old place ≡ false }
     requires counted { AreCounted (backs_of tables.now) (funds_of tables.now) (flags_of awake.now)
@@ -138,23 +149,23 @@ pub(crate) fn wake(
         (flags_of active.new) (numbers_of weights.new) }
     ensures turned { (k : ℕ) → flags_of active.new k ≡ (if nat_eq place k then true else flags_of active.old k) }
     ensures raised { (p : ℕ) → p < 65
-        → numbers_of weights.new p ≡ numbers_of weights.old p + taken (seats_at funding.now place) p }
+        → numbers_of weights.new p ≡ numbers_of weights.old p + amount_from (funding_tickets_at funding.now place) p }
 {
     tables.is_kept();
     active[place] = true;
-    raise(seats_at(funding, place), weights);
+    raise(funding_tickets_at(funding, place), weights);
 }
 
-/// A flow rests.
+/// Makes a flow idle, and takes the amounts of its funding tickets from the weights.
 pub(crate) fn rest(
     tables: &Tables,
-    funding: &[Seats],
+    funding: &[FundingTickets],
     awake: &[bool; PLACES],
     place: usize,
     active: &mut [bool; PLACES],
     weights: &mut [u32; PLACES],
 )
-    requires seated { AreSeated (funds_of tables.now) funding.now }
+    requires ticketed { AreTicketed (funds_of tables.now) funding.now }
     requires place { place < 65 }
     requires active { flags_of active.old place ≡ true }
     requires counted { AreCounted (backs_of tables.now) (funds_of tables.now) (flags_of awake.now)
@@ -163,23 +174,23 @@ pub(crate) fn rest(
         (flags_of active.new) (numbers_of weights.new) }
     ensures turned { (k : ℕ) → flags_of active.new k ≡ (if nat_eq place k then false else flags_of active.old k) }
     ensures lowered { (p : ℕ) → p < 65
-        → numbers_of weights.new p + taken (seats_at funding.now place) p ≡ numbers_of weights.old p }
+        → numbers_of weights.new p + amount_from (funding_tickets_at funding.now place) p ≡ numbers_of weights.old p }
 {
     tables.is_kept();
     active[place] = false;
-    lower(seats_at(funding, place), weights);
+    lower(funding_tickets_at(funding, place), weights);
 }
 
-// A currency wakes or rests.
+// Makes a currency wake or rest.
 fn flip(
     tables: &Tables,
-    backing: &[Seats],
+    backing: &[FundingTickets],
     active: &[bool; PLACES],
     place: usize,
     awake: &mut [bool; PLACES],
     weights: &mut [u32; PLACES],
 )
-    requires seated { AreSeated (backs_of tables.now) backing.now }
+    requires ticketed { AreTicketed (backs_of tables.now) backing.now }
     requires place { place < 65 }
     requires counted { AreCounted (backs_of tables.now) (funds_of tables.now) (flags_of awake.old)
         (flags_of active.now) (numbers_of weights.old) }
@@ -187,39 +198,39 @@ fn flip(
         (flags_of active.now) (numbers_of weights.new) }
     ensures turned { (k : ℕ) → flags_of awake.new k
         ≡ (if nat_eq place k then not (flags_of awake.old place) else flags_of awake.old k) }
-    ensures left { (k : ℕ) → k < 65 → taken (seats_at backing.now place) k ≡ 0
+    ensures left { (k : ℕ) → k < 65 → amount_from (funding_tickets_at backing.now place) k ≡ 0
         → numbers_of weights.new k ≡ numbers_of weights.old k }
 {
     tables.is_kept();
-    let seats = seats_at(backing, place);
+    let funding_tickets = funding_tickets_at(backing, place);
     if awake[place] {
         awake[place] = false;
-        lower(seats, weights);
+        lower(funding_tickets, weights);
         return;
     }
     awake[place] = true;
-    raise(seats, weights);
+    raise(funding_tickets, weights);
 }
 
-// A currency is awake where its weight is not zero.
-fn settle_place(
+// Makes a currency wake or rest if it is awake without a weight, or has a weight and is not awake.
+fn recompute_place(
     tables: &Tables,
-    backing: &[Seats],
+    backing: &[FundingTickets],
     active: &[bool; PLACES],
     place: usize,
     awake: &mut [bool; PLACES],
     weights: &mut [u32; PLACES],
 )
-    requires seated { AreSeated (backs_of tables.now) backing.now }
+    requires ticketed { AreTicketed (backs_of tables.now) backing.now }
     requires place { place < 65 }
     requires counted { AreCounted (backs_of tables.now) (funds_of tables.now) (flags_of awake.old)
         (flags_of active.now) (numbers_of weights.old) }
     ensures counted { AreCounted (backs_of tables.now) (funds_of tables.now) (flags_of awake.new)
         (flags_of active.now) (numbers_of weights.new) }
-    ensures settled { taken (seats_at backing.now place) place ≡ 0
+    ensures computed { amount_from (funding_tickets_at backing.now place) place ≡ 0
         → flags_of awake.new place ≡ nat_lt 0 (numbers_of weights.new place) }
     ensures others { (k : ℕ) → nat_eq place k ≡ false → flags_of awake.new k ≡ flags_of awake.old k }
-    ensures left { (k : ℕ) → k < 65 → taken (seats_at backing.now place) k ≡ 0
+    ensures left { (k : ℕ) → k < 65 → amount_from (funding_tickets_at backing.now place) k ≡ 0
         → numbers_of weights.new k ≡ numbers_of weights.old k }
 {
     if awake[place] != (weights[place] > 0) {
@@ -227,18 +238,18 @@ fn settle_place(
     }
 }
 
-// Whether each currency is awake where its weight is not zero.
-fn are_settled(awake: &[bool; PLACES], weights: &[u32; PLACES]) -> bool
+// Whether exactly the currencies with a weight are awake.
+fn are_computed(awake: &[bool; PLACES], weights: &[u32; PLACES]) -> bool
     ensures { result ≡ true → AreAwake (flags_of awake.now) (numbers_of weights.now) }
 {
-    let mut settled = true;
+    let mut computed = true;
     for place in 1..PLACES {
-        settled &= awake[place] == (weights[place] > 0);
+        computed &= awake[place] == (weights[place] > 0);
     }
-    settled
+    computed
 }
 
-/// Whether the weights of all places but that of `base` are the same.
+/// Whether the weights of all places but that of `base` are as they were.
 pub(crate) fn are_same(weights: &[u32; PLACES], seen: &[u32; PLACES]) -> bool
     ensures { result ≡ true → (p : ℕ) → 0 < p → p < 65 → numbers_of weights.now p ≡ numbers_of seen.now p }
 {
@@ -252,13 +263,13 @@ pub(crate) fn are_same(weights: &[u32; PLACES], seen: &[u32; PLACES]) -> bool
 /// Wakes and rests the currencies, from the greatest rank to the least.
 pub(crate) fn spread(
     tables: &Tables,
-    backing: &[Seats],
+    backing: &[FundingTickets],
     active: &[bool; PLACES],
     order: &[u8; PLACES],
     awake: &mut [bool; PLACES],
     weights: &mut [u32; PLACES],
 )
-    requires seated { AreSeated (backs_of tables.now) backing.now }
+    requires ticketed { AreTicketed (backs_of tables.now) backing.now }
     requires ordered { AreOrdered backing.now (numbers_of order.now) }
     requires counted { AreCounted (backs_of tables.now) (funds_of tables.now) (flags_of awake.old)
         (flags_of active.now) (numbers_of weights.old) }
@@ -266,11 +277,11 @@ pub(crate) fn spread(
         (flags_of active.now) (numbers_of weights.new) }
     ensures awake { AreAwake (flags_of awake.new) (numbers_of weights.new) }
 {
-    if are_settled(awake, weights) {
+    if are_computed(awake, weights) {
         return;
     }
     for i in 0..64_usize {
-        settle_place(
+        recompute_place(
             tables,
             backing,
             active,
@@ -282,34 +293,34 @@ pub(crate) fn spread(
 }
 
 pub(crate) fn value_at(
-    holders: &[Seats],
+    holders: &[FundingTickets],
     awake: &[bool; PLACES],
     weights: &[u32; PLACES],
     values: &[u64; PLACES],
     place: usize,
 ) -> u64
-    requires within { (p : ℕ) → p < 65 → Each IsSeatWithin (seats_at holders.now p) }
+    requires within { (p : ℕ) → p < 65 → Each IsFundingTicketWithin (funding_tickets_at holders.now p) }
     requires places { length holders.now ≡ 65 }
     requires small { AreSmall (numbers_of values.now) }
     requires place { place < 65 }
-    ensures { result ≡ weighed holders.now (flags_of awake.now) (numbers_of values.now)
+    ensures { result ≡ worth_at holders.now (flags_of awake.now) (numbers_of values.now)
         (numbers_of weights.now) place }
 {
     if !awake[place] {
         return 0;
     }
-    weigh(seats_at(holders, place), values, weights)
+    weigh(funding_tickets_at(holders, place), values, weights)
 }
 
 /// Computes the values of the currencies, from the least rank to the greatest.
 pub(crate) fn revalue(
-    backing: &[Seats],
+    backing: &[FundingTickets],
     awake: &[bool; PLACES],
     weights: &[u32; PLACES],
     order: &[u8; PLACES],
     values: &mut [u64; PLACES],
 )
-    requires within { (p : ℕ) → p < 65 → Each IsSeatWithin (seats_at backing.now p) }
+    requires within { (p : ℕ) → p < 65 → Each IsFundingTicketWithin (funding_tickets_at backing.now p) }
     requires places { length backing.now ≡ 65 }
     requires ordered { AreOrdered backing.now (numbers_of order.now) }
     requires small { AreSmall (numbers_of values.old) }
@@ -324,19 +335,19 @@ pub(crate) fn revalue(
     }
 }
 
-/// The tickets of a flow: what its seats are worth, at most 2^20.
+/// The tickets of a flow: what its funding tickets are worth, at most 2^20.
 pub(crate) fn share_at(
-    funding: &[Seats],
+    funding: &[FundingTickets],
     active: &[bool; PLACES],
     weights: &[u32; PLACES],
     values: &[u64; PLACES],
     place: usize,
 ) -> u32
-    requires within { (p : ℕ) → p < 65 → Each IsSeatWithin (seats_at funding.now p) }
+    requires within { (p : ℕ) → p < 65 → Each IsFundingTicketWithin (funding_tickets_at funding.now p) }
     requires places { length funding.now ≡ 65 }
     requires small { AreSmall (numbers_of values.now) }
     requires place { place < 65 }
-    ensures { result ≡ min (weighed funding.now (flags_of active.now) (numbers_of values.now)
+    ensures { result ≡ min (worth_at funding.now (flags_of active.now) (numbers_of values.now)
         (numbers_of weights.now) place) (2 ^ 20) }
 {
     value_at(funding, active, weights, values, place).min(MAX_AMOUNT) as u32
@@ -344,19 +355,19 @@ pub(crate) fn share_at(
 
 /// Computes the tickets of all flows.
 pub(crate) fn reshare(
-    funding: &[Seats],
+    funding: &[FundingTickets],
     active: &[bool; PLACES],
     weights: &[u32; PLACES],
     values: &[u64; PLACES],
-    shares: &mut [u32; MAX_FLOWS],
+    tickets_of_all: &mut [u32; MAX_FLOWS],
 )
-    requires within { (p : ℕ) → p < 65 → Each IsSeatWithin (seats_at funding.now p) }
+    requires within { (p : ℕ) → p < 65 → Each IsFundingTicketWithin (funding_tickets_at funding.now p) }
     requires places { length funding.now ≡ 65 }
     requires small { AreSmall (numbers_of values.now) }
     ensures { AreShared funding.now (flags_of active.now) (numbers_of values.now)
-        (numbers_of weights.now) (numbers_of shares.new) }
+        (numbers_of weights.now) (numbers_of tickets_of_all.new) }
 {
     for place in 0..MAX_FLOWS {
-        shares[place] = share_at(funding, active, weights, values, place);
+        tickets_of_all[place] = share_at(funding, active, weights, values, place);
     }
 }

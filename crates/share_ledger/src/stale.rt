@@ -1,26 +1,27 @@
-//! What follows where a few weights have changed: only the values and the tickets that rest on them are computed anew.
+//! What follows from a few changed weights: only the values and the tickets that rest on them are computed again.
 ghost use Rattle.std.specs.Prelude.{◌≡◌, ◌<◌, ◌≤◌, ◌+◌, ◌^◌, ◌&&◌, ◌||◌, ℕ, Bool, None, length, min, nat_eq, not};
 ghost use Rattle.std.specs.Prelude.{◌*◌, IfSome, if◌then◌else◌, true, false};
 ghost use Rattle.std.specs.List.{list_any};
 ghost use Rattle.share_model.specs.lists.Each.{Each};
 ghost use Rattle.share_ledger.specs.Arrays.{flags_of, numbers_of};
 ghost use Rattle.share_ledger.specs.Ranks.{AreOrdered};
-ghost use Rattle.share_ledger.specs.Seats.{IsSeatWithin, seats_at, weighed, AreSmall, AreAwake, AreValued, HaveValues};
+ghost use Rattle.share_ledger.specs.FundingTickets.{IsFundingTicketWithin, funding_tickets_at, worth_at, AreSmall};
+ghost use Rattle.share_ledger.specs.FundingTickets.{AreAwake, AreValued, HaveValues};
 ghost use Rattle.share_ledger.specs.Stale.{is_stale, is_touched, WereValued, HaveBits, AreMoved};
 ghost use Rattle.share_ledger.specs.Stale.{AreUntouched};
 
+use crate::funding_tickets::{FundingTickets, bit_of, come_from};
 use crate::net;
-use crate::seats::{Seats, bit_of, come_from};
 use crate::tables::{MAX_FLOWS, PLACES};
 
-/// The places whose value or weight is another one: a flag of each, and the bits of those that are flagged.
+/// The places whose value or weight has changed: a flag for each, and the bits of those that are flagged.
 #[derive(Clone, Copy, Debug)]
 pub(crate) struct Moved {
     flags: [bool; PLACES],
     bits: u64,
 }
 
-// No place.
+// No place has moved.
 fn none_moved() -> Moved
     ensures { HaveBits result }
 {
@@ -30,7 +31,7 @@ fn none_moved() -> Moved
     }
 }
 
-// Flags a place, or not.
+// Flags a place if it moved.
 fn flag(moved: &mut Moved, place: usize, flagged: bool)
     requires place { place < 65 }
     requires bits { HaveBits moved.old }
@@ -44,25 +45,27 @@ fn flag(moved: &mut Moved, place: usize, flagged: bool)
     }
 }
 
-// Whether a seat of a holder comes from a flagged place. Mostly none does, and then mostly no bit is the same.
-fn touches(holder: &Seats, moved: &Moved) -> bool
-    requires within { Each IsSeatWithin holder.now }
+// Whether a funding ticket of a holder comes from a flagged place. Mostly none does, and then mostly no bit is the
+// same.
+fn touches(holder: &FundingTickets, moved: &Moved) -> bool
+    requires within { Each IsFundingTicketWithin holder.now }
     requires bits { HaveBits moved.now }
     ensures { result ≡ list_any (λ s. flags_of moved.now.flags s.from) holder.now }
 {
-    holder.sources() & moved.bits != 0 && come_from(holder.seats(), &moved.flags)
+    holder.sources() & moved.bits != 0 && come_from(holder.funding_tickets(), &moved.flags)
 }
 
-// Whether the value of a currency may be another one: its seats or its weight are others, or what a seat is worth.
+// Whether the value of a currency may have changed: its funding tickets or its weight did, or what a funding ticket is
+// worth.
 fn is_stale(
-    backing: &[Seats],
+    backing: &[FundingTickets],
     weights: &[u32; PLACES],
     seen: &[u32; PLACES],
     moved: &Moved,
     changed: usize,
     place: usize,
 ) -> bool
-    requires within { (p : ℕ) → p < 65 → Each IsSeatWithin (seats_at backing.now p) }
+    requires within { (p : ℕ) → p < 65 → Each IsFundingTicketWithin (funding_tickets_at backing.now p) }
     requires bits { HaveBits moved.now }
     requires places { length backing.now ≡ 65 }
     requires place { place < 65 }
@@ -73,9 +76,9 @@ fn is_stale(
     changed == place || weights[place] != seen[place] || touches(holder, moved)
 }
 
-// Computes the value of a currency, and flags its place where the value is another one or the weight is.
+// Computes the value of a currency, and flags its place if value or weight has changed.
 fn revalue_at(
-    backing: &[Seats],
+    backing: &[FundingTickets],
     awake: &[bool; PLACES],
     weights: &[u32; PLACES],
     seen: &[u32; PLACES],
@@ -83,17 +86,17 @@ fn revalue_at(
     moved: &mut Moved,
     values: &mut [u64; PLACES],
 )
-    requires within { (p : ℕ) → p < 65 → Each IsSeatWithin (seats_at backing.now p) }
+    requires within { (p : ℕ) → p < 65 → Each IsFundingTicketWithin (funding_tickets_at backing.now p) }
     requires places { length backing.now ≡ 65 }
     requires place { place < 65 }
     requires small { AreSmall (numbers_of values.old) }
-    requires bound { weighed backing.now (flags_of awake.now) (numbers_of values.old) (numbers_of weights.now) place
+    requires bound { worth_at backing.now (flags_of awake.now) (numbers_of values.old) (numbers_of weights.now) place
         ≤ 9 * 2 ^ 30 }
     requires bits { HaveBits moved.old }
     ensures small { AreSmall (numbers_of values.new) }
     ensures bits { HaveBits moved.new }
     ensures values { (k : ℕ) → numbers_of values.new k
-        ≡ (if nat_eq place k then weighed backing.now (flags_of awake.now) (numbers_of values.old)
+        ≡ (if nat_eq place k then worth_at backing.now (flags_of awake.now) (numbers_of values.old)
         (numbers_of weights.now) place else numbers_of values.old k) }
     ensures moved { (k : ℕ) → flags_of moved.new.flags k
         ≡ (if nat_eq place k then not (nat_eq (numbers_of weights.now place) (numbers_of seen.now place))
@@ -108,9 +111,9 @@ fn revalue_at(
     values[place] = value;
 }
 
-// The same, where that may be another one.
+// The same, only if the value may have changed.
 fn renew_at(
-    backing: &[Seats],
+    backing: &[FundingTickets],
     awake: &[bool; PLACES],
     weights: &[u32; PLACES],
     seen: &[u32; PLACES],
@@ -119,11 +122,11 @@ fn renew_at(
     moved: &mut Moved,
     values: &mut [u64; PLACES],
 )
-    requires within { (p : ℕ) → p < 65 → Each IsSeatWithin (seats_at backing.now p) }
+    requires within { (p : ℕ) → p < 65 → Each IsFundingTicketWithin (funding_tickets_at backing.now p) }
     requires places { length backing.now ≡ 65 }
     requires place { place < 65 }
     requires small { AreSmall (numbers_of values.old) }
-    requires bound { weighed backing.now (flags_of awake.now) (numbers_of values.old) (numbers_of weights.now) place
+    requires bound { worth_at backing.now (flags_of awake.now) (numbers_of values.old) (numbers_of weights.now) place
         ≤ 9 * 2 ^ 30 }
     requires bits { HaveBits moved.old }
     ensures small { AreSmall (numbers_of values.new) }
@@ -132,7 +135,7 @@ fn renew_at(
         changed place ≡ false → (moved.new ≡ moved.old) × (values.new ≡ values.old) }
     ensures values { is_stale backing.now (flags_of moved.old.flags) (numbers_of weights.now)
         (numbers_of seen.now) changed place ≡ true → (k : ℕ) → numbers_of values.new k
-        ≡ (if nat_eq place k then weighed backing.now (flags_of awake.now) (numbers_of values.old)
+        ≡ (if nat_eq place k then worth_at backing.now (flags_of awake.now) (numbers_of values.old)
         (numbers_of weights.now) place else numbers_of values.old k) }
     ensures moved { is_stale backing.now (flags_of moved.old.flags) (numbers_of weights.now)
         (numbers_of seen.now) changed place ≡ true → (k : ℕ) → flags_of moved.new.flags k
@@ -145,10 +148,10 @@ fn renew_at(
     revalue_at(backing, awake, weights, seen, place, moved, values);
 }
 
-/// Computes the values of the currencies that may be others, from the least rank to the greatest, and flags the places
-/// whose value or weight is another one.
+/// Computes the values that may have changed, from the least rank to the greatest, and flags the places whose value or
+/// weight has changed.
 pub(crate) fn revalue(
-    backing: &[Seats],
+    backing: &[FundingTickets],
     awake: &[bool; PLACES],
     weights: &[u32; PLACES],
     seen: &[u32; PLACES],
@@ -156,7 +159,7 @@ pub(crate) fn revalue(
     changed: usize,
     values: &mut [u64; PLACES],
 ) -> Moved
-    requires within { (p : ℕ) → p < 65 → Each IsSeatWithin (seats_at backing.now p) }
+    requires within { (p : ℕ) → p < 65 → Each IsFundingTicketWithin (funding_tickets_at backing.now p) }
     requires places { length backing.now ≡ 65 }
     requires ordered { AreOrdered backing.now (numbers_of order.now) }
     requires small { AreSmall (numbers_of values.old) }
@@ -182,9 +185,9 @@ pub(crate) fn revalue(
 /// How many places are looked at together.
 const STEP: usize = 8;
 
-// Whether none of the flows of a stretch of places has a seat from a flagged place, nor is the one that changed.
-fn are_untouched(funding: &[Seats], moved: &Moved, changed: usize, from: usize) -> bool
-    requires within { (p : ℕ) → p < 65 → Each IsSeatWithin (seats_at funding.now p) }
+// Whether no flow of a stretch of places has a funding ticket from a flagged place, or is the flow that changed.
+fn are_untouched(funding: &[FundingTickets], moved: &Moved, changed: usize, from: usize) -> bool
+    requires within { (p : ℕ) → p < 65 → Each IsFundingTicketWithin (funding_tickets_at funding.now p) }
     requires bits { HaveBits moved.now }
     requires places { length funding.now ≡ 65 }
     requires stretch { from + 8 ≤ 64 }
@@ -199,15 +202,15 @@ fn are_untouched(funding: &[Seats], moved: &Moved, changed: usize, from: usize) 
     sources & moved.bits == 0 && (changed < from || from + STEP <= changed)
 }
 
-// The first flow from a place on whose tickets may be others. Whole stretches are passed where there is none.
+// The first flow from a place on whose tickets may have changed. Stretches without one are passed as a whole.
 fn next_touched(
-    funding: &[Seats],
+    funding: &[FundingTickets],
     active: &[bool; PLACES],
     moved: &Moved,
     changed: usize,
     from: usize,
 ) -> Option<usize>
-    requires within { (p : ℕ) → p < 65 → Each IsSeatWithin (seats_at funding.now p) }
+    requires within { (p : ℕ) → p < 65 → Each IsFundingTicketWithin (funding_tickets_at funding.now p) }
     requires bits { HaveBits moved.now }
     requires places { length funding.now ≡ 65 }
     ensures some { IfSome result (λ touched. (from ≤ touched) × (touched < 64)
@@ -230,29 +233,30 @@ fn next_touched(
     None
 }
 
-/// Computes the tickets of the flow at a place, and of the active ones that have a seat from a flagged place.
+/// Computes the tickets of the flow at a place, and of the active flows with a funding ticket from a flagged place.
 pub(crate) fn reshare(
-    funding: &[Seats],
+    funding: &[FundingTickets],
     active: &[bool; PLACES],
     weights: &[u32; PLACES],
     values: &[u64; PLACES],
     moved: &Moved,
     changed: usize,
-    shares: &mut [u32; MAX_FLOWS],
+    tickets_of_all: &mut [u32; MAX_FLOWS],
 )
-    requires within { (p : ℕ) → p < 65 → Each IsSeatWithin (seats_at funding.now p) }
+    requires within { (p : ℕ) → p < 65 → Each IsFundingTicketWithin (funding_tickets_at funding.now p) }
     requires places { length funding.now ≡ 65 }
     requires small { AreSmall (numbers_of values.now) }
     requires bits { HaveBits moved.now }
-    ensures { (p : ℕ) → p < 64 → numbers_of shares.new p
+    ensures { (p : ℕ) → p < 64 → numbers_of tickets_of_all.new p
         ≡ (if nat_eq changed p || (flags_of active.now p
-        && list_any (λ s. flags_of moved.now.flags s.from) (seats_at funding.now p))
-        then min (weighed funding.now (flags_of active.now) (numbers_of values.now) (numbers_of weights.now) p) (2 ^ 20)
-        else numbers_of shares.old p) }
+        && list_any (λ s. flags_of moved.now.flags s.from) (funding_tickets_at funding.now p))
+        then min (worth_at funding.now (flags_of active.now) (numbers_of values.now) (numbers_of weights.now) p)
+        (2 ^ 20)
+        else numbers_of tickets_of_all.old p) }
 {
     let mut place = 0;
     while let Some(stale) = next_touched(funding, active, moved, changed, place) {
-        shares[stale] = net::share_at(funding, active, weights, values, stale);
+        tickets_of_all[stale] = net::share_at(funding, active, weights, values, stale);
         place = stale + 1;
     }
 }

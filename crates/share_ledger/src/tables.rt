@@ -37,8 +37,8 @@ pub(crate) const MAX_FUNDING: usize = 16;
 /// The greatest amount of a ticket.
 pub(crate) const MAX_AMOUNT: u64 = 1 << 20;
 
-/// The currencies besides `base`, the tickets, the open flows, and the numbers that are given next.
-/// A contract sees them as their graph.
+/// The currencies besides `base`, the tickets, the open flows, and the next numbers. A contract sees them as their
+/// graph.
 #[derive(Drop)]
 pub(crate) struct Tables {
     currencies: IndexSet<Name>,
@@ -71,7 +71,7 @@ impl Model for Tables {
     }) };
 }
 
-/// Whether a name is that of the currency that always exists.
+/// Whether a name is `base`, the currency that always exists.
 pub(crate) fn is_base(name: Name) -> bool
     ensures { result ≡ bytes_eq name base }
 {
@@ -92,7 +92,7 @@ impl Tables {
         }
     }
 
-    /// The graph is well formed.
+    /// A law: the graph is well formed.
     pub(crate) fn is_kept(&self)
         ensures { IsKept self.now }
     {
@@ -156,7 +156,7 @@ impl Tables {
         place + 1
     }
 
-    /// The place of a currency that was made, if it is there.
+    /// The place of a currency that was made, if there is one of this name.
     pub(crate) fn place_made(&self, name: Name) -> Option<usize>
         ensures { IfSome result (λ p. p ≡ place (names_of self.now) name) }
     {
@@ -208,8 +208,7 @@ impl Tables {
         self.flows.values().position(|open| flow == open.number)
     }
 
-    // As many flows after the first as the flow's number is past that of the first: it stands there where none between
-    // them was closed.
+    // How far the flow's number is past that of the first flow. That is its place if no flow between them was closed.
     fn flows_past_first(&self, flow: FlowNo) -> usize
         ensures { MatchOption (slice_get self.now.flows 0) (result ≡ 0) (λ first. result ≡ flow - first.1.number) }
     {
@@ -219,7 +218,7 @@ impl Tables {
         }
     }
 
-    // Whether the open flow of a number stands at a place.
+    // Whether the open flow of a number is at a place.
     fn is_flow_at(&self, flow: FlowNo, place: usize) -> bool
         ensures { IsTrue result
             → position (λ (o : OpenFlow). nat_eq flow o.number) (map (λ e. e.1) self.now.flows) ≡ Some place }

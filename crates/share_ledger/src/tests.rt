@@ -1,5 +1,5 @@
-//! Worked figures, the limits and the orders of refusals, each a table of calls and their answers; and a long run
-//! beside a plain model.
+//! Worked figures, the limits and the orders of refusals, each a table of calls and their answers; and long runs
+//! compared with a plain model.
 
 mod chains;
 mod limits;
@@ -54,15 +54,15 @@ enum Call {
     ActiveAt(usize, &'static str),
     Tickets(u32),
     TicketsAt(usize),
-    /// The tickets of each of the first so many flows, if all have the same.
+    /// The tickets of each of the first flows, this many of them, if all have the same.
     TicketsOfEach(u32),
     NextTicket,
 }
 
-/// What a call answers: a number, or nothing to tell, or why nothing was done.
+/// The answer to a call: a number, or nothing to tell, or why nothing was done.
 type Answer = Result<Option<u64>, Refusal>;
 
-/// A call with what it answers.
+/// A call and its answer.
 type Row = (Call, Answer);
 
 /// What a table is about, the rows that lead up to it, and its own rows.
@@ -217,7 +217,7 @@ fn tickets_of_each(ledger: &Ledger, count: u32) -> Option<u64> {
     Some(u64::from(tickets))
 }
 
-// After a refusal the numbers that are given next are as before.
+// Checks the next numbers, which a refusal does not change.
 fn gives_next(rt: &impl Abort, ledger: &Ledger, ticket: u32, flow: u32) {
     assert_eq!(rt; ledger.next_ticket(), ticket);
     assert_eq!(rt; ledger.next_flow(), flow);
@@ -228,7 +228,7 @@ fn answers(rt: &impl Abort, ledger: &mut Ledger, table: &str, at: usize, row: &R
     assert_eq!(rt; ask(rt, ledger, call), wanted, "{table}, at row {at}");
 }
 
-// Makes each call, and compares its answer.
+// Makes each call, and checks its answer.
 fn play(rt: &impl Abort, ledger: &mut Ledger, table: &str, rows: &[Row]) {
     for at in 0..rows.len() {
         let row = &rows[at];

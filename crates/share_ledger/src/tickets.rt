@@ -1,4 +1,4 @@
-//! Where a ticket stands among the tickets, by its number.
+//! The place of a ticket among the tickets, by its number.
 ghost use Rattle.std.specs.Prelude.{◌≡◌, ◌-◌, MatchOption, IsTrue, None, Some, IfOk, IfErr};
 ghost use Rattle.std.specs.Prelude.{position, length, slice_get};
 ghost use Rattle.share_model.specs.funding.Changes.{is_numbered};
@@ -6,8 +6,8 @@ ghost use Rattle.share_ledger.specs.Numbers.{AreRising};
 
 use share_model::Ticket;
 
-/// Where the ticket of a number stands, if it is there. Two places are tried before it is sought by halves: as far past
-/// the first ticket as its number is, and as far before the last.
+/// The place of the ticket of a number, if it is there. Two places are tried before a search by halves: as far past the
+/// first ticket as its number is, and as far before the last.
 pub(crate) fn place_of(tickets: &[Ticket], number: u64) -> Option<usize>
     requires { AreRising tickets.now }
     ensures { result ≡ position (is_numbered number) tickets.now }
@@ -26,7 +26,7 @@ pub(crate) fn place_of(tickets: &[Ticket], number: u64) -> Option<usize>
     }
 }
 
-// Whether the ticket of a number stands at a place.
+// Whether the ticket of a number is at a place.
 fn stands_at(tickets: &[Ticket], number: u64, place: usize) -> bool
     requires { AreRising tickets.now }
     ensures { IsTrue result → position (is_numbered number) tickets.now ≡ Some place }

@@ -1,5 +1,5 @@
-//! What changes the net: a flow that wakes or rests, one seat more or fewer, and all seats anew.
-ghost use Rattle.share_ledger.specs.declared.seats.Seat.{Seat};
+//! What changes the net: a flow wakes or rests, a funding ticket comes or goes, or all is computed from scratch.
+ghost use Rattle.share_ledger.specs.declared.funding_tickets.FundingTicket.{FundingTicket};
 ghost use Rattle.std.specs.Prelude.{◌≡◌, ℕ, sum_by, ◌+◌, ◌<◌, ◌++◌, ◌∷◌, [], length, true, false, not, nat_eq, IfOk};
 ghost use Rattle.std.specs.Prelude.{◌^◌, min, slice_set, if◌then◌else◌};
 ghost use Rattle.std.specs.Prelude.{◌≤◌};
@@ -7,32 +7,33 @@ ghost use Rattle.std.specs.List.{list_all, list_any};
 ghost use Rattle.share_model.specs.lists.Each.{Each};
 ghost use Rattle.share_ledger.specs.Arrays.{flags_of, numbers_of};
 ghost use Rattle.share_ledger.specs.Routes.{IsRouteWithin};
-ghost use Rattle.share_ledger.specs.Seats.{seats_at, seat_of, is_like, AreSeated, AreCounted, backs_of, funds_of};
-ghost use Rattle.share_ledger.specs.Seats.{IsSeatWithin, AreSmall, weighed};
-ghost use Rattle.share_ledger.specs.Nets.{activity_of, IsBegun};
+ghost use Rattle.share_ledger.specs.FundingTickets.{funding_tickets_at, funding_ticket_of, is_like, AreTicketed};
+ghost use Rattle.share_ledger.specs.FundingTickets.{AreCounted, backs_of, funds_of};
+ghost use Rattle.share_ledger.specs.FundingTickets.{IsFundingTicketWithin, AreSmall, worth_at};
+ghost use Rattle.share_ledger.specs.Nets.{activity_of, HasInputs};
 
+use crate::funding_tickets::{FundingTicket, FundingTickets, funding_tickets_at};
 use crate::net::{self, Net};
 use crate::ranks;
 use crate::routes::Route;
-use crate::seats::{Seat, Seats, seats_at};
 use crate::tables::{MAX_FLOWS, PLACES, Tables};
 use std::alloc::{AllocError, Global};
 
-// So many holders without seats.
-fn holders(alloc: Global) -> Result<Vec<Seats>, AllocError>
+// The holders of all places, without funding tickets.
+fn holders(alloc: Global) -> Result<Vec<FundingTickets>, AllocError>
     ensures { IfOk result (λ holders. length holders.items ≡ 65) }
 {
     let mut holders = Vec::new(alloc);
     for _ in 0..PLACES {
-        holders.push(Seats::new())?;
+        holders.push(FundingTickets::new())?;
     }
     Ok(holders)
 }
 
-// All seats are taken away.
-fn clear(holders: &mut Vec<Seats>)
+// Takes all funding tickets away.
+fn clear(holders: &mut Vec<FundingTickets>)
     ensures places { length holders.new.items ≡ length holders.old.items }
-    ensures none { (p : ℕ) → seats_at holders.new.items p ≡ [] }
+    ensures none { (p : ℕ) → funding_tickets_at holders.new.items p ≡ [] }
 {
     for i in 0..holders.len() {
         let holder = &mut holders[i];
@@ -40,44 +41,45 @@ fn clear(holders: &mut Vec<Seats>)
     }
 }
 
-// The holder of a route gets its seat.
-pub(crate) fn seat(route: &Route, holders: &mut Vec<Seats>)
+// Gives the holder of a route its funding ticket.
+pub(crate) fn add_funding_ticket(route: &Route, holders: &mut Vec<FundingTickets>)
     requires within { IsRouteWithin route.now }
     requires places { length holders.old.items ≡ 65 }
-    requires room { length (seats_at holders.old.items route.now.to) < 16 }
+    requires room { length (funding_tickets_at holders.old.items route.now.to) < 16 }
     ensures places { length holders.new.items ≡ 65 }
-    ensures seated { (k : ℕ) → seats_at holders.new.items k
-        ≡ (if nat_eq route.now.to k then seats_at holders.old.items k ++ seat_of route.now ∷ []
-        else seats_at holders.old.items k) }
+    ensures ticketed { (k : ℕ) → funding_tickets_at holders.new.items k
+        ≡ (if nat_eq route.now.to k then funding_tickets_at holders.old.items k ++ funding_ticket_of route.now ∷ []
+        else funding_tickets_at holders.old.items k) }
 {
     let holder = &mut holders[route.to];
-    holder.add(Seat {
+    holder.add(FundingTicket {
         from: route.from as u32,
         amount: route.amount,
     });
 }
 
-// The holder of a route loses its seat.
-pub(crate) fn unseat(route: &Route, holders: &mut Vec<Seats>)
+// Takes the funding ticket of a route from its holder.
+pub(crate) fn remove_funding_ticket(route: &Route, holders: &mut Vec<FundingTickets>)
     requires within { IsRouteWithin route.now }
     requires places { length holders.old.items ≡ 65 }
-    requires has { list_any (is_like (seat_of route.now)) (seats_at holders.old.items route.now.to) ≡ true }
+    requires has { list_any (is_like (funding_ticket_of route.now)) (funding_tickets_at holders.old.items route.now.to)
+        ≡ true }
     ensures places { length holders.new.items ≡ 65 }
     ensures others { (k : ℕ) → nat_eq route.now.to k ≡ false
-        → seats_at holders.new.items k ≡ seats_at holders.old.items k }
-    ensures out { (F : Seat → ℕ)
-        → sum_by F (seats_at holders.new.items route.now.to) + F (seat_of route.now)
-        ≡ sum_by F (seats_at holders.old.items route.now.to) }
+        → funding_tickets_at holders.new.items k ≡ funding_tickets_at holders.old.items k }
+    ensures out { (F : FundingTicket → ℕ)
+        → sum_by F (funding_tickets_at holders.new.items route.now.to) + F (funding_ticket_of route.now)
+        ≡ sum_by F (funding_tickets_at holders.old.items route.now.to) }
 {
     let holder = &mut holders[route.to];
-    holder.remove(Seat {
+    holder.remove(FundingTicket {
         from: route.from as u32,
         amount: route.amount,
     });
 }
 
-// What a ticket counts for, where its holder is awake.
-pub(crate) fn counted(holds: bool, amount: u32) -> u32
+// The amount if `holds`, else 0.
+pub(crate) fn amount_if(holds: bool, amount: u32) -> u32
     ensures { result ≡ (if holds then amount else 0) }
 {
     if holds {
@@ -86,16 +88,16 @@ pub(crate) fn counted(holds: bool, amount: u32) -> u32
     0
 }
 
-// The holders get the seats of these routes and no others.
-fn fill(routes: &[Route], holders: &mut Vec<Seats>)
+// Gives the holders the funding tickets of these routes, and takes away all others.
+fn fill(routes: &[Route], holders: &mut Vec<FundingTickets>)
     requires within { Each IsRouteWithin routes.now }
     requires places { length holders.old.items ≡ 65 }
     requires room { (p : ℕ) → p < 65 → sum_by (λ r. if nat_eq p r.to then 1 else 0) routes.now ≤ 16 }
-    ensures seated { AreSeated routes.now holders.new.items }
+    ensures ticketed { AreTicketed routes.now holders.new.items }
 {
     clear(holders);
     for route in routes {
-        seat(route, holders);
+        add_funding_ticket(route, holders);
     }
 }
 
@@ -117,15 +119,15 @@ fn empty_all(weights: &mut [u32; PLACES], values: &mut [u64; PLACES])
     }
 }
 
-// The active flows wake, where none is yet.
+// Wakes the active flows; none is awake before.
 fn wake_all(
     tables: &Tables,
-    funding: &[Seats],
+    funding: &[FundingTickets],
     awake: &[bool; PLACES],
     active: &mut [bool; PLACES],
     weights: &mut [u32; PLACES],
 )
-    requires seated { AreSeated (funds_of tables.now) funding.now }
+    requires ticketed { AreTicketed (funds_of tables.now) funding.now }
     requires idle { (k : ℕ) → flags_of active.old k ≡ false }
     requires counted { AreCounted (backs_of tables.now) (funds_of tables.now) (flags_of awake.now)
         (flags_of active.old) (numbers_of weights.old) }
@@ -141,16 +143,16 @@ fn wake_all(
     }
 }
 
-// What weighs on the places and what the currencies are worth as nothing is awake, and then the active flows wake.
+// Resets activity, weights and values, and then wakes each active flow.
 fn rouse(
     tables: &Tables,
-    funding: &[Seats],
+    funding: &[FundingTickets],
     active: &mut [bool; PLACES],
     awake: &mut [bool; PLACES],
     weights: &mut [u32; PLACES],
     values: &mut [u64; PLACES],
 )
-    requires seated { AreSeated (funds_of tables.now) funding.now }
+    requires ticketed { AreTicketed (funds_of tables.now) funding.now }
     ensures counted { AreCounted (backs_of tables.now) (funds_of tables.now) (flags_of awake.new)
         (flags_of active.new) (numbers_of weights.new) }
     ensures active { (k : ℕ) → flags_of active.new k ≡ activity_of tables.now k }
@@ -179,18 +181,19 @@ impl Net {
         })
     }
 
-    /// The flow at a place wakes or rests.
+    /// Makes the flow at a place wake or rest.
     pub(crate) fn turn(&mut self, tables: &Tables, place: usize, active: bool)
         requires place { place < 65 }
-        requires begun { IsBegun self.old (backs_of tables.now) (funds_of tables.now) (flags_of self.old.active.value) }
+        requires begun { HasInputs self.old (backs_of tables.now) (funds_of tables.now)
+            (flags_of self.old.active.value) }
         requires turns { flags_of self.old.active.value place ≡ not active }
         requires then { (k : ℕ) → activity_of tables.now k
             ≡ (if nat_eq place k then active else flags_of self.old.active.value k) }
-        ensures begun { IsBegun self.new (backs_of tables.now) (funds_of tables.now) (activity_of tables.now) }
+        ensures begun { HasInputs self.new (backs_of tables.now) (funds_of tables.now) (activity_of tables.now) }
         ensures left { (self.new.backing ≡ self.old.backing) × (self.new.funding ≡ self.old.funding)
             × (self.new.awake ≡ self.old.awake) × (self.new.values ≡ self.old.values)
             × (self.new.seen ≡ self.old.seen) }
-        ensures still { list_all (λ s. nat_eq s.from 0) (seats_at self.old.funding.items place) ≡ true
+        ensures still { list_all (λ s. nat_eq s.from 0) (funding_tickets_at self.old.funding.items place) ≡ true
             → (k : ℕ) → 0 < k → k < 65
             → numbers_of self.new.weights.value k ≡ numbers_of self.old.weights.value k }
     {
@@ -219,23 +222,23 @@ impl Net {
     pub(crate) fn is_funded_by_base(&self, place: usize) -> bool
         requires place { place < 65 }
         requires places { length self.now.funding.items ≡ 65 }
-        ensures { result ≡ list_all (λ s. nat_eq s.from 0) (seats_at self.now.funding.items place) }
+        ensures { result ≡ list_all (λ s. nat_eq s.from 0) (funding_tickets_at self.now.funding.items place) }
     {
-        net::are_of_base(seats_at(&self.funding, place))
+        net::are_of_base(funding_tickets_at(&self.funding, place))
     }
 
-    /// The tickets of the flow at a place.
-    pub(crate) fn share(&self, place: usize, shares: &mut [u32; MAX_FLOWS])
+    /// Computes the tickets of the flow at a place.
+    pub(crate) fn share(&self, place: usize, tickets_of_all: &mut [u32; MAX_FLOWS])
         requires place { place < 64 }
-        requires within { (p : ℕ) → p < 65 → Each IsSeatWithin (seats_at self.now.funding.items p) }
+        requires within { (p : ℕ) → p < 65 → Each IsFundingTicketWithin (funding_tickets_at self.now.funding.items p) }
         requires places { length self.now.funding.items ≡ 65 }
         requires small { AreSmall (numbers_of self.now.values.value) }
-        ensures set { shares.new ≡ slice_set shares.old place
-            (min (weighed self.now.funding.items (flags_of self.now.active.value)
+        ensures set { tickets_of_all.new ≡ slice_set tickets_of_all.old place
+            (min (worth_at self.now.funding.items (flags_of self.now.active.value)
             (numbers_of self.now.values.value) (numbers_of self.now.weights.value) place) (2 ^ 20)) }
-        ensures long { (length shares.old ≡ 64) × (length shares.new ≡ 64) }
+        ensures long { (length tickets_of_all.old ≡ 64) × (length tickets_of_all.new ≡ 64) }
     {
-        shares[place] = net::share_at(
+        tickets_of_all[place] = net::share_at(
             &self.funding,
             &self.active,
             &self.weights,
@@ -244,12 +247,12 @@ impl Net {
         );
     }
 
-    /// All seats, the ranks and the activity anew.
+    /// Computes all funding tickets, the ranks and the activity from scratch.
     pub(crate) fn begin(&mut self, tables: &Tables, backs: &[Route], funds: &[Route])
         requires backs { backs.now ≡ backs_of tables.now }
         requires funds { funds.now ≡ funds_of tables.now }
         requires places { (length self.old.backing.items ≡ 65) × (length self.old.funding.items ≡ 65) }
-        ensures { IsBegun self.new (backs_of tables.now) (funds_of tables.now) (activity_of tables.now) }
+        ensures { HasInputs self.new (backs_of tables.now) (funds_of tables.now) (activity_of tables.now) }
     {
         tables.is_kept();
         fill(backs, &mut self.backing);

@@ -1,5 +1,5 @@
 -- How many arrivals there are among entries.
-use Rattle.std.specs.Prelude.{◌≡◌, ◌&&◌, ℕ, ◌+◌, List, [], ◌∷◌, ◌++◌, length, count_by, if◌then◌else◌}
+use Rattle.std.specs.Prelude.{◌≡◌, ◌&&◌, ℕ, ◌+◌, List, [], ◌∷◌, length, count_by, if◌then◌else◌}
 use Rattle.std.specs.List.{fold}
 use Rattle.std.proofs.Common.{arith}
 use Rattle.std.proofs.lemmas.List.{length-append}
@@ -10,11 +10,11 @@ use Rattle.share_model.specs.declared.ingress.Offer.{Offer}
 use Rattle.share_journal.specs.declared.entry.Entry.{Entry}
 use Rattle.share_journal.specs.declared.entry.Source.{Source}
 use Rattle.share_journal.specs.declared.entry.Source.TheVariants.{Clerk, Worker, Link}
-use Rattle.share_journal.specs.Arrivals.{with_packet, with_event, with_entry, next_of, arrivals}
+use Rattle.share_journal.specs.Arrivals.{with_arrival, with_event, with_entry, next_of, arrivals}
 use Rattle.share_locked.specs.Receipts.{is_worker, is_arrived, is_arrival}
 
 packet_count : (before : List Offer) (source : Source) (name body : List ℕ)
-    → length (with_packet before source name body) ≡ length before + (if is_worker source then 1 else 0)
+    → length (with_arrival before source name body) ≡ length before + (if is_worker source then 1 else 0)
 packet_count before (Clerk n) name body = omega arith
 packet_count before (Worker n) name body =
     let one = length-append before (next_of before n name body ∷ []) in omega (arith, one)

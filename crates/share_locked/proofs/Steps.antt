@@ -8,20 +8,20 @@ use Rattle.share_base.specs.declared.command.Reply.{Reply}
 use Rattle.share_base.specs.declared.command.Reply.TheVariants.{Refused}
 use Rattle.share_model.specs.declared.ingress.Offer.{Offer}
 use Rattle.share_model.specs.ingress.Queue.{of_worker}
-use Rattle.share_model.specs.link.AnswerLaws.{arrival-answers}
+use Rattle.share_model.proofs.lemmas.link.AnswerLaws.{arrival-answers}
 use Rattle.share_model.specs.link.Answers.{answers_event}
-use Rattle.share_model.specs.link.Did.{is_spent, Stepped, Steps}
-use Rattle.share_model.specs.link.Live.{arrive_step}
+use Rattle.share_model.specs.link.Calls.{is_spent, Stepped, Steps}
+use Rattle.share_model.specs.link.Arrivals.{arrive_step}
 use Rattle.share_ingress.specs.Ends.{IntakeView, IsTake}
 use Rattle.share_journal.specs.declared.entry.Entry.{Entry}
-use Rattle.share_journal.specs.ArrivalLaws.{arrivals-arrival, arrivals-command}
+use Rattle.share_journal.proofs.ArrivalLaws.{arrivals-arrival, arrivals-command}
 use Rattle.share_journal.specs.Arrivals.{arrivals, next_of}
 use Rattle.share_journal.specs.Entries.{command_entry, arrival_entry}
-use Rattle.share_journal.specs.Records.{Recorded, made_event, entry_if}
+use Rattle.share_journal.specs.Records.{RecorderView, made_event, entry_if}
 use Rattle.share_locked.specs.Views.{LockedView}
 use Rattle.share_locked.specs.Calls.{Admits}
 
-abbrev pub stands : {W : Type 0} → Recorded W → IntakeView → ℕ → LockedView W
+abbrev pub stands : {W : Type 0} → RecorderView W → IntakeView → ℕ → LockedView W
 stands recorder intake clerks = record { recorder = recorder; intake = intake; clerks = clerks }
 
 -- nothing was brought yet
@@ -46,7 +46,7 @@ command_kept old new n c reply false is = ap arrivals (is ∙ append-nil old)
 
 -- Admissions
 
-module _ {W : Type 0} (old new : Recorded W) (i after : IntakeView) (o : Offer) (reply : Reply)
+module _ {W : Type 0} (old new : RecorderView W) (i after : IntakeView) (o : Offer) (reply : Reply)
     (living : is_spent old.link ≡ false) (taken : IsTake i o after)
     (did : Steps (λ rates l. arrive_step l o.name o.parcel) old.link reply new.link)
     (entry : new.entries

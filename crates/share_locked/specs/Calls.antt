@@ -1,27 +1,28 @@
--- What each call on a running link did, as a relation between what stood behind the lock before it, the answer, and
--- what stands there after it.
-use Rattle.std.specs.Prelude.{◌≡◌, ◌⊎◌, ℕ, suc, Bool, true, false, List, [], ◌∷◌, ◌++◌, length}
+-- What each call on a running link did, as a relation between what was behind the lock before it, the answer, and what
+-- is there after it.
+use Rattle.std.specs.Prelude.{◌≡◌, ◌⊎◌, ℕ, suc, true, false, [], ◌∷◌, ◌++◌, length}
 use Rattle.share_base.specs.declared.refusal.Refusal.TheVariants.{NoMemory, Spent as SpentRefusal}
 use Rattle.share_base.specs.declared.command.Command.{Command}
 use Rattle.share_base.specs.declared.command.Reply.{Reply}
 use Rattle.share_base.specs.declared.command.Reply.TheVariants.{Refused}
 use Rattle.share_model.specs.declared.ingress.Offer.{Offer}
-use Rattle.share_model.specs.link.Did.{is_spent, Stepped, CommandDid}
-use Rattle.share_model.specs.link.Live.{command_step, arrive_step}
+use Rattle.share_model.specs.link.Calls.{is_spent, Stepped, CommandCall}
+use Rattle.share_model.specs.link.Commands.{command_step}
+use Rattle.share_model.specs.link.Arrivals.{arrive_step}
 use Rattle.share_ingress.specs.Ends.{IsTake, with_miss}
 use Rattle.share_journal.specs.Entries.{command_entry, arrival_entry}
 use Rattle.share_locked.specs.declared.locked.Admit.{Admit}
 use Rattle.share_locked.specs.declared.locked.Admit.TheVariants.{Admitted, Empty, Spent}
 use Rattle.share_locked.specs.Views.{LockedView, ClerkView, receipt, with_receipt}
 
--- the intake and the number of clerks stayed as they were
+-- the intake and the number of clerks did not change
 pub record KeepsSide {W : Type 0} (old new : LockedView W) : Type 0 where
   pub intake : new.intake ≡ old.intake
   pub clerks : new.clerks ≡ old.clerks
 
 -- Commands
 
--- the command was an event: it has one entry, under this clerk, and one receipt with the number of that
+-- the command was an event: it has an entry, under this clerk, and a receipt with the number of the entry
 pub record IsBooked {W : Type 0} (old : LockedView W) (before : ClerkView) (c : Command) (number : ℕ) (reply : Reply)
     (new : LockedView W) (after : ClerkView) : Type 0 where
   pub living : is_spent old.recorder.link ≡ false
@@ -32,11 +33,11 @@ pub record IsBooked {W : Type 0} (old : LockedView W) (before : ClerkView) (c : 
   pub kept : after ≡ with_receipt before (receipt number c reply)
   pub side : KeepsSide old new
 
--- the command was no event: the life was spent, or memory was refused to it, and nothing changed
+-- the command was no event: the life was spent, or memory was refused, and nothing changed
 pub record IsNotBooked {W : Type 0} (old : LockedView W) (before : ClerkView) (c : Command) (number : ℕ) (reply : Reply)
     (new : LockedView W) (after : ClerkView) : Type 0 where
   pub number_is : number ≡ 0
-  pub did : CommandDid old.recorder.link c reply old.recorder.link
+  pub did : CommandCall old.recorder.link c reply old.recorder.link
   pub why : (reply ≡ Refused SpentRefusal) ⊎ (reply ≡ Refused NoMemory)
   pub unchanged : new ≡ old
   pub clerk : after ≡ before

@@ -12,7 +12,7 @@ use Rattle.share_locked.specs.declared.threads.Left.{Left}
 abbrev pub done_of : {G : Type 0} → Left G → Done G
 done_of l = record { end = l.end.value; gate = l.gate; why = l.why; tally = l.tally }
 
--- a job was done, or was not started, and this is left of it
+-- this is left of a job that was done, or was not started
 abbrev pub IsJobLeft : {R G : Type 0} → (R → List ℕ → Got → R → Type 0) → (R → Option (List ℕ))
     → (G → GateCall → G → Type 0) → Job R G → Left G → Type 0
 IsJobLeft gives left told job l = IsJobDone gives left told job (done_of l)

@@ -27,19 +27,19 @@ receipt_by number (Arrived flow body) outcome = []
 receipt_by number (Written k) outcome = []
 receipt_by number Faulted outcome = []
 
--- the receipt that this clerk has of an entry of this number: one of its own commands
-abbrev pub booked : ℕ → ℕ → Entry → List Receipt
-booked clerk number e = if is_from clerk e.source then receipt_by number e.event e.reply else []
+-- the receipt that this clerk has of an entry of this number, if that is one of its commands
+abbrev pub receipt_in : ℕ → ℕ → Entry → List Receipt
+receipt_in clerk number e = if is_from clerk e.source then receipt_by number e.event e.reply else []
 
 -- one receipt, or none
-abbrev pub listed : Option Receipt → List Receipt
-listed None = []
-listed (Some r) = r ∷ []
+abbrev pub list_of : Option Receipt → List Receipt
+list_of None = []
+list_of (Some r) = r ∷ []
 
--- those of entries that are numbered from k + 1
+-- the receipts that a clerk has of entries numbered from k + 1 on
 abbrev pub receipts_of : ℕ → ℕ → List Entry → List Receipt
 receipts_of clerk k [] = []
-receipts_of clerk k (e ∷ es) = booked clerk (suc k) e ++ receipts_of clerk (suc k) es
+receipts_of clerk k (e ∷ es) = receipt_in clerk (suc k) e ++ receipts_of clerk (suc k) es
 
 -- the receipts of a clerk are what the journal holds of it
 abbrev pub Agrees : List Entry → ClerkView → Type 0
@@ -48,11 +48,11 @@ Agrees entries clerk = clerk.receipts ≡ receipts_of clerk.number 0 entries
 abbrev pub Disagrees : List Entry → ClerkView → Type 0
 Disagrees entries clerk = clerk.receipts ≢ receipts_of clerk.number 0 entries
 
--- a receipt stands in the journal at its number, under its clerk
-abbrev pub Stands : List Entry → ℕ → Receipt → Type 0
-Stands entries clerk r = entry_at entries r.number ≡ Some (command_entry clerk r.command r.reply)
+-- the journal has the command and the reply of a receipt under its number, and under the clerk
+abbrev pub StandsInJournal : List Entry → ℕ → Receipt → Type 0
+StandsInJournal entries clerk r = entry_at entries r.number ≡ Some (command_entry clerk r.command r.reply)
 
--- numbers that ascend, from above a bound
+-- the numbers rise, and are above a bound
 abbrev pub Ascend : ℕ → List Receipt → Type 0
 Ascend least [] = Unit {0}
 Ascend least (r ∷ rs) = (least < r.number) × Ascend r.number rs

@@ -1,14 +1,14 @@
--- What comes of settling a link that is served no more.
+-- What becomes of a link that is settled after its service.
 use Rattle.std.specs.Prelude.{◌≡◌, ◌≢◌, ◌&&◌, ◌⊎◌, ◌≤◌, ℕ, Option, Bool, true, false, not, List, length, sum}
 use Rattle.std.specs.Prelude.{is_some, Any}
 use Rattle.share_model.specs.ingress.Queue.{IsWorker}
 use Rattle.share_model.specs.io.Told.{Told}
-use Rattle.share_model.specs.link.Did.{is_spent}
-use Rattle.share_model.specs.link.Live.{sending}
-use Rattle.share_model.specs.link.Seen.{Seen}
+use Rattle.share_model.specs.link.Calls.{is_spent}
+use Rattle.share_model.specs.link.Turns.{sending}
+use Rattle.share_model.specs.link.View.{LinkView}
 use Rattle.share_model.specs.lists.Each.{Each}
 use Rattle.share_model.specs.text.Audit.{audit}
-use Rattle.share_model.specs.text.Talk.{start, talk, lines_of, FoundMemory}
+use Rattle.share_model.specs.text.Talk.{start_of_script, talk, lines_of, FoundMemory}
 use Rattle.share_ingress.specs.Ends.{EndView, IntakeView}
 use Rattle.share_ingress.specs.Gathers.{AllThere, IsMissing, IsTaken, HasLeft, IsWhole, Gathered}
 use Rattle.share_ingress.specs.declared.ends.gather.WhyNot.{WhyNot}
@@ -16,23 +16,23 @@ use Rattle.share_ingress.specs.declared.ends.gather.WhyNot.TheVariants.{Mismatch
 use Rattle.share_ingress.specs.declared.ends.gather.WhyNot.TheVariants.{LeftOver as EndLeftOver}
 use Rattle.share_ingress.specs.declared.ends.gather.WhyNot.TheVariants.{NoMemory as EndNoMemory}
 use Rattle.share_journal.specs.Arrivals.{arrivals}
-use Rattle.share_journal.specs.Entries.{events_of}
-use Rattle.share_journal.specs.Records.{Recorded}
+use Rattle.share_journal.specs.Entries.{events_in}
+use Rattle.share_journal.specs.Records.{RecorderView}
 use Rattle.share_journal.specs.Replays.{IsReplayOf}
 use Rattle.share_locked.specs.declared.locked.settling.WhyUnsettled.{WhyUnsettled}
 use Rattle.share_locked.specs.declared.locked.settling.WhyUnsettled.TheVariants.{Unsent, Mismatch, LeftOver, NoMemory}
-use Rattle.share_locked.specs.Receipts.{Agrees, Disagrees, Stands, Ascend, commands_in, receipts_in, has_clerk}
+use Rattle.share_locked.specs.Receipts.{Agrees, Disagrees, StandsInJournal, Ascend, commands_in, receipts_in, has_clerk}
 use Rattle.share_locked.specs.Views.{LockedView, ClerkView}
 
 -- there is a frame to send, the link is not broken, and its life is not spent
-abbrev pub is_unsent : {W : Type 0} → Seen W → Bool
+abbrev pub is_unsent : {W : Type 0} → LinkView W → Bool
 is_unsent s = not (is_spent s) && (not s.live.broken && is_some (sending s.live))
 
 -- all clerks are there
 abbrev pub AreClerks : ℕ → List ClerkView → Type 0
 AreClerks count clerks = (n : ℕ) → IsWorker count n → has_clerk n clerks ≡ true
 
--- one is not
+-- a clerk is missing
 abbrev pub ClerkIsMissing : ℕ → List ClerkView → Type 0
 ClerkIsMissing count clerks = (n : ℕ) × IsWorker count n × (has_clerk n clerks ≡ false)
 
@@ -48,7 +48,7 @@ pub data Disagreed {W : Type 0} (l : LockedView W) (clerks : List ClerkView) : T
   clerk_differs : Any (Disagrees l.recorder.entries) clerks → Disagreed l clerks
   clerks_differ : receipts_in clerks ≢ commands_in l.recorder.entries → Disagreed l clerks
 
--- the want of the ends, of a whole link
+-- why a link is not settled, if this is why its ends were not joined
 abbrev pub why_of : WhyNot → WhyUnsettled
 why_of EndMissing = Mismatch
 why_of EndLeftOver = LeftOver
@@ -67,9 +67,9 @@ Unsettles NoMemory l ends clerks =
     (is_unsent l.recorder.link ≡ false) × AreAgreed l clerks × AllThere l.intake.workers ends
     × Each (IsTaken l.intake.popped) ends
 
--- The ends were joined to the intake, so that the queue holds nothing and can get nothing any more. What each worker
--- queued is, whole and in order, its arrivals in the journal, and the tallies are of these.
-pub record IsJoined {W : Type 0} (l : LockedView W) (ends : List EndView) (recorder : Recorded W) (tallies : List ℕ)
+-- The ends were joined to the intake, so the queue holds nothing and can get nothing any more. What each worker queued
+-- is, whole and in order, its arrivals in the journal, and the tallies count these.
+pub record IsJoined {W : Type 0} (l : LockedView W) (ends : List EndView) (recorder : RecorderView W) (tallies : List ℕ)
     (arrived commands : ℕ) : Type 0 where
   pub recorder_is : recorder ≡ l.recorder
   pub joined : IntakeView
@@ -79,34 +79,34 @@ pub record IsJoined {W : Type 0} (l : LockedView W) (ends : List EndView) (recor
   pub total : sum tallies ≡ arrived
   pub commands_are : commands ≡ commands_in l.recorder.entries
 
--- A settled link: nothing is left to send, the recorder is the lock's own, and the ends were joined. The receipts of
--- the clerks are all commands of the journal: each stands there at its number, and those of a clerk ascend.
+-- A settled link: nothing is left to send, the recorder is that of the lock, and the ends were joined. The receipts of
+-- the clerks are all commands of the journal: each is there under its number, and the numbers of a clerk rise.
 pub record IsSettled {W : Type 0} (l : LockedView W) (ends : List EndView) (clerks : List ClerkView)
-    (recorder : Recorded W) (tallies : List ℕ) (arrived commands : ℕ) : Type 0 where
+    (recorder : RecorderView W) (tallies : List ℕ) (arrived commands : ℕ) : Type 0 where
   pub sent : is_unsent l.recorder.link ≡ false
   pub agreed : AreAgreed l clerks
-  pub stand : Each (λ (c : ClerkView). Each (Stands l.recorder.entries c.number) c.receipts) clerks
+  pub stand : Each (λ (c : ClerkView). Each (StandsInJournal l.recorder.entries c.number) c.receipts) clerks
   pub ascend : Each (λ (c : ClerkView). Ascend 0 c.receipts) clerks
   pub ends_joined : IsJoined l ends recorder tallies arrived commands
 
 -- a link that is settled, with this many clerks
-pub record IsSettledBy {W : Type 0} (count : ℕ) (ends : List EndView) (recorder : Recorded W) (tallies : List ℕ)
+pub record IsSettledBy {W : Type 0} (count : ℕ) (ends : List EndView) (recorder : RecorderView W) (tallies : List ℕ)
     (arrived commands : ℕ) : Type 0 where
   pub locked : LockedView W
   pub clerks : List ClerkView
   pub counted : length clerks ≡ count
   pub settled : IsSettled locked ends clerks recorder tallies arrived commands
 
--- The audit of a recorder's journal gives its writer's bytes again: as a script, in a life that is not shorter and
--- where no line of the output tells that there was no memory.
-abbrev pub Replays : {W : Type 0} → (W → Option Told) → Recorded W → Type 0
+-- The audit of a recorder's journal, run as a script in a life that is not shorter, gives its writer's bytes again, if
+-- no line of the output says that there was no memory.
+abbrev pub Replays : {W : Type 0} → (W → Option Told) → RecorderView W → Type 0
 Replays told r =
     (life : ℕ) (lacks : List Bool) → r.link.life ≤ life
-    → FoundMemory (talk life r.link.rates start lacks (lines_of (audit (events_of r.entries))))
+    → FoundMemory (talk life r.link.rates start_of_script lacks (lines_of (audit (events_in r.entries))))
     → IsReplayOf told r.link r.entries life lacks
 
 -- What each worker queued is what was admitted of it, and the audit gives the writer's bytes.
-pub record IsAccounted {W : Type 0} (told : W → Option Told) (recorder : Recorded W) (ends : List EndView) : Type 0
+pub record IsAccounted {W : Type 0} (told : W → Option Told) (recorder : RecorderView W) (ends : List EndView) : Type 0
   where
     pub queued : Each (IsWhole (arrivals recorder.entries)) ends
     pub replays : Replays told recorder

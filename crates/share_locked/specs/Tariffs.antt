@@ -1,6 +1,6 @@
 -- The tariffs of the tests that run threads.
 use Rattle.std.proofs.Common.{arith}
-use Rattle.std.specs.Prelude.{◌≤◌, List, [], ◌∷◌}
+use Rattle.std.specs.Prelude.{List, [], ◌∷◌}
 use Rattle.share_model.specs.declared.rates.Rate.{Rate}
 use Rattle.share_model.specs.link.Tariff.{AreInRange}
 

@@ -6,16 +6,16 @@ use Rattle.share_base.specs.declared.command.Reply.{Reply}
 use Rattle.share_base.specs.declared.refusal.Refusal.{Refusal}
 use Rattle.share_base.specs.declared.refusal.Refusal.TheVariants.{TableFull}
 use Rattle.share_ingress.specs.Ends.{IntakeView}
-use Rattle.share_journal.specs.Records.{Recorded}
+use Rattle.share_journal.specs.Records.{RecorderView}
 use Rattle.share_locked.specs.declared.clerk.Receipt.{Receipt}
 
 -- the recorder, the intake, and how many clerks were made
 pub record LockedView (W : Type 0) : Type 0 where
-  pub recorder : Recorded W
+  pub recorder : RecorderView W
   pub intake : IntakeView
   pub clerks : ℕ
 
--- its number, its receipts in order, and for how many it has room
+-- its number, its receipts in order, and how many it has room for
 pub record ClerkView : Type 0 where
   pub number : ℕ
   pub receipts : List Receipt
@@ -33,9 +33,9 @@ with_room clerk room = record clerk { room = room }
 abbrev pub with_receipt : ClerkView → Receipt → ClerkView
 with_receipt clerk kept = record clerk { receipts = clerk.receipts ++ kept ∷ [] }
 
--- what is answered where a clerk is made, memory aside: there are at most two
+-- why no clerk is made, memory aside: there are at most eight
 abbrev pub clerk_refusal : ℕ → Option Refusal
-clerk_refusal clerks = first_refusal ((nat_le 2 clerks, TableFull) ∷ [])
+clerk_refusal clerks = first_refusal ((nat_le 8 clerks, TableFull) ∷ [])
 
 abbrev pub with_clerk : {W : Type 0} → LockedView W → LockedView W
 with_clerk l = record l { clerks = suc l.clerks }

@@ -1,9 +1,9 @@
 //! Clerks, and the receipts of their commands.
-ghost use Rattle.std.specs.Prelude.{◌≡◌, ◌<◌, ◌++◌, ◌∷◌, [], length, MatchResult};
+ghost use Rattle.std.specs.Prelude.{◌≡◌, ◌<◌, length, MatchResult};
 ghost use Rattle.share_base.specs.declared.refusal.Refusal.TheVariants.{NoMemory};
 ghost use Rattle.share_locked.specs.Views.{ClerkView, new_clerk, receipt, with_receipt, with_room};
 
-use crate::link::Link;
+use crate::link::LinkBrand;
 use share_base::{Command, Refusal, Reply};
 use std::alloc::Global;
 use std::marker::{Model, PhantomData};
@@ -16,16 +16,16 @@ pub struct Receipt {
     pub reply: Reply,
 }
 
-/// Who makes commands on a running link, and keeps a receipt of each. A contract sees its number, its receipts, in
-/// order, and for how many it has room.
+/// A clerk makes commands on a running link, and keeps a receipt of each. A contract sees its number, its receipts, in
+/// order, and how many it has room for.
 #[derive(Drop)]
-pub struct Clerk<L: Link> {
+pub struct Clerk<L: LinkBrand> {
     number: u64,
     receipts: Vec<Receipt>,
     of: PhantomData<L>,
 }
 
-impl<L: Link> Model for Clerk<L> {
+impl<L: LinkBrand> Model for Clerk<L> {
     ghost use Rattle.std.specs.Prelude.{vec_capacity};
     ghost use Rattle.share_locked.specs.Views.{ClerkView};
 
@@ -34,7 +34,7 @@ impl<L: Link> Model for Clerk<L> {
     ghost view = { λ c. record { number = c.number; receipts = c.receipts.items; room = vec_capacity c.receipts } };
 }
 
-impl<L: Link> Clerk<L> {
+impl<L: LinkBrand> Clerk<L> {
     // A clerk that made no command. It takes no memory.
     pub(crate) fn new(alloc: Global, number: u64) -> Clerk<L>
         ensures { result ≡ new_clerk number result.room }
@@ -60,7 +60,7 @@ impl<L: Link> Clerk<L> {
         self.receipts.as_slice()
     }
 
-    /// Makes room for one more receipt, or answers `NoMemory`, and nothing changed.
+    /// Makes room for one more receipt. `NoMemory` if memory was refused; then nothing changed.
     pub fn ready(&mut self) -> Result<(), Refusal>
         ensures { MatchResult result
             (λ _. (self.new ≡ with_room self.old self.new.room) × (length self.old.receipts < self.new.room))

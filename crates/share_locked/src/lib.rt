@@ -1,4 +1,4 @@
-//! A running link: what stands behind its lock, its clerks, the worker that serves it, and its settling.
+//! A running link: what is behind its lock, its clerks, the worker that serves it, and its settling.
 #![tactic(auto)]
 
 mod clerk;
@@ -10,7 +10,7 @@ mod tests;
 mod threads;
 
 pub use clerk::{Clerk, Receipt};
-pub use link::Link;
+pub use link::LinkBrand;
 pub use locked::{Admit, Locked, Settled, Unsettled, WhyUnsettled, settle};
 pub use running::{LinkEnd, Port, Stop, run_link};
 pub use threads::{

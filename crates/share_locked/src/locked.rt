@@ -1,9 +1,9 @@
-//! What stands behind the lock of a running link.
+//! What is behind the lock of a running link.
 ghost use Rattle.std.specs.Prelude.{◌≡◌, ◌<◌, ◌≤◌, ◌++◌, [], suc, length, IfOk, IfErr};
 ghost use Rattle.share_base.specs.Refusal.{IsRefused};
 ghost use Rattle.share_base.specs.declared.refusal.Refusal.TheVariants.{NoMemory};
 ghost use Rattle.share_model.specs.link.Answers.{answers_event};
-ghost use Rattle.share_model.specs.link.Did.{TurnDid};
+ghost use Rattle.share_model.specs.link.Calls.{TurnCall};
 ghost use Rattle.share_model.specs.text.Report.{report};
 ghost use Rattle.share_journal.specs.Arrivals.{arrivals};
 ghost use Rattle.share_journal.specs.Entries.{turn_entries};
@@ -14,36 +14,37 @@ ghost use Rattle.share_locked.specs.Calls.{Admission, CommandMade, KeepsSide};
 mod settling;
 
 use crate::clerk::{Clerk, receipt_of};
-use crate::link::Link;
+use crate::link::LinkBrand;
 pub use settling::{Settled, Unsettled, WhyUnsettled, settle};
 use share_base::{Command, Refusal, Reply, Turn};
 use share_ingress::{Intake, Offer};
 use share_journal::Recorder;
-use share_model::{Rates, Tape, Telling};
+use share_model::{Rates, Tape, TellingWriter};
 use std::alloc::Global;
 use std::marker::{Model, PhantomData};
 use std::sync::Wait;
 
 /// How many clerks a link has at most.
-const MAX_CLERKS: u64 = 2;
+const MAX_CLERKS: u64 = 8;
 
-/// A recorder, the intake of its queue, and how many clerks were made, as they stand behind the lock of a running link.
-/// At every moment what stands there is a run: the events of the entries are the run of the link, as `recorder` says,
-/// and the arrivals among them are what the intake took, in order.
+/// What is behind the lock of a running link: a recorder, the intake of its queue, and how many clerks were made. At
+/// every moment the events of the entries are the run of the link, as `recorder` says, and the arrivals among them are
+/// what the intake took, in order.
 #[derive(Drop)]
-pub struct Locked<W: Telling, S: Rates, L: Link> {
+pub struct Locked<W: TellingWriter, S: Rates, L: LinkBrand> {
     recorder: Recorder<W, S>,
     intake: Intake,
     clerks: u64,
     of: PhantomData<L>,
 }
 
-impl<W: Telling, S: Rates, L: Link> Model for Locked<W, S, L> {
+impl<W: TellingWriter, S: Rates, L: LinkBrand> Model for Locked<W, S, L> {
     ghost use Rattle.std.specs.Prelude.{◌≡◌, ◌≤◌};
     ghost use Rattle.std.specs.Coded.{codes};
     ghost use Rattle.share_model.specs.stride.Moves.{coded_stride};
     ghost use Rattle.share_journal.specs.Arrivals.{arrivals};
     ghost use Rattle.share_locked.specs.Views.{LockedView};
+    ghost use Rattle.share_locked.specs.declared.locked.TheConstants.{MAX_CLERKS};
 
     ghost Value = { LockedView W };
 
@@ -54,7 +55,7 @@ impl<W: Telling, S: Rates, L: Link> Model for Locked<W, S, L> {
     ghost invariant = { λ l.
         (l.intake.link ≡ L.link)
         × (arrivals l.recorder.entries ≡ l.intake.popped)
-        × (l.clerks ≤ 2) };
+        × (l.clerks ≤ MAX_CLERKS) };
 }
 
 /// What `Locked::admit` answers.
@@ -64,12 +65,12 @@ pub enum Admit {
     Admitted { worker: u64, n: u64, reply: Reply },
     /// The queue was empty at some moment of the call.
     Empty,
-    /// The life was spent before, and nothing was taken.
+    /// The life was spent already, and nothing was taken.
     Spent,
 }
 
-impl<W: Telling, S: Rates, L: Link> Locked<W, S, L> {
-    /// A recorder and the intake of this link, of which neither has seen anything yet. It takes no memory.
+impl<W: TellingWriter, S: Rates, L: LinkBrand> Locked<W, S, L> {
+    /// Puts together an empty recorder and the intake of this link, which has popped nothing. It takes no memory.
     pub fn new(recorder: Recorder<W, S>, intake: Intake) -> Locked<W, S, L>
         requires empty { recorder.entries ≡ [] }
         requires link { intake.link ≡ L.link }
@@ -84,8 +85,8 @@ impl<W: Telling, S: Rates, L: Link> Locked<W, S, L> {
         }
     }
 
-    /// The recorder: its entries are a run, of each worker its arrivals are numbered 1, 2, .., and they are what the
-    /// intake took of the queue, in order.
+    /// The recorder. Its entries are a run, and the arrivals among them are what the intake took of the queue, in
+    /// order, numbered from 1 for each worker.
     pub fn recorder(&self) -> &Recorder<W, S>
         ensures recorder { result.now ≡ self.now.recorder }
         ensures run { IsRunNow W.told self.now.recorder.link self.now.recorder.entries }
@@ -103,12 +104,12 @@ impl<W: Telling, S: Rates, L: Link> Locked<W, S, L> {
         self.intake.capacity()
     }
 
-    /// One more clerk of this link, or `TableFull` at the third.
+    /// Makes one more clerk of this link. `TableFull` if there are eight already.
     pub fn clerk(&mut self, alloc: Global) -> Result<Clerk<L>, Refusal>
         ensures ok { IfOk result (λ clerk.
             (clerk ≡ new_clerk (suc self.old.clerks) clerk.room)
             × (self.new ≡ with_clerk self.old)
-            × (self.old.clerks < 2)) }
+            × (clerk_refusal self.old.clerks ≡ None)) }
         ensures refused { IfErr result (λ e.
             IsRefused (clerk_refusal self.old.clerks) e × (self.new ≡ self.old)) }
     {
@@ -119,9 +120,9 @@ impl<W: Telling, S: Rates, L: Link> Locked<W, S, L> {
         Ok(Clerk::new(alloc, self.clerks))
     }
 
-    /// A clerk's command: the number of its entry in the journal, of which the clerk keeps a receipt, and the reply; or
-    /// the number 0 where it was no event, which is `Spent` or `NoMemory` and changes nothing. The condition: the clerk
-    /// has room for a receipt, as `Clerk::ready` makes it.
+    /// Makes a command of a clerk, which must have room for a receipt, as `Clerk::ready` makes it. Gives the number of
+    /// the command's entry in the journal and the reply, and the clerk keeps a receipt. If the reply is `Spent` or
+    /// `NoMemory`, the command was no event: the number is 0, and nothing changed.
     pub fn command(&mut self, clerk: &mut Clerk<L>, command: Command) -> (u64, Reply)
         requires room { length clerk.old.receipts < clerk.old.room }
         ensures { CommandMade self.old clerk.old command result.0 result.1 self.new clerk.new }
@@ -135,7 +136,7 @@ impl<W: Telling, S: Rates, L: Link> Locked<W, S, L> {
         (number, reply)
     }
 
-    /// Takes the offer in front of the queue, and makes it an arrival, in one call. It takes no memory, and may spin
+    /// Takes the offer in front of the queue and makes it an arrival, in one call. It takes no memory, and may spin
     /// while another thread is in the middle of a push.
     pub fn admit<R: Wait>(&mut self, rt: &R) -> Admit
         ensures { Admission self.old result self.new }
@@ -156,17 +157,18 @@ impl<W: Telling, S: Rates, L: Link> Locked<W, S, L> {
         Admit::Admitted { worker, n, reply }
     }
 
-    /// A turn of the link of at least 1 byte, as `Recorder::turn` makes it. It takes no memory.
+    /// Makes a turn of the link that offers at most `most` bytes, at least 1, as `Recorder::turn` does. It takes no
+    /// memory.
     pub fn turn(&mut self, most: u32) -> Turn
         requires { 1 ≤ most }
-        ensures did { TurnDid W.answers self.old.recorder.link most result self.new.recorder.link }
+        ensures did { TurnCall W.answers self.old.recorder.link most result self.new.recorder.link }
         ensures entry { self.new.recorder.entries ≡ self.old.recorder.entries ++ turn_entries result }
         ensures side { KeepsSide self.old self.new }
     {
         self.recorder.turn(most)
     }
 
-    /// The report of the link as it is now, or `NoMemory`.
+    /// The report of the link as it is now. `NoMemory` if memory was refused.
     pub fn report(&self, alloc: Global) -> Result<Vec<u8>, Refusal>
         ensures ok { IfOk result (λ text. text.items ≡ report self.now.recorder.link.live) }
         ensures refused { IfErr result (λ e. e ≡ NoMemory) }
@@ -180,7 +182,7 @@ impl<W: Telling, S: Rates, L: Link> Locked<W, S, L> {
     }
 }
 
-// Whether a reply is that to an event.
+// Whether a reply answers an event.
 fn answers_event(reply: &Reply) -> bool
     ensures { result ≡ answers_event reply.now }
 {

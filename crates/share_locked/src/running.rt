@@ -1,8 +1,8 @@
 //! The worker that serves a running link.
-use crate::link::Link;
+use crate::link::LinkBrand;
 use crate::locked::{Admit, Locked};
 use share_base::Turn;
-use share_model::{Rates, Telling};
+use share_model::{Rates, TellingWriter};
 use std::sync::atomic::{AtomicU64, Ordering};
 use std::sync::{Mutex, Wait};
 use std::thread;
@@ -15,10 +15,10 @@ pub type Port<W, S, L> = Mutex<Locked<W, S, L>>;
 /// The most bytes that a turn offers.
 const MOST: u32 = 65535;
 
-/// How many rounds with nothing to do are followed by another at once.
+/// After how many rounds in a row with nothing to do the link begins to rest.
 const EAGER: u32 = 16;
 
-/// How many milliseconds the link rests after each further one.
+/// How many milliseconds the link then rests after each round with nothing to do.
 const REST: u64 = 2;
 
 /// A flag that is set once, and stays set.
@@ -70,11 +70,11 @@ enum Round {
     Spent,
 }
 
-/// Serves a link until it is stopped and has nothing left to do, or until its life is spent. A round admits until the
-/// queue is empty, at most as many offers as it has places, and then makes one turn, each call under the lock alone;
-/// so those who wait for the lock get it between any two calls, and a command waits at most for those before it. After
-/// some rounds with nothing to do it rests for two milliseconds after each.
-pub fn run_link<W: Telling, S: Rates, L: Link, R: Wait>(
+/// Serves a link until it is stopped and has nothing left to do, or until its life is spent. A round admits offers
+/// until the queue is empty, at most as many as the queue has places, and then makes one turn. Each call is a hold of
+/// the lock of its own, so others get the lock between any two calls, and a command waits only for the calls before it.
+/// After some rounds in a row with nothing to do it rests for two milliseconds after each.
+pub fn run_link<W: TellingWriter, S: Rates, L: LinkBrand, R: Wait>(
     rt: &R,
     port: &Port<W, S, L>,
     stop: &Stop,
@@ -99,7 +99,7 @@ pub fn run_link<W: Telling, S: Rates, L: Link, R: Wait>(
 }
 
 // One round.
-fn serve<W: Telling, S: Rates, L: Link, R: Wait>(
+fn serve<W: TellingWriter, S: Rates, L: LinkBrand, R: Wait>(
     rt: &R,
     port: &Port<W, S, L>,
     places: usize,
@@ -116,8 +116,8 @@ fn serve<W: Telling, S: Rates, L: Link, R: Wait>(
     }
 }
 
-// Admits until the queue is empty, the life is spent, or so many were admitted: the last answer.
-fn admit_all<W: Telling, S: Rates, L: Link, R: Wait>(
+// Admits until the queue is empty, the life is spent, or `places` offers were admitted. Gives the last answer.
+fn admit_all<W: TellingWriter, S: Rates, L: LinkBrand, R: Wait>(
     rt: &R,
     port: &Port<W, S, L>,
     places: usize,
@@ -132,7 +132,7 @@ fn admit_all<W: Telling, S: Rates, L: Link, R: Wait>(
     last
 }
 
-// Lets others go first after a round with nothing to do, the n-th one after another.
+// Lets other threads run after the n-th round in a row with nothing to do.
 fn pause<R: Wait>(rt: &R, parker: &Parker, n: u32) {
     if n < EAGER {
         thread::yield_now();

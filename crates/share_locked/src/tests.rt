@@ -1,6 +1,7 @@
 //! Worked examples of a running link, and what no contract says.
 
 mod asking;
+mod eight;
 mod made;
 mod running;
 mod settling;
@@ -34,4 +35,9 @@ fn served_while_others_work(rt: HostRuntime) {
 #[test]
 fn settled(rt: HostRuntime) {
     whole_run::settles(&rt, rt.alloc(), ByByte);
+}
+
+#[test]
+fn eight_of_each(rt: HostRuntime) {
+    eight::settles(&rt, rt.alloc(), ByByte);
 }

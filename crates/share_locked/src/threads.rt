@@ -7,11 +7,11 @@ ghost use Rattle.share_locked.specs.Leaves.{IsJobLeft, done_of, ends_of};
 ghost use Rattle.share_locked.specs.Settles.{IsAccounted, IsSettledBy, Unsettles};
 
 use crate::clerk::Clerk;
-use crate::link::Link;
+use crate::link::LinkBrand;
 use crate::locked::{Locked, Settled, Unsettled, settle};
 use crate::running::{LinkEnd, Port, Stop, run_link};
 use share_ingress::{Done, Gate, IngressEnd, Job, Why, run_workers};
-use share_model::{Rates, Source, Telling};
+use share_model::{Rates, TellingReader, TellingWriter};
 use std::alloc::{AllocError, Global};
 use std::snapshot::Snapshot;
 use std::sync::{Mutex, Wait};
@@ -19,25 +19,25 @@ use std::thread;
 use std::thread::{Scope, Threads};
 
 /// What a clerk does on a running link, in a thread of its own.
-pub trait Duty<W: Telling, S: Rates, L: Link> {
-    /// Does it. It is to end by itself, whether the link is served or not.
+pub trait Duty<W: TellingWriter, S: Rates, L: LinkBrand> {
+    /// Does it. It must end by itself, whether the link is served or not.
     fn serve<T: Wait>(&mut self, rt: &T, port: &Port<W, S, L>, clerk: &mut Clerk<L>);
 }
 
-/// A clerk with its duty, which one thread does: it stands behind a lock of its own, so that no thread can drop it.
+/// A clerk with its duty, which one thread does. It has a lock of its own, so that no thread can drop it.
 #[derive(Drop)]
-pub struct Post<D, L: Link> {
+pub struct Post<D, L: LinkBrand> {
     held: Mutex<Held<D, L>>,
 }
 
 #[derive(Drop)]
-struct Held<D, L: Link> {
+struct Held<D, L: LinkBrand> {
     clerk: Clerk<L>,
     duty: D,
 }
 
-impl<D, L: Link> Post<D, L> {
-    /// A clerk, and what it is to do.
+impl<D, L: LinkBrand> Post<D, L> {
+    /// A clerk, and what it has to do.
     pub fn new(clerk: Clerk<L>, duty: D) -> Post<D, L> {
         Post {
             held: Mutex::new(Held { clerk, duty }),
@@ -52,7 +52,7 @@ impl<D, L: Link> Post<D, L> {
     }
 
     /// Does the duty, with its clerk.
-    pub fn attend<W: Telling, S: Rates, T: Wait>(&self, rt: &T, port: &Port<W, S, L>)
+    pub fn attend<W: TellingWriter, S: Rates, T: Wait>(&self, rt: &T, port: &Port<W, S, L>)
     where
         D: Duty<W, S, L>,
     {
@@ -68,11 +68,11 @@ pub struct Left<G> {
     pub gate: G,
     pub why: Why,
     pub tally: u64,
-    /// The end as it was left, which contracts alone see.
+    /// The end as the worker left it, for contracts only.
     pub end: Snapshot<IngressEnd>,
 }
 
-// What workers left beside their ends, the duties of the clerks, and the settling with these ends and clerks.
+// What workers left besides their ends, the duties of the clerks, and the settling with these ends and clerks.
 type Closed<W, S, L, G, D> = (
     Vec<Left<G>>,
     Vec<D>,
@@ -80,7 +80,7 @@ type Closed<W, S, L, G, D> = (
 );
 
 // Settles a link with the ends that workers left, and with the clerks of these posts.
-fn close<W: Telling, S: Rates, L: Link, G: Drop, D: Drop>(
+fn close<W: TellingWriter, S: Rates, L: LinkBrand, G: Drop, D: Drop>(
     alloc: Global,
     locked: Locked<W, S, L>,
     all: Vec<Done<G>>,
@@ -107,19 +107,18 @@ fn close<W: Telling, S: Rates, L: Link, G: Drop, D: Drop>(
         clerks,
         duties,
     } = room;
-    let (ends, workers) = parted(all, ends, left);
-    let (clerks, duties) = vacated(posts, clerks, duties);
+    let (ends, workers) = ends_and_rest(all, ends, left);
+    let (clerks, duties) = clerks_and_duties(posts, clerks, duties);
     match settle(alloc, locked, ends, clerks) {
         Ok(settled) => (workers, duties, Ok(settled)),
         Err(back) => (workers, duties, Err(back)),
     }
 }
 
-/// What a run leaves: how the link's service ended, or `None` where its thread was not to be had; how many clerks, from
-/// the first, got a thread; what each worker left, in the order of the jobs; the duties of all clerks; and the
-/// settling.
+/// What a run leaves: how the link's service ended, or `None` if its thread was refused; how many clerks, from the
+/// first, got a thread; what each worker left, in the order of the jobs; the duties of all clerks; and the settling.
 #[derive(Drop)]
-pub struct Ran<W: Telling, S: Rates, L: Link, G, D> {
+pub struct Ran<W: TellingWriter, S: Rates, L: LinkBrand, G, D> {
     pub link: Option<LinkEnd>,
     pub begun: usize,
     pub workers: Vec<Left<G>>,
@@ -127,22 +126,22 @@ pub struct Ran<W: Telling, S: Rates, L: Link, G, D> {
     pub settled: Result<Settled<W, S>, Unsettled<W, S, L>>,
 }
 
-/// A link of which no job was started, since memory was refused, with its jobs and its posts. The clerks may have done
-/// their duties.
+/// A link none of whose jobs was started, since memory was refused, with its jobs and its posts. The clerks may have
+/// done their duties.
 #[derive(Drop)]
-pub struct NotRun<W: Telling, S: Rates, L: Link, R: Source, G, D> {
+pub struct NotRun<W: TellingWriter, S: Rates, L: LinkBrand, R: TellingReader, G, D> {
     pub locked: Locked<W, S, L>,
     pub jobs: Vec<Job<R, G>>,
     pub posts: Vec<Post<D, L>>,
 }
 
-/// Runs a link with its threads, and settles it: a thread serves the link, each clerk does its duty in a thread of its
-/// own, and so does each worker its job. Once workers and clerks have ended, the service is stopped, and the link is
-/// settled with their ends and clerks. `ended` is set as soon as the link is served no more, also where its thread was
-/// not to be had: gates look at it, so that no worker waits on a queue from which nothing is taken.
+/// Runs a link with its threads, and settles it. One thread serves the link, one each does the duty of a clerk, and one
+/// each the job of a worker. Once workers and clerks have ended, the service is stopped, and the link is settled with
+/// their ends and clerks. `ended` is set as soon as the link is no longer served, also if its thread was refused. Gates
+/// look at it, so that no worker waits on a queue from which nothing is taken.
 ///
-/// The first clerk whose thread is not to be had is the last to be tried. Where memory was refused before any job was
-/// started, all comes back.
+/// After the first clerk whose thread is refused, no other is tried. If memory was refused before any job was started,
+/// all comes back.
 pub fn run_and_settle<T, W, S, L, R, G, D>(
     rt: &T,
     alloc: Global,
@@ -153,10 +152,10 @@ pub fn run_and_settle<T, W, S, L, R, G, D>(
 ) -> Result<Ran<W, S, L, G, D>, NotRun<W, S, L, R, G, D>>
 where
     T: Threads + Wait + Sync,
-    W: Telling + Send,
+    W: TellingWriter + Send,
     S: Rates + Send,
-    L: Link + Send,
-    R: Source + Send + Drop,
+    L: LinkBrand + Send,
+    R: TellingReader + Send + Drop,
     G: Gate + Send + Drop,
     D: Duty<W, S, L> + Send + Drop,
     requires { Each (λ job. job.end.link ≡ L.link) jobs.items }
@@ -201,10 +200,10 @@ where
     }
 }
 
-// What workers leave, or their jobs where none was started.
-type Worked<R, G> = Result<Vec<Done<G>>, Vec<Job<R, G>>>;
+// What workers leave, or their jobs if none was started.
+type WorkersLeft<R, G> = Result<Vec<Done<G>>, Vec<Job<R, G>>>;
 
-// Serves a link while clerks do their duties and workers these jobs: how the service ended, how many clerks got a
+// Serves a link while clerks do their duties and workers these jobs. Gives how the service ended, how many clerks got a
 // thread, and what the workers leave.
 fn run_all<T, W, S, L, R, G, D>(
     rt: &T,
@@ -213,13 +212,13 @@ fn run_all<T, W, S, L, R, G, D>(
     posts: &[Post<D, L>],
     jobs: Vec<Job<R, G>>,
     ended: &Stop,
-) -> (Option<LinkEnd>, usize, Worked<R, G>)
+) -> (Option<LinkEnd>, usize, WorkersLeft<R, G>)
 where
     T: Threads + Wait + Sync,
-    W: Telling + Send,
+    W: TellingWriter + Send,
     S: Rates + Send,
-    L: Link + Send,
-    R: Source + Send + Drop,
+    L: LinkBrand + Send,
+    R: TellingReader + Send + Drop,
     G: Gate + Send + Drop,
     D: Duty<W, S, L> + Send,
     ensures each { IfOk result.2 (λ all. Matches (IsJobDone R.gives R.left G.told) jobs.items all.items) }
@@ -232,7 +231,7 @@ where
         port,
         posts,
         ended,
-        || -> Worked<R, G>
+        || -> WorkersLeft<R, G>
             ensures each { IfOk result (λ all. Matches (IsJobDone R.gives R.left G.told) jobs.items all.items) }
             ensures one_queue { (link : LinkName) → Each (λ job. job.end.link ≡ link) jobs.items
                 → IfOk result (λ all. Each (λ done. done.end.link ≡ link) all.items) }
@@ -242,7 +241,7 @@ where
 }
 
 /// Serves a link in a thread of its own while `work` is done in this one; then stops the service, and waits for its
-/// end. `ended` is set as soon as the link is served no more: where its thread was not to be had, before the work.
+/// end. `ended` is set as soon as the link is no longer served; if its thread was refused, before the work.
 pub fn serve_while<W, S, L, T, F, A>(
     rt: &T,
     port: &Port<W, S, L>,
@@ -250,9 +249,9 @@ pub fn serve_while<W, S, L, T, F, A>(
     work: F,
 ) -> (Option<LinkEnd>, A)
 where
-    W: Telling + Send,
+    W: TellingWriter + Send,
     S: Rates + Send,
-    L: Link + Send,
+    L: LinkBrand + Send,
     T: Threads + Wait + Sync,
     F: FnOnce() -> A,
     requires { F.pre work }
@@ -282,9 +281,9 @@ where
     )
 }
 
-/// Serves a link in a thread of its own, as `serve_while`, and lets each clerk do its duty in a thread of its own, as
-/// `attend_while`, while `work` is done in this one: how the service ended, how many clerks got a thread, and what came
-/// of the work.
+/// Serves a link in a thread of its own, as `serve_while`, and makes each clerk do its duty in a thread of its own, as
+/// `attend_while`, while `work` is done in this one. Gives how the service ended, how many clerks got a thread, and the
+/// result of the work.
 pub fn run_while<W, S, L, T, D, F, A>(
     rt: &T,
     port: &Port<W, S, L>,
@@ -293,9 +292,9 @@ pub fn run_while<W, S, L, T, D, F, A>(
     work: F,
 ) -> (Option<LinkEnd>, usize, A)
 where
-    W: Telling + Send,
+    W: TellingWriter + Send,
     S: Rates + Send,
-    L: Link + Send,
+    L: LinkBrand + Send,
     T: Threads + Wait + Sync,
     D: Duty<W, S, L> + Send,
     F: FnOnce() -> A,
@@ -314,9 +313,9 @@ where
     (link, begun, done)
 }
 
-/// Lets each clerk do its duty in a thread of its own while `work` is done in this one, and waits for all: how many
-/// clerks, from the first, got a thread, and what came of the work. The first clerk whose thread is not to be had is
-/// the last to be tried.
+/// Makes each clerk do its duty in a thread of its own while `work` is done in this one, and waits for all. Gives how
+/// many clerks, from the first, got a thread, and the result of the work. After the first clerk whose thread is
+/// refused, no other is tried.
 pub fn attend_while<W, S, L, T, D, F, A>(
     rt: &T,
     port: &Port<W, S, L>,
@@ -324,9 +323,9 @@ pub fn attend_while<W, S, L, T, D, F, A>(
     work: F,
 ) -> (usize, A)
 where
-    W: Telling + Send,
+    W: TellingWriter + Send,
     S: Rates + Send,
-    L: Link + Send,
+    L: LinkBrand + Send,
     T: Threads + Wait + Sync,
     D: Duty<W, S, L> + Send,
     F: FnOnce() -> A,
@@ -346,7 +345,7 @@ where
     )
 }
 
-// Starts a thread for each clerk, up to the first for which none is to be had: how many.
+// Starts a thread for each clerk, until one is refused. Gives how many.
 fn begin<'s, E, W, S, L, T, D>(
     scope: &Scope<'s, E>,
     rt: &'s T,
@@ -354,9 +353,9 @@ fn begin<'s, E, W, S, L, T, D>(
     posts: &'s [Post<D, L>],
 ) -> usize
 where
-    W: Telling + Send,
+    W: TellingWriter + Send,
     S: Rates + Send,
-    L: Link + Send,
+    L: LinkBrand + Send,
     T: Wait + Sync,
     D: Duty<W, S, L> + Send,
 {
@@ -369,7 +368,7 @@ where
 }
 
 // Serves a link, and sets a flag at the end.
-fn serve_to_end<W: Telling, S: Rates, L: Link, R: Wait>(
+fn serve_to_end<W: TellingWriter, S: Rates, L: LinkBrand, R: Wait>(
     rt: &R,
     port: &Port<W, S, L>,
     stop: &Stop,
@@ -380,16 +379,16 @@ fn serve_to_end<W: Telling, S: Rates, L: Link, R: Wait>(
     end
 }
 
-// Room for what a run leaves of so many jobs and clerks.
+// Room for what a run leaves of these numbers of jobs and clerks.
 #[derive(Drop)]
-struct Room<L: Link, G, D> {
+struct Room<L: LinkBrand, G, D> {
     ends: Vec<IngressEnd>,
     left: Vec<Left<G>>,
     clerks: Vec<Clerk<L>>,
     duties: Vec<D>,
 }
 
-fn make_room<L: Link, G: Drop, D: Drop>(
+fn make_room<L: LinkBrand, G: Drop, D: Drop>(
     alloc: Global,
     jobs: usize,
     clerks: usize,
@@ -411,8 +410,8 @@ fn make_room<L: Link, G: Drop, D: Drop>(
     })
 }
 
-// The ends that workers leave, and what is left beside them.
-fn parted<G: Drop>(
+// The ends that workers leave, and what else they leave.
+fn ends_and_rest<G: Drop>(
     all: Vec<Done<G>>,
     ends: Vec<IngressEnd>,
     left: Vec<Left<G>>,
@@ -442,7 +441,7 @@ fn parted<G: Drop>(
 }
 
 // The clerks of these posts, and their duties.
-fn vacated<D: Drop, L: Link>(
+fn clerks_and_duties<D: Drop, L: LinkBrand>(
     posts: Vec<Post<D, L>>,
     clerks: Vec<Clerk<L>>,
     duties: Vec<D>,

@@ -1,7 +1,7 @@
--- The sentence that this project stands for, said of a list of events: for every list of commands, arrivals and link
--- turns, whatever each write accepts and up to the writer's first fault, the replies, accounts and bytes written are
--- those of one plain fold, in which each next frame carries the head packet of the flow with the least pass, on tickets
--- computed from scratch.
+-- The promise of this project, said of a list of events: for every list of commands, arrivals and link turns, whatever
+-- each write accepts and up to the writer's first fault, the replies, accounts and bytes written are those of one plain
+-- fold, in which each next frame carries the head packet of the flow with the least pass, on tickets computed from
+-- scratch.
 use Rattle.std.specs.Prelude.{◌≡◌, ◌<◌, ◌≤◌, ℕ, List, [], ◌∷◌, ◌++◌, length, take, find, filter, nat_lt, Option, None}
 use Rattle.std.specs.Prelude.{Some, IfSome}
 use Rattle.share_base.specs.declared.command.Event.{Event}
@@ -12,7 +12,9 @@ use Rattle.share_model.specs.declared.link.Part.{Part}
 use Rattle.share_model.specs.declared.rates.Rate.{Rate}
 use Rattle.share_model.specs.io.Told.{Told}
 use Rattle.share_model.specs.link.Buffers.{head_of}
-use Rattle.share_model.specs.link.Live.{Live, Sending, wants, rest_of, is_book_of}
+use Rattle.share_model.specs.link.Live.{Live, tickets_of_all}
+use Rattle.share_model.specs.link.Turns.{Sending, rest_of}
+use Rattle.share_model.specs.link.Books.{is_book_of}
 use Rattle.share_model.specs.run.Events.{MayFollow, writes_in}
 use Rattle.share_model.specs.run.Fold.{State, empty_state, outcomes, run, out}
 use Rattle.share_model.specs.run.History.{AreFramesOf, sent_packets, bill, past_bill}
@@ -21,25 +23,25 @@ use Rattle.share_model.specs.stride.Moves.{IsNextFlow}
 
 -- The next frame
 
--- a frame is begun with its first byte: that of the head packet of the flow with the least pass, and of several such
--- flows that of the least number, among those that compete
+-- a new frame, of which no byte is out: that of the head packet of the competing flow with the least pass, and of equal
+-- passes with the least number
 pub record IsBegun (l : Live) (s : Sending) : Type 0 where
   pub least : IsNextFlow l.queue.clients s.head.flow
   pub head : head_of l.buffers s.head.flow ≡ Some s.head
   pub first : s.out ≡ 0
 
--- the frame in part is gone on with, after its bytes that are out: that of the head packet of the same flow
+-- the frame in part, from its first byte that is not out: that of the head packet of the same flow
 pub record IsGoneOnWith (l : Live) (p : Part) (s : Sending) : Type 0 where
   pub flow : s.head.flow ≡ p.flow
   pub head : head_of l.buffers s.head.flow ≡ Some s.head
   pub after : s.out ≡ p.out
 
--- a frame is begun only where none is in part
+-- a frame is begun only if none is in part
 abbrev pub IsNextFrame : Live → Option Part → Sending → Type 0
 IsNextFrame l None s = IsBegun l s
 IsNextFrame l (Some p) s = IsGoneOnWith l p s
 
--- the writer took k bytes, at least one: the next ones of the next frame
+-- the writer accepted k bytes, at least one: the next ones of the next frame
 pub record Writes (before after : State) (k : ℕ) : Type 0 where
   pub frame : Sending
   pub next : IsNextFrame before.live before.live.part frame
@@ -47,7 +49,7 @@ pub record Writes (before after : State) (k : ℕ) : Type 0 where
   pub fits : k ≤ length (rest_of frame)
   pub bytes : out after ≡ out before ++ take k (rest_of frame)
 
--- the writer failed on the next frame, and no byte was written then or after it
+-- the writer failed on the next frame, and no byte was written then or later
 pub record Fails (before last : State) : Type 0 where
   pub frame : Sending
   pub next : IsNextFrame before.live before.live.part frame
@@ -59,19 +61,19 @@ pub record Fails (before last : State) : Type 0 where
 -- tells, if it tells anything
 pub record Headline (life : ℕ) (rates : List Rate) (events : List Event) (replies : List Outcome) (l : Live)
     (told : Option Told) : Type 0 where
-  -- commands and arrivals came in any order; a write took what it took, and none came after a fault
+  -- commands and arrivals came in any order; writes accepted any counts, and none came after a fault
   pub follow : MayFollow life rates empty_state events
   -- the replies are those of the fold, and the link holds what the fold comes to
   pub replies_are : replies ≡ outcomes rates empty_state events
   pub holds : l ≡ (run rates events).live
-  -- an account is the price of what was written of its flow; and so are those of closed flows together
+  -- an account is the price of what was written of its flow; the same holds of those of closed flows together
   pub accounts : (flow : ℕ) (book : Book) → find (is_book_of flow) l.books ≡ Some book
       → book.account ≡ bill rates (run rates events) flow
   pub past : l.counts.past ≡ past_bill rates (run rates events)
   -- the bytes written are those of the fold: the frames of the packets written whole, and the beginning of one more
   pub bytes : IfSome told (λ t. t.bytes ≡ out (run rates events))
   pub frames : AreFramesOf (sent_packets (run rates events).done) (out (run rates events))
-  -- the counts that the writer accepted, but those of 0, are those of the writes, in order
+  -- the counts that the writer accepted, zeros left out, are those of the writes, in order
   pub counts : IfSome told (λ t. filter (nat_lt 0) t.counts ≡ writes_in events)
   -- each write takes the next bytes of the next frame
   pub writes : (before after : List Event) (k : ℕ) → events ≡ before ++ Written k ∷ after
@@ -79,6 +81,6 @@ pub record Headline (life : ℕ) (rates : List Rate) (events : List Event) (repl
   -- up to the first fault
   pub fault : (before after : List Event) → events ≡ before ++ Faulted ∷ after
       → Fails (run rates before) (run rates events)
-  -- at every moment each open flow competes with as many tickets as the definitions give it there, from scratch
+  -- at every moment each open flow competes with exactly the tickets that the definitions give it, from scratch
   pub tickets : (before after : List Event) → events ≡ before ++ after
-      → IsLevel (run rates before).live.queue (wants (run rates before).live.graph)
+      → IsLevel (run rates before).live.queue (tickets_of_all (run rates before).live.graph)

@@ -1,12 +1,10 @@
 -- Readers and writers that tell what they gave and took.
 pub mod Calls
-pub mod CallsLaws
 pub mod Counts
 pub mod Given
 pub mod Patient
 pub mod PatientLaws
 pub mod Printing
-pub mod PrintingLaws
 pub mod Scripted
 pub mod Told
 pub mod ToldLaws

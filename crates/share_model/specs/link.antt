@@ -1,18 +1,17 @@
 -- A link: its packets, frames and tariffs, what it holds, and what each call does to it.
-pub mod AnswerLaws
 pub mod Answers
-pub mod BufferLaws
+pub mod Arrivals
+pub mod Books
 pub mod Buffers
-pub mod CommandLaws
-pub mod Did
-pub mod FieldLaws
+pub mod Calls
+pub mod Commands
 pub mod Fields
 pub mod Frame
-pub mod FrameLaws
 pub mod Live
 pub mod Rows
-pub mod Seen
+pub mod Step
 pub mod Tariff
 pub mod TariffRows
 pub mod Totals
-pub mod TurnLaws
+pub mod Turns
+pub mod View

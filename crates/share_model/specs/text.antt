@@ -1,23 +1,13 @@
 -- Text: the spelling of lines, the text of answers, and the talk of a whole script.
+pub mod Answering
 pub mod Audit
-pub mod AuditLaws
 pub mod AuditRows
 pub mod Columns
 pub mod Events
-pub mod EventsLaws
-pub mod FeedLaws
-pub mod LackLaws
 pub mod Lines
-pub mod LinesLaws
 pub mod LinesRows
-pub mod OfferLaws
 pub mod Report
 pub mod ReportRows
-pub mod Says
-pub mod SpelledLaws
 pub mod Talk
-pub mod TalkLaws
 pub mod TalkRows
 pub mod Texts
-pub mod TurnTalkLaws
-pub mod WordLaws

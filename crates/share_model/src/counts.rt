@@ -5,14 +5,14 @@ ghost use Rattle.std.specs.List.{prefix_len};
 use std::alloc::{AllocError, Global};
 use std::marker::Model;
 
-/// Counts in the order in which they were pushed. A count takes one byte for each 255 of it, and one for the
-/// rest: no more bytes than what it counts, and one byte for a count of 0.
+/// Counts in the order in which they were pushed. A count n takes n / 255 + 1 bytes: no more than it counts, and one
+/// byte for a count of 0.
 #[derive(Drop)]
-pub(crate) struct Counts {
+pub(crate) struct CodedCounts {
     bytes: Vec<u8>,
 }
 
-impl Model for Counts {
+impl Model for CodedCounts {
     ghost use Rattle.std.specs.Prelude.{◌<◌, ◌^◌, ℕ, List};
     ghost use Rattle.share_model.specs.io.Counts.{counts_in};
     ghost use Rattle.share_model.specs.lists.Each.{Each};
@@ -24,24 +24,24 @@ impl Model for Counts {
     ghost invariant = { λ counts. Each (λ k. k < 2 ^ 64) (counts_in counts.bytes.items) };
 }
 
-// How many bytes of 255 stand in front.
+// How many bytes of 255 are in front.
 fn full_bytes(bytes: &[u8]) -> usize
     ensures { result ≡ prefix_len (λ byte. nat_eq byte 255) bytes.now }
 {
     bytes.iter().take_while(|byte| **byte == 255).count()
 }
 
-impl Counts {
+impl CodedCounts {
     /// No counts. They take no memory.
-    pub(crate) fn new(alloc: Global) -> Counts
+    pub(crate) fn new(alloc: Global) -> CodedCounts
         ensures { result ≡ [] }
     {
-        Counts {
+        CodedCounts {
             bytes: Vec::new(alloc),
         }
     }
 
-    /// Puts a count behind the others, or changes nothing where memory is refused.
+    /// Puts a count behind the others. An error if memory is refused: then nothing changed.
     pub(crate) fn push(&mut self, count: usize) -> Result<(), AllocError>
         ensures ok { OnOk result (self.new ≡ self.old ++ count ∷ []) }
         ensures err { OnErr result (self.new ≡ self.old) }
@@ -52,7 +52,7 @@ impl Counts {
         self.bytes.resize(self.bytes.len() + full, 255)
     }
 
-    /// The counts, or an error where memory is refused.
+    /// The counts. An error if memory is refused.
     pub(crate) fn to_vec(&self, alloc: Global) -> Result<Vec<usize>, AllocError>
         ensures { IfOk result (λ counts. counts.items ≡ self.now) }
     {

@@ -22,7 +22,7 @@ pub struct Ticket {
     pub holder: Holder,
 }
 
-/// An open flow as funding sees it. It is active while its buffer holds a packet.
+/// What funding knows of an open flow. It is active while its buffer holds a packet.
 #[derive(Clone, Copy, Debug)]
 pub struct OpenFlow {
     pub number: FlowNo,

@@ -13,13 +13,13 @@ pub enum Ended {
     BadRecord,
     /// A read failed.
     Fault,
-    /// A growth was refused.
+    /// Memory was refused.
     NoMemory,
-    /// Another read was needed, and all turns were used up.
+    /// One more read was needed, and none was left.
     Bound,
 }
 
-/// A record that a worker queued: the n-th of this worker, counted from 1.
+/// A record that a worker queued. Each worker counts its own from 1.
 #[derive(Drop)]
 pub struct Offer {
     pub worker: u64,
@@ -28,12 +28,12 @@ pub struct Offer {
     pub parcel: Parcel,
 }
 
-/// What an end of the queue, or its intake, knows of it. No value of it is made.
+/// What an end of the queue, or its intake, knows of the queue. It is for contracts only: no value of it is made.
 #[derive(Drop)]
 pub struct QueueView {
-    /// It is the intake, which alone pops.
+    /// It is the intake, the only one that pops.
     pub gets: bool,
-    /// It is the end of a worker, which alone pushes that worker's offers.
+    /// It is the end of a worker, the only one that pushes that worker's offers.
     pub sends: bool,
     pub worker: u64,
     /// What this end pushed.

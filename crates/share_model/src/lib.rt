@@ -31,11 +31,11 @@ pub use laws::{
 };
 pub use line::{HolderKind, Line};
 pub use link::{Book, Counts, FlowLine, LinkState, Part, Row, Totals};
-pub use output::{NotWritten, put};
+pub use output::{Fault, put};
 pub use patient::PatientWriter;
 pub use rates::{Rate, Rates};
-pub use reader::{Got, PlainReader, Source};
+pub use reader::{Got, PlainReader, TellingReader};
 pub use scripted::Scripted;
 pub use stride::{Client, GlobalPart, Position};
 pub use tape::Tape;
-pub use writer::{Answer, PlainWriter, Telling};
+pub use writer::{Answer, PlainWriter, TellingWriter};

@@ -2,7 +2,7 @@
 
 use share_base::{Body, Command, Name};
 
-/// What the word after the number of a funding ticket names.
+/// Whether a ticket is to fund a currency or a flow: the word after its number.
 #[derive(Clone, Copy, Debug, PartialEq, Eq)]
 pub enum HolderKind {
     Currency,
@@ -16,12 +16,12 @@ pub enum Line {
     Change(Command),
     /// A packet of this payload for the flow of this name.
     Send { flow: Name, body: Body },
-    /// A turn of the link, in which the writer is offered at most this many bytes.
+    /// A turn of the link, which offers the writer at most this many bytes.
     Turn(u64),
     /// The writer is declared failed.
     Torn,
     /// The report of the link is asked for.
     Report,
-    /// The script is the audit of a journal, version 1; it stands as the first line alone.
+    /// The script is the audit of a journal, version 1. It may only be the first line.
     Audit,
 }

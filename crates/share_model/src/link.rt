@@ -26,7 +26,7 @@ pub struct Counts {
     pub accepted: u64,
     /// Packets whose frames are whole.
     pub written: u64,
-    /// Packets that waited in the buffers of flows as these were closed.
+    /// Packets that waited in the buffers of flows when these were closed.
     pub dropped: u64,
     /// Bytes that were written, those of a frame in part or torn among them.
     pub sent: u64,
@@ -54,11 +54,11 @@ pub struct Totals {
     pub accepted: u64,
     /// Packets whose frames are whole.
     pub written: u64,
-    /// 1 where the writer failed on a packet, and 0 otherwise.
+    /// 1 if the writer failed on a packet, and 0 otherwise.
     pub torn: u64,
-    /// Packets in buffers, but for a torn one.
+    /// Packets in buffers, a torn one not counted.
     pub waiting: u64,
-    /// Packets that waited in the buffers of flows as these were closed.
+    /// Packets that waited in the buffers of flows when these were closed.
     pub dropped: u64,
     /// Bytes that were written, those of a frame in part or torn among them.
     pub bytes: u64,
@@ -71,7 +71,7 @@ pub struct Totals {
     pub link: LinkState,
 }
 
-/// An open flow, and how many packets wait in its buffer: a torn one is not counted.
+/// An open flow, and how many packets wait in its buffer, a torn one not counted.
 #[derive(Clone, Copy, Debug)]
 pub struct Row {
     pub flow: FlowNo,

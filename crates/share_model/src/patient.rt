@@ -1,17 +1,17 @@
-//! A writer that offers a piece again where the offer was interrupted.
+//! A writer that offers a piece again if the offer was interrupted.
 
-use crate::writer::{Answer, Telling};
+use crate::writer::{Answer, TellingWriter};
 
 /// How often a piece is offered again in one call, at most.
 const MOST_AGAIN: u64 = 1 << 20;
 
-/// A writer over another one. A call offers its piece to that writer, and the same piece again as long as the offer was
-/// interrupted, at most 2^20 times; the answer is that to the last offer. So an interruption is answered only where
-/// 2^20 + 1 offers in a row were interrupted, and the bound ends a call on a writer that is interrupted for ever.
+/// Wraps another writer. A call offers its piece to that writer, and again as long as the offer is interrupted, at most
+/// 2^20 more times. The answer is that to the last offer, so it is an interruption only after 2^20 + 1 interrupted
+/// offers in a row. The bound ends a call on a writer that is interrupted for ever.
 #[derive(Drop)]
 pub struct PatientWriter<W>(pub W);
 
-impl<W: Telling> Telling for PatientWriter<W> {
+impl<W: TellingWriter> TellingWriter for PatientWriter<W> {
     ghost use Rattle.std.specs.Prelude.{◌^◌};
     ghost use Rattle.share_model.specs.io.Patient.{PatientAnswers};
     ghost use Rattle.share_model.specs.io.PatientLaws.{patient_tells};

@@ -1,4 +1,4 @@
-//! Tariffs as the link sees them: what a frame costs, and how an account is posted.
+//! What the link knows of tariffs: what a frame costs, and how an account is posted.
 ghost use Rattle.std.specs.Prelude.{◌≡◌, ◌<◌, ◌≤◌, ◌^◌, List, IsTrue, is_some};
 ghost use Rattle.share_model.specs.link.Tariff.{rate_at, rate_of, units_of, post_of, AreInRange};
 
@@ -11,7 +11,7 @@ pub struct Rate {
     pub price: u64,
 }
 
-/// A shelf of tariffs, numbered from 1, however it is kept.
+/// A shelf of tariffs, numbered from 1.
 pub trait Rates {
     ghost use Rattle.share_model.specs.declared.rates.Rate.{Rate};
 

@@ -8,19 +8,19 @@ use std::io::{Error, ErrorKind, Read};
 /// What one read call answered.
 #[derive(Clone, Copy, Debug, PartialEq, Eq)]
 pub enum Got {
-    /// This many bytes, at least 1, stand at the front of the buffer.
+    /// This many bytes, at least 1, are at the front of the buffer.
     Bytes(usize),
     /// There are no more bytes.
     End,
     /// Nothing was read, and the call may be made again.
     Interrupted,
-    /// Nothing was read, and the caller is not to ask again.
+    /// Nothing was read, and the caller shall not ask again.
     Failed,
 }
 
-/// A reader that fills a buffer in one call. What is `left` is what contracts know of the bytes to come; where
-/// that is `None`, as for a socket, nothing is known.
-pub trait Source {
+/// A reader that fills a buffer in one call. `left` is what contracts know of the bytes to come. It is `None` where
+/// nothing is known, as for a socket.
+pub trait TellingReader {
     ghost use Rattle.share_model.specs.declared.reader.Got.{Got};
 
     ghost left: { Self → Option (List ℕ) };
@@ -37,14 +37,13 @@ pub trait Source {
         → gives before buffer got after → Gives (left before) buffer got (left after) };
 }
 
-/// A reader of std's, of which is known what its own contract tells. Bytes are taken by one call of `read` into the
-/// whole buffer, and an error of that call is told as an interruption where it is of the kind `Interrupted`, and else
-/// as a failure.
+/// Wraps a reader of std, of which is known what its own contract tells. It makes one call of `read` with the whole
+/// buffer. An error of the kind `Interrupted` is told as an interruption, any other as a failure.
 #[derive(Drop)]
 pub struct PlainReader<R>(pub R);
 
 // What a failed read call is told as.
-fn refused(error: &Error) -> Got
+fn got_by_error(error: &Error) -> Got
     ensures interrupted { error_kind error.now ≡ ErrorKind.Interrupted → result ≡ Got.Interrupted }
     ensures failed { error_kind error.now ≢ ErrorKind.Interrupted → result ≡ Got.Failed }
 {
@@ -55,7 +54,7 @@ fn refused(error: &Error) -> Got
     }
 }
 
-impl<R: Read> Source for PlainReader<R> {
+impl<R: Read> TellingReader for PlainReader<R> {
     ghost left = { λ reader. R.remaining reader.0 };
 
     ghost gives = { λ before buffer got after. Gives (R.remaining before.0) buffer got (R.remaining after.0) };
@@ -66,7 +65,7 @@ impl<R: Read> Source for PlainReader<R> {
         match self.0.read(buffer) {
             Ok(0) => Got::End,
             Ok(count) => Got::Bytes(count),
-            Err(error) => refused(&error),
+            Err(error) => got_by_error(&error),
         }
     }
 }

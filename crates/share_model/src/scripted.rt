@@ -1,15 +1,15 @@
-//! A telling writer that answers as it is told to, for tests.
+//! For tests: a telling writer that gives the answers of a list.
 ghost use Rattle.std.specs.Prelude.{◌≡◌, [], drop, IfOk};
-ghost use Rattle.share_model.specs.io.Scripted.{wanted};
+ghost use Rattle.share_model.specs.io.Scripted.{next_answer};
 ghost use Rattle.share_model.specs.io.Told.{Fits};
 
 use crate::tape::Tape;
-use crate::writer::{Answer, Telling};
+use crate::writer::{Answer, TellingWriter};
 use std::alloc::{AllocError, Global};
 use std::marker::Model;
 
-/// A writer over memory that gives a list of answers in turn, one a call, and then accepts all. An accepted
-/// count that is greater than the piece is cut to it; a call that finds no memory fails.
+/// A writer over memory that gives the answers of a list in turn, one a call, and then accepts all. A count is cut to
+/// the length of the piece. A call that finds no memory fails.
 #[derive(Drop)]
 pub struct Scripted {
     script: Vec<Answer>,
@@ -46,7 +46,7 @@ impl Scripted {
         self.tape.bytes()
     }
 
-    /// The count of each call that it accepted, or an error where memory is refused.
+    /// The count of each call that it accepted. An error if memory is refused.
     pub fn counts(&self, alloc: Global) -> Result<Vec<usize>, AllocError>
         ensures { IfOk result (λ counts. counts.items ≡ self.now.told.counts) }
     {
@@ -54,9 +54,9 @@ impl Scripted {
     }
 }
 
-// The answer that a script wants for a piece.
-fn wanted(script: &[Answer], at: usize, piece: &[u8]) -> Answer
-    ensures value { result ≡ wanted (drop at script.now) piece.now }
+// The script's answer to a piece, at this place of the script.
+fn next_answer(script: &[Answer], at: usize, piece: &[u8]) -> Answer
+    ensures value { result ≡ next_answer (drop at script.now) piece.now }
     ensures fits { Fits piece.now result }
 {
     match script.get(at) {
@@ -67,14 +67,14 @@ fn wanted(script: &[Answer], at: usize, piece: &[u8]) -> Answer
     }
 }
 
-// The place of the answer after the one at a place.
+// The place of the answer after this one.
 fn place_after(script: &[Answer], at: usize) -> usize
     ensures { drop result script.now ≡ drop 1 (drop at script.now) }
 {
     if at < script.len() { at + 1 } else { at }
 }
 
-impl Telling for Scripted {
+impl TellingWriter for Scripted {
     ghost use Rattle.std.specs.Prelude.{Some};
     ghost use Rattle.share_model.specs.io.Scripted.{ScriptedAnswers};
     ghost use Rattle.share_model.specs.io.ToldLaws.{scripted_tells};
@@ -86,7 +86,7 @@ impl Telling for Scripted {
     ghost tells = { scripted_tells };
 
     fn offer(&mut self, piece: &[u8]) -> Answer {
-        let answer = wanted(self.script.as_slice(), self.next, piece);
+        let answer = next_answer(self.script.as_slice(), self.next, piece);
         self.next = place_after(self.script.as_slice(), self.next);
         match answer {
             Answer::Accepted(count) => self.tape.offer(&piece[..count]),

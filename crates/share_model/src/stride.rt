@@ -3,22 +3,22 @@
 /// A client of the stride queue: a flow that competes for the link, or one that does not at present.
 #[derive(Clone, Copy, Debug, PartialEq, Eq)]
 pub struct Client {
-    /// Its tickets, the last ones where it does not compete; 0 before it first competes.
+    /// Its tickets, or those with which it competed last; 0 before it first competes.
     pub tickets: u32,
     /// 2^40 divided by its tickets; 0 before it first competes.
     pub stride: u64,
-    /// By how much its pass was ahead of the global pass when it ceased to compete, with what was charged since.
+    /// By how much its pass was ahead of the global pass when it ceased to compete, and what it was charged since.
     pub remain: i128,
     /// What it was charged, on the scale of the global pass, while it competes.
     pub pass: i128,
     pub competes: bool,
 }
 
-/// Where a client stands.
+/// What is read of a client.
 #[derive(Clone, Copy, Debug, PartialEq, Eq)]
 pub struct Position {
     pub competing: bool,
-    /// Its tickets, the last ones where it does not compete.
+    /// Its tickets, or those with which it competed last.
     pub tickets: u32,
     pub stride: u64,
     /// Its pass while it competes, its remain otherwise.

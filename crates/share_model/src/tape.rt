@@ -2,19 +2,19 @@
 ghost use Rattle.std.specs.Prelude.{◌≡◌, [], Some, IfOk};
 ghost use Rattle.share_model.specs.io.Told.{Told, TapeAnswers};
 
-use crate::counts::Counts;
-use crate::writer::{Answer, Telling};
+use crate::counts::CodedCounts;
+use crate::writer::{Answer, TellingWriter};
 use std::alloc::{AllocError, Global};
 use std::marker::Model;
 
-/// A writer over memory: it accepts the whole piece, or fails and stays as it was where memory was refused.
-/// A contract sees it as the bytes that it holds and the count of each call. Beside the n bytes of a call it keeps
-/// n / 255 + 1 bytes for their count, so at most twice the bytes written, also where each write is one byte; an empty
-/// piece takes one byte. Where its room is full, it doubles.
+/// A writer over memory. It accepts the whole piece, or fails and stays as it was because memory was refused. A
+/// contract sees it as the bytes that it holds and the count of each call. A call with n bytes takes these and
+/// n / 255 + 1 for their count: at most twice the bytes written, and one byte for an empty piece. Its room doubles
+/// when it is full.
 #[derive(Drop)]
 pub struct Tape {
     bytes: Vec<u8>,
-    counts: Counts,
+    counts: CodedCounts,
 }
 
 impl Model for Tape {
@@ -32,7 +32,7 @@ impl Tape {
     {
         Tape {
             bytes: Vec::new(alloc),
-            counts: Counts::new(alloc),
+            counts: CodedCounts::new(alloc),
         }
     }
 
@@ -43,7 +43,7 @@ impl Tape {
         self.bytes.as_slice()
     }
 
-    /// The bytes that it held.
+    /// Gives the bytes that it holds.
     pub fn into_bytes(self) -> Vec<u8>
         ensures { result.items ≡ self.bytes }
     {
@@ -52,7 +52,7 @@ impl Tape {
         bytes
     }
 
-    /// The count of each call that it accepted, or an error where memory is refused.
+    /// The count of each call that it accepted. An error if memory is refused.
     pub fn counts(&self, alloc: Global) -> Result<Vec<usize>, AllocError>
         ensures { IfOk result (λ counts. counts.items ≡ self.now.counts) }
     {
@@ -60,7 +60,7 @@ impl Tape {
     }
 }
 
-impl Telling for Tape {
+impl TellingWriter for Tape {
     ghost use Rattle.std.specs.Prelude.{Some};
     ghost use Rattle.share_model.specs.io.Told.{TapeAnswers};
     ghost use Rattle.share_model.specs.io.ToldLaws.{tape_tells};

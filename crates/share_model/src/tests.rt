@@ -1,16 +1,16 @@
-//! Readers and writers in use: what a tape holds, a script that is followed, and std's answers told on.
+//! Readers and writers in use: what a tape holds, how a script is followed, and what is told of std's answers.
 
 mod patient;
 mod plain;
 
-use crate::{Answer, Got, PlainReader, PlainWriter, Scripted, Source, Tape, Telling};
+use crate::{Answer, Got, PlainReader, PlainWriter, Scripted, Tape, TellingReader, TellingWriter};
 use std::alloc::{AllocError, Global};
 use std::io;
 use std::io::{ErrorKind, Read, Write};
 use std::process::Abort;
 
-// The writer answers so to this piece, offered again and again.
-fn answers<W: Telling>(writer: &mut W, piece: &[u8], wanted: &[Answer]) -> bool {
+// Whether the writer gives these answers in turn to offers of this piece.
+fn answers<W: TellingWriter>(writer: &mut W, piece: &[u8], wanted: &[Answer]) -> bool {
     for answer in wanted {
         if writer.offer(piece) != *answer {
             return false;
@@ -19,8 +19,8 @@ fn answers<W: Telling>(writer: &mut W, piece: &[u8], wanted: &[Answer]) -> bool 
     true
 }
 
-// The writer takes a whole piece of each length.
-fn takes_whole<W: Telling>(writer: &mut W, bytes: &[u8], lengths: &[usize]) -> bool {
+// Whether the writer takes a whole piece of each length.
+fn takes_whole<W: TellingWriter>(writer: &mut W, bytes: &[u8], lengths: &[usize]) -> bool {
     for length in lengths {
         let offered = match bytes.get(..*length) {
             Some(piece) => writer.offer(piece),
@@ -33,7 +33,7 @@ fn takes_whole<W: Telling>(writer: &mut W, bytes: &[u8], lengths: &[usize]) -> b
     true
 }
 
-// These counts were told.
+// Whether these counts were told.
 fn told(counts: Result<Vec<usize>, AllocError>, wanted: &[usize]) -> bool {
     match counts {
         Ok(counts) => counts.as_slice() == wanted,

@@ -12,13 +12,13 @@ pub enum Answer {
     Accepted(usize),
     /// Nothing was taken, and the call may be made again.
     Interrupted,
-    /// Nothing was taken, and the caller is not to ask again.
+    /// Nothing was taken, and the caller shall not ask again.
     Failed,
 }
 
-/// A writer that is offered one piece in one call. What it `told` is what contracts know of its bytes; where
-/// that is `None`, as for a socket, nothing is known.
-pub trait Telling {
+/// A writer that is offered one piece in one call. `told` is what contracts know of its bytes. It is `None` where
+/// nothing is known, as for a socket.
+pub trait TellingWriter {
     ghost use Rattle.share_model.specs.declared.writer.Answer.{Answer};
 
     ghost told: { Self → Option Told };
@@ -34,14 +34,14 @@ pub trait Telling {
         → answers before piece answer after → WasTold (told before) piece answer (told after) };
 }
 
-/// A writer of std's, of which is known what its own contract tells: what its bytes are, where that is known, but no
-/// count of a call. An offer is one call of `write` with the whole piece, and an error of that call is told as an
-/// interruption where it is of the kind `Interrupted`, and else as a failure.
+/// Wraps a writer of std, of which is known what its own contract tells: its bytes, if they are known, but no count of
+/// a call. It makes one call of `write` with the whole piece. An error of the kind `Interrupted` is told as an
+/// interruption, any other as a failure.
 #[derive(Drop)]
 pub struct PlainWriter<W>(pub W);
 
 // What a failed write call is told as.
-fn refused(error: &Error) -> Answer
+fn answer_to_error(error: &Error) -> Answer
     ensures interrupted { error_kind error.now ≡ ErrorKind.Interrupted → result ≡ Answer.Interrupted }
     ensures failed { error_kind error.now ≢ ErrorKind.Interrupted → result ≡ Answer.Failed }
 {
@@ -52,7 +52,7 @@ fn refused(error: &Error) -> Answer
     }
 }
 
-impl<W: Write> Telling for PlainWriter<W> {
+impl<W: Write> TellingWriter for PlainWriter<W> {
     ghost use Rattle.share_model.specs.io.Told.{PlainAnswers};
     ghost use Rattle.share_model.specs.io.ToldLaws.{plain_tells};
 
@@ -67,7 +67,7 @@ impl<W: Write> Telling for PlainWriter<W> {
     fn offer(&mut self, piece: &[u8]) -> Answer {
         match self.0.write(piece) {
             Ok(count) => Answer::Accepted(count),
-            Err(error) => refused(&error),
+            Err(error) => answer_to_error(&error),
         }
     }
 }

@@ -11,9 +11,9 @@ use Rattle.share_model.specs.funding.Graph.{NameBytes}
 use Rattle.share_model.specs.link.Buffers.{is_busy}
 use Rattle.share_model.specs.link.Live.{Live}
 use Rattle.share_model.specs.run.Sound.{Sound}
-use Rattle.share_model.specs.run.SoundLaws.{tickets-idle, flow-active}
+use Rattle.share_model.proofs.lemmas.run.SoundLaws.{tickets-idle, flow-active}
 use Rattle.share_model.specs.stride.Bound.{IsBounded}
-use Rattle.share_model.specs.stride.BoundLaws.{distance-idle}
+use Rattle.share_model.proofs.lemmas.stride.BoundLaws.{distance-idle}
 use Rattle.share_model.specs.stride.Moves.{new_client, client, position}
 use Rattle.share_model.specs.text.Report.{flow_shown}
 

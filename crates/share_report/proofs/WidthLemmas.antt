@@ -9,16 +9,17 @@ use Rattle.std.proofs.lemmas.List.{length-append, length-replicate}
 use Rattle.share_model.specs.declared.link.FlowLine.{FlowLine}
 use Rattle.share_report.specs.declared.text.Column.{Column}
 use Rattle.share_report.specs.declared.text.Column.TheVariants.{Left, Right}
-use Rattle.share_report.specs.Columns.{spaces, at_left, at_right, placed, width_of}
+use Rattle.share_report.specs.Columns.{spaces, at_left, at_right, column_text, width_of}
 use Rattle.share_model.specs.text.Report.{total_line, standing, flow_line}
 use Rattle.share_report.specs.Widths.{FitsColumns}
 
-pub length-placed : (c : Column) (text : List ℕ) → length text ≤ width_of c → length (placed c text) ≡ width_of c
+pub length-column_text : (c : Column) (text : List ℕ) → length text ≤ width_of c → length (column_text c text)
+    ≡ width_of c
 unfolding at_left at_right
-length-placed (Left width) text fits =
+length-column_text (Left width) text fits =
     let both = length-append text (spaces (width - length text)) in
     let rest = length-replicate {A = ℕ} (width - length text) 32 in omega (arith, both, rest)
-length-placed (Right width) text fits =
+length-column_text (Right width) text fits =
     let both = length-append (spaces (width - length text)) text in
     let rest = length-replicate {A = ℕ} (width - length text) 32 in omega (arith, both, rest)
 
@@ -26,10 +27,10 @@ pub length-total_line : (key value : List ℕ) → length key ≤ 8 → length v
     → length (total_line (key, value)) ≡ 35
 unfolding total_line
 length-total_line key value short narrow =
-    let first = length-placed (Left 8) key short in
-    let second = length-placed (Right 26) value narrow in
-    let both = length-append (placed (Left 8) key) (placed (Right 26) value) in
-    let all = length-append (placed (Left 8) key ++ placed (Right 26) value) (codes "\n") in
+    let first = length-column_text (Left 8) key short in
+    let second = length-column_text (Right 26) value narrow in
+    let both = length-append (column_text (Left 8) key) (column_text (Right 26) value) in
+    let all = length-append (column_text (Left 8) key ++ column_text (Right 26) value) (codes "\n") in
     omega (arith, first, second, both, all)
 
 standing_fits : (competing : Bool) → length (standing competing) ≤ 3
@@ -52,16 +53,16 @@ length-joined a b c d e f g = simp length-append (omega arith)
 pub length-flow_line : (f : FlowLine) → FitsColumns f → length (flow_line f) ≡ 93
 unfolding flow_line
 length-flow_line f fits =
-    let flow = length-placed (Right 8) (decimal f.flow)
+    let flow = length-column_text (Right 8) (decimal f.flow)
     (length-decimal-le_wide 8 f.flow (lit< tt) fits.flow (omega (arith, fits.flow))) in
-    let name = length-placed (Left 16) f.name fits.name in
-    let tickets = length-placed (Right 7) (decimal f.tickets)
+    let name = length-column_text (Left 16) f.name fits.name in
+    let tickets = length-column_text (Right 7) (decimal f.tickets)
     (length-decimal-le_wide 7 f.tickets (lit< tt) fits.tickets (omega (arith, fits.tickets))) in
-    let waiting = length-placed (Right 4) (decimal f.waiting)
+    let waiting = length-column_text (Right 4) (decimal f.waiting)
     (length-decimal-le_wide 4 f.waiting (lit< tt) fits.waiting (omega (arith, fits.waiting))) in
-    let account = length-placed (Right 17) (decimal f.account)
+    let account = length-column_text (Right 17) (decimal f.account)
     (length-decimal-le_wide 17 f.account (lit< tt) fits.account (omega (arith, fits.account))) in
-    let competing = length-placed (Left 3) (standing f.competing) (standing_fits f.competing) in
-    let place = length-placed (Right 26) (signed_decimal f.place) (place_fits f.place fits.place) in
+    let competing = length-column_text (Left 3) (standing f.competing) (standing_fits f.competing) in
+    let place = length-column_text (Right 26) (signed_decimal f.place) (place_fits f.place fits.place) in
     length-joined _ _ _ _ _ _ _
     ∙ omega (arith, flow, name, tickets, waiting, account, competing, place)

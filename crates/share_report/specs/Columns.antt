@@ -10,6 +10,6 @@ width_of (Left width) = width
 width_of (Right width) = width
 
 -- a text at the left or at the right of its column, and spaces in the rest
-abbrev pub placed : Column → List ℕ → List ℕ
-placed (Left width) text = at_left width text
-placed (Right width) text = at_right width text
+abbrev pub column_text : Column → List ℕ → List ℕ
+column_text (Left width) text = at_left width text
+column_text (Right width) text = at_right width text

@@ -1,40 +1,34 @@
 //! The report of an engine.
-ghost use Rattle.std.specs.Prelude.{◌≡◌, ◌≤◌, ◌+◌, ◌*◌, ◌^◌, ◌++◌, [], length, slice_get, option_map, MatchResult};
-ghost use Rattle.std.specs.Io.KnownBytes.{Appends};
-ghost use Rattle.share_model.specs.io.Calls.{Offers, OfferRefused};
+ghost use Rattle.std.specs.Prelude.{◌≡◌, ◌≤◌, ◌+◌, ◌*◌, ◌^◌, ◌++◌, [], length, slice_get, option_map};
 ghost use Rattle.share_model.specs.run.Sound.{Sound};
-ghost use Rattle.share_model.specs.io.Printing.{bytes_told, AppendsPart};
+ghost use Rattle.share_model.specs.io.Printing.{WritesText};
 ghost use Rattle.share_model.specs.text.Report.{flow_shown, flows_text, report};
 
-use crate::fault::Fault;
-use crate::lines::{push_flow, push_totals};
-use crate::text::Text;
-use share_core::Engine;
-use share_model::{FlowLine, Rates, Telling, put};
+use crate::lines::{MAX_FLOW, MAX_TOTALS, push_flow, push_totals};
+use crate::text::ReportText;
+use share_core::{Engine, MAX_FLOWS};
+use share_model::{Fault, FlowLine, Rates, TellingWriter, put};
 
 /// Writes the report of a link: a line for each of its totals, a line for each open flow, in order of opening, and the
-/// line `end`. It is answered in a spent life too, changes nothing, and takes no memory: the text is put together on
-/// the stack, so a writer that accepts it whole is called once. On a fault a beginning of the text is written.
-pub fn report<W, S: Rates, V: Telling>(engine: &Engine<W, S>, output: &mut V) -> Result<(), Fault>
-    ensures bytes { MatchResult result
-        (λ _. Appends (bytes_told (V.told output.old)) (bytes_told (V.told output.new))
-        (report engine.now.live))
-        (λ _. AppendsPart (bytes_told (V.told output.old)) (bytes_told (V.told output.new))
-        (report engine.now.live)) }
-    ensures offers { MatchResult result (λ _. Offers V.answers output.old output.new)
-        (λ _. OfferRefused V.answers output.old output.new) }
+/// line `end`. A link whose life is spent is reported too. The call changes nothing and takes no memory: the text is
+/// put together on the stack, so a writer that accepts it whole is called once. If an offer is refused, a beginning of
+/// the text was written.
+pub fn report<W, S: Rates, V: TellingWriter>(
+    engine: &Engine<W, S>,
+    output: &mut V,
+) -> Result<(), Fault>
+    ensures { WritesText V.told V.answers output.old output.new (report engine.now.live) result }
 {
-    let mut text = Text::new();
+    let mut text = ReportText::new();
     push_report(&mut text, engine);
-    put(output, text.as_bytes())?;
-    Ok(())
+    put(output, text.as_bytes())
 }
 
-fn push_report<W, S: Rates>(text: &mut Text, engine: &Engine<W, S>)
+fn push_report<W, S: Rates>(text: &mut ReportText, engine: &Engine<W, S>)
     requires { text.old ≡ [] }
     ensures { text.new ≡ report engine.now.live }
 {
-    // What `events` answers is not shown: its contract says that the link is sound.
+    // The number of events is not used: the contract of `events` says that the link is sound.
     let _ = engine.events();
     push_totals(text, &engine.totals());
     push_flows(text, engine);
@@ -42,12 +36,12 @@ fn push_report<W, S: Rates>(text: &mut Text, engine: &Engine<W, S>)
 }
 
 // Adds the line of each open flow.
-fn push_flows<W, S: Rates>(text: &mut Text, engine: &Engine<W, S>)
+fn push_flows<W, S: Rates>(text: &mut ReportText, engine: &Engine<W, S>)
     requires life { engine.now.life ≤ 2 ^ 24 }
     requires sound { Sound engine.now.life engine.now.rates engine.now.live }
-    requires room { length text.old ≤ 2048 }
+    requires room { length text.old ≤ 2 * MAX_TOTALS }
     ensures bytes { text.new ≡ text.old ++ flows_text engine.now.live }
-    ensures few { length text.new ≤ length text.old + 64 * 216 }
+    ensures few { length text.new ≤ length text.old + MAX_FLOWS * MAX_FLOW }
 {
     let mut n = 0;
     while let Some(flow) = flow_at(engine, n) {
@@ -56,7 +50,7 @@ fn push_flows<W, S: Rates>(text: &mut Text, engine: &Engine<W, S>)
     }
 }
 
-// What the line of the n-th open flow says, from 0.
+// What the line of an open flow says. Flows are counted from 0.
 fn flow_at<W, S: Rates>(engine: &Engine<W, S>, n: u32) -> Option<FlowLine>
     requires { Sound engine.now.life engine.now.rates engine.now.live }
     ensures { result

@@ -2,7 +2,6 @@
 #![tactic(auto)]
 
 mod engine;
-mod fault;
 mod laws;
 mod lines;
 #[cfg(test)]
@@ -10,8 +9,8 @@ mod tests;
 mod text;
 
 pub use engine::report;
-pub use fault::Fault;
 pub use laws::{
     flows_fit_their_columns, idle_flows_show_no_tickets, lines_fill_their_columns,
     new_flows_show_no_place,
 };
+pub use share_model::Fault;

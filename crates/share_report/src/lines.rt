@@ -1,16 +1,25 @@
 //! The lines of a report.
-ghost use Rattle.std.specs.Prelude.{◌≡◌, ◌≤◌, ◌+◌, ◌++◌, length};
+ghost use Rattle.std.specs.Prelude.{◌≡◌, ◌≤◌, ◌+◌, ◌*◌, ◌++◌, length};
 ghost use Rattle.share_model.specs.text.Report.{total_line, totals_text, standing, link_number, flow_line};
 
-use crate::text::{Column, Text};
+use crate::text::{Column, ROOM, ReportText, WIDEST};
 use itoa::Integer;
 use share_model::{FlowLine, LinkState, Totals};
 
+/// More bytes than the lines of the totals have.
+pub(crate) const MAX_TOTALS: usize = 1024;
+
+/// More bytes than the line of an open flow has.
+pub(crate) const MAX_FLOW: usize = 216;
+
+/// How many places the column of a key has.
+const KEY: usize = 8;
+
 /// Adds the lines of the totals.
-pub fn push_totals(text: &mut Text, totals: &Totals)
-    requires { length text.old ≤ 1024 }
+pub fn push_totals(text: &mut ReportText, totals: &Totals)
+    requires { length text.old ≤ MAX_TOTALS }
     ensures bytes { text.new ≡ text.old ++ totals_text totals.now }
-    ensures few { length text.new ≤ length text.old + 1024 }
+    ensures few { length text.new ≤ length text.old + MAX_TOTALS }
 {
     push_total(text, b"clock", totals.clock);
     push_total(text, b"accepted", totals.accepted);
@@ -26,14 +35,14 @@ pub fn push_totals(text: &mut Text, totals: &Totals)
 }
 
 // Adds the line of a total.
-fn push_total<I: Integer>(text: &mut Text, key: &[u8], value: I)
-    requires short { length key.now ≤ 8 }
-    requires room { length text.old + I.MAX_STR_LEN + 43 ≤ 16384 }
+fn push_total<I: Integer>(text: &mut ReportText, key: &[u8], value: I)
+    requires short { length key.now ≤ KEY }
+    requires room { length text.old + I.MAX_STR_LEN + (2 * KEY + WIDEST + 1) ≤ ROOM }
     ensures bytes { text.new ≡ text.old ++ total_line (key.now, I.text value) }
-    ensures few { length text.new ≤ length text.old + I.MAX_STR_LEN + 43 }
+    ensures few { length text.new ≤ length text.old + I.MAX_STR_LEN + (2 * KEY + WIDEST + 1) }
 {
-    text.push_column(Column::Left(8), key);
-    text.push_number(Column::Right(26), value);
+    text.push_column(Column::Left(KEY), key);
+    text.push_number(Column::Right(WIDEST), value);
     text.push(b"\n");
 }
 
@@ -48,10 +57,10 @@ fn link_number(state: LinkState) -> u8
 }
 
 /// Adds the line of an open flow.
-pub fn push_flow(text: &mut Text, flow: &FlowLine)
-    requires { length text.old + 216 ≤ 16384 }
+pub fn push_flow(text: &mut ReportText, flow: &FlowLine)
+    requires { length text.old + MAX_FLOW ≤ ROOM }
     ensures bytes { text.new ≡ text.old ++ flow_line flow.now }
-    ensures few { length text.new ≤ length text.old + 216 }
+    ensures few { length text.new ≤ length text.old + MAX_FLOW }
 {
     text.push(b"flow ");
     text.push_number(Column::Right(8), flow.flow.number());
@@ -66,7 +75,7 @@ pub fn push_flow(text: &mut Text, flow: &FlowLine)
     text.push(b" ");
     text.push_column(Column::Left(3), standing(flow.competing));
     text.push(b" ");
-    text.push_number(Column::Right(26), flow.place);
+    text.push_number(Column::Right(WIDEST), flow.place);
     text.push(b"\n");
 }
 

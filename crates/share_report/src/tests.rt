@@ -174,7 +174,7 @@ fn shows_the_most_flows<S: Rates + Copy>(rt: &impl Abort, alloc: Global, shelf: 
     drop(engine);
 }
 
-// Compares what a writer with these answers holds after a report, which is the first so many bytes of the text, and the
+// Compares what a writer with these answers holds after a report, a beginning of the text of this length, and the
 // counts that it accepted.
 fn writes<S: Rates>(
     rt: &impl Abort,
@@ -203,7 +203,7 @@ const REFUSALS: [(Answer, usize); 3] = [
     (Answer::Accepted(0), 1),
 ];
 
-// An offer is refused, after so many bytes.
+// An offer is refused, after this many bytes.
 fn is_refused<S: Rates>(
     rt: &impl Abort,
     alloc: Global,

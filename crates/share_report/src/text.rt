@@ -1,19 +1,22 @@
 //! Text that is put together in columns before it is written.
 ghost use Rattle.std.specs.Prelude.{◌≡◌, ◌≤◌, ◌+◌, ◌++◌, [], length};
-ghost use Rattle.share_report.specs.Columns.{spaces, placed, width_of};
+ghost use Rattle.share_report.specs.Columns.{spaces, column_text, width_of};
 
 use arrayvec::ArrayVec;
 use itoa::{Buffer, Integer};
 use std::marker::Model;
 
 /// The room for a report: whatever its numbers are, it takes less.
-const ROOM: usize = 16384;
+pub(crate) const ROOM: usize = 16384;
+
+/// How many places the widest column has.
+pub(crate) const WIDEST: usize = 26;
 
 /// The spaces that fill the widest column.
-const SPACES: [u8; 26] = [b' '; 26];
+const SPACES: [u8; WIDEST] = [b' '; WIDEST];
 
-/// A column of so many places. A text stands at its left or at its right, and spaces fill the rest; a text that is
-/// longer than its column stands there whole.
+/// A column of this many places. A text is at its left or at its right, and spaces fill the rest; a text that is longer
+/// than its column is shown whole.
 #[derive(Clone, Copy, Debug)]
 pub enum Column {
     Left(usize),
@@ -22,11 +25,11 @@ pub enum Column {
 
 /// A text of at most 16384 bytes, which takes no memory. A contract sees it as its bytes.
 #[derive(Drop)]
-pub struct Text {
+pub struct ReportText {
     bytes: ArrayVec<u8, ROOM>,
 }
 
-impl Model for Text {
+impl Model for ReportText {
     ghost use Rattle.std.specs.Prelude.{ℕ, List};
 
     ghost Value = { List ℕ };
@@ -34,12 +37,12 @@ impl Model for Text {
     ghost view = { λ text. text.bytes.items };
 }
 
-impl Text {
+impl ReportText {
     /// A text of no bytes.
-    pub fn new() -> Text
+    pub fn new() -> ReportText
         ensures { result ≡ [] }
     {
-        Text {
+        ReportText {
             bytes: ArrayVec::new(),
         }
     }
@@ -53,7 +56,7 @@ impl Text {
 
     /// Adds bytes at the end.
     pub fn push(&mut self, bytes: &[u8])
-        requires { length self.old + length bytes.now ≤ 16384 }
+        requires { length self.old + length bytes.now ≤ ROOM }
         ensures bytes { self.new ≡ self.old ++ bytes.now }
         ensures long { length self.new ≡ length self.old + length bytes.now }
     {
@@ -63,8 +66,8 @@ impl Text {
     }
 
     fn push_spaces(&mut self, count: usize)
-        requires few { count ≤ 26 }
-        requires room { length self.old + count ≤ 16384 }
+        requires few { count ≤ WIDEST }
+        requires room { length self.old + count ≤ ROOM }
         ensures bytes { self.new ≡ self.old ++ spaces count }
         ensures long { length self.new ≡ length self.old + count }
     {
@@ -73,9 +76,9 @@ impl Text {
 
     /// Adds a text in a column of at most 26 places.
     pub fn push_column(&mut self, column: Column, text: &[u8])
-        requires narrow { width_of column ≤ 26 }
-        requires room { length self.old + length text.now + width_of column ≤ 16384 }
-        ensures bytes { self.new ≡ self.old ++ placed column text.now }
+        requires narrow { width_of column ≤ WIDEST }
+        requires room { length self.old + length text.now + width_of column ≤ ROOM }
+        ensures bytes { self.new ≡ self.old ++ column_text column text.now }
         ensures few { length self.new ≤ length self.old + length text.now + width_of column }
     {
         match column {
@@ -92,9 +95,9 @@ impl Text {
 
     /// Adds a number in a column of at most 26 places.
     pub fn push_number<I: Integer>(&mut self, column: Column, number: I)
-        requires narrow { width_of column ≤ 26 }
-        requires room { length self.old + I.MAX_STR_LEN + width_of column ≤ 16384 }
-        ensures bytes { self.new ≡ self.old ++ placed column (I.text number) }
+        requires narrow { width_of column ≤ WIDEST }
+        requires room { length self.old + I.MAX_STR_LEN + width_of column ≤ ROOM }
+        ensures bytes { self.new ≡ self.old ++ column_text column (I.text number) }
         ensures few { length self.new ≤ length self.old + I.MAX_STR_LEN + width_of column }
     {
         let mut digits = Buffer::new();

@@ -13,18 +13,18 @@ use Rattle.share_model.specs.declared.line.Line.{Line}
 use Rattle.share_model.specs.declared.line.Line.TheVariants.{Change, Send, Turn as TurnLine, Torn as TornLine}
 use Rattle.share_model.specs.declared.line.Line.TheVariants.{Report as ReportLine, Audit}
 use Rattle.share_model.specs.link.Live.{Live}
-use Rattle.share_model.specs.link.Did.{is_spent}
-use Rattle.share_model.specs.link.Seen.{Seen}
+use Rattle.share_model.specs.link.Calls.{is_spent}
+use Rattle.share_model.specs.link.View.{LinkView}
 use Rattle.share_model.specs.io.Told.{Told}
-use Rattle.share_model.specs.text.Lines.{is_send, reading, Reads}
+use Rattle.share_model.specs.text.Lines.{is_send, reading, ReadsLine}
 use Rattle.share_model.specs.text.Talk.{is_syntax, audit_event}
 use Rattle.share_model.specs.text.Texts.{line_text}
-use Rattle.share_model.specs.text.Says.{Says, SaysLine}
-use Rattle.share_model.specs.text.TalkLaws.{line-says, unread-says, no_memory-says}
+use Rattle.share_model.specs.text.Answering.{AnswersBytes, AnswersLine}
+use Rattle.share_model.proofs.lemmas.text.TalkLaws.{line-says, unread-says, no_memory-says}
 use Rattle.share_script.specs.Script.{is_torn}
-use Rattle.share_script.specs.Session.{said_text}
-use Rattle.share_script.specs.declared.answers.Said.{Said}
-use Rattle.share_script.specs.declared.answers.Said.TheVariants.{Outcome as SaidOutcome, Nothing}
+use Rattle.share_script.specs.Session.{answer_text}
+use Rattle.share_script.specs.declared.answers.LineAnswer.{LineAnswer}
+use Rattle.share_script.specs.declared.answers.LineAnswer.TheVariants.{Outcome as SaidOutcome, Nothing}
 
 pub added : (bs piece : List ℕ) → length bs ≤ 20481 → bs ++ take (20481 - length bs) piece ≡ take 20481 (bs ++ piece)
 added bs piece few =
@@ -39,27 +39,30 @@ pub untrue : {P : Type 0} (b : Bool) → b ≡ false → (IsTrue b ↔ P) → P 
 untrue true e same p = cc
 untrue false e same p = let q : false ≡ true = same.1 p in cc
 
-pub read_ok : (bytes : List ℕ) (l : Line) → Reads bytes (Ok l) → reading bytes ≡ Ok l
+pub read_ok : (bytes : List ℕ) (l : Line) → ReadsLine bytes (Ok l) → reading bytes ≡ Ok l
 read_ok bytes l (inl e) = sym e
 read_ok bytes l (inr none) = let q : Ok l ≡ Err NoMemory = none.0 in cc
 
 -- the answer to the line of an audit
-pub audit_said : (l : Live) (first : Bool) (said : Said)
-    → said ≡ (if first then Nothing else SaidOutcome (Replied (Refused Syntax)))
-    → audit_event first ≡ Err (said_text l said)
-audit_said l true said is = ap (λ (s : Said). Err (said_text l s)) (sym is)
-audit_said l false said is = ap (λ (s : Said). Err (said_text l s)) (sym is)
+pub audit_answer : (l : Live) (first : Bool) (line_answer : LineAnswer)
+    → line_answer ≡ (if first then Nothing else SaidOutcome (Replied (Refused Syntax)))
+    → audit_event first ≡ Err (answer_text l line_answer)
+audit_answer l true line_answer is = ap (λ (s : LineAnswer). Err (answer_text l s)) (sym is)
+audit_answer l false line_answer is = ap (λ (s : LineAnswer). Err (answer_text l s)) (sym is)
 
 module _ {W : Type 0} (told : W → Option Told) where
-  pub answered : {F : Type 0} (old new : Seen W) (first : Bool) (bytes : List ℕ) (l : Line) (r : Result Said F)
-      → reading bytes ≡ Ok l → IfOk r (λ said. SaysLine told old first l (said_text new.live said) new)
-      → IfOk r (λ said. Says told old first bytes (said_text new.live said) new)
-  answered old new first bytes l (Ok said) is h = line-says told old new first bytes l (said_text new.live said) is h
+  pub answered : {F : Type 0} (old new : LinkView W) (first : Bool) (bytes : List ℕ) (l : Line)
+      (r : Result LineAnswer F)
+      → reading bytes ≡ Ok l → IfOk r
+      (λ line_answer. AnswersLine told old first l (answer_text new.live line_answer) new)
+      → IfOk r (λ line_answer. AnswersBytes told old first bytes (answer_text new.live line_answer) new)
+  answered old new first bytes l (Ok line_answer) is h = line-says told old new first bytes l
+      (answer_text new.live line_answer) is h
   answered old new first bytes l (Err f) is h = tt
 
-  no_memory_by : (old : Seen W) (first : Bool) (bytes : List ℕ) (l : Line) (r : Refusal) → reading bytes ≡ Ok l
+  no_memory_by : (old : LinkView W) (first : Bool) (bytes : List ℕ) (l : Line) (r : Refusal) → reading bytes ≡ Ok l
       → is_send l ≡ true → r ≡ (if is_spent old then Spent else NoMemory)
-      → Says told old first bytes (line_text (Replied (Refused r))) old
+      → AnswersBytes told old first bytes (line_text (Replied (Refused r))) old
   no_memory_by old first bytes (Change c) r is send given = absurd (true≢false (sym send))
   no_memory_by old first bytes (Send flow body) r is send given =
       no_memory-says told old first bytes flow body r is given
@@ -68,10 +71,10 @@ module _ {W : Type 0} (told : W → Option Told) where
   no_memory_by old first bytes ReportLine r is send given = absurd (true≢false (sym send))
   no_memory_by old first bytes Audit r is send given = absurd (true≢false (sym send))
 
-  pub unread_said : (old : Seen W) (first : Bool) (bytes : List ℕ) (e r : Refusal) (spent : Bool)
-      → Reads bytes (Err e) → spent ≡ is_spent old
+  pub unread_said : (old : LinkView W) (first : Bool) (bytes : List ℕ) (e r : Refusal) (spent : Bool)
+      → ReadsLine bytes (Err e) → spent ≡ is_spent old
       → r ≡ (if is_syntax e then Syntax else if spent then Spent else e)
-      → Says told old first bytes (line_text (Replied (Refused r))) old
+      → AnswersBytes told old first bytes (line_text (Replied (Refused r))) old
   unread_said old first bytes e r spent (inl is) over given =
       unread-says told old first bytes e r (sym is)
       (given ∙ ap (λ (t : Bool). if is_syntax e then Syntax else if t then Spent else e) over)
@@ -82,7 +85,7 @@ module _ {W : Type 0} (told : W → Option Told) where
       no_memory_by old first bytes none.1.0 r none.1.1 none.1.2
       (g ∙ ap (λ (t : Bool). if t then Spent else NoMemory) over)
 
-  pub as_said : (old new : Seen W) (first : Bool) (l m : Line) (text : List ℕ) → l ≡ m
-      → SaysLine told old first m text new → SaysLine told old first l text new
+  pub as_said : (old new : LinkView W) (first : Bool) (l m : Line) (text : List ℕ) → l ≡ m
+      → AnswersLine told old first m text new → AnswersLine told old first l text new
   as_said old new first l m text e h =
-      let P : Line → Type 0 = λ x. SaysLine told old first x text new in subst P (sym e) h
+      let P : Line → Type 0 = λ x. AnswersLine told old first x text new in subst P (sym e) h

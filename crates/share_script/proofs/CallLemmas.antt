@@ -9,23 +9,26 @@ use Rattle.share_base.specs.declared.command.Turn.{Turn}
 use Rattle.share_base.specs.declared.command.Turn.TheVariants.{Wrote, Torn, Idle, Again, Broken, Spent}
 use Rattle.share_model.specs.declared.rates.Rate.{Rate}
 use Rattle.share_model.specs.declared.writer.Answer.{Answer}
-use Rattle.share_model.specs.link.Live.{Live, Sending, sending, command_step, arrive_step}
-use Rattle.share_model.specs.link.Seen.{Seen}
-use Rattle.share_model.specs.link.Did.{is_spent, Stepped, Steps, CommandDid, OffersSome, TurnDid, Tears, TearDid}
+use Rattle.share_model.specs.link.Live.{Live}
+use Rattle.share_model.specs.link.Turns.{Sending, sending}
+use Rattle.share_model.specs.link.Commands.{command_step}
+use Rattle.share_model.specs.link.Arrivals.{arrive_step}
+use Rattle.share_model.specs.link.View.{LinkView}
+use Rattle.share_model.specs.link.Calls.{is_spent, Stepped, Steps, CommandCall, OffersSome, TurnCall, Tears, TearCall}
 use Rattle.share_model.specs.run.Sound.{Sound}
 use Rattle.share_model.specs.io.Told.{Told, WasTold}
 use Rattle.share_model.specs.io.Calls.{Called, no_call, CallFailed}
-use Rattle.share_model.specs.io.CallsLaws.{called_once, call_failed_once}
-use Rattle.share_model.specs.text.Says.{TakesAll}
-use Rattle.share_model.specs.text.TurnTalkLaws.{turn-failed}
+use Rattle.share_model.proofs.lemmas.io.CallsLaws.{called_once, call_failed_once}
+use Rattle.share_model.specs.text.Answering.{TakesAll}
+use Rattle.share_model.proofs.lemmas.text.TurnTalkLaws.{turn-failed}
 use Rattle.share_script.specs.Script.{is_torn}
 
 uncalled : {W : Type 0} (answers : W → List ℕ → Answer → W → Type 0) (w v : W) → v ≡ w → Called answers w v
 uncalled answers w v e = subst (λ u. Called answers w u) (sym e) no_call
 
-module _ {W : Type 0} (answers : W → List ℕ → Answer → W → Type 0) (old new : Seen W) where
+module _ {W : Type 0} (answers : W → List ℕ → Answer → W → Type 0) (old new : LinkView W) where
   same_called : new ≡ old → Called answers old.writer new.writer
-  same_called e = subst (λ (s : Seen W). Called answers old.writer s.writer) (sym e) no_call
+  same_called e = subst (λ (s : LinkView W). Called answers old.writer s.writer) (sym e) no_call
 
   steps_called : (next : List Rate → Live → Live × Reply) (reply : Reply) (b : Bool)
       → MatchBool b ((reply ≡ Refused SpentRefusal) × (new ≡ old)) (Stepped (next old.rates old.live) old reply new)
@@ -33,7 +36,8 @@ module _ {W : Type 0} (answers : W → List ℕ → Answer → W → Type 0) (ol
   steps_called next reply true did = same_called did.1
   steps_called next reply false did = uncalled answers old.writer new.writer did.rest.writer
 
-  pub command-called : (c : Command) (reply : Reply) → CommandDid old c reply new → Called answers old.writer new.writer
+  pub command-called : (c : Command) (reply : Reply) → CommandCall old c reply new
+      → Called answers old.writer new.writer
   command-called c reply (inl did) = same_called did.unchanged
   command-called c reply (inr did) = steps_called (λ rates l. command_step rates l c) reply (is_spent old) did
 
@@ -54,7 +58,7 @@ module _ {W : Type 0} (answers : W → List ℕ → Answer → W → Type 0) (ol
   turn_by most turn o false true did = same_called did.1
   turn_by most turn o false false did = offers_called most turn o did
 
-  pub turn-called : (most : ℕ) (turn : Turn) → TurnDid answers old most turn new → Called answers old.writer new.writer
+  pub turn-called : (most : ℕ) (turn : Turn) → TurnCall answers old most turn new → Called answers old.writer new.writer
   turn-called most turn did = turn_by most turn (sending old.live) (is_spent old) old.live.broken did
 
   tears_called : (turn : Turn) (o : Option Sending) → Tears old o turn new → Called answers old.writer new.writer
@@ -68,18 +72,18 @@ module _ {W : Type 0} (answers : W → List ℕ → Answer → W → Type 0) (ol
   tear_by turn o false true did = same_called did.1
   tear_by turn o false false did = tears_called turn o did
 
-  pub tear-called : (turn : Turn) → TearDid old turn new → Called answers old.writer new.writer
+  pub tear-called : (turn : Turn) → TearCall old turn new → Called answers old.writer new.writer
   tear-called turn did = tear_by turn (sending old.live) (is_spent old) old.live.broken did
 
 -- a turn on a writer that takes all is torn only where the writer failed
 pub torn-failed : {W : Type 0} (told : W → Option Told) (answers : W → List ℕ → Answer → W → Type 0)
     → ((before : W) (piece : List ℕ) (answer : Answer) (after : W) → answers before piece answer after
     → WasTold (told before) piece answer (told after))
-    → TakesAll answers → (old new : Seen W) (most : ℕ) (turn : Turn) → Sound old.life old.rates old.live → 1 ≤ most
-    → is_torn turn ≡ true → TurnDid answers old most turn new → CallFailed answers old.writer new.writer
+    → TakesAll answers → (old new : LinkView W) (most : ℕ) (turn : Turn) → Sound old.life old.rates old.live → 1 ≤ most
+    → is_torn turn ≡ true → TurnCall answers old most turn new → CallFailed answers old.writer new.writer
 torn-failed told answers law all old new most turn sound some torn did = torn_by turn torn did
   where
-    torn_by : (t : Turn) → is_torn t ≡ true → TurnDid answers old most t new → CallFailed answers old.writer new.writer
+    torn_by : (t : Turn) → is_torn t ≡ true → TurnCall answers old most t new → CallFailed answers old.writer new.writer
     torn_by (Torn flow seq j) e d = let failed =
         turn-failed told answers law all old new most (Torn flow seq j) flow seq j sound some refl d in
         call_failed_once failed.0 failed.1

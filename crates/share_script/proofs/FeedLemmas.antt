@@ -8,11 +8,11 @@ use Rattle.std.proofs.lemmas.List.Elements.{All-append}
 use Rattle.share_model.specs.io.Told.{Told}
 use Rattle.share_model.specs.text.Lines.{reading}
 use Rattle.share_model.specs.text.Talk.{Progress, answer, talk, after, is_feed, lines_of}
-use Rattle.share_model.specs.link.Seen.{Seen}
-use Rattle.share_model.specs.text.Says.{Holds, Says}
-use Rattle.share_script.specs.Session.{AtLine, Stands}
+use Rattle.share_model.specs.link.View.{LinkView}
+use Rattle.share_model.specs.text.Answering.{Holds, AnswersBytes}
+use Rattle.share_script.specs.Session.{SessionView, HoldsScript}
 use Rattle.share_script.specs.Printing.{Spooled, SpooledPart}
-use Rattle.share_script.specs.Script.{NoFeed, Went, Begins, Feeds, FeedsPart, Spoke, SpokePart}
+use Rattle.share_script.specs.Script.{NoFeed, Went, IsTextBeginning, Feeds, FeedsPart, PrintedAnswer, PrintedAnswerPart}
 use Rattle.share_script.proofs.ChunkLemmas.{piece_clean, piece_whole, last_clean, last_whole}
 use Rattle.share_script.proofs.LineLemmas.{answer_same, later_place, reading_cut, clean_cut, alike_cut}
 use Rattle.share_script.proofs.WentLemmas.{went_as, begins_as, went_more, begins_more, went_line, went_cut, begins_cut}
@@ -23,7 +23,7 @@ use Rattle.share_script.proofs.SpoolLemmas.{spooled_as}
 module _ {W : Type 0} (told : W → Option Told) where
   -- Chunks
 
-  pub fed_none : (a : Option (List ℕ)) (waits : List ℕ) (old : AtLine W) (line : List ℕ)
+  pub fed_none : (a : Option (List ℕ)) (waits : List ℕ) (old : SessionView W) (line : List ℕ)
       → Feeds told a waits a waits old line [] old line
   fed_none a waits old line = record {
     text = [];
@@ -38,7 +38,8 @@ module _ {W : Type 0} (told : W → Option Told) where
     };
   }
 
-  pub fed_more : (a b c : Option (List ℕ)) (x y z : List ℕ) (old mid new : AtLine W) (line left last c1 c2 : List ℕ)
+  pub fed_more : (a b c : Option (List ℕ)) (x y z : List ℕ) (old mid new : SessionView W)
+      (line left last c1 c2 : List ℕ)
       → Feeds told a x b y old line c1 mid left → Feeds told b y c z mid left c2 new last
       → Feeds told a x c z old line (c1 ++ c2) new last
   fed_more a b c x y z old mid new line left last c1 c2 f g = record {
@@ -66,7 +67,7 @@ module _ {W : Type 0} (told : W → Option Told) where
         };
   }
 
-  pub fed_then_part : (a b c : Option (List ℕ)) (x y : List ℕ) (old mid : AtLine W) (line left c1 c2 : List ℕ)
+  pub fed_then_part : (a b c : Option (List ℕ)) (x y : List ℕ) (old mid : SessionView W) (line left c1 c2 : List ℕ)
       → Feeds told a x b y old line c1 mid left → FeedsPart told b y c mid left c2
       → FeedsPart told a x c old line (c1 ++ c2)
   fed_then_part a b c x y old mid line left c1 c2 f g = record {
@@ -76,29 +77,29 @@ module _ {W : Type 0} (told : W → Option Told) where
         let u = f.went p h clean in
         let w = begins_as old.link.life mid.link.life old.link.rates mid.link.rates u.progress _ g.text u.life u.rates
         (g.broke u.progress u.stands u.clean rest) in
-        let P : List (List ℕ) → Type 0 = λ ls. Begins old.link.life old.link.rates p ls (f.text ++ g.text) in
+        let P : List (List ℕ) → Type 0 = λ ls. IsTextBeginning old.link.life old.link.rates p ls (f.text ++ g.text) in
         subst P (lines_as line c1 c2 rest)
         (begins_more old.link.life old.link.rates p u.progress _ _ f.text g.text w (u.goes (c2 ++ rest) w.lacks));
   }
 
-  pub part_longer : (a b : Option (List ℕ)) (x : List ℕ) (old : AtLine W) (line c1 c2 : List ℕ)
+  pub part_longer : (a b : Option (List ℕ)) (x : List ℕ) (old : SessionView W) (line c1 c2 : List ℕ)
       → FeedsPart told a x b old line c1 → FeedsPart told a x b old line (c1 ++ c2)
   part_longer a b x old line c1 c2 f = record {
     text = f.text;
     spooled = f.spooled;
     broke = λ p h clean rest.
-        let P : List (List ℕ) → Type 0 = λ ls. Begins old.link.life old.link.rates p ls f.text in
+        let P : List (List ℕ) → Type 0 = λ ls. IsTextBeginning old.link.life old.link.rates p ls f.text in
         subst P (lines_as line c1 c2 rest) (f.broke p h clean (c2 ++ rest));
   }
 
-  pub part_as : (a b : Option (List ℕ)) (x : List ℕ) (old : AtLine W) (line c d : List ℕ) → c ≡ d
+  pub part_as : (a b : Option (List ℕ)) (x : List ℕ) (old : SessionView W) (line c d : List ℕ) → c ≡ d
       → FeedsPart told a x b old line c → FeedsPart told a x b old line d
   part_as a b x old line c d e f = let P : List ℕ → Type 0 = λ r. FeedsPart told a x b old line r in subst P e f
 
-  begins_by : (a b : Option (List ℕ)) (x y : List ℕ) (old mid : AtLine W) (line left c1 : List ℕ)
-      (f : Feeds told a x b y old line c1 mid left) (p : Progress) → Stands told old p → NoFeed line
+  begins_by : (a b : Option (List ℕ)) (x y : List ℕ) (old mid : SessionView W) (line left c1 : List ℕ)
+      (f : Feeds told a x b y old line c1 mid left) (p : Progress) → HoldsScript told old p → NoFeed line
       → (rest : List ℕ)
-      → Begins old.link.life old.link.rates p (lines_of (line ++ (c1 ++ rest))) f.text
+      → IsTextBeginning old.link.life old.link.rates p (lines_of (line ++ (c1 ++ rest))) f.text
   begins_by a b x y old mid line left c1 f p h clean rest =
       let u = f.went p h clean in
       let w = u.goes rest [] in
@@ -109,7 +110,7 @@ module _ {W : Type 0} (told : W → Option Told) where
       }
 
   -- what was printed while nothing of the rest was read
-  pub part_of : (a b : Option (List ℕ)) (x y : List ℕ) (old mid : AtLine W) (line left c1 : List ℕ)
+  pub part_of : (a b : Option (List ℕ)) (x y : List ℕ) (old mid : SessionView W) (line left c1 : List ℕ)
       → Feeds told a x b y old line c1 mid left → FeedsPart told a x b old line c1
   part_of a b x y old mid line left c1 f = record {
     text = f.text;
@@ -118,7 +119,7 @@ module _ {W : Type 0} (told : W → Option Told) where
   }
 
   -- what was printed where the rest of what waits was not
-  pub part_then : (a b c : Option (List ℕ)) (x y : List ℕ) (old mid : AtLine W) (line left c1 : List ℕ)
+  pub part_then : (a b c : Option (List ℕ)) (x y : List ℕ) (old mid : SessionView W) (line left c1 : List ℕ)
       → Feeds told a x b y old line c1 mid left → SpooledPart b y c [] → FeedsPart told a x c old line c1
   part_then a b c x y old mid line left c1 f s =
       let P : List ℕ → Type 0 = λ t. SpooledPart a x c t in
@@ -129,7 +130,7 @@ module _ {W : Type 0} (told : W → Option Told) where
       }
 
   -- what was printed where all that waits then was
-  pub fed_then : (a b c : Option (List ℕ)) (x y z : List ℕ) (old new : AtLine W) (line left c1 : List ℕ)
+  pub fed_then : (a b c : Option (List ℕ)) (x y z : List ℕ) (old new : SessionView W) (line left c1 : List ℕ)
       → Feeds told a x b y old line c1 new left → Spooled b y c z [] → Feeds told a x c z old line c1 new left
   fed_then a b c x y z old new line left c1 f s = record {
     text = f.text;
@@ -139,93 +140,97 @@ module _ {W : Type 0} (told : W → Option Told) where
   }
 
   -- what waited before, by another name
-  pub fed_from : (a b : Option (List ℕ)) (x w y : List ℕ) (old new : AtLine W) (line left c1 : List ℕ) → x ≡ w
+  pub fed_from : (a b : Option (List ℕ)) (x w y : List ℕ) (old new : SessionView W) (line left c1 : List ℕ) → x ≡ w
       → Feeds told a x b y old line c1 new left → Feeds told a w b y old line c1 new left
   fed_from a b x w y old new line left c1 e f = subst (λ z. Feeds told a z b y old line c1 new left) e f
 
-  pub part_from : (a b : Option (List ℕ)) (x w : List ℕ) (old : AtLine W) (line c1 : List ℕ) → x ≡ w
+  pub part_from : (a b : Option (List ℕ)) (x w : List ℕ) (old : SessionView W) (line c1 : List ℕ) → x ≡ w
       → FeedsPart told a x b old line c1 → FeedsPart told a w b old line c1
   part_from a b x w old line c1 e f = subst (λ z. FeedsPart told a z b old line c1) e f
 
-  pub spoke_part_from : (a b : Option (List ℕ)) (x w : List ℕ) (old : AtLine W) (line : List ℕ) → x ≡ w
-      → SpokePart told a x b old line → SpokePart told a w b old line
-  spoke_part_from a b x w old line e f = subst (λ z. SpokePart told a z b old line) e f
+  pub printed_part_from : (a b : Option (List ℕ)) (x w : List ℕ) (old : SessionView W) (line : List ℕ) → x ≡ w
+      → PrintedAnswerPart told a x b old line → PrintedAnswerPart told a w b old line
+  printed_part_from a b x w old line e f = subst (λ z. PrintedAnswerPart told a z b old line) e f
 
-  pub spoke_from : (a b : Option (List ℕ)) (x w y : List ℕ) (old : AtLine W) (line : List ℕ) (new : AtLine W) → x ≡ w
-      → Spoke told a x b y old line new → Spoke told a w b y old line new
-  spoke_from a b x w y old line new e f = subst (λ z. Spoke told a z b y old line new) e f
+  pub printed_from : (a b : Option (List ℕ)) (x w y : List ℕ) (old : SessionView W) (line : List ℕ)
+      (new : SessionView W) → x ≡ w
+      → PrintedAnswer told a x b y old line new → PrintedAnswer told a w b y old line new
+  printed_from a b x w y old line new e f = subst (λ z. PrintedAnswer told a z b y old line new) e f
 
   -- the same line
-  pub spoke_as : (a b : Option (List ℕ)) (x y : List ℕ) (old : AtLine W) (xs ys : List ℕ) (new : AtLine W) → xs ≡ ys
-      → Spoke told a x b y old xs new → Spoke told a x b y old ys new
-  spoke_as a b x y old xs ys new e f = subst (λ z. Spoke told a x b y old z new) e f
+  pub printed_as : (a b : Option (List ℕ)) (x y : List ℕ) (old : SessionView W) (xs ys : List ℕ) (new : SessionView W)
+      → xs ≡ ys
+      → PrintedAnswer told a x b y old xs new → PrintedAnswer told a x b y old ys new
+  printed_as a b x y old xs ys new e f = subst (λ z. PrintedAnswer told a x b y old z new) e f
 
-  pub spoke_part_as : (a b : Option (List ℕ)) (x : List ℕ) (old : AtLine W) (xs ys : List ℕ) → xs ≡ ys
-      → SpokePart told a x b old xs → SpokePart told a x b old ys
-  spoke_part_as a b x old xs ys e f = subst (λ z. SpokePart told a x b old z) e f
+  pub printed_part_as : (a b : Option (List ℕ)) (x : List ℕ) (old : SessionView W) (xs ys : List ℕ) → xs ≡ ys
+      → PrintedAnswerPart told a x b old xs → PrintedAnswerPart told a x b old ys
+  printed_part_as a b x old xs ys e f = subst (λ z. PrintedAnswerPart told a x b old z) e f
 
   -- A line and its line feed
 
-  says_same : (old : Seen W) (first : Bool) (xs ys text : List ℕ) (new : Seen W) → reading xs ≡ reading ys
-      → Says told old first xs text new → Says told old first ys text new
+  says_same : (old : LinkView W) (first : Bool) (xs ys text : List ℕ) (new : LinkView W) → reading xs ≡ reading ys
+      → AnswersBytes told old first xs text new → AnswersBytes told old first ys text new
   says_same old first xs ys text new e says p h place =
-      let said = says p h place in
-      let same = answer_same old.life old.rates p said.lack xs ys e in
+      let answer_is = says p h place in
+      let same = answer_same old.life old.rates p answer_is.lack xs ys e in
       let P : Progress → Type 0 = λ t. Holds told new t in record {
-        lack = said.lack;
-        text_is = said.text_is ∙ ap (λ (a : Progress × List ℕ). a.1) same;
-        holds = subst P (ap (λ (a : Progress × List ℕ). a.0) same) said.holds;
-        life = said.life;
-        rates = said.rates;
+        lack = answer_is.lack;
+        text_is = answer_is.text_is ∙ ap (λ (a : Progress × List ℕ). a.1) same;
+        holds = subst P (ap (λ (a : Progress × List ℕ). a.0) same) answer_is.holds;
+        life = answer_is.life;
+        rates = answer_is.rates;
       }
 
-  pub spoke_same : (a b : Option (List ℕ)) (x y : List ℕ) (old : AtLine W) (xs ys : List ℕ) (new : AtLine W)
-      → reading xs ≡ reading ys → Spoke told a x b y old xs new → Spoke told a x b y old ys new
-  spoke_same a b x y old xs ys new e spoke =
+  pub printed_same : (a b : Option (List ℕ)) (x y : List ℕ) (old : SessionView W) (xs ys : List ℕ) (new : SessionView W)
+      → reading xs ≡ reading ys → PrintedAnswer told a x b y old xs new → PrintedAnswer told a x b y old ys new
+  printed_same a b x y old xs ys new e printed =
       record {
-        text = spoke.text;
-        spooled = spoke.spooled;
-        says = says_same old.link old.first xs ys spoke.text new.link e spoke.says;
-        later = spoke.later;
+        text = printed.text;
+        spooled = printed.spooled;
+        says = says_same old.link old.first xs ys printed.text new.link e printed.says;
+        later = printed.later;
       }
 
-  pub part_same : (a b : Option (List ℕ)) (x : List ℕ) (old : AtLine W) (xs ys : List ℕ) → reading xs ≡ reading ys
-      → SpokePart told a x b old xs → SpokePart told a x b old ys
-  part_same a b x old xs ys e spoke = record {
-    text = spoke.text;
-    spooled = spoke.spooled;
-    begins = λ p h ls. begins_cut old.link.life old.link.rates p xs ys spoke.text ls e (spoke.begins p h ls);
+  pub part_same : (a b : Option (List ℕ)) (x : List ℕ) (old : SessionView W) (xs ys : List ℕ) → reading xs ≡ reading ys
+      → PrintedAnswerPart told a x b old xs → PrintedAnswerPart told a x b old ys
+  part_same a b x old xs ys e printed = record {
+    text = printed.text;
+    spooled = printed.spooled;
+    begins = λ p h ls. begins_cut old.link.life old.link.rates p xs ys printed.text ls e (printed.begins p h ls);
   }
 
-  begins_said : (old : AtLine W) (line text : List ℕ) (new : AtLine W)
-      → Says told old.link old.first line text new.link → (p : Progress) → Stands told old p → (ls : List (List ℕ))
-      → Begins old.link.life old.link.rates p (line ∷ ls) text
+  begins_said : (old : SessionView W) (line text : List ℕ) (new : SessionView W)
+      → AnswersBytes told old.link old.first line text new.link → (p : Progress) → HoldsScript told old p
+      → (ls : List (List ℕ))
+      → IsTextBeginning old.link.life old.link.rates p (line ∷ ls) text
   begins_said old line text new says p h ls =
-      let said = says p h.holds h.place in
-      let w = went_line old.link.life old.link.rates p said.lack line text ls [] said.text_is in
+      let answer_is = says p h.holds h.place in
+      let w = went_line old.link.life old.link.rates p answer_is.lack line text ls [] answer_is.text_is in
       record {
         lacks = w.more;
-        tail = talk old.link.life old.link.rates (answer old.link.life old.link.rates p said.lack line).0 [] ls;
+        tail = talk old.link.life old.link.rates (answer old.link.life old.link.rates p answer_is.lack line).0 [] ls;
         texts = w.texts;
       }
 
   -- the answer waits, and a part of it was not printed
-  pub spoke_part : (a b c : Option (List ℕ)) (x y : List ℕ) (old : AtLine W) (line : List ℕ) (new : AtLine W)
-      → Spoke told a x b y old line new → SpooledPart b y c [] → SpokePart told a x c old line
-  spoke_part a b c x y old line new spoke s =
+  pub printed_part : (a b c : Option (List ℕ)) (x y : List ℕ) (old : SessionView W) (line : List ℕ)
+      (new : SessionView W)
+      → PrintedAnswer told a x b y old line new → SpooledPart b y c [] → PrintedAnswerPart told a x c old line
+  printed_part a b c x y old line new printed s =
       let P : List ℕ → Type 0 = λ t. SpooledPart a x c t in record {
-        text = spoke.text;
-        spooled = subst P (append-nil spoke.text) (spooled_then_part a b c x y spoke.text [] spoke.spooled s);
-        begins = λ p h ls. begins_said old line spoke.text new spoke.says p h ls;
+        text = printed.text;
+        spooled = subst P (append-nil printed.text) (spooled_then_part a b c x y printed.text [] printed.spooled s);
+        begins = λ p h ls. begins_said old line printed.text new printed.says p h ls;
       }
 
   -- the answer was printed behind what waits
-  pub spoke_text : (a b c : Option (List ℕ)) (x y z : List ℕ) (old : AtLine W) (line text shown : List ℕ)
-      (new : AtLine W)
+  pub printed_text : (a b c : Option (List ℕ)) (x y z : List ℕ) (old : SessionView W) (line text shown : List ℕ)
+      (new : SessionView W)
       → Spooled a x b y [] → shown ≡ text → Spooled b y c z shown
-      → Says told old.link old.first line text new.link → new.first ≡ false
-      → Spoke told a x c z old line new
-  spoke_text a b c x y z old line text shown new s same t says later = record {
+      → AnswersBytes told old.link old.first line text new.link → new.first ≡ false
+      → PrintedAnswer told a x c z old line new
+  printed_text a b c x y z old line text shown new s same t says later = record {
     text = text;
     spooled = spooled_more a b c x y z [] text s (spooled_as b c y z shown text same t);
     says = says;
@@ -233,83 +238,86 @@ module _ {W : Type 0} (told : W → Option Told) where
   }
 
   -- no more of it was printed than a beginning
-  pub spoke_text_part : (a b c : Option (List ℕ)) (x y : List ℕ) (old : AtLine W) (line text shown : List ℕ)
-      (new : AtLine W)
+  pub printed_text_part : (a b c : Option (List ℕ)) (x y : List ℕ) (old : SessionView W) (line text shown : List ℕ)
+      (new : SessionView W)
       → Spooled a x b y [] → shown ≡ text → SpooledPart b y c shown
-      → Says told old.link old.first line text new.link → SpokePart told a x c old line
-  spoke_text_part a b c x y old line text shown new s same t says = record {
+      → AnswersBytes told old.link old.first line text new.link → PrintedAnswerPart told a x c old line
+  printed_text_part a b c x y old line text shown new s same t says = record {
     text = text;
     spooled = spooled_then_part a b c x y [] text s (subst (λ r. SpooledPart b y c r) same t);
     begins = λ p h ls. begins_said old line text new says p h ls;
   }
 
   -- what waits was written after the answer
-  pub spoke_then : (a b c : Option (List ℕ)) (x y z : List ℕ) (old : AtLine W) (line : List ℕ) (new : AtLine W)
-      → Spoke told a x b y old line new → Spooled b y c z [] → Spoke told a x c z old line new
-  spoke_then a b c x y z old line new spoke s = record {
-    text = spoke.text;
+  pub printed_then : (a b c : Option (List ℕ)) (x y z : List ℕ) (old : SessionView W) (line : List ℕ)
+      (new : SessionView W)
+      → PrintedAnswer told a x b y old line new → Spooled b y c z [] → PrintedAnswer told a x c z old line new
+  printed_then a b c x y z old line new printed s = record {
+    text = printed.text;
     spooled =
-        spooled_as a c x z (spoke.text ++ []) spoke.text (append-nil spoke.text)
-        (spooled_more a b c x y z spoke.text [] spoke.spooled s);
-    says = spoke.says;
-    later = spoke.later;
+        spooled_as a c x z (printed.text ++ []) printed.text (append-nil printed.text)
+        (spooled_more a b c x y z printed.text [] printed.spooled s);
+    says = printed.says;
+    later = printed.later;
   }
 
-  fed_line : (a b : Option (List ℕ)) (x y : List ℕ) (old new : AtLine W) (line piece : List ℕ)
-      → Spoke told a x b y old (take 20481 (line ++ piece)) new → NoFeed piece
+  fed_line : (a b : Option (List ℕ)) (x y : List ℕ) (old new : SessionView W) (line piece : List ℕ)
+      → PrintedAnswer told a x b y old (take 20481 (line ++ piece)) new → NoFeed piece
       → Feeds told a x b y old line (piece ++ 10 ∷ []) new []
-  fed_line a b x y old new line piece spoke also = record {
-    text = spoke.text;
-    spooled = spoke.spooled;
+  fed_line a b x y old new line piece printed also = record {
+    text = printed.text;
+    spooled = printed.spooled;
     went = λ p h clean.
-        let said = spoke.says p h.holds h.place in
-        let next = (answer old.link.life old.link.rates p said.lack (take 20481 (line ++ piece))).0 in record {
+        let answer_is = printed.says p h.holds h.place in
+        let next = (answer old.link.life old.link.rates p answer_is.lack (take 20481 (line ++ piece))).0 in record {
           progress = next;
-          stands = record { holds = said.holds; place = later_place _ _ p _ _ ∙ sym spoke.later };
+          stands = record { holds = answer_is.holds; place = later_place _ _ p _ _ ∙ sym printed.later };
           goes = λ rest lacks.
               let P : List (List ℕ)
-              → Type 0 = λ ls. Went old.link.life old.link.rates p ls spoke.text next (lines_of rest) lacks in
+              → Type 0 = λ ls. Went old.link.life old.link.rates p ls printed.text next (lines_of rest) lacks in
               subst P (sym (lines_piece line piece rest clean also))
-              (went_cut old.link.life old.link.rates p (take 20481 (line ++ piece)) (line ++ piece) spoke.text next
+              (went_cut old.link.life old.link.rates p (take 20481 (line ++ piece)) (line ++ piece) printed.text next
               (lines_of rest) (lines_of rest) lacks (reading_cut (line ++ piece))
-              (went_line old.link.life old.link.rates p said.lack (take 20481 (line ++ piece)) spoke.text
-              (lines_of rest) lacks said.text_is));
+              (went_line old.link.life old.link.rates p answer_is.lack (take 20481 (line ++ piece)) printed.text
+              (lines_of rest) lacks answer_is.text_is));
           clean = λ k d z. absurd (omega arith);
-          life = said.life;
-          rates = said.rates;
+          life = answer_is.life;
+          rates = answer_is.rates;
         };
   }
 
-  part_line : (a b : Option (List ℕ)) (x : List ℕ) (old : AtLine W) (line piece : List ℕ)
-      → SpokePart told a x b old (take 20481 (line ++ piece)) → NoFeed piece
+  part_line : (a b : Option (List ℕ)) (x : List ℕ) (old : SessionView W) (line piece : List ℕ)
+      → PrintedAnswerPart told a x b old (take 20481 (line ++ piece)) → NoFeed piece
       → FeedsPart told a x b old line (piece ++ 10 ∷ [])
-  part_line a b x old line piece spoke also = record {
-    text = spoke.text;
-    spooled = spoke.spooled;
+  part_line a b x old line piece printed also = record {
+    text = printed.text;
+    spooled = printed.spooled;
     broke = λ p h clean rest.
-        let P : List (List ℕ) → Type 0 = λ ls. Begins old.link.life old.link.rates p ls spoke.text in
+        let P : List (List ℕ) → Type 0 = λ ls. IsTextBeginning old.link.life old.link.rates p ls printed.text in
         subst P (sym (lines_piece line piece rest clean also))
-        (begins_cut old.link.life old.link.rates p _ (line ++ piece) spoke.text (lines_of rest)
-        (reading_cut (line ++ piece)) (spoke.begins p h (lines_of rest)));
+        (begins_cut old.link.life old.link.rates p _ (line ++ piece) printed.text (lines_of rest)
+        (reading_cut (line ++ piece)) (printed.begins p h (lines_of rest)));
   }
 
-  fed_by_line : (a b : Option (List ℕ)) (x y : List ℕ) (old new : AtLine W) (line piece : List ℕ)
-      → Spoke told a x b y old (line ++ piece) new → NoFeed piece
+  fed_by_line : (a b : Option (List ℕ)) (x y : List ℕ) (old new : SessionView W) (line piece : List ℕ)
+      → PrintedAnswer told a x b y old (line ++ piece) new → NoFeed piece
       → Feeds told a x b y old line (piece ++ 10 ∷ []) new []
-  fed_by_line a b x y old new line piece spoke also =
+  fed_by_line a b x y old new line piece printed also =
       fed_line a b x y old new line piece
-      (spoke_same a b x y old (line ++ piece) (take 20481 (line ++ piece)) new (sym (reading_cut (line ++ piece)))
-      spoke) also
+      (printed_same a b x y old (line ++ piece) (take 20481 (line ++ piece)) new (sym (reading_cut (line ++ piece)))
+      printed) also
 
-  part_by_line : (a b : Option (List ℕ)) (x : List ℕ) (old : AtLine W) (line piece : List ℕ)
-      → SpokePart told a x b old (line ++ piece) → NoFeed piece → FeedsPart told a x b old line (piece ++ 10 ∷ [])
-  part_by_line a b x old line piece spoke also =
+  part_by_line : (a b : Option (List ℕ)) (x : List ℕ) (old : SessionView W) (line piece : List ℕ)
+      → PrintedAnswerPart told a x b old (line ++ piece) → NoFeed piece
+      → FeedsPart told a x b old line (piece ++ 10 ∷ [])
+  part_by_line a b x old line piece printed also =
       part_line a b x old line piece
-      (part_same a b x old (line ++ piece) (take 20481 (line ++ piece)) (sym (reading_cut (line ++ piece))) spoke) also
+      (part_same a b x old (line ++ piece) (take 20481 (line ++ piece)) (sym (reading_cut (line ++ piece))) printed)
+      also
 
   -- A piece without its line feed
 
-  fed_piece : (a : Option (List ℕ)) (x : List ℕ) (old : AtLine W) (line piece : List ℕ) → NoFeed piece
+  fed_piece : (a : Option (List ℕ)) (x : List ℕ) (old : SessionView W) (line piece : List ℕ) → NoFeed piece
       → Feeds told a x a x old line piece old (take 20481 (line ++ piece))
   fed_piece a x old line piece also = record {
     text = [];
@@ -335,44 +343,47 @@ module _ {W : Type 0} (told : W → Option Told) where
 
   -- A chunk, up to a place
 
-  pub record FedUpTo (a : Option (List ℕ)) (x : List ℕ) (b : Option (List ℕ)) (y : List ℕ) (old : AtLine W)
-      (line chunk : List ℕ) (at : ℕ) (new : AtLine W) (left : List ℕ) : Type 0 where
+  pub record FedUpTo (a : Option (List ℕ)) (x : List ℕ) (b : Option (List ℕ)) (y : List ℕ) (old : SessionView W)
+      (line chunk : List ℕ) (at : ℕ) (new : SessionView W) (left : List ℕ) : Type 0 where
     pub few : at ≤ length chunk
     pub fed : Feeds told a x b y old line (take at chunk) new left
 
-  pub up_to_none : (a : Option (List ℕ)) (x : List ℕ) (old : AtLine W) (line chunk : List ℕ)
+  pub up_to_none : (a : Option (List ℕ)) (x : List ℕ) (old : SessionView W) (line chunk : List ℕ)
       → FedUpTo a x a x old line chunk 0 old line
   up_to_none a x old line chunk = record { few = omega arith; fed = fed_none a x old line }
 
-  pub up_to_more : (a b c : Option (List ℕ)) (x y z : List ℕ) (old mid new : AtLine W) (line left next chunk : List ℕ)
+  pub up_to_more : (a b c : Option (List ℕ)) (x y z : List ℕ) (old mid new : SessionView W)
+      (line left next chunk : List ℕ)
       (at count : ℕ) → FedUpTo a x b y old line chunk at mid left
       → IsFirstByte is_feed (take (length chunk - at) (drop at chunk)) (Some count)
-      → Spoke told b y c z mid (left ++ take (at + count - at) (drop at chunk)) new → next ≡ []
+      → PrintedAnswer told b y c z mid (left ++ take (at + count - at) (drop at chunk)) new → next ≡ []
       → FedUpTo a x c z old line chunk (at + (count + 1)) new next
-  up_to_more a b c x y z old mid new line left next chunk at count so first spoke none =
+  up_to_more a b c x y z old mid new line left next chunk at count so first printed none =
       let w = piece_whole chunk at count so.few first in
       let piece = take (at + count - at) (drop at chunk) in
       let more = fed_more a b c x y z old mid new line left [] (take at chunk) (piece ++ 10 ∷ []) so.fed
-      (fed_by_line b c y z mid new left piece spoke (piece_clean chunk at count first)) in
+      (fed_by_line b c y z mid new left piece printed (piece_clean chunk at count first)) in
       let P : List ℕ → Type 0 = λ r. Feeds told a x c z old line r new next in
       let Q : List ℕ → Type 0 = λ r. Feeds told a x c z old line (take at chunk ++ (piece ++ 10 ∷ [])) new r in
       record { few = w.0; fed = subst P w.1 (subst Q (sym none) more) }
 
-  pub up_to_broke : (a b c : Option (List ℕ)) (x y : List ℕ) (old mid : AtLine W) (line left chunk : List ℕ)
+  pub up_to_broke : (a b c : Option (List ℕ)) (x y : List ℕ) (old mid : SessionView W) (line left chunk : List ℕ)
       (at count : ℕ)
       → FedUpTo a x b y old line chunk at mid left
       → IsFirstByte is_feed (take (length chunk - at) (drop at chunk)) (Some count)
-      → SpokePart told b y c mid (left ++ take (at + count - at) (drop at chunk)) → FeedsPart told a x c old line chunk
-  up_to_broke a b c x y old mid line left chunk at count so first spoke =
+      → PrintedAnswerPart told b y c mid (left ++ take (at + count - at) (drop at chunk))
+      → FeedsPart told a x c old line chunk
+  up_to_broke a b c x y old mid line left chunk at count so first printed =
       let w = piece_whole chunk at count so.few first in
       let piece = take (at + count - at) (drop at chunk) in
       let part = fed_then_part a b c x y old mid line left (take at chunk) (piece ++ 10 ∷ []) so.fed
-      (part_by_line b c y mid left piece spoke (piece_clean chunk at count first)) in
+      (part_by_line b c y mid left piece printed (piece_clean chunk at count first)) in
       let front : FeedsPart told a x c old line (take (at + (count + 1)) chunk) = part_as a c x old line _ _ w.1 part in
       part_as a c x old line _ chunk (take-append-drop (at + (count + 1)) chunk)
       (part_longer a c x old line (take (at + (count + 1)) chunk) (drop (at + (count + 1)) chunk) front)
 
-  pub up_to_end : (a b : Option (List ℕ)) (x y : List ℕ) (old mid : AtLine W) (line left next chunk : List ℕ) (at : ℕ)
+  pub up_to_end : (a b : Option (List ℕ)) (x y : List ℕ) (old mid : SessionView W) (line left next chunk : List ℕ)
+      (at : ℕ)
       → FedUpTo a x b y old line chunk at mid left
       → IsFirstByte is_feed (take (length chunk - at) (drop at chunk)) None
       → next ≡ take 20481 (left ++ take (length chunk - at) (drop at chunk))

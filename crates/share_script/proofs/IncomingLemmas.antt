@@ -9,9 +9,10 @@ use Rattle.std.proofs.lemmas.List.Elements.{All-append}
 use Rattle.std.proofs.lemmas.Bool.Decides.{nat_tests}
 use Rattle.share_model.specs.declared.reader.Got.{Got}
 use Rattle.share_model.specs.text.Talk.{is_feed}
-use Rattle.share_model.specs.text.FeedLaws.{lines-feed}
+use Rattle.share_model.proofs.lemmas.text.FeedLaws.{lines-feed}
 use Rattle.share_script.specs.Script.{NoFeed}
-use Rattle.share_script.specs.Lines.{FirstLine, IsUnfinished, IsNext, IsKept, unless_long, incoming_lines, given_by}
+use Rattle.share_script.specs.Lines.{FirstLine, IsUnfinished, IsNextLine, IsPieceKept, unless_long, incoming_lines}
+use Rattle.share_script.specs.Lines.{given_by}
 use Rattle.share_script.specs.Lines.{Took, took_nothing, took_next, took_read, Connection, connection}
 use Rattle.share_script.specs.Lines.{ReadCall, Came}
 use Rattle.share_script.specs.declared.lines.Incoming.{Incoming}
@@ -48,7 +49,7 @@ incoming_cut bs more clean = elim (cut_or_long bs more clean) [
 ]
 
 -- the lines of what was ahead are the one that was given, and those of what is ahead after it
-next_lines : (ahead : List ℕ) (found : Incoming) (line rest more : List ℕ) → IsNext ahead found line rest
+next_lines : (ahead : List ℕ) (found : Incoming) (line rest more : List ℕ) → IsNextLine ahead found line rest
     → incoming_lines (ahead ++ more) ≡ given_by found line ++ incoming_lines (rest ++ more)
 next_lines ahead Line line rest more next =
     incoming_first ahead line rest more next.0
@@ -99,7 +100,7 @@ left_clean kept left is_given is clean = subst NoFeed (sym is) (left_by kept is_
 
 pub kept_piece : (kept chunk bytes now rest : List ℕ) (count : ℕ) → bytes ≡ chunk
     → IsFirstByte is_feed bytes (Some count) → now ≡ take 20481 (kept ++ take count bytes)
-    → rest ≡ drop (count + 1) chunk → IsKept kept chunk true now rest
+    → rest ≡ drop (count + 1) chunk → IsPieceKept kept chunk true now rest
 kept_piece kept chunk bytes now rest count same first kept_is rest_is =
     let behind : rest ≡ drop (count + 1) bytes = rest_is ∙ ap (λ r. drop (count + 1) r) (sym same) in
     let P : List ℕ → Type 0 = λ r. FirstLine bytes (take count bytes) r in
@@ -113,8 +114,8 @@ behind_kept kept chunk piece rest clean first = record {
   clean = All-append (λ b. is_feed b ≡ false) kept piece clean first.clean;
 }
 
-pub next_whole : (kept chunk now rest : List ℕ) → NoFeed kept → IsKept kept chunk true now rest
-    → length now ≤ 20480 → IsNext (kept ++ chunk) Line now rest
+pub next_whole : (kept chunk now rest : List ℕ) → NoFeed kept → IsPieceKept kept chunk true now rest
+    → length now ≤ 20480 → IsNextLine (kept ++ chunk) Line now rest
 next_whole kept chunk now rest clean did few =
     let all : List ℕ = kept ++ did.0 in
     let short : length (take 20481 all) ≤ 20480 = subst (λ r. length r ≤ 20480) did.2 few in
@@ -122,15 +123,15 @@ next_whole kept chunk now rest clean did few =
     let P : List ℕ → Type 0 = λ r. FirstLine (kept ++ chunk) r rest in
     (subst P (sym (did.2 ∙ same)) (behind_kept kept chunk did.0 rest clean did.1), few)
 
-pub next_long : (kept chunk now rest : List ℕ) → NoFeed kept → IsKept kept chunk true now rest
-    → 20480 < length now → IsNext (kept ++ chunk) OverLong [] rest
+pub next_long : (kept chunk now rest : List ℕ) → NoFeed kept → IsPieceKept kept chunk true now rest
+    → 20480 < length now → IsNextLine (kept ++ chunk) OverLong [] rest
 next_long kept chunk now rest clean did many =
     let all : List ℕ = kept ++ did.0 in
     let long : 20480 < length (take 20481 all) = subst (λ r. 20480 < length r) did.2 many in
     (refl, (all, behind_kept kept chunk did.0 rest clean did.1, omega (arith, long, length-take 20481 all)))
 
-pub next_unfinished : (kept chunk now rest : List ℕ) → NoFeed kept → IsKept kept chunk false now rest
-    → IsNext (kept ++ chunk) Unfinished [] (now ++ rest)
+pub next_unfinished : (kept chunk now rest : List ℕ) → NoFeed kept → IsPieceKept kept chunk false now rest
+    → IsNextLine (kept ++ chunk) Unfinished [] (now ++ rest)
 next_unfinished kept chunk now rest clean did =
     let all : List ℕ = kept ++ chunk in
     let none = All-append (λ b. is_feed b ≡ false) kept chunk clean did.0 in
@@ -139,7 +140,7 @@ next_unfinished kept chunk now rest clean did =
     (refl, none, subst P (sym ahead) (clean_cut all none, omega (arith, length-take 20481 all)), ahead)
 
 -- what is kept has no line feed
-pub kept_clean : (kept chunk now rest : List ℕ) (ended : Bool) → NoFeed kept → IsKept kept chunk ended now rest
+pub kept_clean : (kept chunk now rest : List ℕ) (ended : Bool) → NoFeed kept → IsPieceKept kept chunk ended now rest
     → NoFeed now
 kept_clean kept chunk now rest true clean did =
     subst NoFeed (sym did.2)
@@ -152,9 +153,9 @@ kept_clean kept chunk now rest false clean did =
 pub next_as : {R : Type 0} (before : Connection R) (reader : R) (kept chunk left : List ℕ) (is_given : Bool)
     (found : Incoming) (line rest : List ℕ)
     → connection reader kept chunk is_given ≡ before → left ≡ (if is_given then [] else kept)
-    → IsNext (left ++ chunk) found line rest → IsNext before.ahead found line rest
+    → IsNextLine (left ++ chunk) found line rest → IsNextLine before.ahead found line rest
 next_as {R = R} before reader kept chunk left is_given found line rest is left_is next =
-    subst (λ a. IsNext a found line rest)
+    subst (λ a. IsNextLine a found line rest)
     (ap (λ r. r ++ chunk) left_is ∙ ap (λ (l : Connection R). l.ahead) is) next
 
 pub kept_by : (left kept piece chunk now : List ℕ) → left ≡ kept → piece ≡ chunk → now ≡ take 20481 (left ++ piece)

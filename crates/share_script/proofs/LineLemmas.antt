@@ -9,16 +9,17 @@ use Rattle.std.proofs.lemmas.Bool.Decides.{nat_tests, leb_tells}
 use Rattle.share_base.specs.declared.command.Event.{Event}
 use Rattle.share_model.specs.declared.rates.Rate.{Rate}
 use Rattle.share_model.specs.text.Lines.{reading}
-use Rattle.share_model.specs.text.Talk.{Progress, is_first, read_event, answered, answer, first_flag, talk, after}
-use Rattle.share_model.specs.text.Talk.{is_feed, last_line, kept, lines_of}
-use Rattle.share_model.specs.text.FeedLaws.{lines-feed}
+use Rattle.share_model.specs.text.Talk.{Progress, is_first, read_event, progress_and_text, answer, first_flag, talk}
+use Rattle.share_model.specs.text.Talk.{after}
+use Rattle.share_model.specs.text.Talk.{is_feed, last_line, without_empty_end, lines_of}
+use Rattle.share_model.proofs.lemmas.text.FeedLaws.{lines-feed}
 use Rattle.share_script.specs.Script.{NoFeed}
 use Rattle.share_script.proofs.ReadingLemmas.{too_long}
 
 -- Lines
 
 pub lines-end : (bs : List ℕ) → NoFeed bs → lines_of bs ≡ last_line bs
-lines-end bs clean = ap kept (slice_split_none is_feed bs clean)
+lines-end bs clean = ap without_empty_end (slice_split_none is_feed bs clean)
 
 pub last-some : (bs : List ℕ) → 0 < length bs → last_line bs ≡ bs ∷ []
 last-some [] h = absurd (omega arith)
@@ -32,9 +33,10 @@ long_same xs ys h k = sym (too_long xs h) ∙ too_long ys k
 pub answer_same : (life : ℕ) (rates : List Rate) (s : Progress) (lack : Bool) (xs ys : List ℕ) → reading xs
     ≡ reading ys → answer life rates s lack xs ≡ answer life rates s lack ys
 unfolding answer
-answer_same life rates s lack xs ys e = ap (λ r. answered rates s (read_event life rates s lack r)) e
+answer_same life rates s lack xs ys e = ap (λ r. progress_and_text rates s (read_event life rates s lack r)) e
 
-later_by : (rates : List Rate) (p : Progress) (r : Result Event (List ℕ)) → is_first (answered rates p r).0 ≡ false
+later_by : (rates : List Rate) (p : Progress) (r : Result Event (List ℕ)) → is_first (progress_and_text rates p r).0
+    ≡ false
 later_by rates p (Ok e) = grind (arith, nat_tests)
 later_by rates p (Err text) = grind (arith, nat_tests)
 

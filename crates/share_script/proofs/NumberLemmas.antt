@@ -10,7 +10,7 @@ use Rattle.std.proofs.lemmas.Bool.Decides.{nat_tests}
 use Rattle.std.proofs.lemmas.Fmt.{decimal_is_IsNumeral, decimal-digits_value, first_decimal}
 use Rattle.std.proofs.lemmas.Str.Parse.{IsNumeralModel, numerals_by_value, tells_digits, digit_at}
 use Rattle.share_model.specs.text.Lines.{IsNumber, number_of}
-use Rattle.share_model.specs.text.WordLaws.{number_of-decimal, number_of-only}
+use Rattle.share_model.proofs.lemmas.text.WordLaws.{number_of-decimal, number_of-only}
 use Rattle.share_script.specs.Words.{begins_number}
 
 -- the digits from the place on, after the value so far, are those of the whole word; and they are digits only if all

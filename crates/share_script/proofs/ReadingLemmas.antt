@@ -15,17 +15,17 @@ use Rattle.share_model.specs.declared.line.Line.{Line}
 use Rattle.share_model.specs.declared.line.Line.TheVariants.{Send}
 use Rattle.share_model.specs.text.Lines.{is_pairs, from_pairs, name_of, payload_of, field, words_of, send_of, line_by}
 use Rattle.share_model.specs.text.Lines.{is_space, number_of, turn_of}
-use Rattle.share_model.specs.text.Lines.{line_of, ranged, reading, Reads, IsReading, IsUnread}
-use Rattle.share_model.specs.text.WordLaws.{payload_of-only, number_of-only, hex-from_pairs}
-use Rattle.share_model.specs.text.WordLaws.{NoSpace, no_space-decimal, no_space-hex}
-use Rattle.share_model.specs.text.LinesLaws.{reading-spelled, reading-refused}
-use Rattle.share_script.specs.Words.{last, short_line_by, sent_by, ReadsRanged}
+use Rattle.share_model.specs.text.Lines.{line_of, line_or_refusal, reading, ReadsLine, IsReading, IsUnread}
+use Rattle.share_model.proofs.lemmas.text.WordLaws.{payload_of-only, number_of-only, hex-from_pairs}
+use Rattle.share_model.proofs.lemmas.text.WordLaws.{NoSpace, no_space-decimal, no_space-hex}
+use Rattle.share_model.proofs.lemmas.text.LinesLaws.{reading-spelling_of, reading-refused}
+use Rattle.share_script.specs.Words.{last, short_line_by, line_sent_by, ReadsRanged}
 
 -- Packets
 
 -- the digits are too many
 long_payload : (flow digits : List ℕ) → 2980 < length digits → (nat_le 2 (length digits) && is_pairs digits) ≡ true
-    → Err Range ≡ ranged (sent_by flow (payload_of digits))
+    → Err Range ≡ line_or_refusal (line_sent_by flow (payload_of digits))
 long_payload flow digits long good =
     let both : (nat_le 2 (length digits) ≡ true) × (is_pairs digits ≡ true) = and_parts _ _ good in
     let h = hex-from_pairs digits both.1 in
@@ -36,7 +36,7 @@ long_payload flow digits long good =
     over m n e h = grind (arith, nat_tests)
 
 bad_payload : (flow digits : List ℕ) → (nat_le 2 (length digits) && is_pairs digits) ≡ false → Err Syntax
-    ≡ ranged (sent_by flow (payload_of digits))
+    ≡ line_or_refusal (line_sent_by flow (payload_of digits))
 bad_payload flow digits bad = rw bad refl
 
 in_range : (n : ℕ) → 1 ≤ n → n ≤ 1490 → (is_payload_length n ≡ true) × (nat_le n 1490 ≡ true)
@@ -44,35 +44,35 @@ in_range n a b = (grind (arith, nat_tests), grind (arith, nat_tests))
 
 -- memory was refused for a short payload
 unheld_sent : (flow digits : List ℕ) → length digits ≤ 2980 → (nat_le 2 (length digits) && is_pairs digits) ≡ true
-    → ReadsRanged (sent_by flow (payload_of digits)) (Err NoMemory)
+    → ReadsRanged (line_sent_by flow (payload_of digits)) (Err NoMemory)
 unheld_sent flow digits few good =
     let is : payload_of digits ≡ Some (from_pairs digits) = rw good refl in
     let only = payload_of-only digits (from_pairs digits) is in
     let half : 2 * length (from_pairs digits) ≡ length digits = (hex-from_pairs digits (and_parts _ _ good).1).2 in
     let short : length (from_pairs digits) ≤ 1490 = omega arith in
     let r = in_range (length (from_pairs digits)) only.0.0 short in
-    inr (refl, (Send flow (from_pairs digits), ap (sent_by flow) is, r.1, refl))
+    inr (refl, (Send flow (from_pairs digits), ap (line_sent_by flow) is, r.1, refl))
 
 -- why digits were not read: they are too many
 pub unread_long : (flow digits : List ℕ) (r : Refusal) → 2980 < length digits
     → r ≡ (if nat_le 2 (length digits) && is_pairs digits then Range else Syntax)
-    → ReadsRanged (sent_by flow (payload_of digits)) (Err r)
+    → ReadsRanged (line_sent_by flow (payload_of digits)) (Err r)
 unread_long flow digits r long is = by _ refl is
   where
     by : (b : Bool) → (nat_le 2 (length digits) && is_pairs digits) ≡ b → r ≡ (if b then Range else Syntax)
-        → ReadsRanged (sent_by flow (payload_of digits)) (Err r)
+        → ReadsRanged (line_sent_by flow (payload_of digits)) (Err r)
     by true good e = inl (ap Err e ∙ long_payload flow digits long good)
     by false bad e = inl (ap Err e ∙ bad_payload flow digits bad)
 
 -- or memory was refused for them
 pub unread_unheld : (flow digits : List ℕ) (r : Refusal) → length digits ≤ 2980
     → r ≡ (if nat_le 2 (length digits) && is_pairs digits then NoMemory else Syntax)
-    → ReadsRanged (sent_by flow (payload_of digits)) (Err r)
+    → ReadsRanged (line_sent_by flow (payload_of digits)) (Err r)
 unread_unheld flow digits r few is = by _ refl is
   where
     by : (b : Bool) → (nat_le 2 (length digits) && is_pairs digits) ≡ b → r ≡ (if b then NoMemory else Syntax)
-        → ReadsRanged (sent_by flow (payload_of digits)) (Err r)
-    by true good e = let P : Refusal → Type 0 = λ x. ReadsRanged (sent_by flow (payload_of digits)) (Err x) in
+        → ReadsRanged (line_sent_by flow (payload_of digits)) (Err r)
+    by true good e = let P : Refusal → Type 0 = λ x. ReadsRanged (line_sent_by flow (payload_of digits)) (Err x) in
         subst P (sym e) (unheld_sent flow digits few good)
     by false bad e = inl (ap Err e ∙ bad_payload flow digits bad)
 
@@ -106,20 +106,20 @@ last_payload bs = last_is_all payload_of bs (λ p e. let only = payload_of-only 
 
 -- the words of a packet
 send_of-last : (ws : List (List ℕ)) (flow : List ℕ) (rest : List (List ℕ)) → field name_of ws ≡ Some (flow, rest)
-    → send_of ws ≡ sent_by flow (last payload_of rest)
+    → send_of ws ≡ line_sent_by flow (last payload_of rest)
 send_of-last ws flow [] n = rw n refl
 send_of-last ws flow (w ∷ left) n = by (payload_of w) refl left n
   where
     by : (o : Option (List ℕ)) → payload_of w ≡ o → (vs : List (List ℕ)) → field name_of ws ≡ Some (flow, w ∷ vs)
-        → send_of ws ≡ sent_by flow (last payload_of (w ∷ vs))
+        → send_of ws ≡ line_sent_by flow (last payload_of (w ∷ vs))
     by None e [] h = rw (h, e) refl
     by None e (v ∷ vs) h = rw (h, e) refl
     by (Some p) e [] h = rw (h, e) refl
     by (Some p) e (v ∷ vs) h = rw (h, e) refl
 
 pub send_ends : (ws : List (List ℕ)) (flow digits : List ℕ) (rest : List (List ℕ)) → field name_of ws
-    ≡ Some (flow, rest) → rest ≡ words_of digits → send_of ws ≡ sent_by flow (payload_of digits)
-send_ends ws flow digits rest n d = send_of-last ws flow rest n ∙ ap (sent_by flow) (ap (last payload_of) d
+    ≡ Some (flow, rest) → rest ≡ words_of digits → send_of ws ≡ line_sent_by flow (payload_of digits)
+send_ends ws flow digits rest n d = send_of-last ws flow rest n ∙ ap (line_sent_by flow) (ap (last payload_of) d
     ∙ last_payload digits)
 
 pub reads_same : (o p : Option Line) (r : Result Line Refusal) → o ≡ p → ReadsRanged p r → ReadsRanged o r
@@ -144,33 +144,38 @@ pub too_long : (bs : List ℕ) → 20480 < length bs → Err Syntax ≡ reading 
 unfolding reading
 too_long bs h = let t : nat_lt 20480 (length bs) ≡ true = grind (arith, nat_tests) in rw t refl
 
-short_reading : (bs : List ℕ) → length bs ≤ 20480 → reading bs ≡ ranged (line_of (words_of bs))
+short_reading : (bs : List ℕ) → length bs ≤ 20480 → reading bs ≡ line_or_refusal (line_of (words_of bs))
 unfolding reading
 short_reading bs h = let t : nat_lt 20480 (length bs) ≡ false = grind (arith, nat_tests) in rw t refl
 
 pub no_words : (bs : List ℕ) → length bs ≤ 20480 → words_of bs ≡ [] → Err Syntax ≡ reading bs
-no_words bs h e = sym (short_reading bs h ∙ ap (λ ws. ranged (line_of ws)) e)
+no_words bs h e = sym (short_reading bs h ∙ ap (λ ws. line_or_refusal (line_of ws)) e)
 
 pub reads : (bs w : List ℕ) (ws : List (List ℕ)) (r : Result Line Refusal) → length bs ≤ 20480 → words_of bs ≡ w ∷ ws
-    → ReadsRanged (line_by w ws) r → Reads bs r
-reads bs w ws r h e (inl q) = inl (q ∙ sym (short_reading bs h ∙ ap (λ vs. ranged (line_of vs)) e))
+    → ReadsRanged (line_by w ws) r → ReadsLine bs r
+reads bs w ws r h e (inl q) = inl (q ∙ sym (short_reading bs h ∙ ap (λ vs. line_or_refusal (line_of vs)) e))
 reads bs w ws r h e (inr none) =
     inr (
       none.0,
-      (none.1.0, short_reading bs h ∙ ap (λ vs. ranged (line_of vs)) e ∙ rw (none.1.1, none.1.2) refl, none.1.3),
+      (
+        none.1.0,
+        short_reading bs h ∙ ap (λ vs. line_or_refusal (line_of vs)) e
+            ∙ rw (none.1.1, none.1.2) refl,
+        none.1.3,
+      ),
     )
 
 -- The readable clauses
 
-pub reads-spelled : (bs : List ℕ) (r : Result Line Refusal) → Reads bs r → IfOk r (λ l. IsReading bs l)
-reads-spelled bs (Ok l) (inl e) = reading-spelled bs l (sym e)
+pub reads-spelled : (bs : List ℕ) (r : Result Line Refusal) → ReadsLine bs r → IfOk r (λ l. IsReading bs l)
+reads-spelled bs (Ok l) (inl e) = reading-spelling_of bs l (sym e)
 reads-spelled bs (Ok l) (inr none) = let q : Ok l ≡ Err NoMemory = none.0 in cc
 reads-spelled bs (Err e) h = tt
 
-pub reads-refused : (bs : List ℕ) (r : Result Line Refusal) → Reads bs r → IfErr r (λ e. IsUnread bs e)
+pub reads-refused : (bs : List ℕ) (r : Result Line Refusal) → ReadsLine bs r → IfErr r (λ e. IsUnread bs e)
 reads-refused bs (Ok l) h = tt
 reads-refused bs (Err e) (inl q) = reading-refused bs e (sym q)
 reads-refused bs (Err e) (inr none) =
     let q : NoMemory ≡ e = cc in
     let P : Refusal → Type 0 = λ x. IsUnread bs x in
-    subst P q (none.1.0, reading-spelled bs none.1.0 none.1.1, none.1.2)
+    subst P q (none.1.0, reading-spelling_of bs none.1.0 none.1.1, none.1.2)

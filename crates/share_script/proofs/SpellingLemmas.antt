@@ -3,19 +3,19 @@ use Rattle.std.proofs.Common.{◌≡◌, ℕ, true, false, List, ◌∷◌, ◌+
 use Rattle.std.specs.Prelude.{codes}
 use Rattle.share_base.specs.declared.refusal.Refusal.TheVariants.{Range}
 use Rattle.share_model.specs.declared.line.Line.{Line}
-use Rattle.share_model.specs.text.FeedLaws.{lines-written}
-use Rattle.share_model.specs.text.Lines.{spelled, reading, is_in_range, IsLine}
-use Rattle.share_model.specs.text.LinesLaws.{reading-line}
+use Rattle.share_model.proofs.lemmas.text.FeedLaws.{lines-written}
+use Rattle.share_model.specs.text.Lines.{spelling_of, reading, is_in_range, IsLine}
+use Rattle.share_model.proofs.lemmas.text.LinesLaws.{reading-line}
 use Rattle.share_model.specs.text.Talk.{lines_of}
 
 -- a line that is written is a line of its own
 pub written-apart : (l : Line) (rest : List ℕ) → IsLine l
-    → lines_of ((spelled l ++ codes "\n") ++ rest) ≡ spelled l ∷ lines_of rest
+    → lines_of ((spelling_of l ++ codes "\n") ++ rest) ≡ spelling_of l ∷ lines_of rest
 written-apart l rest line = lines-written l rest line.fields
 
 -- and is read as what was written, where it is in range
-pub read-written : (l : Line) → IsLine l → is_in_range l ≡ true → reading (spelled l) ≡ Ok l
+pub read-written : (l : Line) → IsLine l → is_in_range l ≡ true → reading (spelling_of l) ≡ Ok l
 read-written l line r = reading-line l line ∙ ap (λ b. cond b (Ok l) (Err Range)) r
 
-pub refused-written : (l : Line) → IsLine l → is_in_range l ≡ false → reading (spelled l) ≡ Err Range
+pub refused-written : (l : Line) → IsLine l → is_in_range l ≡ false → reading (spelling_of l) ≡ Err Range
 refused-written l line r = reading-line l line ∙ ap (λ b. cond b (Ok l) (Err Range)) r

@@ -5,8 +5,8 @@ use Rattle.std.proofs.lemmas.List.Elements.{All-append}
 use Rattle.share_model.specs.declared.rates.Rate.{Rate}
 use Rattle.share_model.specs.text.Lines.{reading}
 use Rattle.share_model.specs.text.Talk.{Progress, answer, talk, after, is_feed, lines_of}
-use Rattle.share_script.specs.Script.{NoFeed, Went, Begins}
-use Rattle.share_model.specs.text.FeedLaws.{lines-feed}
+use Rattle.share_script.specs.Script.{NoFeed, Went, IsTextBeginning}
+use Rattle.share_model.proofs.lemmas.text.FeedLaws.{lines-feed}
 use Rattle.share_script.proofs.LineLemmas.{talk_same, after_same}
 
 pub went_as : (life life' : ℕ) (rates rates' : List Rate) (p : Progress) (ls : List (List ℕ)) (text : List ℕ)
@@ -18,10 +18,10 @@ went_as life life' rates rates' p ls text q ms lacks e f w =
     subst Q f (subst P e w)
 
 pub begins_as : (life life' : ℕ) (rates rates' : List Rate) (p : Progress) (ls : List (List ℕ)) (text : List ℕ)
-    → life' ≡ life → rates' ≡ rates → Begins life' rates' p ls text → Begins life rates p ls text
+    → life' ≡ life → rates' ≡ rates → IsTextBeginning life' rates' p ls text → IsTextBeginning life rates p ls text
 begins_as life life' rates rates' p ls text e f w =
-    let P : ℕ → Type 0 = λ n. Begins n rates' p ls text in
-    let Q : List Rate → Type 0 = λ r. Begins life r p ls text in
+    let P : ℕ → Type 0 = λ n. IsTextBeginning n rates' p ls text in
+    let Q : List Rate → Type 0 = λ r. IsTextBeginning life r p ls text in
     subst Q f (subst P e w)
 
 pub went_more : (life : ℕ) (rates : List Rate) (p q r : Progress) (ls ms ns : List (List ℕ)) (xs ys : List ℕ)
@@ -34,7 +34,8 @@ went_more life rates p q r ls ms ns xs ys lacks w v = record {
 }
 
 pub begins_more : (life : ℕ) (rates : List Rate) (p q : Progress) (ls ms : List (List ℕ)) (xs ys : List ℕ)
-    (w : Begins life rates q ms ys) → Went life rates p ls xs q ms w.lacks → Begins life rates p ls (xs ++ ys)
+    (w : IsTextBeginning life rates q ms ys) → Went life rates p ls xs q ms w.lacks
+    → IsTextBeginning life rates p ls (xs ++ ys)
 begins_more life rates p q ls ms xs ys w v = record {
   lacks = v.more;
   tail = w.tail;
@@ -61,7 +62,8 @@ went_cut life rates p bs cs text q ls ms lacks e w = record {
 }
 
 pub begins_cut : (life : ℕ) (rates : List Rate) (p : Progress) (bs cs text : List ℕ) (ls : List (List ℕ))
-    → reading bs ≡ reading cs → Begins life rates p (bs ∷ ls) text → Begins life rates p (cs ∷ ls) text
+    → reading bs ≡ reading cs → IsTextBeginning life rates p (bs ∷ ls) text
+    → IsTextBeginning life rates p (cs ∷ ls) text
 begins_cut life rates p bs cs text ls e w =
     record { lacks = w.lacks; tail = w.tail; texts = sym (talk_same life rates p w.lacks bs cs ls e) ∙ w.texts }
 

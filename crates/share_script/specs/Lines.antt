@@ -27,14 +27,15 @@ abbrev pub IsUnfinished : List ℕ → Type 0
 IsUnfinished bytes = NoFeed bytes × (length bytes ≤ 20481)
 
 -- the first line ahead is given, or it has more than 20480 bytes and is passed over, or its line feed did not come
-abbrev pub IsNext : List ℕ → Incoming → List ℕ → List ℕ → Type 0
-IsNext ahead Line line rest = FirstLine ahead line rest × (length line ≤ 20480)
-IsNext ahead OverLong line rest = (line ≡ []) × ((long : List ℕ) × FirstLine ahead long rest × (20480 < length long))
-IsNext ahead Unfinished line rest = (line ≡ []) × NoFeed ahead × IsUnfinished rest × (rest ≡ take 20481 ahead)
+abbrev pub IsNextLine : List ℕ → Incoming → List ℕ → List ℕ → Type 0
+IsNextLine ahead Line line rest = FirstLine ahead line rest × (length line ≤ 20480)
+IsNextLine ahead OverLong line rest = (line ≡ [])
+    × ((long : List ℕ) × FirstLine ahead long rest × (20480 < length long))
+IsNextLine ahead Unfinished line rest = (line ≡ []) × NoFeed ahead × IsUnfinished rest × (rest ≡ take 20481 ahead)
 
 -- The lines of all that comes
 
--- none stands for a line of more than 20480 bytes
+-- none is a line of more than 20480 bytes
 abbrev pub unless_long : List ℕ → Option (List ℕ)
 unless_long line = if nat_le (length line) 20480 then Some line else None
 
@@ -51,7 +52,7 @@ pub data Took : List ℕ → List (Option (List ℕ)) → List ℕ → Type 0 wh
   took_nothing : Took [] [] []
   took_next : (text : List ℕ) (given : List (Option (List ℕ))) (ahead : List ℕ) (found : Incoming)
       (line rest : List ℕ)
-      → Took text given ahead → IsNext ahead found line rest → Took text (given ++ given_by found line) rest
+      → Took text given ahead → IsNextLine ahead found line rest → Took text (given ++ given_by found line) rest
   took_read : (text : List ℕ) (given : List (Option (List ℕ))) (ahead came : List ℕ)
       → Took text given ahead → Took (text ++ came) given (ahead ++ came)
 
@@ -71,7 +72,7 @@ pub record ReadCall {R : Type 0} (left : R → Option (List ℕ)) (gives : R →
   pub told : Gives (left before) buffer got (left after)
   pub came_is : came ≡ bytes_of got buffer
 
--- they stand after what was ahead
+-- they come after what was ahead
 pub record Came {R : Type 0} (left : R → Option (List ℕ)) (gives : R → List ℕ → Got → R → Type 0)
     (before : Connection R) (got : Got) (after : Connection R) : Type 0 where
   pub came : List ℕ
@@ -90,6 +91,7 @@ connection reader kept chunk is_given = record {
 }
 
 -- the piece of a chunk up to its first line feed was kept, and the line feed passed; or the whole chunk was kept
-abbrev pub IsKept : List ℕ → List ℕ → Bool → List ℕ → List ℕ → Type 0
-IsKept kept chunk true now rest = (piece : List ℕ) × FirstLine chunk piece rest × (now ≡ take 20481 (kept ++ piece))
-IsKept kept chunk false now rest = NoFeed chunk × (rest ≡ []) × (now ≡ take 20481 (kept ++ chunk))
+abbrev pub IsPieceKept : List ℕ → List ℕ → Bool → List ℕ → List ℕ → Type 0
+IsPieceKept kept chunk true now rest = (piece : List ℕ) × FirstLine chunk piece rest
+    × (now ≡ take 20481 (kept ++ piece))
+IsPieceKept kept chunk false now rest = NoFeed chunk × (rest ≡ []) × (now ≡ take 20481 (kept ++ chunk))

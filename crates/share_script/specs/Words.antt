@@ -7,7 +7,7 @@ use Rattle.share_base.specs.declared.refusal.Refusal.{Refusal}
 use Rattle.share_base.specs.declared.refusal.Refusal.TheVariants.{NoMemory}
 use Rattle.share_model.specs.declared.line.Line.{Line}
 use Rattle.share_model.specs.declared.line.Line.TheVariants.{Send}
-use Rattle.share_model.specs.text.Lines.{words_of, ranged, is_in_range, is_send, named_of, numbered_of}
+use Rattle.share_model.specs.text.Lines.{words_of, line_or_refusal, is_in_range, is_send, named_of, numbered_of}
 use Rattle.share_model.specs.text.Lines.{mktkt_of, fund_of, open_of, turn_of, torn_of, report_of, audit_of}
 use Rattle.share_base.specs.declared.command.Command.TheVariants.{MakeCurrency, RemoveCurrency, RemoveTicket}
 use Rattle.share_base.specs.declared.command.Command.TheVariants.{Unfund, CloseFlow}
@@ -44,11 +44,11 @@ short_line_by w ws =
     else None
 
 -- the packet for a flow, where there is a payload
-abbrev pub sent_by : List ℕ → Option (List ℕ) → Option Line
-sent_by flow None = None
-sent_by flow (Some payload) = Some (Send flow payload)
+abbrev pub line_sent_by : List ℕ → Option (List ℕ) → Option Line
+line_sent_by flow None = None
+line_sent_by flow (Some payload) = Some (Send flow payload)
 
 -- the line, if it is in range; or memory was refused for a packet that is
 abbrev pub ReadsRanged : Option Line → Result Line Refusal → Type 0
-ReadsRanged o r = (r ≡ ranged o)
+ReadsRanged o r = (r ≡ line_or_refusal o)
     ⊎ ((r ≡ Err NoMemory) × ((l : Line) × (o ≡ Some l) × (is_in_range l ≡ true) × (is_send l ≡ true)))

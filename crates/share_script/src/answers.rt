@@ -7,27 +7,29 @@ ghost use Rattle.share_model.specs.io.Calls.{Offers, OfferRefused, Called, CallF
 ghost use Rattle.share_model.specs.io.Printing.{bytes_told};
 ghost use Rattle.share_model.specs.text.Lines.{is_in_range};
 ghost use Rattle.share_model.specs.text.Report.{report};
-ghost use Rattle.share_model.specs.text.Says.{Says, SaysLine, TakesAll};
+ghost use Rattle.share_model.specs.text.Answering.{AnswersBytes, AnswersLine, TakesAll};
 ghost use Rattle.share_model.specs.text.Talk.{is_syntax};
 ghost use Rattle.share_model.specs.text.Texts.{line_text};
 ghost use Rattle.share_script.specs.Printing.{Spooled, SpooledPart};
 ghost use Rattle.share_script.specs.Script.{is_torn};
-ghost use Rattle.share_script.specs.Session.{said_text};
+ghost use Rattle.share_script.specs.Session.{answer_text};
 
 use crate::reading::read_line;
 use crate::replies::push_line;
 use crate::script::ScriptFault;
-use crate::spool::Spool;
+use crate::spool::{LONGEST, SPOOL, Spool};
 use share_base::{Command, Outcome, Refusal, Reply, Turn};
 use share_core::Engine;
-use share_model::{Line, Rates, Telling};
+use share_model::{Line, Rates, TellingWriter};
 use share_report::report;
 use std::alloc::Global;
 use std::marker::Model;
 
-/// A script in progress: its link, and whether none of its lines was answered yet. A contract sees it so.
+/// A script in progress: its link, and whether none of its lines was answered yet. A contract sees it so. What its
+/// lines need memory for is taken from its allocator.
 #[derive(Drop)]
 pub struct Session<W, S: Rates> {
+    alloc: Global,
     engine: Engine<W, S>,
     first: bool,
 }
@@ -35,9 +37,9 @@ pub struct Session<W, S: Rates> {
 impl<W, S: Rates> Model for Session<W, S> {
     ghost use Rattle.std.specs.Coded.{codes};
     ghost use Rattle.share_model.specs.stride.Moves.{coded_stride};
-    ghost use Rattle.share_script.specs.Session.{AtLine};
+    ghost use Rattle.share_script.specs.Session.{SessionView};
 
-    ghost Value = { AtLine W };
+    ghost Value = { SessionView W };
 
     ghost coded = { Prim.hlevel (codes, coded_stride) };
 
@@ -46,10 +48,11 @@ impl<W, S: Rates> Model for Session<W, S> {
 
 impl<W, S: Rates> Session<W, S> {
     /// A script of which no line was answered yet.
-    pub fn new(engine: Engine<W, S>) -> Session<W, S>
+    pub fn new(alloc: Global, engine: Engine<W, S>) -> Session<W, S>
         ensures { result ≡ record { link = engine; first = true } }
     {
         Session {
+            alloc,
             engine,
             first: true,
         }
@@ -72,7 +75,7 @@ impl<W, S: Rates> Session<W, S> {
 
 /// What a line is answered with.
 #[derive(Drop)]
-pub enum Said {
+pub enum LineAnswer {
     /// The line of an outcome.
     Outcome(Outcome),
     /// The report of the link.
@@ -83,14 +86,13 @@ pub enum Said {
 
 /// Reads the next line and makes what it asks for.
 #[inline(always)]
-pub fn answer<W: Telling + Drop, S: Rates + Drop>(
-    alloc: Global,
+pub fn answer<W: TellingWriter + Drop, S: Rates + Drop>(
     session: &mut Session<W, S>,
     bytes: &[u8],
-) -> Result<Said, ScriptFault>
+) -> Result<LineAnswer, ScriptFault>
     requires { TakesAll W.answers }
-    ensures says { IfOk result (λ said. Says W.told session.old.link session.old.first bytes.now
-        (said_text session.new.link.live said) session.new.link) }
+    ensures says { IfOk result (λ line_answer. AnswersBytes W.told session.old.link session.old.first bytes.now
+        (answer_text session.new.link.live line_answer) session.new.link) }
     ensures later { OnOk result (session.new.first ≡ false) }
     ensures called { OnOk result (Called W.answers session.old.link.writer session.new.link.writer) }
     ensures fault { IfErr result (λ fault. (fault ≡ ScriptFault.NoMemory)
@@ -98,30 +100,30 @@ pub fn answer<W: Telling + Drop, S: Rates + Drop>(
 {
     let first = session.first;
     session.first = false;
-    answer_bytes(alloc, &mut session.engine, first, bytes)
+    answer_bytes(session.alloc, &mut session.engine, first, bytes)
 }
 
 #[inline(always)]
-fn answer_bytes<W: Telling + Drop, S: Rates + Drop>(
+fn answer_bytes<W: TellingWriter + Drop, S: Rates + Drop>(
     alloc: Global,
     engine: &mut Engine<W, S>,
     first: bool,
     bytes: &[u8],
-) -> Result<Said, ScriptFault>
+) -> Result<LineAnswer, ScriptFault>
     requires { TakesAll W.answers }
-    ensures says { IfOk result (λ said. Says W.told engine.old first bytes.now
-        (said_text engine.new.live said) engine.new) }
+    ensures says { IfOk result (λ line_answer. AnswersBytes W.told engine.old first bytes.now
+        (answer_text engine.new.live line_answer) engine.new) }
     ensures called { OnOk result (Called W.answers engine.old.writer engine.new.writer) }
     ensures fault { IfErr result (λ fault. (fault ≡ ScriptFault.NoMemory)
         × CallFailed W.answers engine.old.writer engine.new.writer) }
 {
     match read_line(alloc, bytes) {
         Ok(line) => answer_line(engine, line, first),
-        Err(refusal) => Ok(refused(unread(refusal, engine.spent()))),
+        Err(refusal) => Ok(refusal_answer(unread(refusal, engine.spent()))),
     }
 }
 
-// A fault of spelling stands before a spent life, and any other after it.
+// A fault of spelling is told before a spent life, and any other fault after it.
 fn unread(refusal: Refusal, spent: bool) -> Refusal
     ensures { result ≡ (if is_syntax refusal then Syntax else if spent then Spent else refusal) }
 {
@@ -140,53 +142,55 @@ fn is_syntax(refusal: Refusal) -> bool
     matches!(refusal, Refusal::Syntax)
 }
 
-fn refused(refusal: Refusal) -> Said
-    ensures { result ≡ Said.Outcome (Outcome.Replied (Reply.Refused refusal)) }
+fn refusal_answer(refusal: Refusal) -> LineAnswer
+    ensures { result ≡ LineAnswer.Outcome (Outcome.Replied (Reply.Refused refusal)) }
 {
-    Said::Outcome(Outcome::Replied(Reply::Refused(refusal)))
+    LineAnswer::Outcome(Outcome::Replied(Reply::Refused(refusal)))
 }
 
 #[inline(always)]
-fn answer_line<W: Telling + Drop, S: Rates + Drop>(
+fn answer_line<W: TellingWriter + Drop, S: Rates + Drop>(
     engine: &mut Engine<W, S>,
     line: Line,
     first: bool,
-) -> Result<Said, ScriptFault>
+) -> Result<LineAnswer, ScriptFault>
     requires whole { TakesAll W.answers }
     requires in_range { is_in_range line ≡ true }
-    ensures says { IfOk result (λ said. SaysLine W.told engine.old first line
-        (said_text engine.new.live said) engine.new) }
+    ensures says { IfOk result (λ line_answer. AnswersLine W.told engine.old first line
+        (answer_text engine.new.live line_answer) engine.new) }
     ensures called { OnOk result (Called W.answers engine.old.writer engine.new.writer) }
     ensures fault { IfErr result (λ fault. (fault ≡ ScriptFault.NoMemory)
         × CallFailed W.answers engine.old.writer engine.new.writer) }
 {
     match line {
-        Line::Change(command) => Ok(Said::Outcome(change(engine, command))),
-        Line::Send { flow, body } => Ok(Said::Outcome(Outcome::Replied(engine.arrive(flow, body)))),
+        Line::Change(command) => Ok(LineAnswer::Outcome(change(engine, command))),
+        Line::Send { flow, body } => Ok(LineAnswer::Outcome(Outcome::Replied(engine.arrive(
+            flow, body,
+        )))),
         Line::Turn(most) => turn(engine, most as u32),
-        Line::Torn => Ok(Said::Outcome(Outcome::Turned(engine.tear()))),
-        Line::Report => Ok(Said::Report),
+        Line::Torn => Ok(LineAnswer::Outcome(Outcome::Turned(engine.tear()))),
+        Line::Report => Ok(LineAnswer::Report),
         Line::Audit => Ok(audit(first)),
     }
 }
 
-// The first line says what the script is, and in another place it is none.
-fn audit(first: bool) -> Said
-    ensures { result ≡ (if first then Said.Nothing
-        else Said.Outcome (Outcome.Replied (Reply.Refused Refusal.Syntax))) }
+// As the first line it says what the script is. In another place it is no line.
+fn audit(first: bool) -> LineAnswer
+    ensures { result ≡ (if first then LineAnswer.Nothing
+        else LineAnswer.Outcome (Outcome.Replied (Reply.Refused Refusal.Syntax))) }
 {
     if first {
-        Said::Nothing
+        LineAnswer::Nothing
     } else {
-        refused(Refusal::Syntax)
+        refusal_answer(Refusal::Syntax)
     }
 }
 
-fn change<W: Telling + Drop, S: Rates + Drop>(
+fn change<W: TellingWriter + Drop, S: Rates + Drop>(
     engine: &mut Engine<W, S>,
     command: Command,
 ) -> Outcome
-    ensures says { (first : Bool) → SaysLine W.told engine.old first (Change command)
+    ensures says { (first : Bool) → AnswersLine W.told engine.old first (Change command)
         (line_text result) engine.new }
     ensures called { Called W.answers engine.old.writer engine.new.writer }
 {
@@ -194,24 +198,25 @@ fn change<W: Telling + Drop, S: Rates + Drop>(
 }
 
 // A writer over memory fails only for want of memory.
-fn turn<W: Telling + Drop, S: Rates + Drop>(
+#[inline(always)]
+fn turn<W: TellingWriter + Drop, S: Rates + Drop>(
     engine: &mut Engine<W, S>,
     most: u32,
-) -> Result<Said, ScriptFault>
+) -> Result<LineAnswer, ScriptFault>
     requires whole { TakesAll W.answers }
     requires some { 1 ≤ most }
-    ensures says { IfOk result (λ said. (first : Bool) → SaysLine W.told engine.old first (TurnLine most)
-        (said_text engine.new.live said) engine.new) }
+    ensures says { IfOk result (λ line_answer. (first : Bool) → AnswersLine W.told engine.old first (TurnLine most)
+        (answer_text engine.new.live line_answer) engine.new) }
     ensures called { OnOk result (Called W.answers engine.old.writer engine.new.writer) }
     ensures fault { IfErr result (λ fault. (fault ≡ ScriptFault.NoMemory)
         × CallFailed W.answers engine.old.writer engine.new.writer) }
 {
-    let _events = engine.events();
+    let _ = engine.events();
     let turn = engine.turn(most);
     if is_torn(&turn) {
         return Err(ScriptFault::NoMemory);
     }
-    Ok(Said::Outcome(Outcome::Turned(turn)))
+    Ok(LineAnswer::Outcome(Outcome::Turned(turn)))
 }
 
 fn is_torn(turn: &Turn) -> bool
@@ -222,34 +227,34 @@ fn is_torn(turn: &Turn) -> bool
 
 /// Prints what a line is answered with: the line of an outcome waits to be written, and a report is written at once,
 /// after all that waits.
-pub fn say<W, S: Rates, O: Telling>(
+pub fn print<W, S: Rates, O: TellingWriter>(
     engine: &Engine<W, S>,
     spool: &mut Spool,
     output: &mut O,
-    said: &Said,
+    line_answer: &LineAnswer,
 ) -> Result<(), ScriptFault>
-    requires { length spool.old + 128 ≤ 65536 }
+    requires { length spool.old + LONGEST ≤ SPOOL }
     ensures spooled { MatchResult result
         (λ _. Spooled (bytes_told (O.told output.old)) spool.old (bytes_told (O.told output.new))
-        spool.new (said_text engine.now.live said.now))
+        spool.new (answer_text engine.now.live line_answer.now))
         (λ _. SpooledPart (bytes_told (O.told output.old)) spool.old (bytes_told (O.told output.new))
-        (said_text engine.now.live said.now)) }
+        (answer_text engine.now.live line_answer.now)) }
     ensures offers { MatchResult result (λ _. Offers O.answers output.old output.new)
         (λ fault. (fault ≡ ScriptFault.Output) × OfferRefused O.answers output.old output.new) }
 {
-    match said {
-        Said::Outcome(outcome) => {
+    match line_answer {
+        LineAnswer::Outcome(outcome) => {
             push_line(spool, outcome);
             Ok(())
         }
-        Said::Report => say_report(engine, spool, output),
-        Said::Nothing => Ok(()),
+        LineAnswer::Report => print_report(engine, spool, output),
+        LineAnswer::Nothing => Ok(()),
     }
 }
 
 // A report needs some pages of the stack, which no other answer does.
 #[inline(never)]
-fn say_report<W, S: Rates, O: Telling>(
+fn print_report<W, S: Rates, O: TellingWriter>(
     engine: &Engine<W, S>,
     spool: &mut Spool,
     output: &mut O,

@@ -16,12 +16,13 @@ pub struct Carry {
 
 impl Model for Carry {
     ghost use Rattle.std.specs.Prelude.{ℕ, List, length, ◌≤◌, vec_capacity};
+    ghost use Rattle.share_script.specs.declared.carry.TheConstants.{KEPT};
 
     ghost Value = { List ℕ };
 
     ghost view = { λ carry. carry.bytes.items };
 
-    ghost invariant = { λ carry. (20481 ≤ vec_capacity carry.bytes) × (length carry.bytes.items ≤ 20481) };
+    ghost invariant = { λ carry. (KEPT ≤ vec_capacity carry.bytes) × (length carry.bytes.items ≤ KEPT) };
 }
 
 impl Carry {
@@ -36,7 +37,7 @@ impl Carry {
 
     /// Adds bytes at the end, as far as they are kept.
     pub fn add(&mut self, piece: &[u8])
-        ensures { self.new ≡ take 20481 (self.old ++ piece.now) }
+        ensures { self.new ≡ take KEPT (self.old ++ piece.now) }
     {
         let room = KEPT - self.bytes.len();
         if self

@@ -3,7 +3,7 @@ ghost use Rattle.std.specs.Prelude.{◌≡◌, ◌≤◌, [], drop, length, IfOk
 ghost use Rattle.share_script.specs.Lines.{ReadCall};
 
 use crate::reading::zeros;
-use share_model::{Got, Source};
+use share_model::{Got, TellingReader};
 use std::alloc::{AllocError, Global};
 use std::marker::Model;
 
@@ -48,7 +48,7 @@ impl Chunk {
         &self.buffer[self.at..self.end]
     }
 
-    /// Takes so many bytes.
+    /// Takes this many bytes.
     pub fn pass(&mut self, count: usize)
         requires { count ≤ length self.old }
         ensures { self.new ≡ drop count self.old }
@@ -64,7 +64,7 @@ impl Chunk {
     }
 
     /// Makes one read call, whose bytes take the place of those that are here.
-    pub fn fill<R: Source>(&mut self, reader: &mut R) -> Got
+    pub fn fill<R: TellingReader>(&mut self, reader: &mut R) -> Got
         ensures { ReadCall R.left R.gives reader.old result reader.new self.new }
     {
         self.at = 0;

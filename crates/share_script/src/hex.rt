@@ -1,53 +1,33 @@
 //! The line of a link's bytes, printed in hexadecimal.
-ghost use Rattle.std.specs.Prelude.{◌≡◌, ◌<◌, ◌≤◌, ◌*◌, ◌++◌, codes, length, take, MatchResult};
-ghost use Rattle.std.specs.Io.KnownBytes.{Appends};
-ghost use Rattle.share_model.specs.io.Calls.{Offers, OfferRefused};
+ghost use Rattle.std.specs.Prelude.{◌≡◌, ◌<◌, ◌≤◌, ◌*◌, ◌++◌, codes, length, take};
 ghost use Rattle.share_model.specs.text.Lines.{hex, hex_digit};
-ghost use Rattle.share_model.specs.io.Printing.{bytes_told, AppendsPart};
+ghost use Rattle.share_model.specs.io.Printing.{WritesText};
 ghost use Rattle.share_script.specs.Printing.{digits_or_hyphen, out_line};
 
-use share_model::{NotWritten, Telling, put};
+use share_model::{Fault, TellingWriter, put};
 
 /// How many bytes are spelled in one piece.
 const PIECE: usize = 8192;
 
-/// Prints the line of a link's bytes: `out `, their digits or a hyphen where there are none, and a line feed. On an
-/// error a beginning of the line is written.
-pub fn print_bytes<O: Telling>(output: &mut O, bytes: &[u8]) -> Result<(), NotWritten>
-    ensures bytes { MatchResult result
-        (λ _. Appends (bytes_told (O.told output.old)) (bytes_told (O.told output.new))
-        (out_line bytes.now))
-        (λ _. AppendsPart (bytes_told (O.told output.old)) (bytes_told (O.told output.new))
-        (out_line bytes.now)) }
-    ensures offers { MatchResult result (λ _. Offers O.answers output.old output.new)
-        (λ _. OfferRefused O.answers output.old output.new) }
+/// Prints the line of a link's bytes: `out `, their digits or a hyphen if there are none, and a line feed. If an offer
+/// is refused, a beginning of the line was written.
+pub fn print_bytes<O: TellingWriter>(output: &mut O, bytes: &[u8]) -> Result<(), Fault>
+    ensures { WritesText O.told O.answers output.old output.new (out_line bytes.now) result }
 {
     put(output, b"out ")?;
     finish_line(output, bytes)
 }
 
 // The digits of the line, and its line feed.
-fn finish_line<O: Telling>(output: &mut O, bytes: &[u8]) -> Result<(), NotWritten>
-    ensures bytes { MatchResult result
-        (λ _. Appends (bytes_told (O.told output.old)) (bytes_told (O.told output.new))
-        (digits_or_hyphen bytes.now ++ codes "\n"))
-        (λ _. AppendsPart (bytes_told (O.told output.old)) (bytes_told (O.told output.new))
-        (digits_or_hyphen bytes.now ++ codes "\n")) }
-    ensures offers { MatchResult result (λ _. Offers O.answers output.old output.new)
-        (λ _. OfferRefused O.answers output.old output.new) }
+fn finish_line<O: TellingWriter>(output: &mut O, bytes: &[u8]) -> Result<(), Fault>
+    ensures { WritesText O.told O.answers output.old output.new (digits_or_hyphen bytes.now ++ codes "\n") result }
 {
     put_digits(output, bytes)?;
     put(output, b"\n")
 }
 
-fn put_digits<O: Telling>(output: &mut O, bytes: &[u8]) -> Result<(), NotWritten>
-    ensures bytes { MatchResult result
-        (λ _. Appends (bytes_told (O.told output.old)) (bytes_told (O.told output.new))
-        (digits_or_hyphen bytes.now))
-        (λ _. AppendsPart (bytes_told (O.told output.old)) (bytes_told (O.told output.new))
-        (digits_or_hyphen bytes.now)) }
-    ensures offers { MatchResult result (λ _. Offers O.answers output.old output.new)
-        (λ _. OfferRefused O.answers output.old output.new) }
+fn put_digits<O: TellingWriter>(output: &mut O, bytes: &[u8]) -> Result<(), Fault>
+    ensures { WritesText O.told O.answers output.old output.new (digits_or_hyphen bytes.now) result }
 {
     if bytes.is_empty() {
         return put(output, b"-");
@@ -56,14 +36,8 @@ fn put_digits<O: Telling>(output: &mut O, bytes: &[u8]) -> Result<(), NotWritten
 }
 
 // Prints each byte as two lower-case digits.
-fn put_hex<O: Telling>(output: &mut O, bytes: &[u8]) -> Result<(), NotWritten>
-    ensures bytes { MatchResult result
-        (λ _. Appends (bytes_told (O.told output.old)) (bytes_told (O.told output.new))
-        (hex bytes.now))
-        (λ _. AppendsPart (bytes_told (O.told output.old)) (bytes_told (O.told output.new))
-        (hex bytes.now)) }
-    ensures offers { MatchResult result (λ _. Offers O.answers output.old output.new)
-        (λ _. OfferRefused O.answers output.old output.new) }
+fn put_hex<O: TellingWriter>(output: &mut O, bytes: &[u8]) -> Result<(), Fault>
+    ensures { WritesText O.told O.answers output.old output.new (hex bytes.now) result }
 {
     let mut text = [0u8; 2 * PIECE];
     let mut at = 0;
@@ -76,19 +50,13 @@ fn put_hex<O: Telling>(output: &mut O, bytes: &[u8]) -> Result<(), NotWritten>
 }
 
 // Prints a piece, spelled in a buffer.
-fn put_piece<O: Telling>(
+fn put_piece<O: TellingWriter>(
     output: &mut O,
     piece: &[u8],
     text: &mut [u8; 2 * PIECE],
-) -> Result<(), NotWritten>
+) -> Result<(), Fault>
     requires { length piece.now ≤ 8192 }
-    ensures bytes { MatchResult result
-        (λ _. Appends (bytes_told (O.told output.old)) (bytes_told (O.told output.new))
-        (hex piece.now))
-        (λ _. AppendsPart (bytes_told (O.told output.old)) (bytes_told (O.told output.new))
-        (hex piece.now)) }
-    ensures offers { MatchResult result (λ _. Offers O.answers output.old output.new)
-        (λ _. OfferRefused O.answers output.old output.new) }
+    ensures { WritesText O.told O.answers output.old output.new (hex piece.now) result }
 {
     spell(piece, text);
     put(output, &text[..2 * piece.len()])

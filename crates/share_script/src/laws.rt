@@ -3,7 +3,7 @@
 ghost use Rattle.std.specs.Prelude.{◌≡◌, ◌++◌, ◌∷◌, ℕ, List, Option, true, false, Ok, Err, codes};
 ghost use Rattle.share_base.specs.declared.refusal.Refusal.TheVariants.{Range};
 ghost use Rattle.share_model.specs.declared.line.Line.{Line};
-ghost use Rattle.share_model.specs.text.Lines.{IsLine, is_in_range, reading, spelled};
+ghost use Rattle.share_model.specs.text.Lines.{IsLine, is_in_range, reading, spelling_of};
 ghost use Rattle.share_model.specs.text.Talk.{lines_of};
 ghost use Rattle.share_script.specs.Lines.{Took, incoming_lines};
 
@@ -11,10 +11,10 @@ ghost use Rattle.share_script.specs.Lines.{Took, incoming_lines};
 /// is read as what was written, or refused as `Range` where it is out of range.
 pub fn written_lines_are_read()
     ensures apart { (l : Line) (rest : List ℕ) → IsLine l
-        → lines_of ((spelled l ++ codes "\n") ++ rest) ≡ spelled l ∷ lines_of rest }
-    ensures read { (l : Line) → IsLine l → is_in_range l ≡ true → reading (spelled l) ≡ Ok l }
+        → lines_of ((spelling_of l ++ codes "\n") ++ rest) ≡ spelling_of l ∷ lines_of rest }
+    ensures read { (l : Line) → IsLine l → is_in_range l ≡ true → reading (spelling_of l) ≡ Ok l }
     ensures refused { (l : Line) → IsLine l → is_in_range l ≡ false
-        → reading (spelled l) ≡ Err Range }
+        → reading (spelling_of l) ≡ Err Range }
 {}
 
 /// Whatever was read of a connection and taken of it so far, and whatever comes behind, the lines of the whole text are

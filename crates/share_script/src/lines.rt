@@ -1,12 +1,12 @@
 //! The lines of a connection, each taken as soon as it came whole.
 ghost use Rattle.std.specs.Prelude.{◌≡◌, [], IfOk, if◌then◌else◌};
-ghost use Rattle.share_script.specs.Lines.{IsNext, IsUnfinished, IsKept, Came};
+ghost use Rattle.share_script.specs.Lines.{IsNextLine, IsUnfinished, IsPieceKept, Came};
 
 use crate::carry::Carry;
 use crate::chunk::Chunk;
 use crate::reading::MAX_LINE;
 use memchr::memchr;
-use share_model::{Got, Source};
+use share_model::{Got, TellingReader};
 use std::alloc::{AllocError, Global};
 use std::marker::Model;
 
@@ -43,7 +43,7 @@ impl<R> Model for IncomingLines<R> {
     ghost invariant = { λ lines. NoFeed lines.kept };
 }
 
-impl<R: Source + Drop> IncomingLines<R> {
+impl<R: TellingReader + Drop> IncomingLines<R> {
     /// A connection of which nothing was read.
     pub fn new(alloc: Global, reader: R) -> Result<IncomingLines<R>, AllocError>
         ensures { IfOk result (λ lines. lines ≡ record { reader = reader; line = []; ahead = [] }) }
@@ -59,7 +59,7 @@ impl<R: Source + Drop> IncomingLines<R> {
     /// Takes the next line of the bytes that came, where it is here as a whole. Of a line whose line feed did not come,
     /// no more than the first 20481 bytes stay ahead.
     pub fn next(&mut self) -> Incoming
-        ensures next { IsNext self.old.ahead result self.new.line self.new.ahead }
+        ensures next { IsNextLine self.old.ahead result self.new.line self.new.ahead }
         ensures reader { self.new.reader ≡ self.old.reader }
     {
         end_given(&mut self.kept, self.is_given);
@@ -86,7 +86,7 @@ impl<R: Source + Drop> IncomingLines<R> {
         }
     }
 
-    /// Makes one read call, and answers what came of it. The bytes that it gave stand after those that are ahead. An
+    /// Makes one read call, and answers what came of it. The bytes that it gave come after those that are ahead. An
     /// interrupted call may be made again.
     pub fn read(&mut self) -> Got
         requires unfinished { IsUnfinished self.old.ahead }
@@ -110,7 +110,7 @@ fn end_given(kept: &mut Carry, is_given: bool)
 
 // Keeps the piece of the chunk up to its first line feed, which is passed; the whole chunk where it has none.
 fn keep_line(kept: &mut Carry, chunk: &mut Chunk) -> bool
-    ensures { IsKept kept.old chunk.old result kept.new chunk.new }
+    ensures { IsPieceKept kept.old chunk.old result kept.new chunk.new }
 {
     let bytes = chunk.as_slice();
     match memchr(b'\n', bytes) {

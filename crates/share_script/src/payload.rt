@@ -49,10 +49,10 @@ pub fn decode(word: &[u8], bytes: &mut [u8]) -> Option<usize>
 
 // Decodes the sixteen bytes from a place on, and answers the greatest value of a digit up to their end.
 fn decode_block(word: &[u8], bytes: &mut [u8], at: usize, greatest: u8) -> u8
-    requires inside { 2 * at + 32 ≤ length word.now }
-    requires room { at + 16 ≤ length bytes.old }
+    requires inside { 2 * at + 2 * BLOCK ≤ length word.now }
+    requires room { at + BLOCK ≤ length bytes.old }
     requires before { DecodesUpTo word.now bytes.old at greatest }
-    ensures { DecodesUpTo word.now bytes.new (at + 16) result }
+    ensures { DecodesUpTo word.now bytes.new (at + BLOCK) result }
 {
     let (highs, lows) = digits_apart(word, at);
     let mut greatest = greatest;
@@ -68,9 +68,9 @@ fn decode_block(word: &[u8], bytes: &mut [u8], at: usize, greatest: u8) -> u8
 // The first digits of sixteen bytes from a place on, and their second digits. A compiler that has them apart works on
 // all of them at once.
 fn digits_apart(word: &[u8], at: usize) -> ([u8; 16], [u8; 16])
-    requires { 2 * at + 32 ≤ length word.now }
-    ensures first { (k : ℕ) → k < 16 → slice_index result.0 k ≡ slice_index word.now (2 * (at + k)) }
-    ensures second { (k : ℕ) → k < 16 → slice_index result.1 k ≡ slice_index word.now (2 * (at + k) + 1) }
+    requires { 2 * at + 2 * BLOCK ≤ length word.now }
+    ensures first { (k : ℕ) → k < BLOCK → slice_index result.0 k ≡ slice_index word.now (2 * (at + k)) }
+    ensures second { (k : ℕ) → k < BLOCK → slice_index result.1 k ≡ slice_index word.now (2 * (at + k) + 1) }
 {
     let digits = u8x32::from_slice(&word[2 * at..]);
     let first: u8x16 = digits.swizzle([0, 2, 4, 6, 8, 10, 12, 14, 16, 18, 20, 22, 24, 26, 28, 30]);

@@ -6,12 +6,13 @@ ghost use Rattle.share_base.specs.declared.command.Command.{Command};
 ghost use Rattle.share_base.specs.declared.command.Command.TheVariants.{MakeCurrency, RemoveCurrency, RemoveTicket};
 ghost use Rattle.share_base.specs.declared.command.Command.TheVariants.{Unfund, CloseFlow};
 ghost use Rattle.share_model.specs.declared.line.Line.TheVariants.{Change};
-ghost use Rattle.share_model.specs.text.Lines.{Reads, IsReading, IsUnread, is_in_range, is_pairs, payload_of};
+ghost use Rattle.share_model.specs.text.Lines.{ReadsLine, IsReading, IsUnread, is_in_range, is_pairs, payload_of};
 ghost use Rattle.share_model.specs.text.Lines.{named_of, numbered_of, mktkt_of, fund_of, funding_of, open_of};
-ghost use Rattle.share_model.specs.text.Lines.{send_of, turn_of, torn_of, report_of, audit_of, ranged, line_by};
+ghost use Rattle.share_model.specs.text.Lines.{send_of, turn_of, torn_of, report_of, audit_of, line_or_refusal};
+ghost use Rattle.share_model.specs.text.Lines.{line_by};
 ghost use Rattle.share_model.specs.text.Lines.{words_of};
 ghost use Rattle.std.specs.Str.{bytes_eq};
-ghost use Rattle.share_script.specs.Words.{ReadsRanged, short_line_by, sent_by};
+ghost use Rattle.share_script.specs.Words.{ReadsRanged, short_line_by, line_sent_by};
 
 use crate::payload::{decode, is_payload};
 use crate::words::Words;
@@ -26,7 +27,7 @@ pub(crate) const MAX_LINE: usize = 20480;
 /// of a packet has more than 1490 bytes or the number of a turn is not 1 to 65535, `NoMemory` where the copy of a
 /// payload found none.
 pub fn read_line(alloc: Global, bytes: &[u8]) -> Result<Line, Refusal>
-    ensures reads { Reads bytes.now result }
+    ensures reads { ReadsLine bytes.now result }
     ensures spelled { IfOk result (λ line. IsReading bytes.now line) }
     ensures refused { IfErr result (λ refusal. IsUnread bytes.now refusal) }
 {
@@ -34,7 +35,7 @@ pub fn read_line(alloc: Global, bytes: &[u8]) -> Result<Line, Refusal>
 }
 
 fn read_bytes(alloc: Global, bytes: &[u8]) -> Result<Line, Refusal>
-    ensures { Reads bytes.now result }
+    ensures { ReadsLine bytes.now result }
 {
     if bytes.len() > MAX_LINE {
         return Err(Refusal::Syntax);
@@ -43,7 +44,7 @@ fn read_bytes(alloc: Global, bytes: &[u8]) -> Result<Line, Refusal>
         return send(alloc, &mut Words::of(rest));
     }
     if let Some(rest) = after_turn(bytes) {
-        return ranged(turn(&mut Words::of(rest)));
+        return line_or_refusal(turn(&mut Words::of(rest)));
     }
     read_any(alloc, bytes)
 }
@@ -85,8 +86,8 @@ fn after_turn(line: &[u8]) -> Option<&[u8]>
 
 // The line that these bytes spell, whichever it is.
 fn read_any(alloc: Global, bytes: &[u8]) -> Result<Line, Refusal>
-    requires { length bytes.now ≤ 20480 }
-    ensures { Reads bytes.now result }
+    requires { length bytes.now ≤ MAX_LINE }
+    ensures { ReadsLine bytes.now result }
 {
     let mut words = Words::of(bytes);
     match words.next() {
@@ -102,7 +103,7 @@ fn read_words(alloc: Global, keyword: &[u8], words: &mut Words<'_>) -> Result<Li
     if is_word(keyword, b"send") {
         return send(alloc, words);
     }
-    ranged(short_line(keyword, words))
+    line_or_refusal(short_line(keyword, words))
 }
 
 // Each arm returns by itself: as one expression, the line is copied once for each `else`.
@@ -148,8 +149,8 @@ fn short_line(keyword: &[u8], words: &mut Words<'_>) -> Option<Line>
     None
 }
 
-fn ranged(line: Option<Line>) -> Result<Line, Refusal>
-    ensures { result ≡ ranged line }
+fn line_or_refusal(line: Option<Line>) -> Result<Line, Refusal>
+    ensures { result ≡ line_or_refusal line }
 {
     match line {
         None => Err(Refusal::Syntax),
@@ -324,13 +325,13 @@ fn send(alloc: Global, words: &mut Words<'_>) -> Result<Line, Refusal>
         None => return Err(Refusal::Syntax),
         Some(digits) => digits,
     };
-    sent(alloc, flow, digits)
+    send_line(alloc, flow, digits)
 }
 
 // The packet whose payload these digits spell.
 #[inline(always)]
-fn sent(alloc: Global, flow: Name, digits: &[u8]) -> Result<Line, Refusal>
-    ensures { ReadsRanged (sent_by flow (payload_of digits.now)) result }
+fn send_line(alloc: Global, flow: Name, digits: &[u8]) -> Result<Line, Refusal>
+    ensures { ReadsRanged (line_sent_by flow (payload_of digits.now)) result }
 {
     if digits.len() > 2 * MAX_PAYLOAD {
         return Err(unread(digits, Refusal::Range));
@@ -354,7 +355,7 @@ fn sent(alloc: Global, flow: Name, digits: &[u8]) -> Result<Line, Refusal>
 #[inline(always)]
 fn sent_in_place(alloc: Global, flow: Name, digits: &[u8]) -> Result<Line, Refusal>
     requires { length digits.now ≤ 2 * MAX_IN_PLACE }
-    ensures { result ≡ ranged (sent_by flow (payload_of digits.now)) }
+    ensures { result ≡ line_or_refusal (line_sent_by flow (payload_of digits.now)) }
 {
     let mut bytes = [0; MAX_IN_PLACE];
     match decode(digits, &mut bytes) {

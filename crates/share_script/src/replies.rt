@@ -2,12 +2,17 @@
 ghost use Rattle.std.specs.Prelude.{◌≡◌, ◌≤◌, ◌+◌, ◌++◌, length};
 ghost use Rattle.share_model.specs.text.Texts.{refusal_text, reply_text, turn_text, outcome_text, line_text};
 
+use crate::spool::LONGEST;
 use crate::text::Text;
 use share_base::{Outcome, Refusal, Reply, Turn};
 
+/// More bytes than the text of an outcome has.
+const MAX_OUTCOME: usize = 100;
+
 /// Adds the text of an outcome and a line feed.
+#[inline(always)]
 pub fn push_line<T: Text>(text: &mut T, outcome: &Outcome)
-    requires { length (T.held text.old) + 128 ≤ T.room }
+    requires { length (T.held text.old) + LONGEST ≤ T.room }
     ensures { T.held text.new ≡ T.held text.old ++ line_text outcome.now }
 {
     push_outcome(text, outcome);
@@ -15,9 +20,9 @@ pub fn push_line<T: Text>(text: &mut T, outcome: &Outcome)
 }
 
 fn push_outcome<T: Text>(text: &mut T, outcome: &Outcome)
-    requires { length (T.held text.old) + 100 ≤ T.room }
+    requires { length (T.held text.old) + MAX_OUTCOME ≤ T.room }
     ensures bytes { T.held text.new ≡ T.held text.old ++ outcome_text outcome.now }
-    ensures few { length (T.held text.new) ≤ length (T.held text.old) + 100 }
+    ensures few { length (T.held text.new) ≤ length (T.held text.old) + MAX_OUTCOME }
 {
     match outcome {
         Outcome::Replied(reply) => push_reply(text, reply),
@@ -26,9 +31,9 @@ fn push_outcome<T: Text>(text: &mut T, outcome: &Outcome)
 }
 
 fn push_reply<T: Text>(text: &mut T, reply: &Reply)
-    requires { length (T.held text.old) + 100 ≤ T.room }
+    requires { length (T.held text.old) + MAX_OUTCOME ≤ T.room }
     ensures bytes { T.held text.new ≡ T.held text.old ++ reply_text reply.now }
-    ensures few { length (T.held text.new) ≤ length (T.held text.old) + 100 }
+    ensures few { length (T.held text.new) ≤ length (T.held text.old) + MAX_OUTCOME }
 {
     match reply {
         Reply::Done => text.push_str("ok"),
@@ -63,9 +68,9 @@ fn push_reply<T: Text>(text: &mut T, reply: &Reply)
 }
 
 fn push_turn<T: Text>(text: &mut T, turn: &Turn)
-    requires { length (T.held text.old) + 100 ≤ T.room }
+    requires { length (T.held text.old) + MAX_OUTCOME ≤ T.room }
     ensures bytes { T.held text.new ≡ T.held text.old ++ turn_text turn.now }
-    ensures few { length (T.held text.new) ≤ length (T.held text.old) + 100 }
+    ensures few { length (T.held text.new) ≤ length (T.held text.old) + MAX_OUTCOME }
 {
     match turn {
         Turn::Wrote {
@@ -98,9 +103,9 @@ fn push_turn<T: Text>(text: &mut T, turn: &Turn)
 }
 
 fn push_refusal<T: Text>(text: &mut T, refusal: Refusal)
-    requires { length (T.held text.old) + 100 ≤ T.room }
+    requires { length (T.held text.old) + MAX_OUTCOME ≤ T.room }
     ensures bytes { T.held text.new ≡ T.held text.old ++ refusal_text refusal }
-    ensures few { length (T.held text.new) ≤ length (T.held text.old) + 100 }
+    ensures few { length (T.held text.new) ≤ length (T.held text.old) + MAX_OUTCOME }
 {
     text.push_str(refusal_text(refusal));
 }

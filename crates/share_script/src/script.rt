@@ -1,25 +1,25 @@
 //! Scripts, run from a reader to a writer.
-ghost use Rattle.std.specs.Prelude.{◌≡◌, ◌<◌, ◌^◌, ◌++◌, [], length, IfErr, IfSome, OnOk, MatchResult};
-ghost use Rattle.share_model.specs.io.Calls.{ReadsToEnd, Offers};
+ghost use Rattle.std.specs.Prelude.{◌≡◌, ◌<◌, ◌^◌, ◌++◌, [], length, Err, IfSome, OnOk, MatchResult};
+ghost use Rattle.share_model.specs.io.Calls.{ReadsToEnd, ReadFails, HasRead, Offers, OfferRefused, CallFailed};
 ghost use Rattle.share_model.specs.io.Told.{TapeAnswers};
 ghost use Rattle.share_model.specs.link.Live.{empty_link};
 ghost use Rattle.share_model.specs.io.Printing.{bytes_told};
-ghost use Rattle.share_model.specs.text.Says.{TakesAll};
-ghost use Rattle.share_model.specs.text.Talk.{start};
+ghost use Rattle.share_model.specs.text.Answering.{TakesAll};
+ghost use Rattle.share_model.specs.text.Talk.{start_of_script};
 ghost use Rattle.share_script.specs.Script.{IsOneFold};
-ghost use Rattle.share_script.specs.Script.{Printed, PrintedPart, Feeds, FeedsPart, FedWhole, FedPart, Spoke};
-ghost use Rattle.share_script.specs.Script.{SpokePart, Ends, EndsPart};
-ghost use Rattle.share_script.specs.Script.{Wrote, IsStop, IsEnd, IsFault};
-ghost use Rattle.share_script.specs.Session.{Stands};
+ghost use Rattle.share_script.specs.Script.{Printed, PrintedPart, Feeds, FeedsPart, FedWhole, FedPart, PrintedAnswer};
+ghost use Rattle.share_script.specs.Script.{PrintedAnswerPart, FinishesScript, FinishesScriptPart};
+ghost use Rattle.share_script.specs.Script.{Wrote, MakesCalls, FoundNone};
+ghost use Rattle.share_script.specs.Session.{HoldsScript};
 
-use crate::answers::{Session, answer, say};
+use crate::answers::{Session, answer, print};
 use crate::carry::Carry;
 use crate::chunk::CHUNK;
 use crate::reading::zeros;
 use crate::spool::Spool;
 use memchr::memchr;
 use share_core::Engine;
-use share_model::{Got, NotWritten, Rates, Source, Tape, Telling};
+use share_model::{Fault, Got, Rates, Tape, TellingReader, TellingWriter};
 use std::alloc::{AllocError, AllocFailed, Global};
 use thiserror::Error;
 
@@ -40,24 +40,13 @@ pub enum ScriptFault {
     NoMemory,
 }
 
-impl From<NotWritten> for ScriptFault {
+impl From<Fault> for ScriptFault {
     ghost use Rattle.std.specs.Prelude.{◌≡◌};
     ghost use Rattle.share_script.specs.declared.script.ScriptFault.TheVariants.{Output};
 
     ghost from_gives = { λ _ fault. fault ≡ Output };
 
-    fn from(_refused: NotWritten) -> ScriptFault {
-        ScriptFault::Output
-    }
-}
-
-impl From<share_report::Fault> for ScriptFault {
-    ghost use Rattle.std.specs.Prelude.{◌≡◌};
-    ghost use Rattle.share_script.specs.declared.script.ScriptFault.TheVariants.{Output};
-
-    ghost from_gives = { λ _ fault. fault ≡ Output };
-
-    fn from(_refused: share_report::Fault) -> ScriptFault {
+    fn from(_refused: Fault) -> ScriptFault {
         ScriptFault::Output
     }
 }
@@ -84,15 +73,15 @@ impl<T: Drop> From<AllocFailed<T>> for ScriptFault {
     }
 }
 
-/// Runs a script on a new link whose tape is empty: each line is answered by a line of output, but `report` by the
+/// Runs a script on a new link whose tape is empty. Each line is answered by a line of output, but `report` by the
 /// report of the link, and `audit 1` as the first line by nothing. The answers to what one read gave are offered before
-/// the next read is made. It ends where the input ends, or at the first fault, which drops the link; what was printed
-/// is then a beginning of the answers to the lines of what was read. An interrupted read is made again, 2^32 are made
-/// at most.
+/// the next read is made. An interrupted read is made again; at most 2^32 reads are made. The run ends with the input,
+/// or at the first fault. A fault drops the link, and what was printed is then a beginning of the answers to the lines
+/// of what was read.
 ///
-/// `Input` where a read failed or too many would be made, `Output` where an offer of an answer or a report was refused,
-/// `NoMemory` where no buffers were to be had, before anything is read, or the tape found no memory for a frame.
-pub fn run_script<S: Rates + Drop, I: Source, O: Telling>(
+/// `Input` if a read failed or too many would be made, `Output` if an offer of an answer or a report was refused,
+/// `NoMemory` if there was no memory for the buffers, before anything is read, or the tape found none for a frame.
+pub fn run_script<S: Rates + Drop, I: TellingReader, O: TellingWriter>(
     alloc: Global,
     engine: Engine<Tape, S>,
     input: &mut I,
@@ -107,11 +96,15 @@ pub fn run_script<S: Rates + Drop, I: Source, O: Telling>(
         (I.left input.new))) }
     ensures read { OnOk result (ReadsToEnd I.gives (2 ^ 32) input.old input.new) }
     ensures offers { OnOk result (Offers O.answers output.old output.new) }
-    ensures fault { IfErr result (λ fault. IsFault I.gives (2 ^ 32) input.old input.new
-        TapeAnswers engine.writer O.answers output.old output.new fault) }
+    ensures input { result ≡ Err ScriptFault.Input → ReadFails I.gives (2 ^ 32) input.old input.new
+        × Offers O.answers output.old output.new }
+    ensures output { result ≡ Err ScriptFault.Output → HasRead I.gives (2 ^ 32) input.old input.new
+        × OfferRefused O.answers output.old output.new }
+    ensures memory { result ≡ Err ScriptFault.NoMemory → FoundNone I.gives (2 ^ 32) input.old input.new
+        TapeAnswers engine.writer O.answers output.old output.new }
 {
-    let _events = engine.events();
-    let mut session = Session::new(engine);
+    let _ = engine.events();
+    let mut session = Session::new(alloc, engine);
     match run_lines(alloc, &mut session, input, output) {
         Ok(()) => Ok(session.into_engine()),
         Err(fault) => {
@@ -121,13 +114,13 @@ pub fn run_script<S: Rates + Drop, I: Source, O: Telling>(
     }
 }
 
-fn run_lines<S: Rates + Drop, I: Source, O: Telling>(
+fn run_lines<S: Rates + Drop, I: TellingReader, O: TellingWriter>(
     alloc: Global,
     session: &mut Session<Tape, S>,
     input: &mut I,
     output: &mut O,
 ) -> Result<(), ScriptFault>
-    requires start { Stands Some session.old start }
+    requires start { HoldsScript Some session.old start_of_script }
     ensures printed { IfSome (I.left input.old) (λ script. MatchResult result
         (λ _. Printed (bytes_told (O.told output.old)) (bytes_told (O.told output.new))
         session.old.link script (I.left input.new) session.new.link)
@@ -135,55 +128,61 @@ fn run_lines<S: Rates + Drop, I: Source, O: Telling>(
         session.old.link script (I.left input.new))) }
     ensures read { OnOk result (ReadsToEnd I.gives (2 ^ 32) input.old input.new) }
     ensures offers { OnOk result (Offers O.answers output.old output.new) }
-    ensures fault { IfErr result (λ fault. IsFault I.gives (2 ^ 32) input.old input.new
-        TapeAnswers session.old.link.writer O.answers output.old output.new fault) }
+    ensures input { result ≡ Err ScriptFault.Input → ReadFails I.gives (2 ^ 32) input.old input.new
+        × Offers O.answers output.old output.new }
+    ensures output { result ≡ Err ScriptFault.Output → HasRead I.gives (2 ^ 32) input.old input.new
+        × OfferRefused O.answers output.old output.new }
+    ensures memory { result ≡ Err ScriptFault.NoMemory → FoundNone I.gives (2 ^ 32) input.old input.new
+        TapeAnswers session.old.link.writer O.answers output.old output.new }
 {
     let mut chunk = zeros(alloc, CHUNK)?;
-    let mut carry = Carry::new(alloc)?;
-    let mut spool = Spool::new(alloc)?;
-    read_all(
-        alloc,
-        session,
-        &mut carry,
-        &mut spool,
-        input,
-        output,
-        chunk.as_mut_slice(),
-    )?;
-    finish(alloc, session, &carry, &mut spool, output)?;
+    let carry = Carry::new(alloc)?;
+    let spool = Spool::new(alloc)?;
+    let mut pending = Pending { carry, spool };
+    read_all(session, &mut pending, input, output, chunk.as_mut_slice())?;
+    finish(session, &mut pending, output)?;
     Ok(())
 }
 
+// What a run keeps from one line to the next: the beginning of a line, and the answers that wait.
+#[derive(Drop)]
+struct Pending {
+    carry: Carry,
+    spool: Spool,
+}
+
 // Reads and answers all lines that end in a line feed; the rest of the input is carried.
-fn read_all<W: Telling + Drop, S: Rates + Drop, I: Source, O: Telling>(
-    alloc: Global,
+fn read_all<W: TellingWriter + Drop, S: Rates + Drop, I: TellingReader, O: TellingWriter>(
     session: &mut Session<W, S>,
-    carry: &mut Carry,
-    spool: &mut Spool,
+    pending: &mut Pending,
     input: &mut I,
     output: &mut O,
     chunk: &mut [u8],
 ) -> Result<(), ScriptFault>
     requires whole { TakesAll W.answers }
     requires room { 0 < length chunk.old }
-    requires none { carry.old ≡ [] }
-    requires nothing { spool.old ≡ [] }
+    requires none { pending.old.carry ≡ [] }
+    requires nothing { pending.old.spool ≡ [] }
     ensures fed { IfSome (I.left input.old) (λ script. MatchResult result
         (λ _. FedWhole W.told (bytes_told (O.told output.old)) (bytes_told (O.told output.new))
-        session.old script (I.left input.new) session.new carry.new)
+        session.old script (I.left input.new) session.new pending.new.carry)
         (λ _. FedPart W.told (bytes_told (O.told output.old)) (bytes_told (O.told output.new))
         session.old script (I.left input.new))) }
-    ensures nothing { OnOk result (spool.new ≡ []) }
-    ensures calls { MatchResult result
-        (λ _. ReadsToEnd I.gives (2 ^ 32) input.old input.new
-        × Wrote W.answers O.answers session.old.link.writer session.new.link.writer output.old output.new)
-        (λ fault. IsEnd I.gives (2 ^ 32) input.old input.new
-        W.answers session.old.link.writer session.new.link.writer O.answers output.old output.new fault) }
+    ensures nothing { OnOk result (pending.new.spool ≡ []) }
+    ensures calls { OnOk result (ReadsToEnd I.gives (2 ^ 32) input.old input.new
+        × Wrote W.answers O.answers session.old.link.writer session.new.link.writer output.old output.new) }
+    ensures input { result ≡ Err ScriptFault.Input → ReadFails I.gives (2 ^ 32) input.old input.new
+        × Offers O.answers output.old output.new }
+    ensures output { result ≡ Err ScriptFault.Output → HasRead I.gives (2 ^ 32) input.old input.new
+        × OfferRefused O.answers output.old output.new }
+    ensures memory { result ≡ Err ScriptFault.NoMemory → HasRead I.gives (2 ^ 32) input.old input.new
+        × CallFailed W.answers session.old.link.writer session.new.link.writer
+        × Offers O.answers output.old output.new }
 {
     for reads in 0..MAX_READS {
         match input.take_bytes(chunk) {
             Got::Bytes(count) => {
-                answer_chunk(alloc, session, carry, spool, output, &chunk[..count])?;
+                answer_chunk(session, pending, output, &chunk[..count])?;
             }
             Got::End => return Ok(()),
             Got::Interrupted => (),
@@ -194,140 +193,132 @@ fn read_all<W: Telling + Drop, S: Rates + Drop, I: Source, O: Telling>(
 }
 
 // Answers each line that ends in the chunk, and writes the answers; the rest of the chunk is carried.
-fn answer_chunk<W: Telling + Drop, S: Rates + Drop, O: Telling>(
-    alloc: Global,
+fn answer_chunk<W: TellingWriter + Drop, S: Rates + Drop, O: TellingWriter>(
     session: &mut Session<W, S>,
-    carry: &mut Carry,
-    spool: &mut Spool,
+    pending: &mut Pending,
     output: &mut O,
     chunk: &[u8],
 ) -> Result<(), ScriptFault>
     requires whole { TakesAll W.answers }
-    requires nothing { spool.old ≡ [] }
+    requires nothing { pending.old.spool ≡ [] }
     ensures fed { MatchResult result
         (λ _. Feeds W.told (bytes_told (O.told output.old)) [] (bytes_told (O.told output.new)) []
-        session.old carry.old chunk.now session.new carry.new)
+        session.old pending.old.carry chunk.now session.new pending.new.carry)
         (λ _. FeedsPart W.told (bytes_told (O.told output.old)) [] (bytes_told (O.told output.new))
-        session.old carry.old chunk.now) }
-    ensures nothing { OnOk result (spool.new ≡ []) }
-    ensures calls { MatchResult result
-        (λ _. Wrote W.answers O.answers session.old.link.writer session.new.link.writer output.old output.new)
-        (λ fault. IsStop W.answers session.old.link.writer session.new.link.writer
-        O.answers output.old output.new fault) }
+        session.old pending.old.carry chunk.now) }
+    ensures nothing { OnOk result (pending.new.spool ≡ []) }
+    ensures calls { MakesCalls W.answers O.answers session.old.link.writer session.new.link.writer
+        output.old output.new result }
 {
-    feed(alloc, session, carry, spool, output, chunk)?;
-    spool.put_out(output)?;
+    feed(session, pending, output, chunk)?;
+    pending.spool.put_out(output)?;
     Ok(())
 }
 
 // Answers each line that ends in the chunk; the rest of the chunk is carried.
-fn feed<W: Telling + Drop, S: Rates + Drop, O: Telling>(
-    alloc: Global,
+fn feed<W: TellingWriter + Drop, S: Rates + Drop, O: TellingWriter>(
     session: &mut Session<W, S>,
-    carry: &mut Carry,
-    spool: &mut Spool,
+    pending: &mut Pending,
     output: &mut O,
     chunk: &[u8],
 ) -> Result<(), ScriptFault>
     requires whole { TakesAll W.answers }
     ensures fed { MatchResult result
-        (λ _. Feeds W.told (bytes_told (O.told output.old)) spool.old
-        (bytes_told (O.told output.new)) spool.new session.old carry.old chunk.now session.new carry.new)
-        (λ _. FeedsPart W.told (bytes_told (O.told output.old)) spool.old
-        (bytes_told (O.told output.new)) session.old carry.old chunk.now) }
-    ensures calls { MatchResult result
-        (λ _. Wrote W.answers O.answers session.old.link.writer session.new.link.writer output.old output.new)
-        (λ fault. IsStop W.answers session.old.link.writer session.new.link.writer
-        O.answers output.old output.new fault) }
+        (λ _. Feeds W.told (bytes_told (O.told output.old)) pending.old.spool
+        (bytes_told (O.told output.new)) pending.new.spool session.old pending.old.carry chunk.now
+        session.new pending.new.carry)
+        (λ _. FeedsPart W.told (bytes_told (O.told output.old)) pending.old.spool
+        (bytes_told (O.told output.new)) session.old pending.old.carry chunk.now) }
+    ensures calls { MakesCalls W.answers O.answers session.old.link.writer session.new.link.writer
+        output.old output.new result }
 {
     let mut at = 0;
     while let Some(count) = memchr(b'\n', &chunk[at..]) {
-        end_line(alloc, session, carry, spool, output, &chunk[at..at + count])?;
+        end_line(session, pending, output, &chunk[at..at + count])?;
         at += count + 1;
     }
-    carry.add(&chunk[at..]);
+    pending.carry.add(&chunk[at..]);
     Ok(())
 }
 
 // Answers the line that is carried and ends in this piece.
-fn end_line<W: Telling + Drop, S: Rates + Drop, O: Telling>(
-    alloc: Global,
+fn end_line<W: TellingWriter + Drop, S: Rates + Drop, O: TellingWriter>(
     session: &mut Session<W, S>,
-    carry: &mut Carry,
-    spool: &mut Spool,
+    pending: &mut Pending,
     output: &mut O,
     piece: &[u8],
 ) -> Result<(), ScriptFault>
     requires whole { TakesAll W.answers }
-    ensures spoke { MatchResult result
-        (λ _. Spoke W.told (bytes_told (O.told output.old)) spool.old
-        (bytes_told (O.told output.new)) spool.new session.old (carry.old ++ piece.now) session.new)
-        (λ _. SpokePart W.told (bytes_told (O.told output.old)) spool.old
-        (bytes_told (O.told output.new)) session.old (carry.old ++ piece.now)) }
-    ensures none { OnOk result (carry.new ≡ []) }
-    ensures calls { MatchResult result
-        (λ _. Wrote W.answers O.answers session.old.link.writer session.new.link.writer output.old output.new)
-        (λ fault. IsStop W.answers session.old.link.writer session.new.link.writer
-        O.answers output.old output.new fault) }
+    ensures printed { MatchResult result
+        (λ _. PrintedAnswer W.told (bytes_told (O.told output.old)) pending.old.spool
+        (bytes_told (O.told output.new)) pending.new.spool session.old (pending.old.carry ++ piece.now) session.new)
+        (λ _. PrintedAnswerPart W.told (bytes_told (O.told output.old)) pending.old.spool
+        (bytes_told (O.told output.new)) session.old (pending.old.carry ++ piece.now)) }
+    ensures none { OnOk result (pending.new.carry ≡ []) }
+    ensures calls { MakesCalls W.answers O.answers session.old.link.writer session.new.link.writer
+        output.old output.new result }
 {
-    if carry.is_empty() {
-        return speak(alloc, session, spool, output, piece);
+    if pending.carry.is_empty() {
+        return answer_and_print(session, &mut pending.spool, output, piece);
     }
-    carry.add(piece);
-    speak(alloc, session, spool, output, carry.as_slice())?;
-    carry.clear();
+    pending.carry.add(piece);
+    answer_and_print(
+        session,
+        &mut pending.spool,
+        output,
+        pending.carry.as_slice(),
+    )?;
+    pending.carry.clear();
     Ok(())
 }
 
-// The bytes after the last line feed are a line, where there are any.
-fn finish<W: Telling + Drop, S: Rates + Drop, O: Telling>(
-    alloc: Global,
+// If there are bytes after the last line feed, they are a line.
+fn finish<W: TellingWriter + Drop, S: Rates + Drop, O: TellingWriter>(
     session: &mut Session<W, S>,
-    carry: &Carry,
-    spool: &mut Spool,
+    pending: &mut Pending,
     output: &mut O,
 ) -> Result<(), ScriptFault>
     requires whole { TakesAll W.answers }
-    requires nothing { spool.old ≡ [] }
+    requires nothing { pending.old.spool ≡ [] }
     ensures ends { MatchResult result
-        (λ _. Ends W.told (bytes_told (O.told output.old)) (bytes_told (O.told output.new))
-        session.old carry.now session.new)
-        (λ _. EndsPart W.told (bytes_told (O.told output.old)) (bytes_told (O.told output.new))
-        session.old carry.now) }
-    ensures calls { MatchResult result
-        (λ _. Wrote W.answers O.answers session.old.link.writer session.new.link.writer output.old output.new)
-        (λ fault. IsStop W.answers session.old.link.writer session.new.link.writer
-        O.answers output.old output.new fault) }
+        (λ _. FinishesScript W.told (bytes_told (O.told output.old)) (bytes_told (O.told output.new))
+        session.old pending.old.carry session.new)
+        (λ _. FinishesScriptPart W.told (bytes_told (O.told output.old)) (bytes_told (O.told output.new))
+        session.old pending.old.carry) }
+    ensures calls { MakesCalls W.answers O.answers session.old.link.writer session.new.link.writer
+        output.old output.new result }
 {
-    if carry.is_empty() {
+    if pending.carry.is_empty() {
         return Ok(());
     }
-    speak(alloc, session, spool, output, carry.as_slice())?;
-    spool.put_out(output)?;
+    answer_and_print(
+        session,
+        &mut pending.spool,
+        output,
+        pending.carry.as_slice(),
+    )?;
+    pending.spool.put_out(output)?;
     Ok(())
 }
 
-// Answers a line; the answer waits to be written, but for a report, which is written after all that waits.
-fn speak<W: Telling + Drop, S: Rates + Drop, O: Telling>(
-    alloc: Global,
+// Answers a line. The answer waits to be written, but a report is written at once, after all that waits.
+fn answer_and_print<W: TellingWriter + Drop, S: Rates + Drop, O: TellingWriter>(
     session: &mut Session<W, S>,
     spool: &mut Spool,
     output: &mut O,
     line: &[u8],
 ) -> Result<(), ScriptFault>
     requires whole { TakesAll W.answers }
-    ensures spoke { MatchResult result
-        (λ _. Spoke W.told (bytes_told (O.told output.old)) spool.old
+    ensures printed { MatchResult result
+        (λ _. PrintedAnswer W.told (bytes_told (O.told output.old)) spool.old
         (bytes_told (O.told output.new)) spool.new session.old line.now session.new)
-        (λ _. SpokePart W.told (bytes_told (O.told output.old)) spool.old
+        (λ _. PrintedAnswerPart W.told (bytes_told (O.told output.old)) spool.old
         (bytes_told (O.told output.new)) session.old line.now) }
-    ensures calls { MatchResult result
-        (λ _. Wrote W.answers O.answers session.old.link.writer session.new.link.writer output.old output.new)
-        (λ fault. IsStop W.answers session.old.link.writer session.new.link.writer
-        O.answers output.old output.new fault) }
+    ensures calls { MakesCalls W.answers O.answers session.old.link.writer session.new.link.writer
+        output.old output.new result }
 {
     spool.make_room(output)?;
-    let said = answer(alloc, session, line)?;
-    say(session.engine(), spool, output, &said)?;
+    let line_answer = answer(session, line)?;
+    print(session.engine(), spool, output, &line_answer)?;
     Ok(())
 }

@@ -3,18 +3,24 @@ ghost use Rattle.std.specs.Prelude.{◌≡◌, ◌≤◌, ◌+◌, ◌*◌, ◌+
 ghost use Rattle.std.specs.List.{join_with_byte, list_all};
 ghost use Rattle.share_model.specs.text.Audit.{event_line};
 ghost use Rattle.share_model.specs.text.Lines.{IsName, IsNumber, IsPayload, HasCommandFields, IsLine};
-ghost use Rattle.share_model.specs.text.Lines.{hex, is_byte, command_words, spelled};
+ghost use Rattle.share_model.specs.text.Lines.{hex, is_byte, command_words, spelling_of};
 
 use crate::hex::spell;
-use crate::text::{ShortText, Text};
-use share_base::{Body, Command, Event, MAX_PAYLOAD, Name};
+use crate::text::{MAX_DIGITS, ROOM, ShortText, Text};
+use share_base::{Body, Command, Event, MAX_NAME, MAX_PAYLOAD, Name};
 use share_model::Line;
+
+/// How many bytes the spelling of a line has at most: that of a packet for the longest name.
+pub(crate) const MAX_SPELLED: usize = 4 + 1 + MAX_NAME + 1 + 2 * MAX_PAYLOAD;
+
+/// More bytes than the spelling of a command has.
+const MAX_COMMAND: usize = 100;
 
 /// Adds the spelling of a line to an empty text. What the types of its fields say is enough for it to be a line.
 pub fn push_spelled(text: &mut ShortText, line: &Line)
     requires { text.old ≡ [] }
-    ensures bytes { text.new ≡ spelled line.now }
-    ensures few { length text.new ≤ 3002 }
+    ensures bytes { text.new ≡ spelling_of line.now }
+    ensures few { length text.new ≤ MAX_SPELLED }
     ensures line { IsLine line.now }
 {
     match line {
@@ -30,8 +36,8 @@ pub fn push_spelled(text: &mut ShortText, line: &Line)
 /// Adds the spelling of the line that makes an event to an empty text, as `push_spelled` does.
 pub fn push_event(text: &mut ShortText, event: &Event)
     requires { text.old ≡ [] }
-    ensures bytes { text.new ≡ spelled (event_line event.now) }
-    ensures few { length text.new ≤ 3002 }
+    ensures bytes { text.new ≡ spelling_of (event_line event.now) }
+    ensures few { length text.new ≤ MAX_SPELLED }
     ensures line { IsLine (event_line event.now) }
 {
     match event {
@@ -45,7 +51,7 @@ pub fn push_event(text: &mut ShortText, event: &Event)
 fn push_command(text: &mut ShortText, command: &Command)
     requires { text.old ≡ [] }
     ensures bytes { text.new ≡ join_with_byte 32 (command_words command.now) }
-    ensures few { length text.new ≤ 100 }
+    ensures few { length text.new ≤ MAX_COMMAND }
     ensures fields { HasCommandFields command.now }
 {
     match command {
@@ -77,7 +83,7 @@ fn push_fund(text: &mut ShortText, ticket: u64, kind: &str, name: &Name)
     requires short { length kind.now ≤ 4 }
     ensures bytes { text.new
         ≡ join_with_byte 32 (codes "fund" ∷ decimal ticket ∷ kind.now ∷ name.now ∷ []) }
-    ensures few { length text.new ≤ 100 }
+    ensures few { length text.new ≤ MAX_COMMAND }
     ensures ticket { IsNumber ticket }
     ensures name { IsName name.now }
 {
@@ -91,7 +97,7 @@ fn push_fund(text: &mut ShortText, ticket: u64, kind: &str, name: &Name)
 fn push_send(text: &mut ShortText, flow: &Name, body: &Body)
     requires { text.old ≡ [] }
     ensures bytes { text.new ≡ join_with_byte 32 (codes "send" ∷ flow.now ∷ hex body.now ∷ []) }
-    ensures few { length text.new ≤ 3002 }
+    ensures few { length text.new ≤ MAX_SPELLED }
     ensures flow { IsName flow.now }
     ensures payload { IsPayload body.now }
 {
@@ -105,7 +111,7 @@ fn push_named(text: &mut ShortText, keyword: &str, name: &Name)
     requires none { text.old ≡ [] }
     requires short { length keyword.now ≤ 6 }
     ensures bytes { text.new ≡ keyword.now ++ 32 ∷ name.now }
-    ensures few { length text.new ≤ length keyword.now + 17 }
+    ensures few { length text.new ≤ length keyword.now + 1 + MAX_NAME }
     ensures name { IsName name.now }
 {
     text.push_str(keyword);
@@ -117,7 +123,7 @@ fn push_numbered(text: &mut ShortText, keyword: &str, number: u64)
     requires none { text.old ≡ [] }
     requires short { length keyword.now ≤ 6 }
     ensures bytes { text.new ≡ keyword.now ++ 32 ∷ decimal number }
-    ensures few { length text.new ≤ length keyword.now + 21 }
+    ensures few { length text.new ≤ length keyword.now + 1 + MAX_DIGITS }
     ensures number { IsNumber number }
 {
     text.push_str(keyword);
@@ -126,9 +132,9 @@ fn push_numbered(text: &mut ShortText, keyword: &str, number: u64)
 
 // A space and a name.
 fn push_name(text: &mut ShortText, name: &Name)
-    requires { length text.old + 17 ≤ 3072 }
+    requires { length text.old + 1 + MAX_NAME ≤ ROOM }
     ensures bytes { text.new ≡ text.old ++ 32 ∷ name.now }
-    ensures few { length text.new ≤ length text.old + 17 }
+    ensures few { length text.new ≤ length text.old + 1 + MAX_NAME }
     ensures name { IsName name.now }
 {
     text.push_str(" ");
@@ -137,9 +143,9 @@ fn push_name(text: &mut ShortText, name: &Name)
 
 // A space and a number.
 fn push_number(text: &mut ShortText, number: u64)
-    requires { length text.old + 21 ≤ 3072 }
+    requires { length text.old + 1 + MAX_DIGITS ≤ ROOM }
     ensures bytes { text.new ≡ text.old ++ 32 ∷ decimal number }
-    ensures few { length text.new ≤ length text.old + 21 }
+    ensures few { length text.new ≤ length text.old + 1 + MAX_DIGITS }
     ensures number { IsNumber number }
 {
     text.push_str(" ");
@@ -148,10 +154,10 @@ fn push_number(text: &mut ShortText, number: u64)
 
 // Each byte as two lower-case digits.
 fn push_hex(text: &mut ShortText, bytes: &[u8])
-    requires few { length bytes.now ≤ 1490 }
-    requires room { length text.old + 2980 ≤ 3072 }
+    requires few { length bytes.now ≤ MAX_PAYLOAD }
+    requires room { length text.old + 2 * MAX_PAYLOAD ≤ ROOM }
     ensures bytes { text.new ≡ text.old ++ hex bytes.now }
-    ensures few { length text.new ≤ length text.old + 2980 }
+    ensures few { length text.new ≤ length text.old + 2 * MAX_PAYLOAD }
     ensures all { list_all is_byte bytes.now ≡ true }
 {
     let mut digits = [0u8; 2 * MAX_PAYLOAD];

@@ -1,21 +1,20 @@
 //! Text that waits to be written.
 ghost use Rattle.std.specs.Prelude.{◌≡◌, ◌<◌, ◌≤◌, ◌+◌, ◌++◌, [], length, decimal, IfOk, OnOk, MatchResult};
-ghost use Rattle.std.specs.Io.KnownBytes.{Appends};
 ghost use Rattle.share_model.specs.io.Calls.{Offers, OfferRefused};
-ghost use Rattle.share_model.specs.io.Printing.{bytes_told, AppendsPart};
+ghost use Rattle.share_model.specs.io.Printing.{bytes_told};
 ghost use Rattle.share_script.specs.Printing.{Spooled, SpooledPart};
 
-use crate::text::Text;
+use crate::text::{MAX_DIGITS, Text};
 use itoa::Buffer;
-use share_model::{NotWritten, Telling, put};
+use share_model::{Fault, TellingWriter, put};
 use std::alloc::{AllocError, Global};
 use std::marker::Model;
 
 /// How many bytes wait at most.
-const SPOOL: usize = 65536;
+pub(crate) const SPOOL: usize = 65536;
 
 /// How many bytes an answer has at most, with its line feed.
-const LONGEST: usize = 128;
+pub(crate) const LONGEST: usize = 128;
 
 /// Answers that are put together in one buffer and written together. A contract sees them as their bytes.
 #[derive(Drop)]
@@ -25,16 +24,17 @@ pub struct Spool {
 
 impl Model for Spool {
     ghost use Rattle.std.specs.Prelude.{ℕ, List, length, ◌≤◌, vec_capacity};
+    ghost use Rattle.share_script.specs.declared.spool.TheConstants.{SPOOL};
 
     ghost Value = { List ℕ };
 
     ghost view = { λ spool. spool.bytes.items };
 
-    ghost invariant = { λ spool. 65536 ≤ vec_capacity spool.bytes };
+    ghost invariant = { λ spool. SPOOL ≤ vec_capacity spool.bytes };
 }
 
 impl Spool {
-    /// Nothing that waits, and the room for 65536 bytes.
+    /// A spool in which nothing waits, with room for 65536 bytes.
     pub fn new(alloc: Global) -> Result<Spool, AllocError>
         ensures { IfOk result (λ spool. spool ≡ []) }
     {
@@ -46,7 +46,7 @@ impl Spool {
     #[tactic(auto, using(std::proofs::lemmas::Fmt::decimal_digit))]
     fn push_digit(&mut self, number: u8)
         requires one { number < 10 }
-        requires room { length self.old < 65536 }
+        requires room { length self.old < SPOOL }
         ensures bytes { self.new ≡ self.old ++ decimal number }
         ensures few { length self.new ≤ length self.old + 1 }
     {
@@ -55,31 +55,31 @@ impl Spool {
 
     fn push_two_digits(&mut self, number: u8)
         requires two { (10 ≤ number) × (number < 100) }
-        requires room { length self.old + 20 ≤ 65536 }
+        requires room { length self.old + MAX_DIGITS ≤ SPOOL }
         ensures bytes { self.new ≡ self.old ++ decimal number }
-        ensures few { length self.new ≤ length self.old + 20 }
+        ensures few { length self.new ≤ length self.old + MAX_DIGITS }
     {
         self.push_digit(number / 10);
         self.push_digit(number % 10);
     }
 
     fn push_digits(&mut self, number: u64)
-        requires { length self.old + 20 ≤ 65536 }
+        requires { length self.old + MAX_DIGITS ≤ SPOOL }
         ensures bytes { self.new ≡ self.old ++ decimal number }
-        ensures few { length self.new ≤ length self.old + 20 }
+        ensures few { length self.new ≤ length self.old + MAX_DIGITS }
     {
         let mut digits = Buffer::new();
         self.push_str(digits.format(number));
     }
 
-    /// Writes what waits, if there is not enough room left for an answer.
-    pub fn make_room<O: Telling>(&mut self, output: &mut O) -> Result<(), NotWritten>
+    /// Writes what waits, if there is too little room left for one more answer.
+    pub fn make_room<O: TellingWriter>(&mut self, output: &mut O) -> Result<(), Fault>
         ensures spooled { MatchResult result
             (λ _. Spooled (bytes_told (O.told output.old)) self.old (bytes_told (O.told output.new))
             self.new [])
             (λ _. SpooledPart (bytes_told (O.told output.old)) self.old
             (bytes_told (O.told output.new)) []) }
-        ensures room { OnOk result (length self.new + 128 ≤ 65536) }
+        ensures room { OnOk result (length self.new + LONGEST ≤ SPOOL) }
         ensures offers { MatchResult result (λ _. Offers O.answers output.old output.new)
             (λ _. OfferRefused O.answers output.old output.new) }
     {
@@ -89,8 +89,8 @@ impl Spool {
         self.put_out(output)
     }
 
-    /// Writes what waits. On an error a beginning of it is written.
-    pub fn put_out<O: Telling>(&mut self, output: &mut O) -> Result<(), NotWritten>
+    /// Writes what waits. If an offer is refused, a beginning of it was written.
+    pub fn put_out<O: TellingWriter>(&mut self, output: &mut O) -> Result<(), Fault>
         ensures spooled { MatchResult result
             (λ _. Spooled (bytes_told (O.told output.old)) self.old (bytes_told (O.told output.new))
             [] [])

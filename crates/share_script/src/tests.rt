@@ -9,6 +9,7 @@ macro_rules! shelf {
 }
 
 mod faults;
+mod lines;
 mod reports;
 mod standing;
 mod writing;
@@ -17,7 +18,7 @@ use crate::{ScriptFault, print_bytes, run_script};
 use faults::{input_that_fails, output_that_fails};
 use share_base::FlowNo;
 use share_core::Engine;
-use share_model::{Got, PlainReader, Rates, Source, Tape, Telling};
+use share_model::{Got, PlainReader, Rates, Tape, TellingReader, TellingWriter};
 use std::alloc::Global;
 use std::process::Abort;
 use std::test::Fail;
@@ -51,7 +52,7 @@ impl<'a> Trickle<'a> {
     }
 }
 
-impl<'a> Source for Trickle<'a> {
+impl<'a> TellingReader for Trickle<'a> {
     ghost use Rattle.std.specs.Prelude.{None};
     ghost use Rattle.share_model.specs.io.Given.{Gives};
 
@@ -82,7 +83,7 @@ impl<'a> Source for Trickle<'a> {
 }
 
 // Runs a script on a new link.
-fn answered<S: Rates + Copy, I: Source, O: Telling>(
+fn answered<S: Rates + Copy, I: TellingReader, O: TellingWriter>(
     alloc: Global,
     shelf: S,
     life: u64,
@@ -95,7 +96,7 @@ fn answered<S: Rates + Copy, I: Source, O: Telling>(
     }
 }
 
-fn print_written<S: Rates, O: Telling>(
+fn print_written<S: Rates, O: TellingWriter>(
     engine: &Engine<Tape, S>,
     output: &mut O,
 ) -> Result<(), ScriptFault> {
@@ -104,7 +105,7 @@ fn print_written<S: Rates, O: Telling>(
 }
 
 // Runs a script on a new link, and prints the bytes that the link wrote.
-fn run<S: Rates + Copy, I: Source, O: Telling>(
+fn run<S: Rates + Copy, I: TellingReader, O: TellingWriter>(
     alloc: Global,
     shelf: S,
     life: u64,
@@ -122,7 +123,7 @@ fn run<S: Rates + Copy, I: Source, O: Telling>(
 }
 
 // What such a run prints.
-fn printed<S: Rates + Copy, I: Source>(
+fn printed<S: Rates + Copy, I: TellingReader>(
     rt: &impl Abort,
     alloc: Global,
     shelf: S,
@@ -203,7 +204,7 @@ const SCRIPTS: [(u64, &[u8], &[u8]); 8] = [
 ];
 
 // The script prints this.
-fn prints<S: Rates + Copy, I: Source>(
+fn prints<S: Rates + Copy, I: TellingReader>(
     rt: &impl Abort,
     alloc: Global,
     shelf: S,
@@ -246,7 +247,7 @@ fn scripts_are_answered<S: Rates + Copy>(
 }
 
 // The link after a script that ends well.
-fn after<S: Rates + Copy, O: Telling>(
+fn after<S: Rates + Copy, O: TellingWriter>(
     rt: &impl Abort,
     alloc: Global,
     shelf: S,
@@ -294,7 +295,7 @@ fn flows_are_charged<S: Rates + Copy>(rt: &impl Abort, alloc: Global, shelf: S) 
     }
 }
 
-// Adds a line that sends so many zero bytes.
+// Adds a line that sends this many zero bytes.
 fn push_send(script: &mut Vec<u8>, flow: &[u8], count: usize) -> Result<(), Fail> {
     script.extend_from_slice(b"send ")?;
     script.extend_from_slice(flow)?;

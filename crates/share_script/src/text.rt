@@ -6,9 +6,12 @@ use itoa::Buffer;
 use std::marker::Model;
 
 /// The room for one line or one answer. The longest is the line of a packet, with 3002 bytes and a line feed.
-const ROOM: usize = 3072;
+pub(crate) const ROOM: usize = 3072;
 
-/// Text that is put together in a room of so many bytes.
+/// How many digits the decimal of a number has at most.
+pub(crate) const MAX_DIGITS: usize = 20;
+
+/// Text that is put together in a room of `N` bytes.
 pub trait Text {
     /// Its bytes.
     ghost held: { Self → List ℕ };
@@ -24,9 +27,9 @@ pub trait Text {
 
     /// Adds the decimal of a number at the end: 20 bytes at most.
     fn push_number(&mut self, number: u64)
-        requires { length (held self.old) + 20 ≤ room }
+        requires { length (held self.old) + MAX_DIGITS ≤ room }
         ensures bytes { held self.new ≡ held self.old ++ decimal number }
-        ensures few { length (held self.new) ≤ length (held self.old) + 20 };
+        ensures few { length (held self.new) ≤ length (held self.old) + MAX_DIGITS };
 }
 
 /// A text of at most 3072 bytes, which takes no memory. A contract sees it as its bytes.
@@ -62,7 +65,7 @@ impl ShortText {
 
     /// Adds bytes at the end.
     pub fn push(&mut self, bytes: &[u8])
-        requires { length self.old + length bytes.now ≤ 3072 }
+        requires { length self.old + length bytes.now ≤ ROOM }
         ensures bytes { self.new ≡ self.old ++ bytes.now }
         ensures long { length self.new ≡ length self.old + length bytes.now }
     {

@@ -8,15 +8,15 @@ use Rattle.std.specs.Int.{int_div_euclid}
 use mir.Syntax.{w128}
 use mir.Val.{to_z, of_z}
 use borrow.Author.Differences.{up, down, product_is, fits_in}
-use Rattle.share_model.specs.stride.Moves.{floor_div, rescaled}
-use Rattle.share_model.specs.stride.DivisionLaws.{rescaled-up, rescaled-down}
+use Rattle.share_model.specs.stride.Moves.{floor_div, remain_on}
+use Rattle.share_model.proofs.lemmas.stride.DivisionLaws.{remain_on-up, remain_on-down}
 use Rattle.share_stride.specs.Fits.{IsWithin}
 
-pub rescaled-within : (new old : ℕ) (remain : ℤ) (bound : ℕ) → 0 < bound → IsWithin remain (old * bound)
-    → IsWithin (rescaled new old remain) (new * bound)
-rescaled-within new old remain bound positive within = record {
-  below = rescaled-down new old remain bound within.below;
-  above = rescaled-up new old remain bound positive within.above;
+pub remain_on-within : (new old : ℕ) (remain : ℤ) (bound : ℕ) → 0 < bound → IsWithin remain (old * bound)
+    → IsWithin (remain_on new old remain) (new * bound)
+remain_on-within new old remain bound positive within = record {
+  below = remain_on-down new old remain bound within.below;
+  above = remain_on-up new old remain bound positive within.above;
 }
 
 fits : (z : ℤ) (bound : ℕ) → up z ≤ bound → down z ≤ bound → bound < 2 ^ 127 → FitsSigned w128 z
@@ -35,7 +35,7 @@ product_fits new old remain small_new small_old within =
 pub quotient_is : (new old : ℕ) (remain a q : ℤ) → new ≤ 2 ^ 40 → old ≤ 2 ^ 40 → IsWithin remain (old * 2 ^ 41)
     → FitsSigned w128 remain → FitsSigned w128 a → FitsSigned w128 q → a ≡ pos new
     → q ≡ floor_div (to_z w128 (of_z w128 (to_z w128 (of_z w128 remain) *ℤ to_z w128 (of_z w128 a)))) old
-    → (old ≡ 0 → ⊥) → to_z w128 (of_z w128 q) ≡ rescaled new old remain
+    → (old ≡ 0 → ⊥) → to_z w128 (of_z w128 q) ≡ remain_on new old remain
 quotient_is new old remain a q small_new small_old within fits_remain fits_a fits_q a_is q_is positive =
     to_z-of_z w128 q fits_q
     ∙ q_is
@@ -45,7 +45,7 @@ quotient_is new old remain a q small_new small_old within fits_remain fits_a fit
     (to_z-of_z w128 (remain *ℤ pos new) (product_fits new old remain small_new small_old within))
     ∙ by_old old positive
   where
-    by_old : (n : ℕ) → (n ≡ 0 → ⊥) → floor_div (remain *ℤ pos new) n ≡ rescaled new n remain
+    by_old : (n : ℕ) → (n ≡ 0 → ⊥) → floor_div (remain *ℤ pos new) n ≡ remain_on new n remain
     by_old zero positive = absurd (positive refl)
     by_old (suc n) positive = refl
 
@@ -61,8 +61,8 @@ same_quotient (negsuc a) (negsuc m) n above below =
     let is : a ≡ m * suc n + n = omega (arith, below, suc-mul m (suc n)) in
     ap (λ x. negsuc (x / suc n)) is ∙ ap negsuc (div-mul-add m (suc n) n (omega arith))
 
-pub rescaled-same : (stride : ℕ) (remain : ℤ) → (stride ≡ 0 → ⊥) → rescaled stride stride remain ≡ remain
-rescaled-same zero remain some = absurd (some refl)
-rescaled-same (suc n) remain some =
+pub remain_on-same : (stride : ℕ) (remain : ℤ) → (stride ≡ 0 → ⊥) → remain_on stride stride remain ≡ remain
+remain_on-same zero remain some = absurd (some refl)
+remain_on-same (suc n) remain some =
     same_quotient (remain *ℤ pos (suc n)) remain n (omega (arith, product_is remain (pos (suc n))))
     (omega (arith, product_is remain (pos (suc n))))

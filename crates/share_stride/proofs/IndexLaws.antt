@@ -13,7 +13,7 @@ use Rattle.std.proofs.lemmas.Cmp.{ranked}
 use Rattle.std.proofs.lemmas.List.Sorted.{IsNonDecreasingBy-from_default}
 use Rattle.std.proofs.lemmas.List.Edits.{length-insert, get_or-insert_below, get_or-insert_at, get_or-insert_above}
 use Rattle.std.proofs.lemmas.Bool.Decides.{nat_tests}
-use Rattle.share_model.specs.stride.MapLaws.{by_key, tied_other, len-insert_new}
+use Rattle.share_model.proofs.lemmas.stride.MapLaws.{by_key, tied_other, len-insert_new}
 use Rattle.share_stride.specs.Index.{Pairs, key_map, flow_at, IsRising, IsAt, IsGapFor}
 
 -- no pair before place i has the flow

@@ -5,8 +5,9 @@ use Rattle.std.proofs.Common.{inl, inr, refl, sym, ap, ◌∙◌}
 use Rattle.std.proofs.lemmas.Bool.{cases_eq}
 use Rattle.std.specs.Ordering.{nat_cmp}
 use Rattle.std.specs.FinMap.{FinMap, get, insert, remove}
-use Rattle.share_model.specs.stride.MapLaws.{get-insert_same, get-insert_other, get-remove_same, get-remove_other}
-use Rattle.share_stride.specs.declared.table.Slot.{Slot}
+use Rattle.share_model.proofs.lemmas.stride.MapLaws.{get-insert_same, get-insert_other, get-remove_same}
+use Rattle.share_model.proofs.lemmas.stride.MapLaws.{get-remove_other}
+use Rattle.share_stride.specs.declared.table.ClientSlot.{ClientSlot}
 use Rattle.share_stride.specs.Table.{Slots, client_map, slot_at, AreDistinct, HoldsFlow, flow_under}
 use Rattle.share_stride.specs.Table.{IsIndexed}
 use Rattle.share_stride.proofs.TableLaws.{ChangesSlot, absent_of_lack, client_map-write, lack_of_absent}
@@ -14,21 +15,21 @@ use Rattle.share_stride.proofs.TableLaws.{only_where_lacking}
 
 holds_under : (slots : Slots) (flow key : ℕ) → flow_under slots key ≡ Some flow → HoldsFlow slots flow key
 holds_under slots flow key =
-    elim (slot_at slots key) as (λ o. slot_at slots key ≡ o → option_map (λ (s : Slot). s.flow) o ≡ Some flow
+    elim (slot_at slots key) as (λ o. slot_at slots key ≡ o → option_map (λ (s : ClientSlot). s.flow) o ≡ Some flow
     → HoldsFlow slots flow key) [
       | None ↦ λ at none. absurd (cc)
       | Some slot ↦ λ at is. record { slot = slot; found = at; has = cc }
     ] refl
 
-pub flow_of_slot : (slots : Slots) (key : ℕ) (slot : Slot) → slot_at slots key ≡ Some slot
+pub flow_of_slot : (slots : Slots) (key : ℕ) (slot : ClientSlot) → slot_at slots key ≡ Some slot
     → flow_under slots key ≡ Some slot.flow
-flow_of_slot slots key slot at = ap (λ o. option_map (λ (s : Slot). s.flow) o) at
+flow_of_slot slots key slot at = ap (λ o. option_map (λ (s : ClientSlot). s.flow) o) at
 
 pub key_holds : (slots : Slots) (keys : FinMap nat_cmp ℕ) (flow key : ℕ) → IsIndexed slots keys
     → get keys flow ≡ Some key → HoldsFlow slots flow key
 key_holds slots keys flow key indexed found = holds_under slots flow key ((indexed.key_is flow key).0 found)
 
-key_of_slot : (slots : Slots) (keys : FinMap nat_cmp ℕ) (key : ℕ) (slot : Slot) → IsIndexed slots keys
+key_of_slot : (slots : Slots) (keys : FinMap nat_cmp ℕ) (key : ℕ) (slot : ClientSlot) → IsIndexed slots keys
     → slot_at slots key ≡ Some slot → get keys slot.flow ≡ Some key
 key_of_slot slots keys key slot indexed at = (indexed.key_is slot.flow key).1 (flow_of_slot slots key slot at)
 
@@ -65,14 +66,15 @@ keyless_of_absent slots keys flow indexed absent =
     ] refl
 
 -- a change of one slot under which another flow, or none, comes to stand
-pub flow_under_other : (old new : Slots) (key : ℕ) (slot : Option Slot) → ChangesSlot old new key slot → (other : ℕ)
+pub flow_under_other : (old new : Slots) (key : ℕ) (slot : Option ClientSlot) → ChangesSlot old new key slot
+    → (other : ℕ)
     → other ≢ key → flow_under new other ≡ flow_under old other
 flow_under_other old new key slot changes other apart =
-    ap (λ o. option_map (λ (s : Slot). s.flow) o) (changes.others other apart)
+    ap (λ o. option_map (λ (s : ClientSlot). s.flow) o) (changes.others other apart)
 
-pub flow_under_changed : (old new : Slots) (key : ℕ) (slot : Option Slot) → ChangesSlot old new key slot
-    → flow_under new key ≡ option_map (λ (s : Slot). s.flow) slot
-flow_under_changed old new key slot changes = ap (λ o. option_map (λ (s : Slot). s.flow) o) changes.changed
+pub flow_under_changed : (old new : Slots) (key : ℕ) (slot : Option ClientSlot) → ChangesSlot old new key slot
+    → flow_under new key ≡ option_map (λ (s : ClientSlot). s.flow) slot
+flow_under_changed old new key slot changes = ap (λ o. option_map (λ (s : ClientSlot). s.flow) o) changes.changed
 
 pub IsIndexed-same : (old new : Slots) (keys : FinMap nat_cmp ℕ)
     → ((key : ℕ) → flow_under new key ≡ flow_under old key) → IsIndexed old keys → IsIndexed new keys
@@ -83,7 +85,7 @@ IsIndexed-same old new keys same indexed = record {
   );
 }
 
-pub IsIndexed-add : (old new : Slots) (keys : FinMap nat_cmp ℕ) (key : ℕ) (slot : Slot) → IsIndexed old keys
+pub IsIndexed-add : (old new : Slots) (keys : FinMap nat_cmp ℕ) (key : ℕ) (slot : ClientSlot) → IsIndexed old keys
     → slot_at old key ≡ None → get keys slot.flow ≡ None → ChangesSlot old new key (Some slot)
     → IsIndexed new (insert keys slot.flow key)
 IsIndexed-add old new keys key slot indexed vacant keyless changes = record {
@@ -154,7 +156,7 @@ IsIndexed-removal old new keys flow key indexed stood changes = record {
 }
 
 -- a slot is filled that was empty, by a flow that has no client
-pub client_map-add : (old new : Slots) (keys : FinMap nat_cmp ℕ) (key : ℕ) (slot : Slot) → IsIndexed old keys
+pub client_map-add : (old new : Slots) (keys : FinMap nat_cmp ℕ) (key : ℕ) (slot : ClientSlot) → IsIndexed old keys
     → get (client_map old) slot.flow ≡ None → slot_at old key ≡ None → ChangesSlot old new key (Some slot)
     → client_map new ≡ insert (client_map old) slot.flow slot.client
 client_map-add old new keys key slot indexed absent vacant changes =

@@ -13,31 +13,31 @@ use Rattle.std.specs.Ordering.{nat_cmp}
 use Rattle.std.specs.FinMap.{FinMap, empty, len, get-empty, len-empty}
 use Rattle.slab.specs.Slab.{Slab}
 use Rattle.share_model.specs.declared.stride.Client.{Client}
-use Rattle.share_model.specs.stride.Moves.{charged}
-use Rattle.share_stride.specs.declared.table.Slot.{Slot}
+use Rattle.share_model.specs.stride.Moves.{after_charge}
+use Rattle.share_stride.specs.declared.table.ClientSlot.{ClientSlot}
 use Rattle.share_stride.specs.Table.{Slots, client_map, slot_at}
 use Rattle.share_stride.specs.Table.{IsIndexed, IsWellFormed}
 use Rattle.share_stride.specs.Table.{entry_of, entry_in, IsRanked}
-use Rattle.share_stride.specs.declared.seating.Entry.{Entry}
+use Rattle.share_stride.specs.declared.seating.HeapEntry.{HeapEntry}
 use Rattle.share_stride.specs.Heap.{Standings, standing_under}
 use Rattle.share_stride.proofs.TableLaws.{ChangesSlot}
 
-pub entry_of-competes : (key : ℕ) (slot : Slot) → slot.client.competes ≡ true
+pub entry_of-competes : (key : ℕ) (slot : ClientSlot) → slot.client.competes ≡ true
     → entry_of key slot ≡ Some (record { pass = slot.client.pass; flow = slot.flow; key = key })
 entry_of-competes key slot competes = cond-true _ _ _ competes
 
 -- the same as the code reads the pass
-pub entry_of-read : (key : ℕ) (slot : Slot) → slot.client.competes ≡ true → FitsSigned w128 slot.client.pass
+pub entry_of-read : (key : ℕ) (slot : ClientSlot) → slot.client.competes ≡ true → FitsSigned w128 slot.client.pass
     → entry_of key slot
     ≡ Some (record { pass = to_z w128 (of_z w128 slot.client.pass); flow = slot.flow; key = key })
 entry_of-read key slot competes fits =
     entry_of-competes key slot competes
     ∙ ap (λ p. Some (record { pass = p; flow = slot.flow; key = key })) (sym (to_z-of_z w128 slot.client.pass fits))
 
-pub entry_of-idle : (key : ℕ) (slot : Slot) → slot.client.competes ≡ false → entry_of key slot ≡ None
+pub entry_of-idle : (key : ℕ) (slot : ClientSlot) → slot.client.competes ≡ false → entry_of key slot ≡ None
 entry_of-idle key slot idle = cond-false _ _ _ idle
 
-pub is_some-entry_of : (key : ℕ) (slot : Slot) → is_some (entry_of key slot) ≡ slot.client.competes
+pub is_some-entry_of : (key : ℕ) (slot : ClientSlot) → is_some (entry_of key slot) ≡ slot.client.competes
 is_some-entry_of key slot = by_case slot.client.competes refl
   where
     by_case : (b : Bool) → slot.client.competes ≡ b → is_some (entry_of key slot) ≡ b
@@ -45,15 +45,15 @@ is_some-entry_of key slot = by_case slot.client.competes refl
     by_case false is = ap is_some (entry_of-idle key slot is)
 
 -- a charge lets a client compete as it did
-pub charged-competes : (client : Client) (units : ℕ) → (charged client units).competes ≡ client.competes
-charged-competes client units = by_case client.competes refl
+pub after_charge-competes : (client : Client) (units : ℕ) → (after_charge client units).competes ≡ client.competes
+after_charge-competes client units = by_case client.competes refl
   where
-    by_case : (b : Bool) → client.competes ≡ b → (charged client units).competes ≡ b
+    by_case : (b : Bool) → client.competes ≡ b → (after_charge client units).competes ≡ b
     by_case true is = rw is refl
     by_case false is = rw is refl
 
 -- a slot is written, and under its key stands what its client asks for
-pub IsRanked-written : (old new : Slots) (key : ℕ) (slot : Option Slot) (standings after : Standings)
+pub IsRanked-written : (old new : Slots) (key : ℕ) (slot : Option ClientSlot) (standings after : Standings)
     → key < length standings → IsRanked old standings → ChangesSlot old new key slot
     → after ≡ set standings key (entry_in key slot) → IsRanked new after
 IsRanked-written old new key slot standings after fits ranked changes is = record {
@@ -73,7 +73,8 @@ IsRanked-written old new key slot standings after fits ranked changes is = recor
 }
 
 -- a change of a slot that asks for nothing before and after
-pub IsRanked-idle : (old new : Slots) (key : ℕ) (slot : Option Slot) (standings : Standings) → IsRanked old standings
+pub IsRanked-idle : (old new : Slots) (key : ℕ) (slot : Option ClientSlot) (standings : Standings)
+    → IsRanked old standings
     → ChangesSlot old new key slot → entry_in key (slot_at old key) ≡ None → entry_in key slot ≡ None
     → IsRanked new standings
 IsRanked-idle old new key slot standings ranked changes was is = record {
@@ -88,9 +89,9 @@ IsRanked-idle old new key slot standings ranked changes was is = record {
 
 -- every key that has a slot is below a bound
 abbrev pub FitKeys : Slots → ℕ → Type 0
-FitKeys slots bound = (key : ℕ) (slot : Slot) → slot_at slots key ≡ Some slot → key < bound
+FitKeys slots bound = (key : ℕ) (slot : ClientSlot) → slot_at slots key ≡ Some slot → key < bound
 
-pub key_fits-written : (old new : Slots) (key : ℕ) (slot : Slot) (was bound : ℕ) → FitKeys old was
+pub key_fits-written : (old new : Slots) (key : ℕ) (slot : ClientSlot) (was bound : ℕ) → FitKeys old was
     → ChangesSlot old new key (Some slot) → bound ≡ was → key < bound → FitKeys new bound
 key_fits-written old new key slot was bound fits changes same lt k s found =
     elim (cases_eq k key) [
@@ -106,7 +107,7 @@ key_fits-removed old new key was bound fits changes same k s found =
       | inr apart ↦ let below = fits k s (sym (changes.others k apart) ∙ found) in omega arith
     ]
 
-pub IsWellFormed-new : (slab : Slab Slot) (keys : FinMap nat_cmp ℕ) (standings : Standings) (wide : ℕ)
+pub IsWellFormed-new : (slab : Slab ClientSlot) (keys : FinMap nat_cmp ℕ) (standings : Standings) (wide : ℕ)
     → slab.slots ≡ [] → keys ≡ empty → 64 ≤ slab.capacity → wide ≡ slab.capacity → standings ≡ replicate wide None
     → IsWellFormed slab keys standings
 IsWellFormed-new slab keys standings wide no_slots no_keys room all nothing = record {
@@ -126,11 +127,11 @@ IsWellFormed-new slab keys standings wide no_slots no_keys room all nothing = re
         ∙ (elim (cases_lt key wide) [
           | inl lt ↦ get_or-replicate wide key None None lt
           | inr le ↦
-              let long = length-replicate {A = Option Entry} wide None in
+              let long = length-replicate {A = Option HeapEntry} wide None in
               get_or_past (replicate wide None) key None (omega arith)
         ])
         ∙ sym (ap (λ (slots : Slots). entry_in key (slot_at slots key)) no_slots);
   };
-  wide = ap length nothing ∙ length-replicate {A = Option Entry} wide None ∙ all;
+  wide = ap length nothing ∙ length-replicate {A = Option HeapEntry} wide None ∙ all;
   key_fits = λ key slot found. let gone = ap (λ (slots : Slots). slot_at slots key) no_slots in absurd (cc);
 }

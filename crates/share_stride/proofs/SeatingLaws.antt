@@ -3,22 +3,23 @@ use Rattle.std.proofs.Common.{◌≡◌, ◌≢◌, ℕ, ◌<◌, ◌≤◌, ◌
 use Rattle.std.proofs.Common.{refl, sym, ap, ◌∙◌, arith}
 use Rattle.std.proofs.lemmas.Bool.{cases_eq, cases_lt, lt-ltb, le-ltb, cond-true, cond-false}
 use Rattle.std.proofs.lemmas.List.{get_or-set_same, get_or-set_other, length-set}
-use Rattle.share_stride.specs.declared.seating.Entry.{Entry}
-use Rattle.share_stride.specs.Seating.{entry_at, seat_of, IsOpen, FitsBelow, RisesPast, SinksPast, IsSeated, IsLifted}
-use Rattle.share_stride.specs.Seating.{standing_at, standing, KeepsOthers, Rises, Sinks, Settles, FitsAbove}
+use Rattle.share_stride.specs.declared.seating.HeapEntry.{HeapEntry}
+use Rattle.share_stride.specs.Seating.{entry_in_seat, seat_of, IsOpen, FitsBelow, RisesPast, SinksPast, IsSeated}
+use Rattle.share_stride.specs.Seating.{IsLifted}
+use Rattle.share_stride.specs.Seating.{standing_at, standing_of, KeepsOthers, HoleRises, HoleSinks, Sifts, FitsAbove}
 use Rattle.share_stride.proofs.HeapOrder.{at_hole, at_other, IsOpen-rise, FitsBelow-rise, IsOpen-sink, FitsAbove-sink}
 use Rattle.share_stride.proofs.HeapOrder.{IsOrdered-place, FitsBelow-past}
 
-pub standing_at-in : (count : ℕ) (entries : List Entry) (seat : ℕ) → seat < count
-    → standing_at count entries seat ≡ Some (entry_at entries seat)
+pub standing_at-in : (count : ℕ) (entries : List HeapEntry) (seat : ℕ) → seat < count
+    → standing_at count entries seat ≡ Some (entry_in_seat entries seat)
 standing_at-in count entries seat lt = cond-true _ _ _ (lt-ltb seat count lt)
 
-pub standing_at-out : (count : ℕ) (entries : List Entry) (seat : ℕ) → count ≤ seat
+pub standing_at-out : (count : ℕ) (entries : List HeapEntry) (seat : ℕ) → count ≤ seat
     → standing_at count entries seat ≡ None
 standing_at-out count entries seat le = cond-false _ _ _ (le-ltb seat count le)
 
 -- of two seats with one entry the heap has both or neither
-standing_at-same : (count : ℕ) (old new : List Entry) (a b : ℕ) → entry_at new b ≡ entry_at old a
+standing_at-same : (count : ℕ) (old new : List HeapEntry) (a b : ℕ) → entry_in_seat new b ≡ entry_in_seat old a
     → ((a < count) ↔ (b < count)) → standing_at count new b ≡ standing_at count old a
 standing_at-same count old new a b same both =
     elim (cases_lt a count) [
@@ -29,11 +30,12 @@ standing_at-same count old new a b same both =
           standing_at-out count new b behind ∙ sym (standing_at-out count old a le)
     ]
 
-standing_at-agrees : (count : ℕ) (old new : List Entry) (seat : ℕ) → entry_at new seat ≡ entry_at old seat
+standing_at-agrees : (count : ℕ) (old new : List HeapEntry) (seat : ℕ) → entry_in_seat new seat ≡ entry_in_seat old seat
     → standing_at count new seat ≡ standing_at count old seat
 standing_at-agrees count old new seat same = standing_at-same count old new seat seat same (λ lt. lt, λ lt. lt)
 
-pub KeepsOthers-trans : (key a b c : ℕ) (es fs gs : List Entry) (ss ts us : List ℕ) → KeepsOthers key a es ss b fs ts
+pub KeepsOthers-trans : (key a b c : ℕ) (es fs gs : List HeapEntry) (ss ts us : List ℕ)
+    → KeepsOthers key a es ss b fs ts
     → KeepsOthers key b fs ts c gs us → KeepsOthers key a es ss c gs us
 KeepsOthers-trans key a b c es fs gs ss ts us first second = record {
   as_many = second.as_many ∙ first.as_many;
@@ -44,46 +46,46 @@ KeepsOthers-trans key a b c es fs gs ss ts us first second = record {
 
 -- ---- An entry moves to the open seat
 
-module _ (entries : List Entry) (seats : List ℕ) (hole key from : ℕ) (lifted : IsLifted entries seats hole key)
+module _ (entries : List HeapEntry) (seats : List ℕ) (hole key from : ℕ) (lifted : IsLifted entries seats hole key)
     (in_range : from < length entries) (apart : from ≢ hole) where
-  abbrev filled : List Entry
-  filled = set entries hole (entry_at entries from)
+  abbrev filled : List HeapEntry
+  filled = set entries hole (entry_in_seat entries from)
 
   abbrev reseated : List ℕ
-  reseated = set seats (entry_at entries from).key hole
+  reseated = set seats (entry_in_seat entries from).key hole
 
   long : length filled ≡ length entries
-  long = length-set entries hole (entry_at entries from)
+  long = length-set entries hole (entry_in_seat entries from)
 
-  here : (seat : ℕ) → seat ≡ hole → entry_at filled seat ≡ entry_at entries from
-  here = at_hole entries hole (entry_at entries from) lifted.hole_fits
+  here : (seat : ℕ) → seat ≡ hole → entry_in_seat filled seat ≡ entry_in_seat entries from
+  here = at_hole entries hole (entry_in_seat entries from) lifted.hole_fits
 
-  there : (seat : ℕ) → seat ≢ hole → entry_at filled seat ≡ entry_at entries seat
-  there = at_other entries hole (entry_at entries from) lifted.hole_fits
+  there : (seat : ℕ) → seat ≢ hole → entry_in_seat filled seat ≡ entry_in_seat entries seat
+  there = at_other entries hole (entry_in_seat entries from) lifted.hole_fits
 
-  seat_here : (k : ℕ) → k ≡ (entry_at entries from).key → seat_of reseated k ≡ hole
+  seat_here : (k : ℕ) → k ≡ (entry_in_seat entries from).key → seat_of reseated k ≡ hole
   seat_here k is =
       let fits = lifted.key_fits from in_range apart in
       let many = lifted.as_many in
-      ap (seat_of reseated) is ∙ get_or-set_same seats (entry_at entries from).key hole 0 (omega arith)
+      ap (seat_of reseated) is ∙ get_or-set_same seats (entry_in_seat entries from).key hole 0 (omega arith)
 
-  seat_there : (k : ℕ) → k ≢ (entry_at entries from).key → seat_of reseated k ≡ seat_of seats k
-  seat_there k other = get_or-set_other seats (entry_at entries from).key k hole 0 other
+  seat_there : (k : ℕ) → k ≢ (entry_in_seat entries from).key → seat_of reseated k ≡ seat_of seats k
+  seat_there k other = get_or-set_other seats (entry_in_seat entries from).key k hole 0 other
 
   -- a key but the one that moved sits elsewhere
-  seat_apart : (k : ℕ) → k < length entries → k ≢ key → k ≢ (entry_at entries from).key → seat_of seats k ≢ from
+  seat_apart : (k : ℕ) → k < length entries → k ≢ key → k ≢ (entry_in_seat entries from).key → seat_of seats k ≢ from
   seat_apart k fits other moved same =
-      moved (sym (lifted.key_is k fits other) ∙ ap (λ i. (entry_at entries i).key) same)
+      moved (sym (lifted.key_is k fits other) ∙ ap (λ i. (entry_in_seat entries i).key) same)
 
   -- a seat but the open ones has another key than the one that moved
   key_apart : (i : ℕ) → i < length entries → i ≢ hole → i ≢ from
-      → (entry_at entries i).key ≢ (entry_at entries from).key
+      → (entry_in_seat entries i).key ≢ (entry_in_seat entries from).key
   key_apart i fits other moved same =
       moved (sym (lifted.seat_is i fits other) ∙ ap (seat_of seats) same ∙ lifted.seat_is from in_range apart)
 
   pub IsLifted-fill : IsLifted filled reseated from key
   IsLifted-fill = record {
-    as_many = length-set seats (entry_at entries from).key hole ∙ lifted.as_many ∙ sym long;
+    as_many = length-set seats (entry_in_seat entries from).key hole ∙ lifted.as_many ∙ sym long;
     hole_fits = rw long in_range;
     lifted_fits = rw long lifted.lifted_fits;
     key_fits = λ i fits other. rw long (elim (cases_eq i hole) [
@@ -91,33 +93,34 @@ module _ (entries : List Entry) (seats : List ℕ) (hole key from : ℕ) (lifted
       | inr i_other ↦ rw (there i i_other) (lifted.key_fits i (omega (arith, long)) i_other)
     ]);
     seat_is = λ i fits other. elim (cases_eq i hole) [
-      | inl is ↦ seat_here (entry_at filled i).key (ap (λ (e : Entry). e.key) (here i is)) ∙ sym is
+      | inl is ↦ seat_here (entry_in_seat filled i).key (ap (λ (e : HeapEntry). e.key) (here i is)) ∙ sym is
       | inr i_other ↦
-          let same = ap (λ (e : Entry). e.key) (there i i_other) in
+          let same = ap (λ (e : HeapEntry). e.key) (there i i_other) in
           ap (seat_of reseated) same
-          ∙ seat_there (entry_at entries i).key (key_apart i (omega (arith, long)) i_other other)
+          ∙ seat_there (entry_in_seat entries i).key (key_apart i (omega (arith, long)) i_other other)
           ∙ lifted.seat_is i (omega (arith, long)) i_other
     ];
     other_key = λ i fits other same. elim (cases_eq i hole) [
-      | inl is ↦ lifted.other_key from in_range apart (sym (ap (λ (e : Entry). e.key) (here i is)) ∙ same)
+      | inl is ↦ lifted.other_key from in_range apart (sym (ap (λ (e : HeapEntry). e.key) (here i is)) ∙ same)
       | inr i_other ↦
-          lifted.other_key i (omega (arith, long)) i_other (sym (ap (λ (e : Entry). e.key) (there i i_other)) ∙ same)
+          lifted.other_key i (omega (arith, long)) i_other
+          (sym (ap (λ (e : HeapEntry). e.key) (there i i_other)) ∙ same)
     ];
-    seat_fits = λ k fits other. rw long (elim (cases_eq k (entry_at entries from).key) [
+    seat_fits = λ k fits other. rw long (elim (cases_eq k (entry_in_seat entries from).key) [
       | inl is ↦ rw (seat_here k is) lifted.hole_fits
       | inr k_other ↦ rw (seat_there k k_other) (lifted.seat_fits k (omega (arith, long)) other)
     ]);
-    other_seat = λ k fits other same. elim (cases_eq k (entry_at entries from).key) [
+    other_seat = λ k fits other same. elim (cases_eq k (entry_in_seat entries from).key) [
       | inl is ↦ apart (sym same ∙ seat_here k is)
       | inr k_other ↦ seat_apart k (omega (arith, long)) other k_other (sym (seat_there k k_other) ∙ same)
     ];
-    key_is = λ k fits other. elim (cases_eq k (entry_at entries from).key) [
-      | inl is ↦ ap (λ (e : Entry). e.key) (here (seat_of reseated k) (seat_here k is)) ∙ sym is
+    key_is = λ k fits other. elim (cases_eq k (entry_in_seat entries from).key) [
+      | inl is ↦ ap (λ (e : HeapEntry). e.key) (here (seat_of reseated k) (seat_here k is)) ∙ sym is
       | inr k_other ↦
           let elsewhere = lifted.other_seat k (omega (arith, long)) other in
           let same = seat_there k k_other in
-          ap (λ i. (entry_at filled i).key) same
-          ∙ ap (λ (e : Entry). e.key) (there (seat_of seats k) elsewhere)
+          ap (λ i. (entry_in_seat filled i).key) same
+          ∙ ap (λ (e : HeapEntry). e.key) (there (seat_of seats k) elsewhere)
           ∙ lifted.key_is k (omega (arith, long)) other
     ];
   }
@@ -126,7 +129,7 @@ module _ (entries : List Entry) (seats : List ℕ) (hole key from : ℕ) (lifted
       → KeepsOthers key count entries seats count filled reseated
   KeepsOthers-fill count both = record {
     as_many = long;
-    kept = λ k fits other. elim (cases_eq k (entry_at entries from).key) [
+    kept = λ k fits other. elim (cases_eq k (entry_in_seat entries from).key) [
       | inl is ↦
           let seat_was : seat_of seats k ≡ from =
           ap (seat_of seats) is ∙ lifted.seat_is from in_range apart in
@@ -142,9 +145,10 @@ module _ (entries : List Entry) (seats : List ℕ) (hole key from : ℕ) (lifted
 
 -- ---- The entry that was lifted takes the open seat
 
-module _ (entries : List Entry) (seats : List ℕ) (hole : ℕ) (x : Entry) (lifted : IsLifted entries seats hole x.key)
+module _ (entries : List HeapEntry) (seats : List ℕ) (hole : ℕ) (x : HeapEntry)
+    (lifted : IsLifted entries seats hole x.key)
   where
-    abbrev placed : List Entry
+    abbrev placed : List HeapEntry
     placed = set entries hole x
 
     abbrev seated : List ℕ
@@ -153,10 +157,10 @@ module _ (entries : List Entry) (seats : List ℕ) (hole : ℕ) (x : Entry) (lif
     placed_long : length placed ≡ length entries
     placed_long = length-set entries hole x
 
-    placed_here : (seat : ℕ) → seat ≡ hole → entry_at placed seat ≡ x
+    placed_here : (seat : ℕ) → seat ≡ hole → entry_in_seat placed seat ≡ x
     placed_here = at_hole entries hole x lifted.hole_fits
 
-    placed_there : (seat : ℕ) → seat ≢ hole → entry_at placed seat ≡ entry_at entries seat
+    placed_there : (seat : ℕ) → seat ≢ hole → entry_in_seat placed seat ≡ entry_in_seat entries seat
     placed_there = at_other entries hole x lifted.hole_fits
 
     seated_here : (k : ℕ) → k ≡ x.key → seat_of seated k ≡ hole
@@ -176,10 +180,10 @@ module _ (entries : List Entry) (seats : List ℕ) (hole : ℕ) (x : Entry) (lif
         | inr other ↦ rw (placed_there i other) (lifted.key_fits i (omega (arith, placed_long)) other)
       ]);
       seat_is = λ i fits. elim (cases_eq i hole) [
-        | inl is ↦ seated_here (entry_at placed i).key (ap (λ (e : Entry). e.key) (placed_here i is)) ∙ sym is
+        | inl is ↦ seated_here (entry_in_seat placed i).key (ap (λ (e : HeapEntry). e.key) (placed_here i is)) ∙ sym is
         | inr other ↦
-            ap (seat_of seated) (ap (λ (e : Entry). e.key) (placed_there i other))
-            ∙ seated_there (entry_at entries i).key (lifted.other_key i (omega (arith, placed_long)) other)
+            ap (seat_of seated) (ap (λ (e : HeapEntry). e.key) (placed_there i other))
+            ∙ seated_there (entry_in_seat entries i).key (lifted.other_key i (omega (arith, placed_long)) other)
             ∙ lifted.seat_is i (omega (arith, placed_long)) other
       ];
       seat_fits = λ k fits. rw placed_long (elim (cases_eq k x.key) [
@@ -187,17 +191,17 @@ module _ (entries : List Entry) (seats : List ℕ) (hole : ℕ) (x : Entry) (lif
         | inr other ↦ rw (seated_there k other) (lifted.seat_fits k (omega (arith, placed_long)) other)
       ]);
       key_is = λ k fits. elim (cases_eq k x.key) [
-        | inl is ↦ ap (λ (e : Entry). e.key) (placed_here (seat_of seated k) (seated_here k is)) ∙ sym is
+        | inl is ↦ ap (λ (e : HeapEntry). e.key) (placed_here (seat_of seated k) (seated_here k is)) ∙ sym is
         | inr other ↦
             let elsewhere = lifted.other_seat k (omega (arith, placed_long)) other in
-            ap (λ i. (entry_at placed i).key) (seated_there k other)
-            ∙ ap (λ (e : Entry). e.key) (placed_there (seat_of seats k) elsewhere)
+            ap (λ i. (entry_in_seat placed i).key) (seated_there k other)
+            ∙ ap (λ (e : HeapEntry). e.key) (placed_there (seat_of seats k) elsewhere)
             ∙ lifted.key_is k (omega (arith, placed_long)) other
       ];
     }
 
-    pub standing-place : (count : ℕ) → hole < count → standing count placed seated x.key ≡ Some x
-    standing-place count in_heap =
+    pub standing_of-place : (count : ℕ) → hole < count → standing_of count placed seated x.key ≡ Some x
+    standing_of-place count in_heap =
         ap (standing_at count placed) (seated_here x.key refl)
         ∙ standing_at-in count placed hole in_heap
         ∙ ap Some (placed_here hole refl)
@@ -213,11 +217,12 @@ module _ (entries : List Entry) (seats : List ℕ) (hole : ℕ) (x : Entry) (lif
 
 -- ---- The steps of the open seat
 
-pub Rises-step : (es : List Entry) (ss : List ℕ) (start : ℕ) (entries : List Entry) (seats : List ℕ) (hole from : ℕ)
-    (x : Entry) → Rises es ss start entries seats hole x → RisesPast entries hole x from
-    → Rises es ss start (set entries hole (entry_at entries from))
-    (set seats (entry_at entries from).key hole) from x
-Rises-step es ss start entries seats hole from x rises past =
+pub HoleRises-step : (es : List HeapEntry) (ss : List ℕ) (start : ℕ) (entries : List HeapEntry) (seats : List ℕ)
+    (hole from : ℕ)
+    (x : HeapEntry) → HoleRises es ss start entries seats hole x → RisesPast entries hole x from
+    → HoleRises es ss start (set entries hole (entry_in_seat entries from))
+    (set seats (entry_in_seat entries from).key hole) from x
+HoleRises-step es ss start entries seats hole from x rises past =
     let above = past.above in
     let fits = rises.lifted.hole_fits in
     let in_range : from < length entries = omega arith in
@@ -237,11 +242,13 @@ Rises-step es ss start entries seats hole from x rises past =
           );
     }
 
-pub Sinks-step : (count : ℕ) (es : List Entry) (ss : List ℕ) (entries : List Entry) (seats : List ℕ) (hole from : ℕ)
-    (x : Entry) → count ≤ length es → Sinks count es ss entries seats hole x → SinksPast count entries hole x from
-    → Sinks count es ss (set entries hole (entry_at entries from))
-    (set seats (entry_at entries from).key hole) from x
-Sinks-step count es ss entries seats hole from x few sinks past =
+pub HoleSinks-step : (count : ℕ) (es : List HeapEntry) (ss : List ℕ) (entries : List HeapEntry) (seats : List ℕ)
+    (hole from : ℕ)
+    (x : HeapEntry) → count ≤ length es → HoleSinks count es ss entries seats hole x
+    → SinksPast count entries hole x from
+    → HoleSinks count es ss (set entries hole (entry_in_seat entries from))
+    (set seats (entry_in_seat entries from).key hole) from x
+HoleSinks-step count es ss entries seats hole from x few sinks past =
     let below = past.first.below in
     let in_heap = past.first.in_heap in
     let fits = sinks.lifted.hole_fits in
@@ -258,23 +265,24 @@ Sinks-step count es ss entries seats hole from x few sinks past =
       above = FitsAbove-sink count entries hole from x fits sinks.is_open past;
     }
 
-pub Settles-place : (count : ℕ) (es : List Entry) (ss : List ℕ) (entries : List Entry) (seats : List ℕ) (hole : ℕ)
-    (x : Entry) → Sinks count es ss entries seats hole x → FitsBelow count entries hole x
-    → Settles count es ss (set entries hole x) (set seats x.key hole) x
-Settles-place count es ss entries seats hole x moved below = record {
+pub Sifts-place : (count : ℕ) (es : List HeapEntry) (ss : List ℕ) (entries : List HeapEntry) (seats : List ℕ) (hole : ℕ)
+    (x : HeapEntry) → HoleSinks count es ss entries seats hole x → FitsBelow count entries hole x
+    → Sifts count es ss (set entries hole x) (set seats x.key hole) x
+Sifts-place count es ss entries seats hole x moved below = record {
   seated = IsSeated-place entries seats hole x moved.lifted;
   ordered = IsOrdered-place count entries hole x moved.lifted.hole_fits moved.is_open moved.above below;
-  stands = standing-place entries seats hole x moved.lifted count moved.is_open.in_heap;
+  stands = standing_of-place entries seats hole x moved.lifted count moved.is_open.in_heap;
   kept = KeepsOthers-trans x.key count count count es entries _ ss seats _ moved.kept
       (KeepsOthers-place entries seats hole x moved.lifted count);
 }
 
--- a rise in a heap of so many
-pub Sinks-risen : (count : ℕ) (es : List Entry) (ss : List ℕ) (start from : ℕ) (entries : List Entry) (seats : List ℕ)
-    (hole : ℕ) (x : Entry) → IsOpen count es start → RisesPast es start x from
-    → Rises es ss start entries seats hole x → FitsAbove entries hole x
-    → Sinks count es ss entries seats hole x × FitsBelow count entries hole x
-Sinks-risen count es ss start from entries seats hole x was past rises above =
+-- a rise in a heap of this many
+pub HoleSinks-risen : (count : ℕ) (es : List HeapEntry) (ss : List ℕ) (start from : ℕ) (entries : List HeapEntry)
+    (seats : List ℕ)
+    (hole : ℕ) (x : HeapEntry) → IsOpen count es start → RisesPast es start x from
+    → HoleRises es ss start entries seats hole x → FitsAbove entries hole x
+    → HoleSinks count es ss entries seats hole x × FitsBelow count entries hole x
+HoleSinks-risen count es ss start from entries seats hole x was past rises above =
     let now = rises.is_open count was (FitsBelow-past count es start from x was past) in (
       record { lifted = rises.lifted; kept = rises.kept count was.in_heap; is_open = now.0; above = above },
       now.1,

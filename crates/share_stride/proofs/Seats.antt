@@ -4,17 +4,17 @@ use Rattle.std.proofs.Common.{get_or, inl, inr, refl, sym, ap, subst, ◌∙◌,
 use Rattle.std.proofs.lemmas.Bool.{cases_eq, cases_lt}
 use Rattle.std.proofs.lemmas.List.{get_or-set_same, get_or-set_other, length-set}
 use Rattle.std.proofs.lemmas.List.{same_lists, get_or_default}
-use Rattle.share_stride.specs.declared.seating.Entry.{Entry}
-use Rattle.share_stride.specs.Seating.{no_entry, entry_at, seat_of, IsSeated, IsLifted, Swaps}
-use Rattle.share_stride.specs.Seating.{standing, KeepsOthers}
+use Rattle.share_stride.specs.declared.seating.HeapEntry.{HeapEntry}
+use Rattle.share_stride.specs.Seating.{no_entry, entry_in_seat, seat_of, IsSeated, IsLifted, Swaps}
+use Rattle.share_stride.specs.Seating.{standing_of, KeepsOthers}
 use Rattle.share_stride.proofs.HeapOrder.{at_hole, at_other}
 use Rattle.share_stride.proofs.SeatingLaws.{standing_at-in, standing_at-out, KeepsOthers-trans, IsLifted-fill}
 use Rattle.share_stride.proofs.SeatingLaws.{KeepsOthers-fill, IsSeated-place, KeepsOthers-place}
 
 -- ---- A key leaves its seat, or two change theirs
 
-pub IsLifted-lift : (entries : List Entry) (seats : List ℕ) (seat key : ℕ) → IsSeated entries seats
-    → seat < length entries → (entry_at entries seat).key ≡ key → IsLifted entries seats seat key
+pub IsLifted-lift : (entries : List HeapEntry) (seats : List ℕ) (seat key : ℕ) → IsSeated entries seats
+    → seat < length entries → (entry_in_seat entries seat).key ≡ key → IsLifted entries seats seat key
 IsLifted-lift entries seats seat key seated fits has = record {
   as_many = seated.as_many;
   hole_fits = fits;
@@ -25,7 +25,7 @@ IsLifted-lift entries seats seat key seated fits has = record {
       apart (sym (seated.seat_is i lt) ∙ ap (seat_of seats) (same ∙ sym has) ∙ seated.seat_is seat fits);
   seat_fits = λ k lt _. seated.seat_fits k lt;
   other_seat = λ k lt apart same.
-      apart (sym (seated.key_is k lt) ∙ ap (λ i. (entry_at entries i).key) same ∙ has);
+      apart (sym (seated.key_is k lt) ∙ ap (λ i. (entry_in_seat entries i).key) same ∙ has);
   key_is = λ k lt _. seated.key_is k lt;
 }
 
@@ -43,16 +43,16 @@ set_same xs i x d fits is =
       | inr apart ↦ get_or-set_other xs i k x e apart
     ])
 
-module _ (entries : List Entry) (seats : List ℕ) (a b : ℕ) (seated : IsSeated entries seats)
+module _ (entries : List HeapEntry) (seats : List ℕ) (a b : ℕ) (seated : IsSeated entries seats)
     (a_fits : a < length entries) (b_fits : b < length entries) where
-  abbrev own : Entry
-  own = entry_at entries a
+  abbrev own : HeapEntry
+  own = entry_in_seat entries a
 
-  abbrev filled : List Entry
-  filled = set entries a (entry_at entries b)
+  abbrev filled : List HeapEntry
+  filled = set entries a (entry_in_seat entries b)
 
   abbrev reseated : List ℕ
-  reseated = set seats (entry_at entries b).key a
+  reseated = set seats (entry_in_seat entries b).key a
 
   lifted : IsLifted entries seats a own.key
   lifted = IsLifted-lift entries seats a own.key seated a_fits refl
@@ -63,12 +63,12 @@ module _ (entries : List Entry) (seats : List ℕ) (a b : ℕ) (seated : IsSeate
       let key_fits = seated.key_fits a a_fits in
       let many = seated.as_many in
       let entries_is : filled ≡ entries =
-      ap (λ i. set entries a (entry_at entries i)) same ∙ set_same entries a own no_entry a_fits refl in
+      ap (λ i. set entries a (entry_in_seat entries i)) same ∙ set_same entries a own no_entry a_fits refl in
       let seats_is : reseated ≡ seats =
-      ap (λ i. set seats (entry_at entries i).key a) same
+      ap (λ i. set seats (entry_in_seat entries i).key a) same
       ∙ set_same seats own.key a 0 (omega arith) (seated.seat_is a a_fits) in
       subst (λ (j : ℕ). Swaps entries seats (set filled j own) (set reseated own.key j) a j) (sym same)
-      (subst (λ (es : List Entry). Swaps entries seats (set es a own) (set reseated own.key a) a a) (sym entries_is)
+      (subst (λ (es : List HeapEntry). Swaps entries seats (set es a own) (set reseated own.key a) a a) (sym entries_is)
       (subst (λ (ss : List ℕ). Swaps entries seats (set entries a own) (set ss own.key a) a a) (sym seats_is) (record {
         seated = IsSeated-place entries seats a own lifted;
         first = at_hole entries a own a_fits a refl;
@@ -83,10 +83,11 @@ module _ (entries : List Entry) (seats : List ℕ) (a b : ℕ) (seated : IsSeate
       let back : a ≢ b = omega arith in
       record {
         seated = IsSeated-place filled reseated b own moved;
-        first = at_other filled b own moved.hole_fits a back ∙ at_hole entries a (entry_at entries b) a_fits a refl;
+        first = at_other filled b own moved.hole_fits a back
+            ∙ at_hole entries a (entry_in_seat entries b) a_fits a refl;
         second = at_hole filled b own moved.hole_fits b refl;
         others = λ i not_a not_b.
-            at_other filled b own moved.hole_fits i not_b ∙ at_other entries a (entry_at entries b) a_fits i not_a;
+            at_other filled b own moved.hole_fits i not_b ∙ at_other entries a (entry_in_seat entries b) a_fits i not_a;
         kept = λ count both. KeepsOthers-trans own.key count count count entries filled _ seats reseated _
             (KeepsOthers-fill entries seats a own.key b lifted b_fits apart count both)
             (KeepsOthers-place filled reseated b own moved count);
@@ -97,14 +98,14 @@ module _ (entries : List Entry) (seats : List ℕ) (a b : ℕ) (seated : IsSeate
 
 -- ---- A heap counts one more, or one less
 
-module _ (count : ℕ) (entries : List Entry) (seats : List ℕ) (key : ℕ) (seated : IsSeated entries seats)
-    (has : (entry_at entries count).key ≡ key) where
+module _ (count : ℕ) (entries : List HeapEntry) (seats : List ℕ) (key : ℕ) (seated : IsSeated entries seats)
+    (has : (entry_in_seat entries count).key ≡ key) where
   -- a key but the one at the end of the heap
   counted : (k : ℕ) → k < length entries → k ≢ key
-      → standing (count + 1) entries seats k ≡ standing count entries seats k
+      → standing_of (count + 1) entries seats k ≡ standing_of count entries seats k
   counted k fits apart =
       let elsewhere : seat_of seats k ≢ count =
-      λ same. apart (sym (seated.key_is k fits) ∙ ap (λ i. (entry_at entries i).key) same ∙ has) in
+      λ same. apart (sym (seated.key_is k fits) ∙ ap (λ i. (entry_in_seat entries i).key) same ∙ has) in
       elim (cases_lt (seat_of seats k) count) [
         | inl lt ↦
             standing_at-in (count + 1) entries (seat_of seats k) (omega arith)
@@ -123,8 +124,8 @@ module _ (count : ℕ) (entries : List Entry) (seats : List ℕ) (key : ℕ) (se
 -- ---- New seats
 
 -- each key so far has the seat of its own number
-pub record IsIdle (entries : List Entry) (seats : List ℕ) (count : ℕ) : Type 0 where
+pub record IsIdle (entries : List HeapEntry) (seats : List ℕ) (count : ℕ) : Type 0 where
   pub entries_long : length entries ≡ count
   pub seats_long : length seats ≡ count
-  pub key_is : (i : ℕ) → i < count → (entry_at entries i).key ≡ i
+  pub key_is : (i : ℕ) → i < count → (entry_in_seat entries i).key ≡ i
   pub seat_is : (i : ℕ) → i < count → seat_of seats i ≡ i

@@ -8,91 +8,97 @@ use borrow.Author.Differences.{up, down}
 use Rattle.std.specs.Ordering.{nat_cmp}
 use Rattle.std.specs.FinMap.{FinMap, get, insert, remove, len}
 use Rattle.share_model.specs.declared.stride.Client.{Client}
-use Rattle.share_model.specs.stride.MapLaws.{get-insert_same, insert-insert_same}
-use Rattle.share_model.specs.stride.Moves.{Stride, start, stride_of, update, joined, left, charged}
+use Rattle.share_model.proofs.lemmas.stride.MapLaws.{get-insert_same, insert-insert_same}
+use Rattle.share_model.specs.stride.Moves.{Stride, empty_queue, stride_of, update, after_join, after_leave}
+use Rattle.share_model.specs.stride.Moves.{after_charge}
 use Rattle.share_model.specs.stride.Moves.{charge, new_client, with_client, client, position, modify, Modify}
-use Rattle.share_model.specs.stride.MoveLaws.{moved_is, client_is, is_there, total-empty}
+use Rattle.share_model.proofs.lemmas.stride.MoveLaws.{moved_is, client_is, is_there}
+use Rattle.share_model.specs.stride.Rows.{total-empty}
 use Rattle.share_model.specs.stride.Bound.{IsSound, IsNearGlobalPass, distance}
-use Rattle.share_model.specs.stride.DivisionLaws.{stride_of-le}
-use Rattle.share_model.specs.stride.BoundLaws.{distance-idle, distance-competing, rises}
-use Rattle.share_model.specs.stride.SoundLaws.{IsSound-start, IsSound-update, IsSound-joined, IsSound-left}
-use Rattle.share_model.specs.stride.SoundLaws.{IsSound-charge}
-use Rattle.share_model.specs.stride.SoundLaws.{IsSound-add, IsSound-remove, total-joined, total-left, total-charged}
-use Rattle.share_model.specs.stride.SoundLaws.{total-added, total-removed}
+use Rattle.share_model.proofs.lemmas.stride.DivisionLaws.{stride_of-le}
+use Rattle.share_model.proofs.lemmas.stride.BoundLaws.{distance-idle, distance-competing, rises}
+use Rattle.share_model.proofs.lemmas.stride.SoundLaws.{IsSound-empty_queue, IsSound-update, IsSound-after_join}
+use Rattle.share_model.proofs.lemmas.stride.SoundLaws.{IsSound-after_leave}
+use Rattle.share_model.proofs.lemmas.stride.SoundLaws.{IsSound-charge}
+use Rattle.share_model.proofs.lemmas.stride.SoundLaws.{IsSound-add, IsSound-remove, total-after_join, total-after_leave}
+use Rattle.share_model.proofs.lemmas.stride.SoundLaws.{total-after_charge}
+use Rattle.share_model.proofs.lemmas.stride.SoundLaws.{total-added, total-removed}
 use Rattle.share_stride.specs.Fits.{IsWithin}
 use Rattle.share_model.specs.declared.stride.GlobalPart.{GlobalPart}
 use Rattle.share_stride.specs.Table.{Clients}
-use Rattle.share_stride.specs.Queue.{IsKept, AreKept, state_of, updated}
+use Rattle.share_stride.specs.Queue.{IsInStep, AreInStep, state_of, after_update}
 
 -- ---- The queue with the total that it keeps
 
-pub IsKept-start : IsKept 0 start
-IsKept-start = record { total = sym total-empty; sound = IsSound-start }
+pub IsInStep-empty_queue : IsInStep 0 empty_queue
+IsInStep-empty_queue = record { total = sym total-empty; sound = IsSound-empty_queue }
 
 -- an update of what is shared is an update of the state
-pub updated_is : (clients : Clients) (global : GlobalPart) → AreKept clients global
-    → state_of clients (updated global) ≡ update (state_of clients global)
+pub updated_is : (clients : Clients) (global : GlobalPart) → AreInStep clients global
+    → state_of clients (after_update global) ≡ update (state_of clients global)
 updated_is clients global kept =
     ap (λ n. record (update (state_of clients global)) {
       pass = global.pass + stride_of n * (global.clock - global.last) / 1024;
     }) kept.total
 
-pub AreKept-updated : (clients : Clients) (global : GlobalPart) → AreKept clients global
-    → AreKept clients (updated global)
-AreKept-updated clients global kept = record {
+pub AreInStep-after_update : (clients : Clients) (global : GlobalPart) → AreInStep clients global
+    → AreInStep clients (after_update global)
+AreInStep-after_update clients global kept = record {
   total = kept.total;
   sound = subst IsSound (sym (updated_is clients global kept)) (IsSound-update (state_of clients global) kept.sound);
 }
 
-pub IsKept-joined : (tickets : ℕ) (s : Stride) (f : ℕ) (c : Client) (more : ℕ) → IsKept tickets s
+pub IsInStep-after_join : (tickets : ℕ) (s : Stride) (f : ℕ) (c : Client) (more : ℕ) → IsInStep tickets s
     → Some c ≡ get s.clients f → c.competes ≡ false → 0 < more → more ≤ 2 ^ 20
-    → IsKept (tickets + more) (with_client s f (joined s.pass c more))
-IsKept-joined tickets s f c more kept found idle some few = record {
-  total = ap (λ n. n + more) kept.total ∙ sym (total-joined s.clients f c s.pass more (sym found) idle);
-  sound = IsSound-joined s f c more kept.sound (sym found) idle some few;
+    → IsInStep (tickets + more) (with_client s f (after_join s.pass c more))
+IsInStep-after_join tickets s f c more kept found idle some few = record {
+  total = ap (λ n. n + more) kept.total ∙ sym (total-after_join s.clients f c s.pass more (sym found) idle);
+  sound = IsSound-after_join s f c more kept.sound (sym found) idle some few;
 }
 
-pub IsKept-left : (tickets : ℕ) (s : Stride) (f : ℕ) (c : Client) → IsKept tickets s → Some c ≡ get s.clients f
-    → c.competes ≡ true → IsKept (tickets - c.tickets) (with_client s f (left s.pass c))
-IsKept-left tickets s f c kept found competes = record {
-  total = let total = kept.total in omega (arith, total-left s.clients f c s.pass (sym found) competes);
-  sound = IsSound-left s f c kept.sound (sym found) competes;
+pub IsInStep-after_leave : (tickets : ℕ) (s : Stride) (f : ℕ) (c : Client) → IsInStep tickets s → Some c
+    ≡ get s.clients f
+    → c.competes ≡ true → IsInStep (tickets - c.tickets) (with_client s f (after_leave s.pass c))
+IsInStep-after_leave tickets s f c kept found competes = record {
+  total = let total = kept.total in omega (arith, total-after_leave s.clients f c s.pass (sym found) competes);
+  sound = IsSound-after_leave s f c kept.sound (sym found) competes;
 }
 
-pub IsKept-modified : (tickets : ℕ) (s : Stride) (f : ℕ) (c : Client) (more : ℕ) → IsKept tickets s
+pub IsInStep-modified : (tickets : ℕ) (s : Stride) (f : ℕ) (c : Client) (more : ℕ) → IsInStep tickets s
     → Some c ≡ get s.clients f → c.competes ≡ true → 0 < more → more ≤ 2 ^ 20
-    → IsKept (tickets - c.tickets + more) (with_client s f (joined s.pass (left s.pass c) more))
-IsKept-modified tickets s f c more kept found competes some few =
-    let gone = with_client s f (left s.pass c) in
-    let back = IsKept-joined (tickets - c.tickets) gone f (left s.pass c) more
-    (IsKept-left tickets s f c kept found competes)
-    (sym (get-insert_same s.clients f (left s.pass c))) refl some few in
-    subst (λ (clients : FinMap nat_cmp Client). IsKept (tickets - c.tickets + more) (record s { clients = clients }))
-    (insert-insert_same s.clients f (left s.pass c) (joined s.pass (left s.pass c) more)) back
+    → IsInStep (tickets - c.tickets + more) (with_client s f (after_join s.pass (after_leave s.pass c) more))
+IsInStep-modified tickets s f c more kept found competes some few =
+    let gone = with_client s f (after_leave s.pass c) in
+    let back = IsInStep-after_join (tickets - c.tickets) gone f (after_leave s.pass c) more
+    (IsInStep-after_leave tickets s f c kept found competes)
+    (sym (get-insert_same s.clients f (after_leave s.pass c))) refl some few in
+    subst (λ (clients : FinMap nat_cmp Client). IsInStep (tickets - c.tickets + more) (record s { clients = clients }))
+    (insert-insert_same s.clients f (after_leave s.pass c) (after_join s.pass (after_leave s.pass c) more)) back
 
-pub IsKept-charged : (tickets : ℕ) (s : Stride) (f : ℕ) (c : Client) (units : ℕ) → IsKept tickets s
+pub IsInStep-after_charge : (tickets : ℕ) (s : Stride) (f : ℕ) (c : Client) (units : ℕ) → IsInStep tickets s
     → Some c ≡ get s.clients f → s.clock + units ≤ 2 ^ 40
-    → IsKept tickets (record s { clients = insert s.clients f (charged c units); clock = s.clock + units })
-IsKept-charged tickets s f c units kept found fits = record {
-  total = kept.total ∙ sym (total-charged s.clients f c units (sym found));
+    → IsInStep tickets (record s { clients = insert s.clients f (after_charge c units); clock = s.clock + units })
+IsInStep-after_charge tickets s f c units kept found fits = record {
+  total = kept.total ∙ sym (total-after_charge s.clients f c units (sym found));
   sound = IsSound-charge s f c units kept.sound (sym found) fits;
 }
 
-pub IsKept-charge : (tickets : ℕ) (s : Stride) (f units : ℕ) → IsKept tickets s → IsSome (get s.clients f)
-    → s.clock + units ≤ 2 ^ 40 → IsKept tickets (charge s f units)
-IsKept-charge tickets s f units kept there fits =
-    IsKept-charged tickets s f (client s f) units kept (is_there s f there) fits
+pub IsInStep-charge : (tickets : ℕ) (s : Stride) (f units : ℕ) → IsInStep tickets s → IsSome (get s.clients f)
+    → s.clock + units ≤ 2 ^ 40 → IsInStep tickets (charge s f units)
+IsInStep-charge tickets s f units kept there fits =
+    IsInStep-after_charge tickets s f (client s f) units kept (is_there s f there) fits
 
-pub IsKept-added : (tickets : ℕ) (s : Stride) (f : ℕ) → IsKept tickets s → get s.clients f ≡ None → len s.clients < 64
-    → IsKept tickets (with_client s f new_client)
-IsKept-added tickets s f kept absent room = record {
+pub IsInStep-added : (tickets : ℕ) (s : Stride) (f : ℕ) → IsInStep tickets s → get s.clients f ≡ None → len s.clients
+    < 64
+    → IsInStep tickets (with_client s f new_client)
+IsInStep-added tickets s f kept absent room = record {
   total = kept.total ∙ sym (total-added s.clients f absent);
   sound = IsSound-add s f kept.sound absent room;
 }
 
-pub IsKept-removed : (tickets : ℕ) (s : Stride) (f : ℕ) → IsKept tickets s → IsSome (get s.clients f)
-    → (client s f).competes ≡ false → IsKept tickets (record s { clients = remove s.clients f })
-IsKept-removed tickets s f kept there idle = record {
+pub IsInStep-removed : (tickets : ℕ) (s : Stride) (f : ℕ) → IsInStep tickets s → IsSome (get s.clients f)
+    → (client s f).competes ≡ false → IsInStep tickets (record s { clients = remove s.clients f })
+IsInStep-removed tickets s f kept there idle = record {
   total = kept.total ∙ sym (total-removed s.clients f (client s f) (sym (is_there s f there)) idle);
   sound = IsSound-remove s f kept.sound;
 }
@@ -171,9 +177,9 @@ IsNearGlobalPass-client s f c sound found =
 
 -- to leave and join between which no time passes is one write of the client
 pub modified_is : (s now : Stride) (f tickets : ℕ) → now ≡ update s
-    → with_client now f (joined now.pass (left now.pass (client now f)) tickets) ≡ modify s f tickets
+    → with_client now f (after_join now.pass (after_leave now.pass (client now f)) tickets) ≡ modify s f tickets
 modified_is s now f tickets e =
-    ap (λ (u : Stride). with_client u f (joined u.pass (left u.pass (client u f)) tickets)) e
+    ap (λ (u : Stride). with_client u f (after_join u.pass (after_leave u.pass (client u f)) tickets)) e
     ∙ sym (moved_is s f (Modify tickets))
 
 pub near_in_view : (s now : Stride) (f : ℕ) (c : Client) → s ≡ now → IsSound s → Some c ≡ get s.clients f

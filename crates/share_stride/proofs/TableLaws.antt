@@ -8,18 +8,19 @@ use Rattle.std.specs.Cmp.{nat_cmp_total}
 use Rattle.std.specs.FinMap.{get, insert, remove, len, get-empty, len-empty, same_map}
 use Rattle.std.specs.FinMap.{nat_cmp-IsAntisymmetric}
 use Rattle.share_model.specs.declared.stride.Client.{Client}
-use Rattle.share_model.specs.stride.MapLaws.{get-insert_same, get-insert_other, get-remove_same, get-remove_other}
-use Rattle.share_model.specs.stride.MapLaws.{len-insert_new}
-use Rattle.share_stride.specs.declared.table.Slot.{Slot}
+use Rattle.share_model.proofs.lemmas.stride.MapLaws.{get-insert_same, get-insert_other, get-remove_same}
+use Rattle.share_model.proofs.lemmas.stride.MapLaws.{get-remove_other}
+use Rattle.share_model.proofs.lemmas.stride.MapLaws.{len-insert_new}
+use Rattle.share_stride.specs.declared.table.ClientSlot.{ClientSlot}
 use Rattle.share_stride.specs.Table.{Slots, client_map, slot_at, AreDistinct, HoldsFlow, LacksFlow}
 
-AreDistinct-rest : (head : Option Slot) (rest : Slots) → AreDistinct (head ∷ rest) → AreDistinct rest
+AreDistinct-rest : (head : Option ClientSlot) (rest : Slots) → AreDistinct (head ∷ rest) → AreDistinct rest
 AreDistinct-rest head rest distinct = record {
   same_key = λ i j a b at_i at_j same. let e = distinct.same_key (suc i) (suc j) a b at_i at_j same in omega arith;
 }
 
 -- the client in a slot is the one that the map has for its flow
-pub client_of_slot : (slots : Slots) → AreDistinct slots → (key : ℕ) (slot : Slot) → slot_at slots key ≡ Some slot
+pub client_of_slot : (slots : Slots) → AreDistinct slots → (key : ℕ) (slot : ClientSlot) → slot_at slots key ≡ Some slot
     → get (client_map slots) slot.flow ≡ Some slot.client
 client_of_slot [] distinct key slot at = absurd (cc)
 client_of_slot (None ∷ rest) distinct zero slot at = absurd (cc)
@@ -27,7 +28,7 @@ client_of_slot (None ∷ rest) distinct (suc key) slot at =
     client_of_slot rest (AreDistinct-rest None rest distinct) key slot at
 client_of_slot (Some a ∷ rest) distinct zero slot at =
     let same : a ≡ slot = cc in
-    subst (λ (s : Slot). get (insert (client_map rest) a.flow a.client) s.flow ≡ Some s.client) same
+    subst (λ (s : ClientSlot). get (insert (client_map rest) a.flow a.client) s.flow ≡ Some s.client) same
     (get-insert_same (client_map rest) a.flow a.client)
 client_of_slot (Some a ∷ rest) distinct (suc key) slot at =
     get-insert_other (client_map rest) a.flow a.client slot.flow
@@ -37,12 +38,12 @@ client_of_slot (Some a ∷ rest) distinct (suc key) slot at =
 -- a slot has this client under this flow
 pub record SlotFor (slots : Slots) (flow : ℕ) (client : Client) : Type 0 where
   pub key : ℕ
-  pub slot : Slot
+  pub slot : ClientSlot
   pub found : slot_at slots key ≡ Some slot
   pub flow_is : slot.flow ≡ flow
   pub client_is : slot.client ≡ client
 
-SlotFor-cons : (head : Option Slot) (rest : Slots) (flow : ℕ) (client : Client) → SlotFor rest flow client
+SlotFor-cons : (head : Option ClientSlot) (rest : Slots) (flow : ℕ) (client : Client) → SlotFor rest flow client
     → SlotFor (head ∷ rest) flow client
 SlotFor-cons head rest flow client s =
     record { key = suc s.key; slot = s.slot; found = s.found; flow_is = s.flow_is; client_is = s.client_is }
@@ -83,8 +84,8 @@ lack_of_absent slots flow distinct absent = record {
 
 -- slots that agree on a flow give it one client
 agree : (xs ys : Slots) (flow : ℕ) → AreDistinct xs → AreDistinct ys
-    → ((key : ℕ) (slot : Slot) → slot_at xs key ≡ Some slot → slot.flow ≡ flow → slot_at ys key ≡ Some slot)
-    → ((key : ℕ) (slot : Slot) → slot_at ys key ≡ Some slot → slot.flow ≡ flow → slot_at xs key ≡ Some slot)
+    → ((key : ℕ) (slot : ClientSlot) → slot_at xs key ≡ Some slot → slot.flow ≡ flow → slot_at ys key ≡ Some slot)
+    → ((key : ℕ) (slot : ClientSlot) → slot_at ys key ≡ Some slot → slot.flow ≡ flow → slot_at xs key ≡ Some slot)
     → get (client_map xs) flow ≡ get (client_map ys) flow
 agree xs ys flow distinct_xs distinct_ys to back =
     elim (get (client_map xs) flow) as (λ o. get (client_map xs) flow ≡ o → o ≡ get (client_map ys) flow) [
@@ -101,13 +102,13 @@ agree xs ys flow distinct_xs distinct_ys to back =
     ] refl
 
 -- one slot is new, and each other one is as it was
-pub record ChangesSlot (old new : Slots) (key : ℕ) (slot : Option Slot) : Type 0 where
+pub record ChangesSlot (old new : Slots) (key : ℕ) (slot : Option ClientSlot) : Type 0 where
   pub changed : slot_at new key ≡ slot
   pub others : (other : ℕ) → other ≢ key → slot_at new other ≡ slot_at old other
 
 -- no slot but this one has the flow
 pub record IsOnlyAt (slots : Slots) (flow key : ℕ) : Type 0 where
-  pub only : (k : ℕ) (slot : Slot) → slot_at slots k ≡ Some slot → slot.flow ≡ flow → k ≡ key
+  pub only : (k : ℕ) (slot : ClientSlot) → slot_at slots k ≡ Some slot → slot.flow ≡ flow → k ≡ key
 
 pub only_where_held : (slots : Slots) (flow key : ℕ) → AreDistinct slots → HoldsFlow slots flow key
     → IsOnlyAt slots flow key
@@ -118,8 +119,8 @@ only_where_held slots flow key distinct holds = record {
 pub only_where_lacking : (slots : Slots) (flow key : ℕ) → LacksFlow slots flow → IsOnlyAt slots flow key
 only_where_lacking slots flow key lacks = record { only = λ k slot found same. absurd (lacks.none k slot found same) }
 
--- a flow that is written where it stood, or anew, still has one slot
-pub AreDistinct-write : (old new : Slots) (key : ℕ) (slot : Slot) → AreDistinct old → IsOnlyAt old slot.flow key
+-- a flow that is written where it was, or in a new slot, still has one slot
+pub AreDistinct-write : (old new : Slots) (key : ℕ) (slot : ClientSlot) → AreDistinct old → IsOnlyAt old slot.flow key
     → ChangesSlot old new key (Some slot) → AreDistinct new
 AreDistinct-write old new key slot distinct only changes = record {
   same_key = λ i j a b at_i at_j same.
@@ -150,7 +151,7 @@ AreDistinct-removal old new key distinct changes = record {
   same_key = λ i j a b at_i at_j same. distinct.same_key i j a b (kept i a at_i) (kept j b at_j) same;
 }
   where
-    kept : (k : ℕ) (slot : Slot) → slot_at new k ≡ Some slot → slot_at old k ≡ Some slot
+    kept : (k : ℕ) (slot : ClientSlot) → slot_at new k ≡ Some slot → slot_at old k ≡ Some slot
     kept k slot at =
         elim (cases_eq k key) [
           | inl is ↦ let gone = ap (slot_at new) is in let none = changes.changed in absurd (cc)
@@ -158,8 +159,8 @@ AreDistinct-removal old new key distinct changes = record {
         ]
 
 -- to write a client is to insert it in the map
-pub client_map-write : (old new : Slots) (key : ℕ) (slot : Slot) → AreDistinct old → IsOnlyAt old slot.flow key
-    → ((was : Slot) → slot_at old key ≡ Some was → was.flow ≡ slot.flow) → ChangesSlot old new key (Some slot)
+pub client_map-write : (old new : Slots) (key : ℕ) (slot : ClientSlot) → AreDistinct old → IsOnlyAt old slot.flow key
+    → ((was : ClientSlot) → slot_at old key ≡ Some was → was.flow ≡ slot.flow) → ChangesSlot old new key (Some slot)
     → client_map new ≡ insert (client_map old) slot.flow slot.client
 client_map-write old new key slot distinct only stood changes =
     let distinct_new = AreDistinct-write old new key slot distinct only changes in
@@ -175,7 +176,7 @@ client_map-write old new key slot distinct only stood changes =
           ∙ sym (get-insert_other (client_map old) slot.flow slot.client flow apart)
     ])
   where
-    to : (flow : ℕ) → flow ≢ slot.flow → (k : ℕ) (s : Slot) → slot_at new k ≡ Some s → s.flow ≡ flow
+    to : (flow : ℕ) → flow ≢ slot.flow → (k : ℕ) (s : ClientSlot) → slot_at new k ≡ Some s → s.flow ≡ flow
         → slot_at old k ≡ Some s
     to flow apart k s at same =
         elim (cases_eq k key) [
@@ -186,7 +187,7 @@ client_map-write old new key slot distinct only stood changes =
           | inr differs ↦ sym (changes.others k differs) ∙ at
         ]
 
-    back : (flow : ℕ) → flow ≢ slot.flow → (k : ℕ) (s : Slot) → slot_at old k ≡ Some s → s.flow ≡ flow
+    back : (flow : ℕ) → flow ≢ slot.flow → (k : ℕ) (s : ClientSlot) → slot_at old k ≡ Some s → s.flow ≡ flow
         → slot_at new k ≡ Some s
     back flow apart k s at same =
         elim (cases_eq k key) [
@@ -211,10 +212,10 @@ client_map-removal old new flow key distinct holds changes =
           ∙ sym (get-remove_other (client_map old) flow q apart)
     ])
   where
-    not_there : (k : ℕ) (s : Slot) → slot_at new k ≡ Some s → k ≢ key
+    not_there : (k : ℕ) (s : ClientSlot) → slot_at new k ≡ Some s → k ≢ key
     not_there k s at is = let gone = ap (slot_at new) is in let none = changes.changed in absurd (cc)
 
-    kept : (k : ℕ) (s : Slot) → slot_at new k ≡ Some s → slot_at old k ≡ Some s
+    kept : (k : ℕ) (s : ClientSlot) → slot_at new k ≡ Some s → slot_at old k ≡ Some s
     kept k s at = sym (changes.others k (not_there k s at)) ∙ at
 
     lacking : LacksFlow new flow
@@ -224,7 +225,7 @@ client_map-removal old new flow key distinct holds changes =
               ((only_where_held old flow key distinct holds).only k s (kept k s at) same);
         }
 
-    back : (q : ℕ) → q ≢ flow → (k : ℕ) (s : Slot) → slot_at old k ≡ Some s → s.flow ≡ q → slot_at new k ≡ Some s
+    back : (q : ℕ) → q ≢ flow → (k : ℕ) (s : ClientSlot) → slot_at old k ≡ Some s → s.flow ≡ q → slot_at new k ≡ Some s
     back q apart k s at same =
         elim (cases_eq k key) [
           | inl is ↦

@@ -1,4 +1,4 @@
--- The pairs of an index: a flow number, and the key under which its client stands.
+-- The pairs of an index: a flow number, and the key of its client.
 use Rattle.std.specs.Prelude.{◌≡◌, ℕ, ◌<◌, ◌≤◌, List, length, slice_index_or}
 use Rattle.std.specs.Ordering.{nat_cmp}
 use Rattle.std.specs.FinMap.{FinMap, from_entries}
@@ -23,7 +23,7 @@ pub record IsAt (pairs : Pairs) (flow i : ℕ) : Type 0 where
   pub in_range : i < length pairs
   pub has_flow : flow_at pairs i ≡ flow
 
--- the flow would go at place i: lesser numbers before it, greater ones from it on
+-- the flow would go to place i: the numbers before it are less, those from it on greater
 pub record IsGapFor (pairs : Pairs) (flow i : ℕ) : Type 0 where
   pub in_range : i ≤ length pairs
   pub lesser_before : (j : ℕ) → j < i → flow_at pairs j < flow

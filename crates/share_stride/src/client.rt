@@ -1,8 +1,10 @@
 //! How a move changes one client.
 ghost use Rattle.std.specs.Prelude.{◌≡◌, ◌*◌, ◌/◌, ◌^◌, ◌<◌, ◌≤◌, pos, ◌-ℤ◌};
-ghost use Rattle.share_model.specs.stride.Moves.{stride_of, new_client as model_new_client, rescaled as model_rescaled};
+ghost use Rattle.share_model.specs.stride.Moves.{stride_of, new_client as model_new_client};
+ghost use Rattle.share_model.specs.stride.Moves.{remain_on as model_remain_on};
 ghost use Rattle.share_model.specs.stride.Moves.{floor_div};
-ghost use Rattle.share_model.specs.stride.Moves.{joined as model_joined, left as model_left, charged as model_charged};
+ghost use Rattle.share_model.specs.stride.Moves.{after_join as model_after_join, after_leave as model_after_leave};
+ghost use Rattle.share_model.specs.stride.Moves.{after_charge as model_after_charge};
 ghost use Rattle.share_model.specs.stride.Moves.{position as model_position};
 ghost use Rattle.share_stride.specs.Fits.{IsWithin};
 
@@ -27,7 +29,7 @@ pub(crate) fn new_client() -> Client
     }
 }
 
-/// The stride of so many tickets, 0 of none.
+/// The stride of these tickets; 0 if there are none.
 pub(crate) fn stride_of(tickets: u64) -> u64
     ensures { result ≡ stride_of tickets }
 {
@@ -40,12 +42,12 @@ pub(crate) fn stride_of(tickets: u64) -> u64
 
 /// What a charge adds to a pass.
 pub(crate) fn share(stride: u64, units: u64) -> u128
-    ensures { result ≡ stride * units / 1024 }
+    ensures { result ≡ stride * units / QUANTUM }
 {
     u128::from(stride) * u128::from(units) / QUANTUM
 }
 
-// The quotient. Mostly the number has no more than 64 bits, and two of these are divided sooner than two of 128.
+// The quotient. Most numbers have at most 64 bits, and such a division is faster than one of 128 bits.
 fn quotient(number: u128, by: u64) -> u128
     requires { 0 < by }
     ensures { result ≡ number / by }
@@ -57,7 +59,7 @@ fn quotient(number: u128, by: u64) -> u128
 }
 
 // The quotient, rounded down.
-fn divided(number: i128, by: u64) -> i128
+fn floor_quotient(number: i128, by: u64) -> i128
     requires { 0 < by }
     ensures { result ≡ floor_div number by }
 {
@@ -68,24 +70,24 @@ fn divided(number: i128, by: u64) -> i128
     }
 }
 
-// The remain on a new stride, rounded down; the stride itself where there was none before.
-fn rescaled(new_stride: u64, old_stride: u64, remain: i128) -> i128
+// The remain on a new stride, rounded down. If there was no stride before, it is the new stride.
+fn remain_on(new_stride: u64, old_stride: u64, remain: i128) -> i128
     requires new { new_stride ≤ 2 ^ 40 }
     requires old { old_stride ≤ 2 ^ 40 }
     requires remain { IsWithin remain (old_stride * 2 ^ 41) }
     ensures near { IsWithin result (new_stride * 2 ^ 41) }
-    ensures value { result ≡ model_rescaled new_stride old_stride remain }
+    ensures value { result ≡ model_remain_on new_stride old_stride remain }
 {
     if old_stride == 0 {
         i128::from(new_stride)
     } else if old_stride == new_stride {
         remain
     } else {
-        divided(remain * i128::from(new_stride), old_stride)
+        floor_quotient(remain * i128::from(new_stride), old_stride)
     }
 }
 
-// The stride of so many tickets, which is the client's where it has as many.
+// The stride of these tickets, without a division if the client has as many.
 fn new_stride(client: &Client, tickets: u32) -> u64
     requires { client.now.stride ≡ stride_of client.now.tickets }
     ensures { result ≡ stride_of tickets }
@@ -97,16 +99,16 @@ fn new_stride(client: &Client, tickets: u32) -> u64
     }
 }
 
-/// The client after it joins with so many tickets.
-pub(crate) fn joined(global_pass: u128, client: &Client, tickets: u32) -> Client
+/// The client after it joins with these tickets.
+pub(crate) fn after_join(global_pass: u128, client: &Client, tickets: u32) -> Client
     requires some { 0 < tickets }
     requires pass { global_pass ≤ 2 ^ 80 }
     requires stride { client.now.stride ≡ stride_of client.now.tickets }
     requires remain { IsWithin client.now.remain (client.now.stride * 2 ^ 41) }
-    ensures { result ≡ model_joined global_pass client.now tickets }
+    ensures { result ≡ model_after_join global_pass client.now tickets }
 {
     let stride = new_stride(client, tickets);
-    let remain = rescaled(stride, client.stride, client.remain);
+    let remain = remain_on(stride, client.stride, client.remain);
     Client {
         tickets,
         stride,
@@ -117,10 +119,10 @@ pub(crate) fn joined(global_pass: u128, client: &Client, tickets: u32) -> Client
 }
 
 /// The client after it leaves.
-pub(crate) fn left(global_pass: u128, client: &Client) -> Client
+pub(crate) fn after_leave(global_pass: u128, client: &Client) -> Client
     requires pass { global_pass ≤ 2 ^ 80 }
     requires distance { IsWithin (client.now.pass -ℤ pos global_pass) (2 ^ 81) }
-    ensures { result ≡ model_left global_pass client.now }
+    ensures { result ≡ model_after_leave global_pass client.now }
 {
     Client {
         remain: client.pass - global_pass as i128,
@@ -130,11 +132,11 @@ pub(crate) fn left(global_pass: u128, client: &Client) -> Client
 }
 
 /// The client after a charge.
-pub(crate) fn charged(client: &Client, units: u64) -> Client
+pub(crate) fn after_charge(client: &Client, units: u64) -> Client
     requires units { units ≤ 2 ^ 40 }
     requires stride { client.now.stride ≤ 2 ^ 40 }
     requires place { IsWithin (model_position client.now).place (2 ^ 83) }
-    ensures { result ≡ model_charged client.now units }
+    ensures { result ≡ model_after_charge client.now units }
 {
     let share = share(client.stride, units) as i128;
     let mut charged = *client;
@@ -146,7 +148,7 @@ pub(crate) fn charged(client: &Client, units: u64) -> Client
     charged
 }
 
-/// Where a client stands.
+/// What is read of a client.
 pub(crate) fn position(client: &Client) -> Position
     ensures { result ≡ model_position client.now }
 {

@@ -1,12 +1,12 @@
 //! A heap of the clients that compete.
 ghost use Rattle.std.specs.Prelude.{◌≡◌, ◌<◌, Some, None, IsSome, IfOk, length, replicate, slice_set};
-ghost use Rattle.share_stride.specs.Heap.{standing_under, IsFirst};
+ghost use Rattle.share_stride.specs.Heap.{standing_under, IsFirstStanding};
 
-use crate::seating::{Entry, Seating};
+use crate::seating::{HeapEntry, Seating};
 use std::alloc::{AllocError, Global};
 use std::marker::Model;
 
-/// The clients that compete, by pass and flow number. A contract sees what stands under each key.
+/// The clients that compete, by pass and flow number. A contract sees the entry of each key, if it has one.
 #[derive(Drop)]
 pub(crate) struct Heap {
     seating: Seating,
@@ -26,7 +26,7 @@ impl Model for Heap {
 }
 
 impl Heap {
-    /// An empty heap for so many keys. An error where the memory for these was refused.
+    /// An empty heap for this many keys. An error if the memory for these was refused.
     pub(crate) fn new(alloc: Global, keys: usize) -> Result<Heap, AllocError>
         ensures { IfOk result (λ heap. heap ≡ replicate keys None) }
     {
@@ -37,8 +37,8 @@ impl Heap {
     }
 
     /// The first entry.
-    pub(crate) fn first(&self) -> Option<Entry>
-        ensures { IsFirst self.now result }
+    pub(crate) fn first(&self) -> Option<HeapEntry>
+        ensures { IsFirstStanding self.now result }
     {
         if self.count == 0 {
             None
@@ -47,8 +47,8 @@ impl Heap {
         }
     }
 
-    /// Puts in an entry under a key where nothing stands.
-    pub(crate) fn enter(&mut self, entry: Entry)
+    /// Adds an entry, whose key has none.
+    pub(crate) fn enter(&mut self, entry: HeapEntry)
         requires key { entry.key < length self.old }
         requires out { standing_under self.old entry.key ≡ None }
         ensures { self.new ≡ slice_set self.old entry.key (Some entry) }
@@ -57,19 +57,19 @@ impl Heap {
         let last = self.count;
         self.seating.swap(seat, last);
         self.count = last + 1;
-        self.seating.settle(entry, last, last + 1);
+        self.seating.sift(entry, last, last + 1);
     }
 
-    /// Puts an entry in the place of the one under its key.
-    pub(crate) fn shift(&mut self, entry: Entry)
+    /// Replaces the entry of a key.
+    pub(crate) fn shift(&mut self, entry: HeapEntry)
         requires { IsSome (standing_under self.old entry.key) }
         ensures { self.new ≡ slice_set self.old entry.key (Some entry) }
     {
         let seat = self.seating.seats[entry.key];
-        self.seating.settle(entry, seat, self.count);
+        self.seating.sift(entry, seat, self.count);
     }
 
-    /// Takes out the entry under a key.
+    /// Takes out the entry of a key.
     pub(crate) fn leave(&mut self, key: usize)
         requires { IsSome (standing_under self.old key) }
         ensures { self.new ≡ slice_set self.old key None }
@@ -78,6 +78,6 @@ impl Heap {
         let last = self.count - 1;
         self.seating.swap(seat, last);
         self.count = last;
-        self.seating.resettle(seat, last);
+        self.seating.resift(seat, last);
     }
 }

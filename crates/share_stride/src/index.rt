@@ -8,7 +8,7 @@ use share_base::FlowNo;
 use std::alloc::{AllocError, Global};
 use std::marker::Model;
 
-/// Keys by flow number, in a vector in the order of these. A contract sees a finite map.
+/// Keys by flow number, in a vector in the order of flow numbers. A contract sees a finite map.
 #[derive(Drop)]
 pub(crate) struct Index {
     pairs: Vec<(FlowNo, usize)>,
@@ -25,14 +25,15 @@ impl Model for Index {
     ghost coded = { map.code coded_ℕ coded_ℕ };
 
     ghost use Rattle.share_stride.specs.Index.{key_map, IsRising};
+    ghost use Rattle.share_stride.specs.declared.table.TheConstants.{MAX_CLIENTS};
 
     ghost view = { λ index. key_map index.pairs.items };
 
-    ghost invariant = { λ index. IsRising index.pairs.items × (64 ≤ vec_capacity index.pairs) };
+    ghost invariant = { λ index. IsRising index.pairs.items × (MAX_CLIENTS ≤ vec_capacity index.pairs) };
 }
 
 impl Index {
-    /// An empty index with room for the keys of 64 flows. An error where that memory was refused.
+    /// An empty index with room for the keys of 64 flows. An error if that memory was refused.
     pub(crate) fn new(alloc: Global) -> Result<Index, AllocError>
         ensures { IfOk result (λ index. index ≡ map.empty) }
     {
@@ -41,7 +42,7 @@ impl Index {
         })
     }
 
-    /// The key of a flow, if it is there.
+    /// The key of a flow, if it has one.
     pub(crate) fn get(&self, flow: FlowNo) -> Option<usize>
         ensures { result ≡ map.get self.now flow }
     {
@@ -51,21 +52,21 @@ impl Index {
         }
     }
 
-    /// Inserts the key of a flow that has none, where there are fewer than 64.
+    /// Inserts the key of a flow that has none, while there are fewer than 64.
     pub(crate) fn insert(&mut self, flow: FlowNo, key: usize)
         requires absent { map.get self.old flow ≡ None }
-        requires room { map.len self.old < 64 }
+        requires room { map.len self.old < MAX_CLIENTS }
         ensures { self.new ≡ map.insert self.old flow key }
     {
         match place_of(&self.pairs, flow) {
-            Ok(_) => {}
+            Ok(_) => unreachable!(),
             Err(place) => {
                 let _ = self.pairs.insert(place, (flow, key));
             }
         }
     }
 
-    /// Removes the key of a flow, and answers it.
+    /// Removes the key of a flow, and gives it.
     pub(crate) fn remove(&mut self, flow: FlowNo) -> Option<usize>
         ensures key { result ≡ map.get self.old flow }
         ensures removed { self.new ≡ map.remove self.old flow }
@@ -77,8 +78,8 @@ impl Index {
     }
 }
 
-// Where the pair of a flow is, or where it would go. Where no flow between it and the first was removed, it stands as
-// far past the first as its number is, so that place is tried before the search.
+// Where the pair of a flow is, or where it would go. If no flow between the first one and it was removed, its place is
+// how far its number is past the first, so that place is tried before the search.
 fn place_of(pairs: &[(FlowNo, usize)], flow: FlowNo) -> Result<usize, usize>
     requires { IsRising pairs.now }
     ensures found { IfOk result (IsAt pairs.now flow) }
@@ -91,7 +92,7 @@ fn place_of(pairs: &[(FlowNo, usize)], flow: FlowNo) -> Result<usize, usize>
     pairs.binary_search_by_key(&flow, |pair| pair.0)
 }
 
-// How far the number of a flow is past that of the first pair, and 0 where it is not.
+// How far the number of a flow is past that of the first pair, and 0 if it is not past it.
 fn past_first(pairs: &[(FlowNo, usize)], flow: FlowNo) -> usize
     ensures { MatchOption (slice_get pairs.now 0) (result ≡ 0) (λ first. result ≡ flow - first.0) }
 {

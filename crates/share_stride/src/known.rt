@@ -1,11 +1,11 @@
-//! The stride that is known without a division.
+//! The last stride, which is known without a division.
 ghost use Rattle.std.specs.Prelude.{◌≡◌};
 ghost use Rattle.share_model.specs.stride.Moves.{stride_of};
 
 use crate::client;
 use std::marker::Model;
 
-/// Tickets, and the stride of so many: a division that is mostly asked for again. A contract sees nothing of them.
+/// Tickets and their stride: the last division, which is mostly asked for again. A contract sees nothing of them.
 #[derive(Drop)]
 pub(crate) struct KnownStride {
     tickets: u64,
@@ -24,7 +24,7 @@ impl Model for KnownStride {
 }
 
 impl KnownStride {
-    /// That of no tickets.
+    /// The stride of no tickets.
     pub(crate) fn new() -> KnownStride
         ensures { result ≡ tt }
     {
@@ -34,7 +34,7 @@ impl KnownStride {
         }
     }
 
-    /// The stride of so many tickets, 0 of none.
+    /// The stride of these tickets; 0 if there are none.
     pub(crate) fn of(&mut self, tickets: u64) -> u64
         ensures { result ≡ stride_of tickets }
     {

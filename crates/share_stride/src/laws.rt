@@ -5,25 +5,25 @@ ghost use Rattle.share_model.specs.stride.Level.{RemovalCommutes, RemovalCommute
 ghost use Rattle.share_model.specs.stride.Runs.{RunsStayClose};
 ghost use Rattle.share_model.specs.stride.Shares.{SharesStayClose};
 
-/// Moves of two flows between which no time passes give one state in either order.
+/// Moves of two flows give the same state in either order, if nothing is charged between them.
 pub fn moves_commute()
     ensures { MovesCommute }
 {}
 
-/// After a levelling of distinct flows each client competes exactly where its flow has tickets, and has them; and what
+/// After a levelling of distinct flows a client competes if and only if its flow has tickets, and then with these. What
 /// is level takes no move.
 pub fn levelling_levels()
     ensures level { LevelledIsLevel }
     ensures stays { LevelStays }
 {}
 
-/// Moves of distinct flows between which no time passes give one state in every order, and so does a levelling.
+/// Moves of distinct flows give the same state in every order, if nothing is charged between them. So does a levelling.
 pub fn moves_in_any_order()
     ensures moves { MovesInAnyOrder }
     ensures levelling { LevelledInAnyOrder }
 {}
 
-/// The removal of a client that does not compete, and a move or the levelling of another flow, give one state in
+/// The removal of a client that does not compete and a move or the levelling of another flow give the same state in
 /// either order.
 pub fn removal_commutes()
     ensures moves { RemovalCommutes }
@@ -35,8 +35,9 @@ pub fn next_is_unique()
     ensures { NextIsUnique }
 {}
 
-/// Of two passes, let the one be charged only where it is at most the other. Then it is charged at most the greater of
-/// 0 and these together: what the other is charged, what the other was ahead at the start, and its own largest charge.
+/// Take two passes, `one` and `other`, and charge `one` only while it is at most `other`. Then `one` is charged at most
+/// the greater of 0 and this sum: what `other` is charged, by how much `other` was ahead at the start, and the largest
+/// charge to `one`.
 pub fn shares_stay_close()
     ensures { SharesStayClose }
 {}

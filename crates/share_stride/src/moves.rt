@@ -3,20 +3,20 @@ ghost use Rattle.std.specs.Prelude.{◌≡◌, ◌+◌, ◌^◌, ◌<◌, ◌≤
 ghost use Rattle.std.specs.FinMap as map;
 ghost use Rattle.share_model.specs.stride.Moves.{join as model_join, leave as model_leave, modify as model_modify};
 ghost use Rattle.share_model.specs.stride.Moves.{charge as model_charge};
-ghost use Rattle.share_stride.specs.Table.{IsPlaceIn, client_at};
-ghost use Rattle.share_stride.specs.Queue.{state_of, AreKept, updated};
+ghost use Rattle.share_stride.specs.Table.{IsClientKeyIn, client_at};
+ghost use Rattle.share_stride.specs.Queue.{state_of, AreInStep, after_update};
 
 use crate::client;
 use crate::known::KnownStride;
-use crate::table::{Place, Table};
+use crate::table::{ClientKey, Table};
 use share_model::GlobalPart;
 
-// Moves the global pass on by what was charged since the last update. Mostly that is nothing, where many clients are
-// levelled at once.
+// Moves the global pass on by what was charged since the last update. When many clients are levelled at once, that is
+// mostly nothing.
 fn update(global: &mut GlobalPart, known: &mut KnownStride)
     requires time { global.old.last ≤ global.old.clock }
     requires pass { global.old.pass ≤ 2 ^ 80 }
-    ensures { global.new ≡ updated global.old }
+    ensures { global.new ≡ after_update global.old }
 {
     if global.last == global.clock {
         return;
@@ -26,21 +26,21 @@ fn update(global: &mut GlobalPart, known: &mut KnownStride)
     global.last = global.clock;
 }
 
-/// Lets a client that does not compete join with so many tickets.
+/// Makes a client that does not compete join with these tickets.
 pub(crate) fn join(
     clients: &mut Table,
     global: &mut GlobalPart,
     known: &mut KnownStride,
-    place: Place,
+    place: ClientKey,
     tickets: u32,
 )
-    requires place { IsPlaceIn clients.old place }
+    requires place { IsClientKeyIn clients.old place }
     requires there { IsSome (map.get clients.old.by_flow place.flow) }
-    requires kept { AreKept clients.old global.old }
+    requires kept { AreInStep clients.old global.old }
     requires idle { (client_at clients.old place).competes ≡ false }
     requires some { 0 < tickets }
     requires few { tickets ≤ 2 ^ 20 }
-    ensures kept { AreKept clients.new global.new }
+    ensures kept { AreInStep clients.new global.new }
     ensures joined { state_of clients.new global.new
         ≡ model_join (state_of clients.old global.old) place.flow tickets }
 {
@@ -49,18 +49,18 @@ pub(crate) fn join(
     global.tickets += u64::from(tickets);
 }
 
-/// Lets a client that competes leave.
+/// Makes a client that competes leave.
 pub(crate) fn leave(
     clients: &mut Table,
     global: &mut GlobalPart,
     known: &mut KnownStride,
-    place: Place,
+    place: ClientKey,
 )
-    requires place { IsPlaceIn clients.old place }
+    requires place { IsClientKeyIn clients.old place }
     requires there { IsSome (map.get clients.old.by_flow place.flow) }
-    requires kept { AreKept clients.old global.old }
+    requires kept { AreInStep clients.old global.old }
     requires competes { IsTrue (client_at clients.old place).competes }
-    ensures kept { AreKept clients.new global.new }
+    ensures kept { AreInStep clients.new global.new }
     ensures left { state_of clients.new global.new
         ≡ model_leave (state_of clients.old global.old) place.flow }
 {
@@ -68,21 +68,21 @@ pub(crate) fn leave(
     global.tickets -= u64::from(clients.leave(place, global.pass));
 }
 
-/// Gives a client that competes other tickets.
+/// Changes the tickets of a client that competes.
 pub(crate) fn modify(
     clients: &mut Table,
     global: &mut GlobalPart,
     known: &mut KnownStride,
-    place: Place,
+    place: ClientKey,
     tickets: u32,
 )
-    requires place { IsPlaceIn clients.old place }
+    requires place { IsClientKeyIn clients.old place }
     requires there { IsSome (map.get clients.old.by_flow place.flow) }
-    requires kept { AreKept clients.old global.old }
+    requires kept { AreInStep clients.old global.old }
     requires competes { IsTrue (client_at clients.old place).competes }
     requires some { 0 < tickets }
     requires few { tickets ≤ 2 ^ 20 }
-    ensures kept { AreKept clients.new global.new }
+    ensures kept { AreInStep clients.new global.new }
     ensures modified { state_of clients.new global.new
         ≡ model_modify (state_of clients.old global.old) place.flow tickets }
 {
@@ -91,13 +91,13 @@ pub(crate) fn modify(
     global.tickets = global.tickets - u64::from(before) + u64::from(tickets);
 }
 
-/// Charges a client so many units, and moves the clock on by as many.
-pub(crate) fn charge(clients: &mut Table, global: &mut GlobalPart, place: Place, units: u64)
-    requires place { IsPlaceIn clients.old place }
+/// Charges a client these units, and moves the clock on by them.
+pub(crate) fn charge(clients: &mut Table, global: &mut GlobalPart, place: ClientKey, units: u64)
+    requires place { IsClientKeyIn clients.old place }
     requires there { IsSome (map.get clients.old.by_flow place.flow) }
-    requires kept { AreKept clients.old global.old }
+    requires kept { AreInStep clients.old global.old }
     requires clock { global.old.clock + units ≤ 2 ^ 40 }
-    ensures kept { AreKept clients.new global.new }
+    ensures kept { AreInStep clients.new global.new }
     ensures charged { state_of clients.new global.new
         ≡ model_charge (state_of clients.old global.old) place.flow units }
 {

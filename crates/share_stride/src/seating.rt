@@ -1,38 +1,38 @@
 //! The seats of a heap.
 ghost use Rattle.std.specs.Prelude.{◌≡◌, ◌+◌, ◌*◌, ◌<◌, ◌≤◌, ◌↔◌, IsTrue, IfSome, IfNone, IfOk, length, slice_set};
-ghost use Rattle.share_stride.specs.Seating.{IsBefore, entry_at, IsLifted, RisesPast, SinksPast, IsFirstBelow};
+ghost use Rattle.share_stride.specs.Seating.{IsBefore, entry_in_seat, IsLifted, RisesPast, SinksPast, IsFirstBelow};
 ghost use Rattle.share_stride.specs.Seating.{FitsAbove, FitsBelow, IsOpen, IsOrdered, IsSeated};
-ghost use Rattle.share_stride.specs.Seating.{Rises, Sinks, Settles, Swaps, Resettles};
+ghost use Rattle.share_stride.specs.Seating.{HoleRises, HoleSinks, Sifts, Swaps, Resifts};
 
 use share_base::FlowNo;
 use std::alloc::{AllocError, Global};
 
-/// A client that may compete: its pass, its flow, and the key under which it stands in the table.
+/// A client that may compete: its pass, its flow, and its key in the table.
 #[derive(Clone, Copy, Debug)]
-pub(crate) struct Entry {
+pub(crate) struct HeapEntry {
     pub(crate) pass: i128,
     pub(crate) flow: FlowNo,
     pub(crate) key: usize,
 }
 
-impl Entry {
-    fn is_before(&self, other: &Entry) -> bool
+impl HeapEntry {
+    fn is_before(&self, other: &HeapEntry) -> bool
         ensures { IsTrue result ↔ IsBefore self.now other.now }
     {
-        // Without branches: how two passes compare cannot be foretold.
+        // Without branches: which pass is the lesser cannot be predicted.
         (self.pass < other.pass) | ((self.pass == other.pass) & (self.flow < other.flow))
     }
 }
 
-/// Entries by seat, and the seat of each key. As many as a heap counts stand in it, and have the first seats.
+/// Entries by seat, and the seat of each key. The first seats, as many as the heap counts, are those of the heap.
 #[derive(Drop)]
 pub(crate) struct Seating {
-    pub(crate) entries: Vec<Entry>,
+    pub(crate) entries: Vec<HeapEntry>,
     pub(crate) seats: Vec<usize>,
 }
 
 impl Seating {
-    /// Seats for so many keys. An error where the memory for these was refused.
+    /// Seats for this many keys. An error if the memory for these was refused.
     pub(crate) fn new(alloc: Global, keys: usize) -> Result<Seating, AllocError>
         ensures seated { IfOk result (λ s. IsSeated s.entries.items s.seats.items) }
         ensures long { IfOk result (λ s. length s.entries.items ≡ keys) }
@@ -40,7 +40,7 @@ impl Seating {
         let mut entries = Vec::with_capacity(alloc, keys)?;
         let mut seats = Vec::with_capacity(alloc, keys)?;
         for key in 0..keys {
-            entries.push(Entry {
+            entries.push(HeapEntry {
                 pass: 0,
                 flow: FlowNo(0),
                 key,
@@ -50,15 +50,15 @@ impl Seating {
         Ok(Seating { entries, seats })
     }
 
-    // Moves the entry of a seat to the open one, and leaves its own open.
+    // Moves an entry into the open seat, which leaves its own seat open.
     fn fill(&mut self, hole: usize, from: usize)
         requires hole { hole < length self.old.entries.items }
         requires from { from < length self.old.entries.items }
-        requires key { (entry_at self.old.entries.items from).key < length self.old.seats.items }
+        requires key { (entry_in_seat self.old.entries.items from).key < length self.old.seats.items }
         ensures entries { self.new.entries.items
-            ≡ slice_set self.old.entries.items hole (entry_at self.old.entries.items from) }
+            ≡ slice_set self.old.entries.items hole (entry_in_seat self.old.entries.items from) }
         ensures seats { self.new.seats.items
-            ≡ slice_set self.old.seats.items (entry_at self.old.entries.items from).key hole }
+            ≡ slice_set self.old.seats.items (entry_in_seat self.old.entries.items from).key hole }
     {
         let moved = self.entries[from];
         let key = moved.key;
@@ -66,8 +66,8 @@ impl Seating {
         self.seats[key] = hole;
     }
 
-    // Gives an entry a seat.
-    fn place(&mut self, entry: Entry, seat: usize)
+    // Puts an entry into a seat.
+    fn place(&mut self, entry: HeapEntry, seat: usize)
         requires seat { seat < length self.old.entries.items }
         requires key { entry.key < length self.old.seats.items }
         ensures entries { self.new.entries.items ≡ slice_set self.old.entries.items seat entry }
@@ -92,7 +92,7 @@ impl Seating {
     }
 
     // The seat above the open one, if its entry is later.
-    fn rising_from(&self, entry: &Entry, hole: usize) -> Option<usize>
+    fn rising_from(&self, entry: &HeapEntry, hole: usize) -> Option<usize>
         requires { hole < length self.now.entries.items }
         ensures past { IfSome result (RisesPast self.now.entries.items hole entry.now) }
         ensures fits { IfNone result (FitsAbove self.now.entries.items hole entry.now) }
@@ -108,7 +108,7 @@ impl Seating {
         }
     }
 
-    // Of the seats below the open one, the one with the first entry.
+    // Of the seats right below the open seat, that with the first entry.
     fn first_below(&self, hole: usize, count: usize) -> Option<usize>
         requires { count ≤ length self.now.entries.items }
         ensures first { IfSome result (IsFirstBelow count self.now.entries.items hole) }
@@ -119,13 +119,13 @@ impl Seating {
         }
         let left = 2 * hole + 1;
         let right = left + 1;
-        // Which of the two is first cannot be foretold, so it is added and not branched on.
+        // Which of the two is first cannot be predicted, so it is added and not branched on.
         let later = right < count && self.entries[right].is_before(&self.entries[left]);
         Some(left + usize::from(later))
     }
 
-    // That seat, if its entry is earlier than this one.
-    fn sinking_from(&self, entry: &Entry, hole: usize, count: usize) -> Option<usize>
+    // That seat, if its entry is before this one.
+    fn sinking_from(&self, entry: &HeapEntry, hole: usize, count: usize) -> Option<usize>
         requires { count ≤ length self.now.entries.items }
         ensures past { IfSome result (SinksPast count self.now.entries.items hole entry.now) }
         ensures fits { IfNone result (FitsBelow count self.now.entries.items hole entry.now) }
@@ -142,10 +142,10 @@ impl Seating {
         }
     }
 
-    // Moves an open seat up to where this entry fits below the one above it, and answers that seat.
-    fn rise(&mut self, entry: &Entry, start: usize) -> usize
+    // Moves the open seat up until this entry is not before the one above it, and gives the open seat.
+    fn rise(&mut self, entry: &HeapEntry, start: usize) -> usize
         requires { IsLifted self.old.entries.items self.old.seats.items start entry.now.key }
-        ensures rises { Rises self.old.entries.items self.old.seats.items start self.new.entries.items
+        ensures rises { HoleRises self.old.entries.items self.old.seats.items start self.new.entries.items
             self.new.seats.items result entry.now }
         ensures fits { FitsAbove self.new.entries.items result entry.now }
     {
@@ -157,13 +157,13 @@ impl Seating {
         hole
     }
 
-    // Moves an open seat down to where this entry fits above those below it, and answers that seat.
-    fn sink(&mut self, entry: &Entry, start: usize, count: usize) -> usize
+    // Moves the open seat down until no entry below it is before this one, and gives the open seat.
+    fn sink(&mut self, entry: &HeapEntry, start: usize, count: usize) -> usize
         requires lifted { IsLifted self.old.entries.items self.old.seats.items start entry.now.key }
         requires few { count ≤ length self.old.entries.items }
         requires is_open { IsOpen count self.old.entries.items start }
         requires above { FitsAbove self.old.entries.items start entry.now }
-        ensures sinks { Sinks count self.old.entries.items self.old.seats.items self.new.entries.items
+        ensures sinks { HoleSinks count self.old.entries.items self.old.seats.items self.new.entries.items
             self.new.seats.items result entry.now }
         ensures fits { FitsBelow count self.new.entries.items result entry.now }
     {
@@ -175,12 +175,12 @@ impl Seating {
         hole
     }
 
-    /// Gives an entry, whose seat is open, the seat where it belongs in a heap of so many.
-    pub(crate) fn settle(&mut self, entry: Entry, hole: usize, count: usize)
+    /// Puts an entry, whose seat is open, where it belongs in a heap of `count` entries.
+    pub(crate) fn sift(&mut self, entry: HeapEntry, hole: usize, count: usize)
         requires lifted { IsLifted self.old.entries.items self.old.seats.items hole entry.key }
         requires few { count ≤ length self.old.entries.items }
         requires is_open { IsOpen count self.old.entries.items hole }
-        ensures { Settles count self.old.entries.items self.old.seats.items self.new.entries.items
+        ensures { Sifts count self.old.entries.items self.old.seats.items self.new.entries.items
             self.new.seats.items entry }
     {
         let seat = match self.rising_from(&entry, hole) {
@@ -190,18 +190,18 @@ impl Seating {
         self.place(entry, seat);
     }
 
-    /// Gives the entry of a seat the one where it belongs in a heap of so many, if it is one of the heap.
-    pub(crate) fn resettle(&mut self, seat: usize, count: usize)
+    /// Moves the entry of a seat to where it belongs in a heap of `count` entries, if the seat is one of the heap.
+    pub(crate) fn resift(&mut self, seat: usize, count: usize)
         requires seated { IsSeated self.old.entries.items self.old.seats.items }
         requires few { count ≤ length self.old.entries.items }
         requires inside { seat < count → IsOpen count self.old.entries.items seat }
         requires behind { count ≤ seat → IsOrdered count self.old.entries.items }
-        ensures { Resettles count self.old.entries.items self.old.seats.items self.new.entries.items
+        ensures { Resifts count self.old.entries.items self.old.seats.items self.new.entries.items
             self.new.seats.items }
     {
         if seat < count {
             let entry = self.entries[seat];
-            self.settle(entry, seat, count);
+            self.sift(entry, seat, count);
         }
     }
 }

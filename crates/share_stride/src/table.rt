@@ -2,16 +2,16 @@
 ghost use Rattle.std.specs.Prelude.{◌≡◌, ◌<◌, ◌≤◌, ◌*◌, ◌^◌, ◌↔◌, pos, ◌-ℤ◌, Some, None, false, length, slice_set};
 ghost use Rattle.std.specs.Prelude.{IsTrue, IsSome, IfSome, IfOk, is_some};
 ghost use Rattle.std.specs.FinMap as map;
-ghost use Rattle.share_model.specs.stride.Moves.{IsNext, stride_of, joined, left, charged, position};
+ghost use Rattle.share_model.specs.stride.Moves.{IsNext, stride_of, after_join, after_leave, after_charge, position};
 ghost use Rattle.share_stride.specs.Fits.{IsWithin};
-ghost use Rattle.share_stride.specs.Table.{no_clients, client_of, client_at, with_client_at, IsPlaceIn};
+ghost use Rattle.share_stride.specs.Table.{no_clients, client_of, client_at, with_client_at, IsClientKeyIn};
 ghost use Rattle.share_stride.specs.Table.{entry_of};
 ghost use Rattle.share_stride.specs.Heap.{standing_under};
 
 use crate::client;
 use crate::heap::Heap;
 use crate::index::Index;
-use crate::seating::Entry;
+use crate::seating::HeapEntry;
 use share_base::FlowNo;
 use share_model::Client;
 use slab::Slab;
@@ -22,23 +22,22 @@ use std::marker::Model;
 pub(crate) const MAX_CLIENTS: usize = 64;
 
 #[derive(Clone, Copy, Debug)]
-pub(crate) struct Slot {
+pub(crate) struct ClientSlot {
     flow: FlowNo,
     client: Client,
 }
 
-/// Where the client of a flow stands.
+/// Where the client of a flow is in the table.
 #[derive(Clone, Copy, Debug)]
-pub(crate) struct Place {
+pub(crate) struct ClientKey {
     flow: FlowNo,
     key: usize,
 }
 
-/// Clients by their flow numbers. A contract sees two finite maps: of the clients, and of the keys under which they
-/// stand.
+/// Clients by their flow numbers. A contract sees two finite maps, from flow numbers to clients and to their keys.
 #[derive(Drop)]
 pub(crate) struct Table {
-    slots: Slab<Slot>,
+    slots: Slab<ClientSlot>,
     index: Index,
     heap: Heap,
 }
@@ -56,7 +55,7 @@ impl Model for Table {
 }
 
 impl Table {
-    /// An empty table with room for all its clients. An error where that memory was refused.
+    /// An empty table with room for all its clients. An error if that memory was refused.
     pub(crate) fn new(alloc: Global) -> Result<Table, AllocError>
         ensures { IfOk result (λ table. table ≡ no_clients) }
     {
@@ -73,32 +72,32 @@ impl Table {
         self.slots.len()
     }
 
-    /// The place of a flow's client, if it is there.
-    pub(crate) fn find(&self, flow: FlowNo) -> Option<Place>
+    /// The place of a flow's client, if it has one.
+    pub(crate) fn find(&self, flow: FlowNo) -> Option<ClientKey>
         ensures flow { IfSome result (λ place. place.flow ≡ flow) }
-        ensures found { IfSome result (IsPlaceIn self.now) }
+        ensures found { IfSome result (IsClientKeyIn self.now) }
         ensures there { IsSome result ↔ IsSome (map.get self.now.by_flow flow) }
     {
         match self.index.get(flow) {
             None => None,
-            Some(key) => Some(Place { flow, key }),
+            Some(key) => Some(ClientKey { flow, key }),
         }
     }
 
     /// The client at a place.
-    pub(crate) fn at(&self, place: &Place) -> Client
-        requires { IsPlaceIn self.now place.now }
+    pub(crate) fn at(&self, place: &ClientKey) -> Client
+        requires { IsClientKeyIn self.now place.now }
         ensures { Some result ≡ map.get self.now.by_flow place.now.flow }
     {
         match self.slots.get(place.key) {
-            None => client::new_client(),
+            None => unreachable!(),
             Some(slot) => slot.client,
         }
     }
 
-    /// Lets the client at a place, which does not compete, join with so many tickets.
-    pub(crate) fn enter(&mut self, place: Place, global_pass: u128, tickets: u32)
-        requires place { IsPlaceIn self.old place }
+    /// Makes the client at a place, which does not compete, join with these tickets.
+    pub(crate) fn enter(&mut self, place: ClientKey, global_pass: u128, tickets: u32)
+        requires place { IsClientKeyIn self.old place }
         requires idle { (client_at self.old place).competes ≡ false }
         requires some { 0 < tickets }
         requires pass { global_pass ≤ 2 ^ 80 }
@@ -107,13 +106,13 @@ impl Table {
         requires remain { IsWithin (client_at self.old place).remain
             ((client_at self.old place).stride * 2 ^ 41) }
         ensures { self.new
-            ≡ with_client_at self.old place (joined global_pass (client_at self.old place) tickets) }
+            ≡ with_client_at self.old place (after_join global_pass (client_at self.old place) tickets) }
     {
         match self.slots.get_mut(place.key) {
-            None => {}
+            None => unreachable!(),
             Some(slot) => {
-                slot.client = client::joined(global_pass, &slot.client, tickets);
-                self.heap.enter(Entry {
+                slot.client = client::after_join(global_pass, &slot.client, tickets);
+                self.heap.enter(HeapEntry {
                     pass: slot.client.pass,
                     flow: slot.flow,
                     key: place.key,
@@ -122,20 +121,20 @@ impl Table {
         }
     }
 
-    /// Lets the client at a place, which competes, leave, and answers its tickets.
-    pub(crate) fn leave(&mut self, place: Place, global_pass: u128) -> u32
-        requires place { IsPlaceIn self.old place }
+    /// Makes the client at a place, which competes, leave, and gives its tickets.
+    pub(crate) fn leave(&mut self, place: ClientKey, global_pass: u128) -> u32
+        requires place { IsClientKeyIn self.old place }
         requires competes { IsTrue (client_at self.old place).competes }
         requires pass { global_pass ≤ 2 ^ 80 }
         requires distance { IsWithin ((client_at self.old place).pass -ℤ pos global_pass) (2 ^ 81) }
         ensures tickets { result ≡ (client_at self.old place).tickets }
         ensures left { self.new
-            ≡ with_client_at self.old place (left global_pass (client_at self.old place)) }
+            ≡ with_client_at self.old place (after_leave global_pass (client_at self.old place)) }
     {
         match self.slots.get_mut(place.key) {
-            None => 0,
+            None => unreachable!(),
             Some(slot) => {
-                slot.client = client::left(global_pass, &slot.client);
+                slot.client = client::after_leave(global_pass, &slot.client);
                 let tickets = slot.client.tickets;
                 self.heap.leave(place.key);
                 tickets
@@ -143,10 +142,10 @@ impl Table {
         }
     }
 
-    /// Gives the client at a place, which competes, other tickets: it leaves, and joins with them. Answers those that
+    /// Changes the tickets of the client at a place, which competes: it leaves, and joins with these. Gives those that
     /// it had.
-    pub(crate) fn modify(&mut self, place: Place, global_pass: u128, tickets: u32) -> u32
-        requires place { IsPlaceIn self.old place }
+    pub(crate) fn modify(&mut self, place: ClientKey, global_pass: u128, tickets: u32) -> u32
+        requires place { IsClientKeyIn self.old place }
         requires competes { IsTrue (client_at self.old place).competes }
         requires some { 0 < tickets }
         requires pass { global_pass ≤ 2 ^ 80 }
@@ -156,46 +155,46 @@ impl Table {
             ((client_at self.old place).stride * 2 ^ 41) }
         ensures tickets { result ≡ (client_at self.old place).tickets }
         ensures modified { self.new ≡ with_client_at self.old place
-            (joined global_pass (left global_pass (client_at self.old place)) tickets) }
+            (after_join global_pass (after_leave global_pass (client_at self.old place)) tickets) }
     {
         match self.slots.get_mut(place.key) {
-            None => 0,
+            None => unreachable!(),
             Some(slot) => {
                 let before = slot.client.tickets;
-                let client = client::left(global_pass, &slot.client);
-                slot.client = client::joined(global_pass, &client, tickets);
+                let client = client::after_leave(global_pass, &slot.client);
+                slot.client = client::after_join(global_pass, &client, tickets);
                 shift(&mut self.heap, slot, place.key);
                 before
             }
         }
     }
 
-    /// Charges the client at a place so many units.
-    pub(crate) fn charge(&mut self, place: Place, units: u64)
-        requires place { IsPlaceIn self.old place }
+    /// Charges the client at a place these units.
+    pub(crate) fn charge(&mut self, place: ClientKey, units: u64)
+        requires place { IsClientKeyIn self.old place }
         requires units { units ≤ 2 ^ 40 }
         requires stride { (client_at self.old place).stride ≤ 2 ^ 40 }
         requires fits { IsWithin (position (client_at self.old place)).place (2 ^ 83) }
         ensures { self.new
-            ≡ with_client_at self.old place (charged (client_at self.old place) units) }
+            ≡ with_client_at self.old place (after_charge (client_at self.old place) units) }
     {
         match self.slots.get_mut(place.key) {
-            None => {}
+            None => unreachable!(),
             Some(slot) => {
-                slot.client = client::charged(&slot.client, units);
+                slot.client = client::after_charge(&slot.client, units);
                 shift(&mut self.heap, slot, place.key);
             }
         }
     }
 
-    /// Adds the client of a flow that has none, one that does not compete, where there are fewer than 64.
+    /// Adds a client, which does not compete, for a flow that has none, while there are fewer than 64.
     pub(crate) fn add(&mut self, flow: FlowNo, client: Client)
         requires absent { map.get self.old.by_flow flow ≡ None }
         requires idle { client.competes ≡ false }
-        requires room { map.len self.old.by_flow < 64 }
+        requires room { map.len self.old.by_flow < MAX_CLIENTS }
         ensures { self.new.by_flow ≡ map.insert self.old.by_flow flow client }
     {
-        let key = self.slots.insert_reserved(Slot { flow, client });
+        let key = self.slots.insert_reserved(ClientSlot { flow, client });
         self.index.insert(flow, key);
     }
 
@@ -206,7 +205,7 @@ impl Table {
         ensures { self.new.by_flow ≡ map.remove self.old.by_flow flow }
     {
         match self.index.remove(flow) {
-            None => {}
+            None => unreachable!(),
             Some(key) => {
                 self.slots.try_remove(key);
             }
@@ -224,14 +223,14 @@ impl Table {
     }
 }
 
-// Brings the entry of a client, where it competes, to its pass.
-fn shift(heap: &mut Heap, slot: &Slot, key: usize)
+// If the client competes, brings its entry of the heap to its pass.
+fn shift(heap: &mut Heap, slot: &ClientSlot, key: usize)
     requires key { key < length heap.old }
     requires stands { is_some (standing_under heap.old key) ≡ slot.now.client.competes }
     ensures { heap.new ≡ slice_set heap.old key (entry_of key slot.now) }
 {
     if slot.client.competes {
-        heap.shift(Entry {
+        heap.shift(HeapEntry {
             pass: slot.client.pass,
             flow: slot.flow,
             key,

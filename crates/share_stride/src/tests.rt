@@ -34,7 +34,7 @@ enum Row {
     Stride(u32, u64),
     /// The pass or the remain of a flow.
     Place(u32, i128),
-    /// The flow with the least pass, 0 where none competes.
+    /// The flow with the least pass, 0 if none competes.
     Least(u32),
     /// The tickets of the flows that compete.
     Tickets(u64),
@@ -45,7 +45,7 @@ enum Row {
     Clock(u64),
 }
 
-// The move is made, or the queue shows this.
+// Whether the move is made, or the queue shows this.
 fn holds(queue: &mut Queue, row: Row) -> bool {
     match row {
         Row::Made(flow, step) => make(queue, flow, step),
@@ -78,8 +78,8 @@ fn plays(rt: &impl Abort, alloc: Global, rows: &[Row]) {
     drop(queue);
 }
 
-/// Three flows with 3, 2 and 1 tickets compete, and each frame is of 1024 units: which flow is picked, and where all
-/// stand after the third pick and after the last one.
+/// Three flows with 3, 2 and 1 tickets compete, and each frame is of 1024 units: which flow is picked, and the figures
+/// of all after the third pick and after the last one.
 const THREE_FLOWS: [Row; 35] = [
     Row::Made(1, Move::Add),
     Row::Made(1, Move::Join(3)),
@@ -123,7 +123,7 @@ fn shares_by_tickets(rt: HostRuntime) {
     plays(&rt, rt.alloc(), &THREE_FLOWS);
 }
 
-/// A remain goes over to other tickets by the strides, and not by the tickets.
+/// When tickets change, a remain changes with the strides, and not with the tickets.
 const RESCALED: [Row; 14] = [
     Row::Made(1, Move::Add),
     Row::Made(2, Move::Add),
@@ -146,7 +146,7 @@ fn rescaled_by_strides(rt: HostRuntime) {
     plays(&rt, rt.alloc(), &RESCALED);
 }
 
-/// A flow leaves behind the global pass, and returns with other tickets.
+/// A flow leaves while it is behind the global pass, and returns with other tickets.
 const BEHIND: [Row; 12] = [
     Row::Made(1, Move::Add),
     Row::Made(2, Move::Add),
@@ -179,7 +179,7 @@ const JOINS_LATE: [Row; 8] = [
     Row::Least(2),
 ];
 
-/// One that is charged after it left keeps the charge.
+/// A flow that is charged after it left keeps the charge.
 const CHARGED_LATE: [Row; 10] = [
     Row::Made(1, Move::Add),
     Row::Made(1, Move::Join(1)),
@@ -199,7 +199,7 @@ fn charged_late(rt: HostRuntime) {
     plays(&rt, rt.alloc(), &CHARGED_LATE);
 }
 
-/// A levelling joins, leaves and changes; where nothing must change there is no update of the global pass.
+/// A levelling joins, leaves and changes; if nothing has to change, the global pass is not updated.
 const LEVELLED: [Row; 23] = [
     Row::Made(1, Move::Add),
     Row::Made(2, Move::Add),
@@ -288,7 +288,7 @@ pub(crate) enum Move {
     Remove,
 }
 
-// Makes a move where it may be made, and says whether it was.
+// Makes a move if its contract allows it, and says whether it was made.
 fn make(queue: &mut Queue, flow: u32, step: Move) -> bool {
     match step {
         Move::Add => add(queue, flow),

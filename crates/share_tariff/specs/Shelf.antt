@@ -5,8 +5,8 @@ use Rattle.share_model.specs.link.Tariff.{AreInRange}
 use Rattle.share_tariff.specs.declared.tariff.Tariff.{Tariff}
 use Rattle.share_tariff.specs.declared.shelf.Shelf.{Shelf}
 
--- the two closures of a tariff are of any kinds: A and B are these, C and D what they hold, and charge and book say
--- what a call of one gives
+-- the two closures of a tariff may be of any types: A and B are these, C and D what they hold, and charge and book say
+-- what a call of each gives
 module _ {A B : Type 0} {C : A → Type 0} {D : B → Type 0} {charge : _} {book : _} where
   -- the numbers of a tariff
   abbrev pub rate_in : Tariff A B C D charge book → Rate

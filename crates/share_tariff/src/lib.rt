@@ -1,4 +1,4 @@
-//! Tariffs that store the closures by which a link charges and posts, and the shelf on which they stand.
+//! Tariffs that store the closures by which a link charges and posts, and the shelf that holds them.
 #![tactic(auto)]
 
 mod laws;
@@ -9,6 +9,6 @@ mod tariff;
 mod tests;
 
 pub use laws::bytes_fill_whole_cells;
-pub use plain::{posted, units_by_division};
+pub use plain::{account_after, units_by_division};
 pub use shelf::{MAX_TARIFFS, Shelf};
-pub use tariff::{Book, Charge, Tariff};
+pub use tariff::{BookFn, ChargeFn, Tariff};

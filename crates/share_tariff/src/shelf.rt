@@ -1,6 +1,7 @@
 //! The shelf of a link's tariffs.
 ghost use Rattle.std.specs.Prelude.{◌≡◌, ◌≤◌, IfOk, IfErr, vec_len, true, false};
 ghost use Rattle.share_base.specs.declared.refusal.Refusal.TheVariants.{Range};
+ghost use Rattle.share_tariff.specs.declared.shelf.TheConstants.{MAX_TARIFFS};
 
 use crate::tariff::Tariff;
 use share_base::Refusal;
@@ -14,7 +15,7 @@ pub const MAX_TARIFFS: usize = 8;
 pub struct Shelf {
     tariffs: Vec<Tariff>,
     ghost some: { 1 ≤ vec_len tariffs },
-    ghost few: { vec_len tariffs ≤ 8 },
+    ghost few: { vec_len tariffs ≤ MAX_TARIFFS },
 }
 
 impl Shelf {
@@ -22,7 +23,7 @@ impl Shelf {
     ghost use Rattle.share_model.specs.link.Tariff.{rate_at};
     ghost use Rattle.share_tariff.specs.Shelf.{rate_in, rates_of, is_shelf_length};
 
-    /// The shelf of these tariffs. `Range` unless they are 1 to 8; they are dropped then. It takes no memory.
+    /// The shelf of these tariffs. `Range` if there are not 1 to 8 of them; then they are dropped. It takes no memory.
     pub fn new(tariffs: Vec<Tariff>) -> Result<Shelf, Refusal>
         ensures ok { IfOk result (λ s.
             (rates_of s ≡ map rate_in tariffs.items)
@@ -36,7 +37,7 @@ impl Shelf {
         Ok(Shelf { tariffs })
     }
 
-    /// The tariff of a number, from 1. `None` where no tariff has it. It takes no memory.
+    /// The tariff of a number, from 1. `None` if no tariff has it. It takes no memory.
     pub fn get(&self, number: u64) -> Option<&Tariff>
         ensures { option_map rate_in (option_copied result) ≡ rate_at (rates_of self.now) number }
     {
@@ -60,20 +61,20 @@ impl Rates for Shelf {
 
     fn units(&self, number: u64, count: u32) -> u64 {
         match self.get(number) {
-            None => 0,
+            None => unreachable!(),
             Some(tariff) => tariff.units(count),
         }
     }
 
     fn post(&self, number: u64, account: u64, units: u64) -> u64 {
         match self.get(number) {
-            None => 0,
+            None => unreachable!(),
             Some(tariff) => tariff.post(account, units),
         }
     }
 }
 
-/// A shelf that is lent charges and posts alike, so that several links can stand over one.
+/// A borrowed shelf charges and posts in the same way, so several links can share one.
 impl Rates for &Shelf {
     ghost use Rattle.share_tariff.specs.Shelf.{rates_of, rates_in_range};
 

@@ -2,60 +2,60 @@
 ghost use Rattle.std.specs.Prelude.{◌≡◌, ◌<◌, ◌≤◌, ◌^◌, IfOk, IfErr, true, false};
 ghost use Rattle.share_base.specs.declared.refusal.Refusal.TheVariants.{Range};
 ghost use Rattle.share_model.specs.link.Tariff.{is_rate, IsInRange, units_of, post_of};
-ghost use Rattle.share_tariff.specs.Rules.{Charges, Books};
+ghost use Rattle.share_tariff.specs.Rules.{ChargesRightly, BooksRightly};
 
 use share_base::Refusal;
 use share_model::Rate;
 
 /// The largest cell, in units.
-const MAX_CELL: u64 = 2048;
+pub(crate) const MAX_CELL: u64 = 2048;
 
 /// The largest overhead of a frame, in units.
-const MAX_OVERHEAD: u64 = 1024;
+pub(crate) const MAX_OVERHEAD: u64 = 1024;
 
 /// The highest price of a unit.
-const MAX_PRICE: u64 = 65535;
+pub(crate) const MAX_PRICE: u64 = 65535;
 
-/// The units that so many bytes are charged.
-pub type Charge = Box<dyn Fn(u32) -> u64 + Send>;
+/// From a count of bytes to the units that they are charged.
+pub type ChargeFn = Box<dyn Fn(u32) -> u64 + Send>;
 
-/// An account after so many units were charged.
-pub type Book = Box<dyn Fn(u64, u64) -> u64 + Send>;
+/// From an account and the units charged to the account after them.
+pub type BookFn = Box<dyn Fn(u64, u64) -> u64 + Send>;
 
-/// A tariff whose numbers are in range, and the two closures by which it charges and posts. They were made by the
-/// caller, and meet the tariff's rule: `charge` for up to 65535 bytes, `book` for an account of up to 2^62 and up to
-/// 2^17 units. A contract sees the numbers.
+/// A tariff whose numbers are in range, and the two closures by which it charges and posts. The caller made them, and
+/// they follow the tariff's rule: `charge` for up to 65535 bytes, `book` for an account of up to 2^62 and up to 2^17
+/// units. A contract sees the numbers.
 #[derive(Drop)]
 pub struct Tariff {
     rate: Rate,
-    charge: Charge,
-    book: Book,
+    charge: ChargeFn,
+    book: BookFn,
     ghost in_range: { IsInRange rate },
-    ghost charges: { Charges rate (λ n. Charge.pre charge n) (λ n u. Charge.post charge n u) },
-    ghost books: { Books rate (λ a u. Book.pre book a u) (λ a u after. Book.post book a u after) },
+    ghost charges: { ChargesRightly rate (λ n. ChargeFn.pre charge n) (λ n u. ChargeFn.post charge n u) },
+    ghost books: { BooksRightly rate (λ a u. BookFn.pre book a u) (λ a u after. BookFn.post book a u after) },
 }
 
 impl Tariff {
     ghost use Rattle.share_tariff.specs.Shelf.{rate_in};
 
     /// The tariff of these numbers: a cell of 1 to 2048 units, an overhead of 0 to 1024 units, and a price of 0 to
-    /// 65535 for each unit. `Range` where one of them is out of its range; the closures are dropped then. It takes no
+    /// 65535 for each unit. `Range` if one of them is out of its range; then the closures are dropped. It takes no
     /// memory.
     ///
-    /// Where the numbers are in range, the closures may be called and meet the tariff's rule.
+    /// If the numbers are in range, the closures must follow the tariff's rule and may be called where it says so.
     pub fn new(
         cell: u64,
         overhead: u64,
         price: u64,
-        charge: Charge,
-        book: Book,
+        charge: ChargeFn,
+        book: BookFn,
     ) -> Result<Tariff, Refusal>
         requires charges { is_rate cell overhead price ≡ true
-            → Charges (record { cell = cell; overhead = overhead; price = price })
-            (λ n. Charge.pre charge n) (λ n u. Charge.post charge n u) }
+            → ChargesRightly (record { cell = cell; overhead = overhead; price = price })
+            (λ n. ChargeFn.pre charge n) (λ n u. ChargeFn.post charge n u) }
         requires books { is_rate cell overhead price ≡ true
-            → Books (record { cell = cell; overhead = overhead; price = price })
-            (λ a u. Book.pre book a u) (λ a u after. Book.post book a u after) }
+            → BooksRightly (record { cell = cell; overhead = overhead; price = price })
+            (λ a u. BookFn.pre book a u) (λ a u after. BookFn.post book a u after) }
         ensures ok { IfOk result (λ t.
             (rate_in t ≡ record { cell = cell; overhead = overhead; price = price })
             × (is_rate cell overhead price ≡ true)) }
@@ -81,7 +81,7 @@ impl Tariff {
         requires { count < 2 ^ 16 }
         ensures { result ≡ units_of (rate_in self.now) count }
     {
-        charged(&self.charge, count)
+        call_charge(&self.charge, count)
     }
 
     /// An account after `units` units were charged: it grows by the price for each of them. It takes no memory.
@@ -90,7 +90,7 @@ impl Tariff {
         requires units { units ≤ 2 ^ 17 }
         ensures { result ≡ post_of (rate_in self.now) account units }
     {
-        booked(&self.book, account, units)
+        call_book(&self.book, account, units)
     }
 }
 
@@ -102,17 +102,17 @@ fn is_rate(cell: u64, overhead: u64, price: u64) -> bool
 }
 
 // The answer of a stored charge.
-fn charged(charge: &Charge, count: u32) -> u64
-    requires { Charge.pre charge.now count }
-    ensures { Charge.post charge.now count result }
+fn call_charge(charge: &ChargeFn, count: u32) -> u64
+    requires { ChargeFn.pre charge.now count }
+    ensures { ChargeFn.post charge.now count result }
 {
     charge(count)
 }
 
 // The answer of a stored book.
-fn booked(book: &Book, account: u64, units: u64) -> u64
-    requires { Book.pre book.now account units }
-    ensures { Book.post book.now account units result }
+fn call_book(book: &BookFn, account: u64, units: u64) -> u64
+    requires { BookFn.pre book.now account units }
+    ensures { BookFn.post book.now account units result }
 {
     book(account, units)
 }

@@ -1,7 +1,7 @@
 //! Worked units, and the ranges of tariffs and shelves. The boxes of a tariff are made in the test that uses them.
 mod closures;
 
-use crate::{Book, Charge, Shelf, Tariff, posted, shelf, units_by_division};
+use crate::{BookFn, ChargeFn, Shelf, Tariff, account_after, shelf, units_by_division};
 use closures::units_by_steps;
 use share_base::Refusal;
 use share_model::Rates;
@@ -17,7 +17,7 @@ const COUNTS: [u32; 5] = [0, 1, 48, 49, 1502];
 /// The units of these counts under the tariff of cell 48 and overhead 16.
 const BY_48: [u64; 5] = [0, 64, 64, 112, 1552];
 
-// The tariff has these units for the counts, and adds what it should to an account of 7.
+// Whether the tariff charges these units for the counts, and adds what it should to an account of 7.
 fn charges(tariff: &Tariff, units: [u64; 5]) -> bool {
     for (count, wanted) in COUNTS.into_iter().zip(units) {
         if count >= 65536 || tariff.units(count) != wanted {
@@ -30,18 +30,18 @@ fn charges(tariff: &Tariff, units: [u64; 5]) -> bool {
 #[test]
 fn charges_whatever_closures_are_stored(rt: HostRuntime) -> Result<(), Fail> {
     let alloc = rt.alloc();
-    let charge: Charge = Box::new(alloc, |count: u32| -> u64 {
+    let charge: ChargeFn = Box::new(alloc, |count: u32| -> u64 {
         units_by_division(48, 16, count)
     })?;
-    let book: Book = Box::new(alloc, |account: u64, units: u64| -> u64 {
-        posted(2, account, units)
+    let book: BookFn = Box::new(alloc, |account: u64, units: u64| -> u64 {
+        account_after(2, account, units)
     })?;
     let tariff = Tariff::new(48, 16, 2, charge, book)?;
     assert!(rt; charges(&tariff, BY_48), "by division");
     drop(tariff);
-    let charge: Charge = Box::new(alloc, |count: u32| -> u64 { units_by_steps(48, 16, count) })?;
-    let book: Book = Box::new(alloc, |account: u64, units: u64| -> u64 {
-        posted(2, account, units)
+    let charge: ChargeFn = Box::new(alloc, |count: u32| -> u64 { units_by_steps(48, 16, count) })?;
+    let book: BookFn = Box::new(alloc, |account: u64, units: u64| -> u64 {
+        account_after(2, account, units)
     })?;
     let tariff = Tariff::new(48, 16, 2, charge, book)?;
     assert!(rt; charges(&tariff, BY_48), "by steps");
@@ -49,7 +49,7 @@ fn charges_whatever_closures_are_stored(rt: HostRuntime) -> Result<(), Fail> {
     Ok(())
 }
 
-// The shelf has these units for the counts under a tariff, and makes this of an account of 7 and 100 units.
+// Whether the shelf charges these units for the counts under a tariff, and posts 100 units to an account of 7 so.
 fn shows<S: Rates>(shelf: &S, number: u64, units: [u64; 5], account: u64) -> bool {
     if !shelf.has(number) {
         return false;
@@ -116,7 +116,7 @@ fn tariffs_have_ranges(rt: HostRuntime) -> Result<(), Fail> {
     Ok(())
 }
 
-// What a tariff whose charge holds the token is refused by. Its boxes are dropped, whatever it is.
+// Why a tariff of these numbers is refused, if it is. Its charge holds the token; all is dropped at the end.
 fn refused(
     rt: &impl Abort,
     alloc: Global,
@@ -126,13 +126,13 @@ fn refused(
     price: u64,
 ) -> Option<Refusal> {
     let held = Arc::try_clone(token).expect(rt, "memory");
-    let charge: Charge = Box::new(alloc, move |count: u32| -> u64 {
+    let charge: ChargeFn = Box::new(alloc, move |count: u32| -> u64 {
         let _ = &held;
         units_by_division(cell, overhead, count)
     })
     .expect(rt, "memory");
-    let book: Book = Box::new(alloc, move |account: u64, units: u64| -> u64 {
-        posted(price, account, units)
+    let book: BookFn = Box::new(alloc, move |account: u64, units: u64| -> u64 {
+        account_after(price, account, units)
     })
     .expect(rt, "memory");
     Tariff::new(cell, overhead, price, charge, book).err()
@@ -151,12 +151,12 @@ fn shelves_hold_one_to_eight(rt: HostRuntime) -> Result<(), Fail> {
         let mut tariffs = Vec::new(alloc);
         for _ in 0..count {
             let held = Arc::try_clone(&token)?;
-            let charge: Charge = Box::new(alloc, move |count: u32| -> u64 {
+            let charge: ChargeFn = Box::new(alloc, move |count: u32| -> u64 {
                 let _ = &held;
                 units_by_division(1, 0, count)
             })?;
-            let book: Book = Box::new(alloc, |account: u64, units: u64| -> u64 {
-                posted(1, account, units)
+            let book: BookFn = Box::new(alloc, |account: u64, units: u64| -> u64 {
+                account_after(1, account, units)
             })?;
             tariffs.push(Tariff::new(1, 0, 1, charge, book)?)?;
         }
@@ -168,12 +168,12 @@ fn shelves_hold_one_to_eight(rt: HostRuntime) -> Result<(), Fail> {
     Ok(())
 }
 
-// The words, which count the calls of the closures, are these.
+// Whether the closures were called this often.
 fn counted(charged: &AtomicU64, booked: &AtomicU64, charges: u64, books: u64) -> bool {
     charged.load(Ordering::SeqCst) == charges && booked.load(Ordering::SeqCst) == books
 }
 
-// A rate asks its closures as often as it is asked itself.
+// A tariff calls its closure once for each call of its own.
 fn asks_once(rt: &impl Abort, tariff: &Tariff, charged: &AtomicU64, booked: &AtomicU64) {
     for asked in 1..=3 {
         let charges = tariff.units(49) == 112 && counted(charged, booked, asked, asked - 1);
@@ -189,14 +189,14 @@ fn a_stored_closure_is_called_once_for_each_answer(rt: HostRuntime) -> Result<()
     let charged = Arc::new(alloc, AtomicU64::new(0))?;
     let booked = Arc::new(alloc, AtomicU64::new(0))?;
     let word = Arc::try_clone(&charged)?;
-    let charge: Charge = Box::new(alloc, move |count: u32| -> u64 {
+    let charge: ChargeFn = Box::new(alloc, move |count: u32| -> u64 {
         word.fetch_add(1, Ordering::SeqCst);
         units_by_division(48, 16, count)
     })?;
     let word = Arc::try_clone(&booked)?;
-    let book: Book = Box::new(alloc, move |account: u64, units: u64| -> u64 {
+    let book: BookFn = Box::new(alloc, move |account: u64, units: u64| -> u64 {
         word.fetch_add(1, Ordering::SeqCst);
-        posted(2, account, units)
+        account_after(2, account, units)
     })?;
     let tariff = Tariff::new(48, 16, 2, charge, book)?;
     asks_once(&rt, &tariff, &charged, &booked);

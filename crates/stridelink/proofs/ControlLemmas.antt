@@ -10,10 +10,11 @@ use Rattle.share_base.specs.declared.refusal.Refusal.{Refusal}
 use Rattle.share_base.specs.declared.refusal.Refusal.TheVariants.{Syntax}
 use Rattle.share_model.specs.declared.line.Line.{Line}
 use Rattle.share_model.specs.declared.line.Line.TheVariants.{Change, Send, Turn, Torn, Report, Audit}
-use Rattle.share_model.specs.text.Lines.{Reads, is_send}
+use Rattle.share_model.specs.text.Lines.{ReadsLine, is_send}
 use Rattle.share_locked.specs.Calls.{CommandMade}
 use Rattle.share_locked.specs.Views.{LockedView, ClerkView, with_room}
-use Rattle.stridelink.specs.Control.{request_by, request_of, request_in, MadeInHold, Changed, Answers, reply_text}
+use Rattle.stridelink.specs.Control.{request_by, request_of, request_in, MadeInHold, Changed, AnswersRequest}
+use Rattle.stridelink.specs.Control.{control_reply_text}
 use Rattle.stridelink.specs.declared.serve.control.Request.{Request}
 use Rattle.stridelink.specs.declared.serve.control.Request.TheVariants.{Change as AsksChange, NoPlace}
 
@@ -26,7 +27,8 @@ packet_has_no_place Report is = absurd (true≢false (sym is))
 packet_has_no_place Audit is = refl
 
 -- a packet has no place, so want of memory for its payload makes no difference
-pub request_read : (bytes : List ℕ) (read : Result Line Refusal) → Reads bytes read → request_of read ≡ request_in bytes
+pub request_read : (bytes : List ℕ) (read : Result Line Refusal) → ReadsLine bytes read → request_of read
+    ≡ request_in bytes
 request_read bytes read (inl same) = ap request_of same
 request_read bytes read (inr none) =
     ap request_of none.0 ∙ sym (ap request_of none.1.1 ∙ packet_has_no_place none.1.0 none.1.2)
@@ -51,13 +53,13 @@ made_in_hold before between after c reply held left number same made =
 
 pub answers_change : (W : Type 0) (before : ClerkView) (request : Request) (c : Command) (reply : Reply)
     (after : ClerkView) → request ≡ AsksChange c → Changed W before c reply after
-    → Answers W before request (reply_text reply) after
+    → AnswersRequest W before request (control_reply_text reply) after
 answers_change W before request c reply after is did =
-    let P : Request → Type 0 = λ asked. Answers W before asked (reply_text reply) after in
+    let P : Request → Type 0 = λ asked. AnswersRequest W before asked (control_reply_text reply) after in
     subst P (sym is) (reply, did, refl)
 
 pub answers_no_place : (W : Type 0) (clerk : ClerkView) (request : Request) → request ≡ NoPlace
-    → Answers W clerk request (reply_text (Refused Syntax)) clerk
+    → AnswersRequest W clerk request (control_reply_text (Refused Syntax)) clerk
 answers_no_place W clerk request is =
-    let P : Request → Type 0 = λ asked. Answers W clerk asked (reply_text (Refused Syntax)) clerk in
+    let P : Request → Type 0 = λ asked. AnswersRequest W clerk asked (control_reply_text (Refused Syntax)) clerk in
     subst P (sym is) (refl, refl)

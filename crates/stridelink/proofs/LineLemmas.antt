@@ -6,23 +6,23 @@ use Rattle.std.proofs.lemmas.Grind.{flat_map-append}
 use Rattle.std.proofs.lemmas.List.{append-nil, length-append}
 use Rattle.std.proofs.lemmas.List.Elements.{All-nil, All-push}
 use mathlib.Core.List.{append_assoc}
-use Rattle.stridelink.specs.Strict.{NoFeed}
+use Rattle.stridelink.specs.Strict.{EndsNoLine}
 use Rattle.share_model.specs.declared.reader.Got.{Got}
 use Rattle.share_model.specs.declared.reader.Got.TheVariants.{Bytes, End, Interrupted, Failed}
-use Rattle.stridelink.specs.Lines.{IsLine, LineGives, given, with_feed}
+use Rattle.stridelink.specs.Lines.{EndsInLine, LineGives, given_bytes, with_feed}
 
 pub take_again : {A : Type 0} (n : ℕ) (xs ys : List A) → take n (take n xs ++ ys) ≡ take n (xs ++ ys)
 take_again zero xs ys = refl
 take_again (suc n) [] ys = refl
 take_again (suc n) (x ∷ xs) ys = ap (λ zs. x ∷ zs) (take_again n xs ys)
 
-pub first_line : {kept : List ℕ} → kept ≡ [] → IsLine [] 1 kept false
+pub first_line : {kept : List ℕ} → kept ≡ [] → EndsInLine [] 1 kept false
 first_line none =
     record {
       before = [];
       line = [];
       whole = refl;
-      plain = (All-nil NoFeed, All-nil (λ b. b ≢ 10));
+      plain = (All-nil EndsNoLine, All-nil (λ b. b ≢ 10));
       numbered = refl;
       keeps = none;
     }
@@ -32,8 +32,8 @@ min_again n m = omega arith
 
 -- the line has ended, and the next one begins
 pub next_line : {text kept keeps : List ℕ} {number numbers : ℕ} {ended : Bool} → ended ≡ true
-    → numbers ≡ min (number + 1) (2 ^ 64 - 1) → keeps ≡ [] → IsLine text number kept ended
-    → IsLine text numbers keeps false
+    → numbers ≡ min (number + 1) (2 ^ 64 - 1) → keeps ≡ [] → EndsInLine text number kept ended
+    → EndsInLine text numbers keeps false
 next_line {text = text} {numbers = numbers} {ended = ended} over n none is =
     let P : Bool → Type 0 = λ b. text ≡ flat_map with_feed is.before ++ (is.line ++ (if b then 10 ∷ [] else [])) in
     let whole : text ≡ flat_map with_feed is.before ++ with_feed is.line = subst P over is.whole in
@@ -47,14 +47,14 @@ next_line {text = text} {numbers = numbers} {ended = ended} over n none is =
       before = is.before ++ is.line ∷ [];
       line = [];
       whole = whole ∙ sym more ∙ sym (append-nil (flat_map with_feed (is.before ++ is.line ∷ [])));
-      plain = (All-push NoFeed is.before is.line is.plain.0 is.plain.1, All-nil (λ b. b ≢ 10));
+      plain = (All-push EndsNoLine is.before is.line is.plain.0 is.plain.1, All-nil (λ b. b ≢ 10));
       numbered = count ∙ ap (λ k. min (k + 1) (2 ^ 64 - 1)) (sym size);
       keeps = none;
     }
 
 -- the line ends
-pub line_ends : {text kept : List ℕ} {number : ℕ} → IsLine text number kept false
-    → IsLine (text ++ 10 ∷ []) number kept true
+pub line_ends : {text kept : List ℕ} {number : ℕ} → EndsInLine text number kept false
+    → EndsInLine (text ++ 10 ∷ []) number kept true
 line_ends {text = text} is =
     let front = flat_map with_feed is.before in
     record {
@@ -69,8 +69,8 @@ line_ends {text = text} is =
 
 -- the line goes on
 pub line_goes_on : {text kept keeps : List ℕ} {number : ℕ} (byte : ℕ) → byte ≢ 10
-    → keeps ≡ take 4096 (kept ++ byte ∷ []) → IsLine text number kept false
-    → IsLine (text ++ byte ∷ []) number keeps false
+    → keeps ≡ take 4096 (kept ++ byte ∷ []) → EndsInLine text number kept false
+    → EndsInLine (text ++ byte ∷ []) number keeps false
 line_goes_on {text = text} {kept = kept} {keeps = keeps} byte other k is =
     let front = flat_map with_feed is.before in
     let line = is.line ++ byte ∷ [] in
@@ -88,8 +88,8 @@ line_goes_on {text = text} {kept = kept} {keeps = keeps} byte other k is =
 pub byte_given : {I : Type 0} {gives : I → List ℕ → Got → I → Type 0} {before after : I} {number numbers n : ℕ}
     {kept keeps : List ℕ} {ended ends : Bool} (piece rest : List ℕ) → length piece ≡ 1
     → gives before piece (Bytes n) after → 0 < n → n ≤ length piece
-    → ((text : List ℕ) → IsLine text number kept ended
-    → IsLine (text ++ get_or (piece ++ rest) 0 0 ∷ []) numbers keeps ends)
+    → ((text : List ℕ) → EndsInLine text number kept ended
+    → EndsInLine (text ++ get_or (piece ++ rest) 0 0 ∷ []) numbers keeps ends)
     → LineGives gives before number kept ended (piece ++ rest) (Bytes n) after numbers keeps ends
 byte_given [] rest one gave some few follows = absurd (omega (arith, one))
 byte_given {numbers = numbers} {n = n} {keeps = keeps} {ends = ends} (b ∷ []) rest one gave some few follows =
@@ -97,7 +97,7 @@ byte_given {numbers = numbers} {n = n} {keeps = keeps} {ends = ends} (b ∷ []) 
     record {
       gave = gave;
       follows = λ text is.
-          let P : ℕ → Type 0 = λ k. IsLine (text ++ take k (b ∷ rest)) numbers keeps ends in
+          let P : ℕ → Type 0 = λ k. EndsInLine (text ++ take k (b ∷ rest)) numbers keeps ends in
           subst P (sym single) (follows text is);
     }
 byte_given (b ∷ c ∷ bs) rest one gave some few follows = absurd (omega (arith, one))
@@ -105,14 +105,14 @@ byte_given (b ∷ c ∷ bs) rest one gave some few follows = absurd (omega (arit
 -- what it gave where it gave none
 nothing_given_of : {I : Type 0} {gives : I → List ℕ → Got → I → Type 0} {before after : I} {number : ℕ}
     {kept : List ℕ} {ended : Bool} (piece rest : List ℕ) (got : Got) → length piece ≡ 1
-    → gives before piece got after → given (piece ++ rest) got ≡ []
+    → gives before piece got after → given_bytes (piece ++ rest) got ≡ []
     → LineGives gives before number kept ended (piece ++ rest) got after number kept ended
 nothing_given_of [] rest got one gave none = absurd (omega (arith, one))
 nothing_given_of {number = number} {kept = kept} {ended = ended} (b ∷ []) rest got one gave none =
     record {
       gave = gave;
       follows = λ text is.
-          let P : List ℕ → Type 0 = λ bs. IsLine bs number kept ended in
+          let P : List ℕ → Type 0 = λ bs. EndsInLine bs number kept ended in
           subst P (sym (ap (λ bs. text ++ bs) none ∙ append-nil text)) is;
     }
 nothing_given_of (b ∷ c ∷ bs) rest got one gave none = absurd (omega (arith, one))

@@ -5,9 +5,9 @@ use Rattle.std.proofs.Math.Seq.{take-append-add}
 use Rattle.std.proofs.lemmas.List.{append-nil, length-take}
 use Rattle.share_model.specs.declared.writer.Answer.{Answer}
 use Rattle.share_model.specs.declared.writer.Answer.TheVariants.{Failed}
-use Rattle.stridelink.specs.Strict.{IsRefusal, NoFeed, kept_after, StrictAnswers, is_answer, is_refusal, is_over}
+use Rattle.stridelink.specs.Strict.{IsRefusal, EndsNoLine, kept_after, StrictAnswers, is_answer, is_refusal, is_over}
 
--- the first line feed of a piece stands behind so many bytes
+-- the first line feed of a piece is behind this many bytes
 abbrev pub FeedAt : List ℕ → ℕ → Type 0
 FeedAt piece size = piece ≡ take size piece ++ 10 ∷ drop (size + 1) piece
 
@@ -24,7 +24,7 @@ with_feed piece size few feed =
 
 pub passes_answer : {O : Type 0} {answers : O → List ℕ → Answer → O → Type 0} {before after : O}
     {kept piece keeps : List ℕ} {mark marks : Bool} {answer : Answer} (size : ℕ) → size < length piece
-    → FeedAt piece size → NoFeed (take size piece) → ¬ (IsRefusal (kept ++ take size piece))
+    → FeedAt piece size → EndsNoLine (take size piece) → ¬ (IsRefusal (kept ++ take size piece))
     → answers before (take (size + 1) piece) answer after
     → keeps ≡ kept_after kept (take (size + 1) piece) size answer → marks ≡ mark
     → StrictAnswers answers before kept mark piece answer after keeps marks
@@ -39,7 +39,7 @@ passes_answer {answers = answers} {before = before} {after = after} {kept = kept
 
 pub passes_refusal : {O : Type 0} {answers : O → List ℕ → Answer → O → Type 0} {before after : O}
     {kept piece keeps : List ℕ} {mark marks : Bool} {answer : Answer} (size : ℕ) → size < length piece → 0 < size
-    → FeedAt piece size → NoFeed (take size piece) → IsRefusal (kept ++ take size piece)
+    → FeedAt piece size → EndsNoLine (take size piece) → IsRefusal (kept ++ take size piece)
     → answers before (take size piece) answer after → keeps ≡ kept_after kept (take size piece) size answer
     → marks ≡ mark → StrictAnswers answers before kept mark piece answer after keeps marks
 passes_refusal {kept = kept} {piece = piece} {keeps = keeps} {answer = answer} size few some feed plain is did k m =

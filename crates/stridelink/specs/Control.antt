@@ -1,4 +1,4 @@
--- What is said on a control connection.
+-- The lines of a control connection, and their answers.
 use Rattle.std.specs.Prelude.{◌≡◌, ◌⊎◌, ℕ, List, Result, Ok, Err}
 use Rattle.share_base.specs.declared.command.Command.{Command}
 use Rattle.share_base.specs.declared.command.Outcome.TheVariants.{Replied}
@@ -30,11 +30,11 @@ abbrev pub request_of : Result Line Refusal → Request
 request_of (Ok l) = request_by l
 request_of (Err refusal) = NoPlace
 
--- what the bytes of a line ask for; what spells no line, or one out of range, has no place either
+-- what the bytes of a line ask for; bytes that spell no line, or one out of range, have no place either
 abbrev pub request_in : List ℕ → Request
 request_in bytes = request_of (reading bytes)
 
--- the command was made in one hold of the lock, by the clerk with room for its receipt, and this is its reply
+-- the clerk, with room for a receipt, made the command in one hold of the lock, and this is the reply
 pub record MadeInHold (W : Type 0) (before : ClerkView) (c : Command) (reply : Reply) (after : ClerkView) : Type 0
   where
     pub room : ℕ
@@ -43,22 +43,22 @@ pub record MadeInHold (W : Type 0) (before : ClerkView) (c : Command) (reply : R
     pub left : LockedView W
     pub made : CommandMade held (with_room before room) c number reply left after
 
--- the reply to a change: that to the command; or there was no memory for a receipt, and the command was not made
+-- the reply to a change: the reply to its command; or there was no memory for a receipt, and no command was made
 abbrev pub Changed : (W : Type 0) → ClerkView → Command → Reply → ClerkView → Type 0
 Changed W before c reply after =
     MadeInHold W before c reply after ⊎ ((reply ≡ Refused NoMemory) × (after ≡ before))
 
-abbrev pub reply_text : Reply → List ℕ
-reply_text reply = line_text (Replied reply)
+abbrev pub control_reply_text : Reply → List ℕ
+control_reply_text reply = line_text (Replied reply)
 
--- the report of the link in one hold of the lock, or that there was no memory for it
+-- the report of the link in one hold of the lock, or the answer that there was no memory for it
 abbrev pub Reported : (W : Type 0) → List ℕ → Type 0
 Reported W text =
-    ((held : LockedView W) × (text ≡ report held.recorder.link.live)) ⊎ (text ≡ reply_text (Refused NoMemory))
+    ((held : LockedView W) × (text ≡ report held.recorder.link.live)) ⊎ (text ≡ control_reply_text (Refused NoMemory))
 
 -- the text that answers a request, and the clerk after it: the reply to a change, the report, and Syntax to all else
-abbrev pub Answers : (W : Type 0) → ClerkView → Request → List ℕ → ClerkView → Type 0
-Answers W before (AsksChange c) text after =
-    (reply : Reply) × Changed W before c reply after × (text ≡ reply_text reply)
-Answers W before AsksReport text after = (after ≡ before) × Reported W text
-Answers W before NoPlace text after = (after ≡ before) × (text ≡ reply_text (Refused Syntax))
+abbrev pub AnswersRequest : (W : Type 0) → ClerkView → Request → List ℕ → ClerkView → Type 0
+AnswersRequest W before (AsksChange c) text after =
+    (reply : Reply) × Changed W before c reply after × (text ≡ control_reply_text reply)
+AnswersRequest W before AsksReport text after = (after ≡ before) × Reported W text
+AnswersRequest W before NoPlace text after = (after ≡ before) × (text ≡ control_reply_text (Refused Syntax))

@@ -1,6 +1,6 @@
 -- The faults of a run of the server, in the order in which they are told.
 use Rattle.std.specs.Prelude.{Bool, false, List, [], ◌∷◌, Option, None, Some, if◌then◌else◌}
-use Rattle.stridelink.specs.declared.serve.fault.Found.{Found}
+use Rattle.stridelink.specs.declared.serve.fault.FoundFaults.{FoundFaults}
 use Rattle.stridelink.specs.declared.serve.fault.ServeFault.{ServeFault}
 use Rattle.stridelink.specs.declared.serve.fault.ServeFault.TheVariants.{Accept, Thread, Uplink, Life, Unsent, LeftOver}
 use Rattle.stridelink.specs.declared.serve.fault.ServeFault.TheVariants.{Mismatch, NoMemory, Audit, Output}
@@ -10,8 +10,8 @@ abbrev pub first_of : List (Bool × ServeFault) → Option ServeFault
 first_of [] = None
 first_of (row ∷ rows) = if row.0 then Some row.1 else first_of rows
 
--- all, in their order
-abbrev pub faults_of : Found → List (Bool × ServeFault)
+-- all faults, in their order
+abbrev pub faults_of : FoundFaults → List (Bool × ServeFault)
 faults_of f =
     (f.accept, Accept)
     ∷ (f.thread, Thread)
@@ -25,7 +25,7 @@ faults_of f =
     ∷ (f.output, Output)
     ∷ []
 
-abbrev pub no_fault : Found
+abbrev pub no_fault : FoundFaults
 no_fault = record {
   accept = false;
   thread = false;

@@ -8,7 +8,7 @@ use Rattle.share_model.specs.declared.reader.Got.TheVariants.{Bytes, End, Interr
 use Rattle.share_model.specs.io.Given.{Gives}
 use Rattle.stridelink.specs.Lines.{LineGives}
 
--- of a buffer, the beginning of its beginning
+-- the beginning of a buffer's beginning
 pub take_of_take : {A : Type 0} (m n : ℕ) (xs : List A) → m ≤ length (take n xs) → take m (take n xs) ≡ take m xs
 take_of_take zero n xs few = refl
 take_of_take (suc m) zero xs few = absurd (omega (arith, few))

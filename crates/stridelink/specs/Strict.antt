@@ -10,33 +10,33 @@ abbrev pub IsRefusal : List ℕ → Type 0
 IsRefusal line = take 3 line ≡ codes "no "
 
 -- no line ends among the bytes
-abbrev pub NoFeed : List ℕ → Type 0
-NoFeed bytes = All (λ b. b ≢ 10) bytes
+abbrev pub EndsNoLine : List ℕ → Type 0
+EndsNoLine bytes = All (λ b. b ≢ 10) bytes
 
--- what is kept of a line after an answer to more of it, of which so many bytes stand before its line feed
+-- what is kept of a line after an answer to a further part of it, which has `size` bytes before its line feed
 abbrev pub kept_after : List ℕ → List ℕ → ℕ → Answer → List ℕ
 kept_after kept part size (Accepted k) = if nat_lt size k then [] else take 64 (kept ++ take k part)
 kept_after kept part size Interrupted = kept
 kept_after kept part size Failed = kept
 
--- What an offer does to the writer below, the line in which the output stands, and the mark of a refusal. The piece is
--- passed on as far as its first line goes: with its line feed if the line is no refusal, and else without; the line
--- feed of a refusal is not passed on, and from there on offers fail.
+-- What an offer does to the writer below, the last line of the output, and the mark of a refusal. The first line of the
+-- piece is passed on: with its line feed if the line is no refusal, else without. From the line feed of a refusal on
+-- offers fail.
 pub data StrictAnswers {O : Type 0} (answers : O → List ℕ → Answer → O → Type 0) (before : O) (kept : List ℕ)
     (mark : Bool) (piece : List ℕ) (answer : Answer) (after : O) (keeps : List ℕ) (marks : Bool) : Type 0 where
-  goes_on : NoFeed piece → answers before piece answer after → keeps ≡ kept_after kept piece (length piece) answer
+  goes_on : EndsNoLine piece → answers before piece answer after → keeps ≡ kept_after kept piece (length piece) answer
       → marks ≡ mark → StrictAnswers answers before kept mark piece answer after keeps marks
-  is_answer : (line rest : List ℕ) → piece ≡ line ++ 10 ∷ rest → NoFeed line → ¬ (IsRefusal (kept ++ line))
+  is_answer : (line rest : List ℕ) → piece ≡ line ++ 10 ∷ rest → EndsNoLine line → ¬ (IsRefusal (kept ++ line))
       → answers before (line ++ 10 ∷ []) answer after
       → keeps ≡ kept_after kept (line ++ 10 ∷ []) (length line) answer → marks ≡ mark
       → StrictAnswers answers before kept mark piece answer after keeps marks
-  is_refusal : (line rest : List ℕ) → piece ≡ line ++ 10 ∷ rest → NoFeed line → line ≢ [] → IsRefusal (kept ++ line)
+  is_refusal : (line rest : List ℕ) → piece ≡ line ++ 10 ∷ rest → EndsNoLine line → line ≢ [] → IsRefusal (kept ++ line)
       → answers before line answer after → keeps ≡ kept_after kept line (length line) answer → marks ≡ mark
       → StrictAnswers answers before kept mark piece answer after keeps marks
   is_over : (rest : List ℕ) → piece ≡ 10 ∷ rest → IsRefusal kept → answer ≡ Failed → after ≡ before → keeps ≡ kept
       → marks ≡ true → StrictAnswers answers before kept mark piece answer after keeps marks
 
--- after offers of which some was accepted each, one was refused, and the writer stands at a refusal then
+-- after offers, of each of which some was accepted, one was refused, and then the writer has its mark
 pub record EndsAtRefusal {W : Type 0} (answers : W → List ℕ → Answer → W → Type 0) (mark : W → Bool) (first : W)
     : Type 0 where
   pub last : W

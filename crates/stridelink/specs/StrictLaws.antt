@@ -9,7 +9,7 @@ use Rattle.share_model.specs.io.Told.{Told, WasTold}
 use Rattle.share_model.specs.io.PatientLaws.{Tells}
 use Rattle.stridelink.specs.Strict.{StrictAnswers, goes_on, is_answer, is_refusal, is_over}
 
--- an answer to a part of a piece is one to the piece
+-- an answer to the front of a piece is an answer to the piece
 pub told_of_part : (before after : Option Told) (part rest : List ℕ) (answer : Answer)
     → WasTold before part answer after → WasTold before (part ++ rest) answer after
 told_of_part before after part rest (Accepted k) told =

@@ -1,6 +1,7 @@
-//! What help tells of scripts and of the server.
+//! The texts of help on scripts and on the server.
 
-/// An example, their lines, the words of these, the tariffs, the answers, why a line is refused, and how a run ends.
+/// On scripts: an example, the lines and their words, the tariffs, the answers, why a line is refused, and how a run
+/// ends.
 pub const SCRIPTS: &str = "An example, a script that sends one packet:
   open a 4 1         a flow named a, with room for 4 packets, under tariff 1
   mktkt 10 base      ticket 1, of 10 units of the base currency
@@ -77,7 +78,7 @@ Exit statuses:
      which
   2  the words of the command line are wrong";
 
-/// What the server accepts, in which order, how it ends, the lines of its control connections, and its statuses.
+/// On the server: what it accepts and in which order, how it ends, the lines of control connections, and the statuses.
 pub const SERVER: &str =
     "Addresses are HOST:PORT; with port 0 the system picks one, which --verbose tells.
 Order:

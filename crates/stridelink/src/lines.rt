@@ -1,16 +1,16 @@
 //! A script that is read a byte at a time.
 ghost use Rattle.std.specs.Prelude.{◌≡◌, ◌++◌, [], ◌∷◌, List, ℕ, false, true};
-ghost use Rattle.stridelink.specs.Lines.{IsLine};
+ghost use Rattle.stridelink.specs.Lines.{EndsInLine};
 
 use crate::strict::keep;
 use arrayvec::ArrayVec;
-use share_model::{Got, Source};
+use share_model::{Got, TellingReader};
 
 /// How many bytes of a line are kept.
 const KEPT: usize = 4096;
 
-/// A reader over another one that gives one byte a call, so that a run has answered each line before it reads of the
-/// next. It keeps the line to which the last byte belongs.
+/// Wraps a reader, and gives one byte a call, so that a run answers each line before it reads from the next. It keeps
+/// the beginning of the line to which the last byte belongs.
 #[derive(Drop)]
 pub struct LineReader<I> {
     input: I,
@@ -19,11 +19,11 @@ pub struct LineReader<I> {
     is_ended: bool,
 }
 
-impl<I: Source> LineReader<I> {
+impl<I: TellingReader> LineReader<I> {
     /// A reader that has given nothing.
     pub fn new(input: I) -> LineReader<I>
         ensures input { result.input ≡ input }
-        ensures line { IsLine [] result.number result.line.items result.is_ended }
+        ensures line { EndsInLine [] result.number result.line.items result.is_ended }
     {
         LineReader {
             input,
@@ -47,11 +47,11 @@ impl<I: Source> LineReader<I> {
         self.line.as_slice()
     }
 
-    // Goes on to the next line where this one has ended.
+    // Goes on to the next line if this one has ended.
     fn begin_line(&mut self)
         ensures input { self.new.input ≡ self.old.input }
-        ensures line { (text : List ℕ) → IsLine text self.old.number self.old.line.items self.old.is_ended
-            → IsLine text self.new.number self.new.line.items false }
+        ensures line { (text : List ℕ) → EndsInLine text self.old.number self.old.line.items self.old.is_ended
+            → EndsInLine text self.new.number self.new.line.items false }
         ensures goes { self.new.is_ended ≡ false }
     {
         if self.is_ended {
@@ -61,11 +61,11 @@ impl<I: Source> LineReader<I> {
         }
     }
 
-    // One more byte was read.
+    // Takes in one more byte that was read.
     fn follow(&mut self, byte: u8)
         ensures input { self.new.input ≡ self.old.input }
-        ensures line { (text : List ℕ) → IsLine text self.old.number self.old.line.items self.old.is_ended
-            → IsLine (text ++ byte ∷ []) self.new.number self.new.line.items self.new.is_ended }
+        ensures line { (text : List ℕ) → EndsInLine text self.old.number self.old.line.items self.old.is_ended
+            → EndsInLine (text ++ byte ∷ []) self.new.number self.new.line.items self.new.is_ended }
     {
         self.begin_line();
         if byte == b'\n' {
@@ -76,7 +76,7 @@ impl<I: Source> LineReader<I> {
     }
 }
 
-impl<I: Source> Source for LineReader<I> {
+impl<I: TellingReader> TellingReader for LineReader<I> {
     ghost use Rattle.stridelink.specs.Lines.{LineGives};
     ghost use Rattle.stridelink.specs.LinesLaws.{lines_tell};
 

@@ -1,22 +1,22 @@
 //! A link that shares its bandwidth among packet flows by tickets, driven by a script of lines or by sockets.
 #![tactic(auto)]
 
-ghost use Rattle.std.specs.Prelude.{◌≡◌, ◌≢◌, ◌⊎◌, ◌^◌, ℕ, [], None, true, false, IfOk, IfErr, IfSome, OnOk};
+ghost use Rattle.std.specs.Prelude.{◌≡◌, ◌≢◌, ◌⊎◌, ◌^◌, [], None, Err, true, false, IfOk, IfErr, IfSome, OnOk};
 ghost use Rattle.std.specs.Prelude.{MatchResult, IsOkAnd};
 ghost use Rattle.std.specs.Process.{exit_status};
 ghost use Rattle.clap.specs.Values.{kind_of};
-ghost use Rattle.share_script.specs.declared.script.ScriptFault.TheVariants.{Output, NoMemory};
-ghost use Rattle.share_model.specs.io.Calls.{ReadsToEnd, HasRead, Offers};
+ghost use Rattle.share_script.specs.declared.script.ScriptFault.TheVariants.{Input, Output, NoMemory};
+ghost use Rattle.share_model.specs.io.Calls.{ReadsToEnd, ReadFails, HasRead, Offers, OfferRefused};
 ghost use Rattle.share_model.specs.io.Told.{TapeAnswers};
 ghost use Rattle.share_model.specs.io.Printing.{bytes_told};
 ghost use Rattle.stridelink.specs.Orders.{CanBeServed};
-ghost use Rattle.stridelink.specs.Program.{program_rates, Ran, RanPart, RanToRefusal};
+ghost use Rattle.stridelink.specs.Program.{program_rates, PrintedRun, PrintedRunPart, PrintedToRefusal};
 ghost use Rattle.stridelink.specs.Strict.{EndsAtRefusal};
-ghost use Rattle.share_script.specs.Script.{IsFault};
+ghost use Rattle.share_script.specs.Script.{FoundNone};
 ghost use Rattle.share_core.specs.Life.{life_refusal};
 
-// The shelf of the program: tariffs 1 to 4. Their boxes are made in the body that calls it, which returns where memory
-// is refused.
+// The shelf of the program: tariffs 1 to 4. Their boxes are made in the body that uses it, which returns an error if
+// memory is refused.
 macro_rules! program_shelf {
     ($alloc:expr) => {
         share_tariff::shelf!($alloc, (1, 0, 1), (48, 16, 2), (1024, 0, 1), (2048, 1024, 3))
@@ -37,7 +37,9 @@ use crate::strict::StrictWriter;
 use crate::words::{Asked, Orders, ServeOrders, parse};
 use clap::error::ErrorKind;
 use share_core::Engine;
-use share_model::{PatientWriter, PlainReader, PlainWriter, Rates, Source, Tape, Telling};
+use share_model::{
+    PatientWriter, PlainReader, PlainWriter, Rates, Tape, TellingReader, TellingWriter,
+};
 use share_script::{ScriptFault, print_bytes, run_script};
 use std::alloc::Global;
 use std::fs::{File, Files};
@@ -52,13 +54,13 @@ use std::{env, io};
 /// The status of a usage fault.
 const USAGE: u8 = 2;
 
-/// What is told where the lines of a script come from a terminal.
+/// What is told if the lines of a script come from a terminal.
 const AT_TERMINAL: &str =
     "stridelink: reads the lines of a script; 'stridelink run --help' tells them";
 
-// Runs a script on a new link over this shelf, and prints the bytes of the link in hexadecimal. On a fault a beginning
-// of that text was printed, for what was read of the script.
-fn run<S: Rates + Drop, I: Source, O: Telling>(
+// Runs a script on a new link over this shelf, and prints the answers and the bytes of the link in hexadecimal. If that
+// fails, a beginning of the text for what was read of the script was printed.
+fn run<S: Rates + Drop, I: TellingReader, O: TellingWriter>(
     alloc: Global,
     shelf: S,
     life: u64,
@@ -67,14 +69,18 @@ fn run<S: Rates + Drop, I: Source, O: Telling>(
 ) -> Result<(), ScriptFault>
     requires life { life_refusal life ≡ None }
     ensures printed { IfSome (I.left input.old) (λ script. MatchResult result
-        (λ _. Ran (bytes_told (O.told output.old)) (bytes_told (O.told output.new))
+        (λ _. PrintedRun (bytes_told (O.told output.old)) (bytes_told (O.told output.new))
         life (S.rates shelf) script)
-        (λ _. RanPart (bytes_told (O.told output.old)) (bytes_told (O.told output.new))
+        (λ _. PrintedRunPart (bytes_told (O.told output.old)) (bytes_told (O.told output.new))
         life (S.rates shelf) script (I.left input.new))) }
     ensures read { OnOk result (ReadsToEnd I.gives (2 ^ 32) input.old input.new) }
     ensures offers { OnOk result (Offers O.answers output.old output.new) }
-    ensures fault { IfErr result (λ fault. IsFault I.gives (2 ^ 32) input.old input.new
-        TapeAnswers (record { bytes = []; counts = [] }) O.answers output.old output.new fault) }
+    ensures input { result ≡ Err Input → ReadFails I.gives (2 ^ 32) input.old input.new
+        × Offers O.answers output.old output.new }
+    ensures output { result ≡ Err Output → HasRead I.gives (2 ^ 32) input.old input.new
+        × OfferRefused O.answers output.old output.new }
+    ensures memory { result ≡ Err NoMemory → FoundNone I.gives (2 ^ 32) input.old input.new
+        TapeAnswers (record { bytes = []; counts = [] }) O.answers output.old output.new }
 {
     let Ok(engine) = Engine::new(alloc, shelf, life, Tape::new(alloc)) else {
         return Err(ScriptFault::NoMemory);
@@ -86,9 +92,9 @@ fn run<S: Rates + Drop, I: Source, O: Telling>(
     Ok(())
 }
 
-// Runs a script up to its first refused line, and tells whether there was none. The output ends with the answer to that
+// Runs a script up to its first refused line, and says whether there was none. The output ends with the answer to that
 // line.
-fn run_strictly<S: Rates + Drop, I: Source, O: Telling>(
+fn run_strictly<S: Rates + Drop, I: TellingReader, O: TellingWriter>(
     alloc: Global,
     shelf: S,
     life: u64,
@@ -98,17 +104,17 @@ fn run_strictly<S: Rates + Drop, I: Source, O: Telling>(
     requires life { life_refusal life ≡ None }
     requires goes { output.old.is_refused ≡ false }
     ensures whole { IfOk result (λ whole. whole ≡ true → IfSome (I.left input.old.input) (λ script.
-        Ran (bytes_told (O.told output.old.output)) (bytes_told (O.told output.new.output))
+        PrintedRun (bytes_told (O.told output.old.output)) (bytes_told (O.told output.new.output))
         life (S.rates shelf) script)) }
     ensures refused { IfOk result (λ whole. whole ≡ false → IfSome (I.left input.old.input) (λ script.
-        RanToRefusal (bytes_told (O.told output.old.output)) (bytes_told (O.told output.new.output))
+        PrintedToRefusal (bytes_told (O.told output.old.output)) (bytes_told (O.told output.new.output))
         life (S.rates shelf) script (I.left input.new.input))) }
     ensures offers { IfOk result (λ whole. whole ≡ true
-        → Offers ⟦<StrictWriter<O> as Telling>⟧.answers output.old output.new) }
+        → Offers ⟦<StrictWriter<O> as TellingWriter>⟧.answers output.old output.new) }
     ensures stops { IfOk result (λ whole. whole ≡ false
-        → EndsAtRefusal ⟦<StrictWriter<O> as Telling>⟧.answers (λ w. w.is_refused) output.old) }
+        → EndsAtRefusal ⟦<StrictWriter<O> as TellingWriter>⟧.answers (λ w. w.is_refused) output.old) }
     ensures read { IfOk result (λ whole. whole ≡ false
-        → HasRead ⟦<LineReader<I> as Source>⟧.gives (2 ^ 32) input.old input.new) }
+        → HasRead ⟦<LineReader<I> as TellingReader>⟧.gives (2 ^ 32) input.old input.new) }
 {
     match run(alloc, shelf, life, input, output) {
         Ok(()) => Ok(true),
@@ -120,8 +126,8 @@ fn run_strictly<S: Rates + Drop, I: Source, O: Telling>(
     }
 }
 
-// Tells which line was refused, and how. The status tells that one was also where standard error takes no text.
-fn tell_refusal<I: Source, O: Telling>(
+// Tells which line was refused, and how. The status says that a line was refused even if standard error takes no text.
+fn tell_refusal<I: TellingReader, O: TellingWriter>(
     rt: &impl Eprint,
     input: &LineReader<I>,
     output: &StrictWriter<O>,
@@ -132,7 +138,7 @@ fn tell_refusal<I: Source, O: Telling>(
     let _ = eprintln!(rt; "stridelink: line {number}, '{line}': {answer}");
 }
 
-// Runs a script up to its first refused line, which is told; the replies go to standard output.
+// Runs a script up to its first refused line, which standard error tells; the replies go to standard output.
 fn run_and_tell<S: Rates + Drop, R: Read + Drop>(
     rt: &(impl Print + Eprint),
     alloc: Global,
@@ -174,7 +180,7 @@ fn run_on_tariffs<S: Rates + Drop, R: Read + Drop>(
     Ok(ExitCode::SUCCESS)
 }
 
-// Runs a script over a shelf that is made here.
+// Runs a script over the program's shelf, which is made here.
 fn run_on_standard<R: Read + Drop>(
     rt: &(impl Print + Eprint),
     alloc: Global,
@@ -207,7 +213,7 @@ fn run_given(rt: &HostRuntime, orders: Orders<'_>) -> Result<ExitCode, ScriptFau
     }
 }
 
-// Serves the link that is asked for. What went wrong is told.
+// Serves the link that is asked for, and tells what went wrong.
 fn serve_given<R, I>(
     rt: &R,
     alloc: Global,
@@ -224,21 +230,21 @@ where
     Ok(tell_served(rt, served))
 }
 
-// Tells what went wrong where a link was served, if something did.
+// Tells what went wrong in a service, if something did.
 fn tell_served(rt: &impl Eprint, served: Result<(), Unserved<'_>>) -> ExitCode
     ensures { MatchResult served.entry (λ _. exit_status result ≡ 0) (λ _. exit_status result ≡ 1) }
 {
     match served {
         Ok(()) => ExitCode::SUCCESS,
         Err(fault) => {
-            // The status tells the fault also where standard error takes no text.
+            // The status tells the fault even if standard error takes no text.
             let _ = eprintln!(rt; "stridelink: {fault}");
             ExitCode::FAILURE
         }
     }
 }
 
-// The words of the command line, `None` where one of them is no UTF-8.
+// The words of the command line. `None` if one of them is not UTF-8.
 fn given_words(rt: &HostRuntime) -> Result<Option<Vec<String>>, ScriptFault>
     ensures { IfErr result (λ fault. fault ≡ NoMemory) }
 {
@@ -249,7 +255,7 @@ fn given_words(rt: &HostRuntime) -> Result<Option<Vec<String>>, ScriptFault>
     }
 }
 
-// Shows a text of `clap`. A wrong word is a usage fault also where standard error does not take the text.
+// Shows a text of `clap`. A wrong word is a usage fault even if standard error does not take the text.
 fn show(rt: &(impl Print + Eprint), text: &clap::Error) -> Result<ExitCode, ScriptFault>
     ensures usage { kind_of text.now ≢ ErrorKind.DisplayHelp
         → kind_of text.now ≢ ErrorKind.DisplayVersion
@@ -271,7 +277,7 @@ fn show(rt: &(impl Print + Eprint), text: &clap::Error) -> Result<ExitCode, Scri
 fn fail(rt: &impl Eprint, fault: ScriptFault) -> ExitCode
     ensures { exit_status result ≡ 1 }
 {
-    // The status tells the fault also where standard error takes no text.
+    // The status tells the fault even if standard error takes no text.
     let _ = eprintln!(rt; "stridelink: {fault}");
     ExitCode::FAILURE
 }

@@ -1,7 +1,7 @@
 //! The server: a link over sockets.
 ghost use Rattle.std.specs.Prelude.{◌≡◌, ◌≤◌, [], IfOk, OnOk, true, false, vec_len, vec_capacity};
 ghost use Rattle.share_model.specs.lists.Each.{Each};
-ghost use Rattle.stridelink.specs.Books.{IsKept};
+ghost use Rattle.stridelink.specs.Books.{IsAuditKept};
 
 pub mod audit;
 mod books;
@@ -19,7 +19,7 @@ mod worker;
 
 use crate::serve::books::{EndedLink, close};
 use crate::serve::connections::{Connections, end_at_eof};
-use crate::serve::fault::Found;
+use crate::serve::fault::FoundFaults;
 pub use crate::serve::fault::ServeFault;
 pub use crate::serve::keep::Keep;
 use crate::serve::slot::Slot;
@@ -31,8 +31,8 @@ use crate::serve::worker::LinkedEnd;
 use share_core::Engine;
 use share_ingress::{IngressEnd, Intake, queue};
 use share_journal::{Journal, Recorder};
-use share_locked::{Clerk, Link, Locked, Stop};
-use share_model::{PlainWriter, Rates, Telling};
+use share_locked::{Clerk, LinkBrand, Locked, Stop};
+use share_model::{PlainWriter, Rates, TellingWriter};
 use std::alloc::{AllocError, Global};
 use std::io::{Eprint, Read};
 use std::marker::Brand;
@@ -71,7 +71,7 @@ struct Fresh<S: Rates> {
     ends: Vec<IngressEnd>,
 }
 
-/// Where connections are accepted, and those that are open.
+/// The listeners, and the connections that are open.
 #[derive(Drop)]
 struct Doors {
     ingress: TcpListener,
@@ -79,8 +79,8 @@ struct Doors {
     connections: Arc<Connections>,
 }
 
-/// All that is there before a link is served. It is one value, since a function that holds it and ends early is proved
-/// for each of its parts that is let go.
+/// All that there is before a link is served. It is one value, so that a function that ends early drops it in one step,
+/// which keeps the proof short.
 #[derive(Drop)]
 struct Setting<S: Rates> {
     fresh: Fresh<S>,
@@ -88,9 +88,9 @@ struct Setting<S: Rates> {
     clerks: usize,
 }
 
-/// Places for clerks and ends while their threads have them, and lists for them after that.
+/// Places for clerks and ends while threads use them, and lists for them afterwards.
 #[derive(Drop)]
-struct Places<L: Link> {
+struct Places<L: LinkBrand> {
     clerks: Vec<Slot<Clerk<L>>>,
     ends: Vec<Slot<LinkedEnd<L>>>,
     spare_clerks: Vec<Clerk<L>>,
@@ -121,7 +121,7 @@ fn recording<S: Rates + Drop>(
     }
 }
 
-// A new link over the uplink, with a queue for so many workers.
+// A new link over the uplink, with a queue for these workers.
 fn link_over<S: Rates + Drop>(
     alloc: Global,
     shelf: S,
@@ -147,7 +147,7 @@ fn link_over<S: Rates + Drop>(
     }
 }
 
-// The listeners with no connection yet, and the uplink as a writer.
+// The listeners, with no connection yet, and the uplink as a writer.
 fn open_doors(alloc: Global, sockets: Sockets, plan: Plan) -> Result<(Doors, Uplink), ServeFault> {
     let Sockets {
         ingress,
@@ -185,7 +185,7 @@ fn tell_addresses<R: Eprint>(rt: &R, doors: &Doors) {
     }
 }
 
-// A new link with these sockets. It is told where it listens once all is there.
+// A new link with these sockets. Once all is there, it tells where the server listens.
 fn set_up<R: Eprint, S: Rates + Drop>(
     rt: &R,
     alloc: Global,
@@ -225,8 +225,8 @@ fn set_up<R: Eprint, S: Rates + Drop>(
 
 /// Serves a new link with this journal, which is empty, over these sockets: accepts the control connections and then
 /// the ingress connections, and runs until all have ended and what they brought is sent. Then it settles, keeps the
-/// audit, and writes the report to the output, both also where something went wrong. Where a reader is given, its end
-/// ends the connections. Answers the first fault, in the order of `ServeFault`.
+/// audit, and writes the report to the output, both even if something went wrong. If a reader is given, its end ends
+/// the connections. The error is the first fault, in the order of `ServeFault`.
 pub fn serve_on<R, S, I, K, O>(
     rt: &R,
     alloc: Global,
@@ -243,8 +243,8 @@ where
     S: Rates + Send + Drop,
     I: Read + Send + Drop + 'static,
     K: Keep + Drop,
-    O: Telling,
-    ensures kept { OnOk result (IsKept K.kept keep true) }
+    O: TellingWriter,
+    ensures kept { OnOk result (IsAuditKept K.kept keep true) }
 {
     match set_up(rt, alloc, shelf, journal, sockets, plan) {
         Ok(setting) => { serve_as::<R, S, I, K, O, Brand>(rt, alloc, setting, until, keep, output) }
@@ -270,13 +270,13 @@ where
     S: Rates + Send + Drop,
     I: Read + Send + Drop + 'static,
     K: Keep + Drop,
-    O: Telling,
-    L: Link + Send,
+    O: TellingWriter,
+    L: LinkBrand + Send,
     requires empty { setting.fresh.recorder.entries ≡ [] }
     requires link { setting.fresh.intake.link ≡ L.link }
     requires nothing { setting.fresh.intake.popped ≡ [] }
     requires linked { Each (λ e. e.link ≡ L.link) setting.fresh.ends.items }
-    ensures kept { OnOk result (IsKept K.kept keep true) }
+    ensures kept { OnOk result (IsAuditKept K.kept keep true) }
 {
     match make_places(alloc, setting.fresh.ends.len(), setting.clerks) {
         Ok(places) => {
@@ -292,8 +292,8 @@ where
     }
 }
 
-// The answer of a run with these faults.
-fn told(found: Found) -> Result<(), ServeFault>
+// The result of a run with these faults.
+fn told(found: FoundFaults) -> Result<(), ServeFault>
     ensures { OnOk result (found.audit ≡ false) }
 {
     match found.first() {
@@ -314,7 +314,7 @@ where
     R: Threads + Wait + Eprint + Copy + Send + Sync + 'static,
     S: Rates + Send + Drop,
     I: Read + Send + Drop + 'static,
-    L: Link + Send,
+    L: LinkBrand + Send,
     requires empty { setting.fresh.recorder.entries ≡ [] }
     requires link { setting.fresh.intake.link ≡ L.link }
     requires nothing { setting.fresh.intake.popped ≡ [] }
@@ -352,19 +352,19 @@ where
         ends,
     };
     let found = run_until(rt, &server, until);
-    ended(server, spare, spare_clerks, found)
+    ended_link(server, spare, spare_clerks, found)
 }
 
-// Runs all threads until the link has ended, and tells which faults there were. Where a reader is given, its end ends
-// the connections.
-fn run_until<R, S, I, L>(rt: &R, server: &Server<S, L>, until: Option<I>) -> Found
+// Runs all threads until the link has ended, and says which faults there were. If a reader is given, its end ends the
+// connections.
+fn run_until<R, S, I, L>(rt: &R, server: &Server<S, L>, until: Option<I>) -> FoundFaults
 where
     R: Threads + Wait + Eprint + Copy + Send + Sync + 'static,
     S: Rates + Send,
     I: Read + Send + Drop + 'static,
-    L: Link + Send,
+    L: LinkBrand + Send,
 {
-    let mut found = Found::none();
+    let mut found = FoundFaults::none();
     if let Some(input) = until {
         if !end_at_eof(rt, input, &server.connections) {
             found.thread = true;
@@ -374,12 +374,12 @@ where
     run(rt, server, found)
 }
 
-// A link that is served no more, with its ends and clerks in lists that have room for them.
-fn ended<S: Rates + Drop, L: Link>(
+// A link after its service, with its ends and clerks in lists that have room for them.
+fn ended_link<S: Rates + Drop, L: LinkBrand>(
     server: Server<S, L>,
     spare: Vec<IngressEnd>,
     spare_clerks: Vec<Clerk<L>>,
-    found: Found,
+    found: FoundFaults,
 ) -> EndedLink<S, L>
     requires { Each (λ e. e.link ≡ L.link) spare.items }
     ensures { Each (λ e. e.link ≡ L.link) result.ends.items }
@@ -401,7 +401,10 @@ fn ended<S: Rates + Drop, L: Link>(
 }
 
 // A place for the clerk of each control connection.
-fn clerk_slots<L: Link>(alloc: Global, count: usize) -> Result<Vec<Slot<Clerk<L>>>, AllocError> {
+fn clerk_slots<L: LinkBrand>(
+    alloc: Global,
+    count: usize,
+) -> Result<Vec<Slot<Clerk<L>>>, AllocError> {
     let mut slots = Vec::with_capacity(alloc, count)?;
     for _ in 0..count {
         slots.push(Slot::new(None))?;
@@ -409,8 +412,12 @@ fn clerk_slots<L: Link>(alloc: Global, count: usize) -> Result<Vec<Slot<Clerk<L>
     Ok(slots)
 }
 
-// Places for so many ends and so many clerks.
-fn make_places<L: Link>(alloc: Global, ends: usize, clerks: usize) -> Result<Places<L>, AllocError>
+// Places for these numbers of ends and clerks.
+fn make_places<L: LinkBrand>(
+    alloc: Global,
+    ends: usize,
+    clerks: usize,
+) -> Result<Places<L>, AllocError>
     ensures vacant { IfOk result (λ places. places.ends.items ≡ []) }
     ensures room { IfOk result (λ places. ends ≤ vec_capacity places.ends) }
 {
@@ -423,8 +430,8 @@ fn make_places<L: Link>(alloc: Global, ends: usize, clerks: usize) -> Result<Pla
     })
 }
 
-// The ends in places of their own, in their order.
-fn filled<L: Link>(
+// Puts the ends into places, in their order.
+fn filled<L: LinkBrand>(
     ends: &mut Vec<IngressEnd>,
     vacant: Vec<Slot<LinkedEnd<L>>>,
 ) -> Vec<Slot<LinkedEnd<L>>>
@@ -440,8 +447,8 @@ fn filled<L: Link>(
     slots
 }
 
-// The ends from their places, in a list that has room for them.
-fn all_ends<L: Link>(slots: Vec<Slot<LinkedEnd<L>>>, spare: Vec<IngressEnd>) -> Vec<IngressEnd>
+// Takes the ends from their places into a list that has room for them.
+fn all_ends<L: LinkBrand>(slots: Vec<Slot<LinkedEnd<L>>>, spare: Vec<IngressEnd>) -> Vec<IngressEnd>
     requires { Each (λ e. e.link ≡ L.link) spare.items }
     ensures { Each (λ e. e.link ≡ L.link) result.items }
 {
@@ -454,8 +461,8 @@ fn all_ends<L: Link>(slots: Vec<Slot<LinkedEnd<L>>>, spare: Vec<IngressEnd>) -> 
     ends
 }
 
-// The clerks from their places, in a list that has room for them.
-fn all_clerks<L: Link>(slots: Vec<Slot<Clerk<L>>>, spare: Vec<Clerk<L>>) -> Vec<Clerk<L>> {
+// Takes the clerks from their places into a list that has room for them.
+fn all_clerks<L: LinkBrand>(slots: Vec<Slot<Clerk<L>>>, spare: Vec<Clerk<L>>) -> Vec<Clerk<L>> {
     let mut clerks = spare;
     for slot in slots {
         if let Some(clerk) = slot.into_inner() {

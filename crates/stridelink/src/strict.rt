@@ -2,25 +2,25 @@
 ghost use Rattle.std.specs.Prelude.{◌≡◌, ◌↔◌, ◌≤◌, ◌<◌, ◌+◌, ◌++◌, [], ◌∷◌, take, drop, length, IsTrue, OnOk, false};
 ghost use Rattle.std.specs.Io.KnownBytes.{Appends};
 ghost use Rattle.share_model.specs.io.Printing.{bytes_told};
-ghost use Rattle.stridelink.specs.Strict.{IsRefusal, NoFeed, kept_after};
+ghost use Rattle.stridelink.specs.Strict.{IsRefusal, EndsNoLine, kept_after};
 
 use arrayvec::ArrayVec;
-use share_model::{Answer, NotWritten, Telling, put};
+use share_model::{Answer, Fault, TellingWriter, put};
 
-/// How many bytes are kept of the line in which the output stands. Each refusal is shorter.
+/// How many bytes are kept of the last line of the output. Each refusal is shorter.
 const KEPT: usize = 64;
 
-/// A writer over another one, to which it passes on the answers to a script up to the line feed of the first refusal:
-/// that line feed is not taken, and the offer fails. An offer is passed on as far as its first line goes.
+/// Wraps a writer, and passes on to it the answers to a script up to the line feed of the first refusal. That line feed
+/// is not passed on, and the offer fails. Of each offer only the first line is passed on.
 #[derive(Drop)]
 pub struct StrictWriter<O> {
     pub output: O,
-    // The beginning of the line in which the output stands.
+    // The beginning of the last line of the output.
     line: ArrayVec<u8, KEPT>,
     is_refused: bool,
 }
 
-/// Adds what there is room for.
+/// Adds as many of the bytes as there is room for.
 pub fn keep<const N: usize>(kept: &mut ArrayVec<u8, N>, bytes: &[u8])
     ensures { kept.new.items ≡ take N (kept.old.items ++ bytes.now) }
 {
@@ -30,7 +30,7 @@ pub fn keep<const N: usize>(kept: &mut ArrayVec<u8, N>, bytes: &[u8])
     }
 }
 
-// Whether a line is a refusal, of which these are the beginning and the rest.
+// Whether a line with this beginning and this rest is a refusal.
 fn is_refusal(line: &[u8], rest: &[u8]) -> bool
     ensures { IsTrue result ↔ IsRefusal (line.now ++ rest.now) }
 {
@@ -40,10 +40,10 @@ fn is_refusal(line: &[u8], rest: &[u8]) -> bool
     front.as_slice() == b"no ".as_slice()
 }
 
-// How many bytes stand before the first line feed.
+// How many bytes are before the first line feed.
 fn line_length(bytes: &[u8]) -> usize
     ensures fits { result ≤ length bytes.now }
-    ensures plain { NoFeed (take result bytes.now) }
+    ensures plain { EndsNoLine (take result bytes.now) }
     ensures feed { result < length bytes.now → bytes.now ≡ take result bytes.now ++ 10 ∷ drop (result + 1) bytes.now }
 {
     let mut at = 0;
@@ -53,7 +53,7 @@ fn line_length(bytes: &[u8]) -> usize
     at
 }
 
-impl<O: Telling> StrictWriter<O> {
+impl<O: TellingWriter> StrictWriter<O> {
     /// A writer that has passed on nothing.
     pub fn new(output: O) -> StrictWriter<O>
         ensures output { result.output ≡ output }
@@ -74,15 +74,15 @@ impl<O: Telling> StrictWriter<O> {
         self.is_refused
     }
 
-    /// The first bytes of the line in which the output stands: of the refusal, where one has ended it.
+    /// The first bytes of the last line of the output: of the refusal, if one has ended it.
     pub fn line(&self) -> &[u8]
         ensures { result.now ≡ self.now.line.items }
     {
         self.line.as_slice()
     }
 
-    /// Ends the line in which the output stands.
-    pub fn end(&mut self) -> Result<(), NotWritten>
+    /// Ends the last line of the output.
+    pub fn end(&mut self) -> Result<(), Fault>
         ensures bytes { OnOk result (Appends (bytes_told (O.told self.old.output))
             (bytes_told (O.told self.new.output)) (10 ∷ [])) }
         ensures mark { self.new.is_refused ≡ self.old.is_refused }
@@ -90,7 +90,7 @@ impl<O: Telling> StrictWriter<O> {
         put(&mut self.output, b"\n")
     }
 
-    // Offers a part of a line, of which so many bytes stand before its line feed.
+    // Offers a part of a line, with `size` bytes before its line feed.
     fn pass(&mut self, part: &[u8], size: usize) -> Answer
         ensures offered { O.answers self.old.output part.now result self.new.output }
         ensures line { self.new.line.items ≡ kept_after self.old.line.items part.now size result }
@@ -108,7 +108,7 @@ impl<O: Telling> StrictWriter<O> {
     }
 }
 
-impl<O: Telling> Telling for StrictWriter<O> {
+impl<O: TellingWriter> TellingWriter for StrictWriter<O> {
     ghost use Rattle.stridelink.specs.Strict.{StrictAnswers};
     ghost use Rattle.stridelink.specs.StrictLaws.{strict_tells};
 

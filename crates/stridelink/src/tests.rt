@@ -1,4 +1,4 @@
-//! Whole runs of the program, against the text that the rules give.
+//! Whole runs of the program, compared with the text that the rules give.
 
 mod audit;
 mod control;
@@ -14,7 +14,7 @@ use std::alloc::Global;
 use std::process::Abort;
 use std::test::Fail;
 
-/// The life of the program where no other is given.
+/// The life of the program if no other is given.
 const LIFE: u64 = 65536;
 
 /// Lives, scripts, and what they print.
@@ -27,7 +27,7 @@ const SCRIPTS: [(u64, &[u8], &[u8]); 4] = [
         b"flow 1\nticket 1\nok\npacket 1 1\nwrote 1 1 14 whole\n\
         out 4c01000000010000000100026869\n",
     ),
-    // The dearest tariff is the last one.
+    // The most expensive tariff is the last one.
     (
         LIFE,
         b"open a 4 4\nmktkt 1 base\nfund 1 flow a\nsend a 61\nturn 65535\nclose a\nopen a 4 5\n",
@@ -57,7 +57,7 @@ fn scripts_are_printed<S: Rates + Copy>(
     Ok(())
 }
 
-// The line of the bytes goes out in three offers, after that of the answers.
+// The line of the bytes goes out in three offers, after one of the answers.
 fn the_last_line_fails<S: Rates + Copy>(
     rt: &impl Abort,
     alloc: Global,
@@ -94,7 +94,7 @@ const STRICT: [(&[u8], &[u8], Option<(u64, &[u8])>); 3] = [
     (b"mkcur no\ntorn\n", b"ok\nidle\nout -\n", None),
 ];
 
-// A writer that accepts so many bytes in each of the first hundred calls.
+// A writer that accepts `count` bytes in each of the first hundred calls.
 fn short_writer(alloc: Global, count: usize) -> Result<Scripted, Fail> {
     let mut answers = Vec::new(alloc);
     for _ in 0..100 {

@@ -15,30 +15,30 @@ use std::alloc::{AllocError, Global};
 use std::fmt;
 use std::fmt::{Display, Formatter};
 
-/// The life of a link where the words give none.
+/// The life of a link if the words give none.
 const LIFE: u64 = 65536;
 
 /// The version of the program.
 const VERSION: &str = "0.1.0";
 
-/// What is wrong with a word that is no UTF-8.
+/// What is wrong with a word that is not UTF-8.
 const NOT_TEXT: &str = "invalid UTF-8 was detected in one or more arguments";
 
-/// What is wrong with a life that no link has.
+/// What is wrong with a life out of range.
 const NO_LIFE: &str = "a life is 1 to 16777216 events";
 
 /// How many ingress connections, and how many control connections, a server accepts at most.
-const MOST_CONNECTIONS: u64 = 2;
+const MOST_CONNECTIONS: u64 = 8;
 
-/// What is wrong with another number of connections.
-const NO_CONNECTIONS: &str = "a server accepts 1 or 2 connections of each kind";
+/// What is wrong with a number of connections out of range.
+const NO_CONNECTIONS: &str = "a server accepts 1 to 8 connections of each kind";
 
 /// How a script is to be run.
 #[derive(Clone, Copy, Debug)]
 pub struct Orders<'a> {
     /// The events of the link's life.
     pub life: u64,
-    /// The file of the script, or standard input where there is none.
+    /// The file of the script; standard input if there is none.
     pub file: Option<&'a str>,
     /// Whether the run ends at the first refused line.
     pub is_strict: bool,
@@ -103,8 +103,8 @@ fn run_command<'a>(alloc: Global) -> Result<Command<'a>, AllocError> {
         .arg(file)
 }
 
-// A word of `serve` that has to be there.
-fn required<'a>(alloc: Global, name: &'a str, value: &'a str, help: &'a str) -> Arg<'a> {
+// A word of `serve` that must be there.
+fn required_word<'a>(alloc: Global, name: &'a str, value: &'a str, help: &'a str) -> Arg<'a> {
     Arg::new(alloc, name)
         .long(name)
         .value_name(value)
@@ -116,13 +116,13 @@ fn required<'a>(alloc: Global, name: &'a str, value: &'a str, help: &'a str) -> 
 
 // The words of `serve` that are numbers.
 fn with_numbers<'a>(alloc: Global, serve: Command<'a>) -> Result<Command<'a>, AllocError> {
-    let workers = required(
+    let workers = required_word(
         alloc,
         "workers",
         "K",
-        "how many ingress connections are accepted, 1 or 2",
+        "how many ingress connections are accepted, 1 to 8",
     );
-    let life = required(
+    let life = required_word(
         alloc,
         "life",
         "L",
@@ -131,7 +131,7 @@ fn with_numbers<'a>(alloc: Global, serve: Command<'a>) -> Result<Command<'a>, Al
     let clerks = Arg::new(alloc, "clerks")
         .long("clerks")
         .value_name("J")
-        .help("how many control connections are accepted, 1 or 2")
+        .help("how many control connections are accepted, 1 to 8")
         .value_parser(value_parser!(u64).range(1..=MOST_CONNECTIONS as i64))
         .default_value("1")
         .action(ArgAction::Set);
@@ -154,20 +154,20 @@ fn serve_command<'a>(alloc: Global) -> Result<Command<'a>, AllocError> {
     let serve = Command::new(alloc, "serve")
         .about("serves a link on sockets")
         .after_long_help(help::SERVER)
-        .arg(required(
+        .arg(required_word(
             alloc,
             "ingress",
             "A",
             "where ingress connections are accepted",
         ))?
-        .arg(required(
+        .arg(required_word(
             alloc,
             "control",
             "B",
             "where control connections are accepted",
         ))?
-        .arg(required(alloc, "uplink", "C", "where the frames go"))?
-        .arg(required(
+        .arg(required_word(alloc, "uplink", "C", "where the frames go"))?
+        .arg(required_word(
             alloc,
             "audit",
             "FILE",
@@ -176,7 +176,7 @@ fn serve_command<'a>(alloc: Global) -> Result<Command<'a>, AllocError> {
     with_numbers(alloc, serve)?.arg(until_eof)?.arg(verbose)
 }
 
-// The command line of the program, which is named so whatever the first word is.
+// The command line of the program, under its own name whatever the first word is.
 fn command_line<'a>(alloc: Global) -> Result<Command<'a>, AllocError> {
     Command::new(alloc, "stridelink")
         .bin_name("stridelink")?
@@ -188,7 +188,7 @@ fn command_line<'a>(alloc: Global) -> Result<Command<'a>, AllocError> {
         .subcommand(serve_command(alloc)?)
 }
 
-// How the words of `run` ask for a script to be run.
+// What the words of `run` ask for.
 fn run_orders<'a>(run: &ArgMatches<'a>) -> Orders<'a> {
     Orders {
         life: run.get_one::<u64>("life").unwrap_or(LIFE),
@@ -197,7 +197,7 @@ fn run_orders<'a>(run: &ArgMatches<'a>) -> Orders<'a> {
     }
 }
 
-// How the words of `serve` ask for a link to be served. A number that is not there is 0, which is out of range.
+// What the words of `serve` ask for. A number that is missing is 0, which is out of range.
 fn serve_orders<'a>(serve: &ArgMatches<'a>) -> ServeOrders<'a> {
     ServeOrders {
         ingress: serve.get_str("ingress").unwrap_or(""),
@@ -219,13 +219,13 @@ fn is_life(life: u64) -> bool
 }
 
 fn is_count(count: u64) -> bool
-    ensures { IsTrue result → (1 ≤ count) × (count ≤ 2) }
+    ensures { IsTrue result → (1 ≤ count) × (count ≤ 8) }
 {
     count >= 1 && count <= MOST_CONNECTIONS
 }
 
-// What is wrong with numbers that are out of range. `clap` refuses these; its contract says so of the arguments of a
-// command, but not of those of a subcommand, so they are looked at once more.
+// What is wrong with numbers, if they are out of range. `clap` refuses these; but its contract says so only of the
+// arguments of a command, and not of those of a subcommand, so they are tested once more.
 fn out_of_range(asked: &Asked<'_>) -> Option<&'static str>
     ensures run { result ≡ None → (orders : _) → asked.now ≡ Asked.Run orders → life_refusal orders.life ≡ None }
     ensures serve { result ≡ None → (orders : _) → asked.now ≡ Asked.Serve orders
@@ -241,8 +241,8 @@ fn out_of_range(asked: &Asked<'_>) -> Option<&'static str>
     }
 }
 
-// What the words ask for, whatever their numbers are.
-fn given<'a>(matches: &ArgMatches<'a>) -> Asked<'a>
+// What the words ask for, before their numbers are tested.
+fn asked_by<'a>(matches: &ArgMatches<'a>) -> Asked<'a>
     ensures { (text : _) → result ≢ Asked.Text text }
 {
     match matches.subcommand() {
@@ -268,7 +268,7 @@ fn read_words<'a>(alloc: Global, words: &'a [String]) -> Result<Asked<'a>, Scrip
     let mut command = command_line(alloc)?;
     match command.try_get_matches_from_mut(words) {
         Ok(matches) => {
-            let asked = given(&matches);
+            let asked = asked_by(&matches);
             match out_of_range(&asked) {
                 None => Ok(asked),
                 Some(wrong) => Ok(Asked::Text(command.error(ErrorKind::ValueValidation, wrong)?)),
@@ -285,7 +285,7 @@ fn has_control(words: &[String]) -> bool {
         .any(|word| word.as_str().chars().any(|c| c.is_control()))
 }
 
-/// A word of the command line, which is shown with its control characters escaped, as `\n` and `\u{1b}`.
+/// A word of the command line, shown with its control characters escaped, as `\n` and `\u{1b}`.
 #[derive(Clone, Copy, Debug, PartialEq, Eq)]
 pub struct Word<'a>(pub &'a str);
 
@@ -303,15 +303,15 @@ impl<'a> Display for Word<'a> {
     }
 }
 
-fn escaped(alloc: Global, word: &str) -> Result<String, AllocError> {
+fn escaped_text(alloc: Global, word: &str) -> Result<String, AllocError> {
     let mut text = String::new(alloc);
     let word = Word(word);
     write!(text, "{word}")?;
     Ok(text)
 }
 
-// What is wrong with words that have control characters, told of the words in which these are escaped: `clap` writes a
-// wrong word as it is.
+// What is wrong with words that have control characters, which are escaped in the text: `clap` writes a wrong word as
+// it is.
 fn escaped_fault(
     alloc: Global,
     words: &[String],
@@ -323,7 +323,7 @@ fn escaped_fault(
 {
     let mut shown = Vec::with_capacity(alloc, words.len())?;
     for word in words {
-        shown.push(escaped(alloc, word.as_str())?)?;
+        shown.push(escaped_text(alloc, word.as_str())?)?;
     }
     match read_words(alloc, shown.as_slice())? {
         Asked::Text(text) if text.use_stderr() => Ok(text),
@@ -331,7 +331,7 @@ fn escaped_fault(
     }
 }
 
-// A text about these words, in which their control characters are escaped where it tells what is wrong with them.
+// A text about these words. If it tells what is wrong with them, their control characters are escaped.
 fn readable(alloc: Global, words: &[String], text: clap::Error) -> Result<clap::Error, ScriptFault>
     requires { kind_of text ≢ ErrorKind.OutOfMemory }
     ensures memory { IfErr result (λ fault. fault ≡ NoMemory) }
@@ -343,7 +343,7 @@ fn readable(alloc: Global, words: &[String], text: clap::Error) -> Result<clap::
     Ok(text)
 }
 
-/// What the words ask for, `None` where one of them is no UTF-8.
+/// What the words ask for. `words` is `None` if one of them is not UTF-8, and then the answer is a text that says so.
 pub fn parse<'a>(alloc: Global, words: Option<&'a [String]>) -> Result<Asked<'a>, ScriptFault>
     ensures memory { IfErr result (λ fault. fault ≡ NoMemory) }
     ensures text { IfOk result (λ asked. (text : _) → asked ≡ Asked.Text text → kind_of text ≢ ErrorKind.OutOfMemory) }

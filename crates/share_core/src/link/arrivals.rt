@@ -1,13 +1,13 @@
 //! Packets that come for a flow.
 ghost use Rattle.std.specs.Prelude.{◌≡◌, false, IsSome};
 ghost use Rattle.share_model.specs.link.Buffers.{buffer_of};
-ghost use Rattle.share_model.specs.link.Did.{is_spent, Stepped, Steps};
+ghost use Rattle.share_model.specs.link.Calls.{is_spent, Stepped, Steps};
 ghost use Rattle.share_model.specs.link.Fields.{IsBody};
-ghost use Rattle.share_model.specs.link.Live.{arrive_in, arrive_step};
+ghost use Rattle.share_model.specs.link.Arrivals.{arrive_in, arrive_step};
 ghost use Rattle.share_flows.specs.Places.{Stands};
 
 use super::Link;
-use super::levelling::settle;
+use super::levelling::wake;
 use share_base::{Body, FlowNo, Name, Refusal, Reply};
 use share_flows::Place;
 use share_model::Rates;
@@ -42,14 +42,14 @@ impl<S: Rates> Link<S> {
         self.counts.accepted += 1;
         self.counts.events += 1;
         let flow = place.flow;
-        settle(
-            &mut self.queue,
-            &mut self.ledger,
-            &mut self.levels,
-            flow,
-            true,
-            busy,
-        );
+        if !busy {
+            wake(
+                &mut self.queue,
+                &mut self.ledger,
+                &mut self.levelled_with,
+                flow,
+            );
+        }
         Reply::Packet { flow, seq }
     }
 

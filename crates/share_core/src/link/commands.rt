@@ -3,8 +3,7 @@
 ghost use Rattle.std.specs.Prelude.{◌≡◌, false};
 ghost use Rattle.share_base.specs.declared.command.Command.TheVariants.{MakeCurrency, RemoveCurrency, MakeTicket};
 ghost use Rattle.share_base.specs.declared.command.Command.TheVariants.{RemoveTicket, FundCurrency, FundFlow, Unfund};
-ghost use Rattle.share_model.specs.link.Did.{is_spent, Steps, CommandDid};
-ghost use Rattle.share_model.specs.link.Live.{command_step};
+ghost use Rattle.share_model.specs.link.Calls.{is_spent, CommandCall, CommandStep};
 
 use super::Link;
 use super::levelling::level;
@@ -14,7 +13,7 @@ use share_model::Rates;
 impl<S: Rates> Link<S> {
     fn make_currency(&mut self, name: Name) -> Reply
         requires { is_spent self.old ≡ false }
-        ensures { CommandDid self.old (MakeCurrency name) result self.new }
+        ensures { CommandCall self.old (MakeCurrency name) result self.new }
     {
         self.ledger.leaves_tickets();
         match self.ledger.make_currency(name) {
@@ -29,7 +28,7 @@ impl<S: Rates> Link<S> {
 
     fn remove_currency(&mut self, name: Name) -> Reply
         requires { is_spent self.old ≡ false }
-        ensures { Steps (λ rates l. command_step rates l (RemoveCurrency name)) self.old result self.new }
+        ensures { CommandStep self.old (RemoveCurrency name) result self.new }
     {
         self.ledger.leaves_tickets();
         match self.ledger.remove_currency(name) {
@@ -43,7 +42,7 @@ impl<S: Rates> Link<S> {
 
     fn make_ticket(&mut self, amount: u64, currency: Name) -> Reply
         requires { is_spent self.old ≡ false }
-        ensures { CommandDid self.old (MakeTicket amount currency) result self.new }
+        ensures { CommandCall self.old (MakeTicket amount currency) result self.new }
     {
         self.ledger.leaves_tickets();
         match self.ledger.make_ticket(amount, currency) {
@@ -58,7 +57,7 @@ impl<S: Rates> Link<S> {
 
     fn remove_ticket(&mut self, ticket: u64) -> Reply
         requires { is_spent self.old ≡ false }
-        ensures { Steps (λ rates l. command_step rates l (RemoveTicket ticket)) self.old result self.new }
+        ensures { CommandStep self.old (RemoveTicket ticket) result self.new }
     {
         self.ledger.leaves_tickets();
         match self.ledger.remove_ticket(ticket) {
@@ -72,13 +71,13 @@ impl<S: Rates> Link<S> {
 
     fn fund_currency(&mut self, ticket: u64, currency: Name) -> Reply
         requires { is_spent self.old ≡ false }
-        ensures { Steps (λ rates l. command_step rates l (FundCurrency ticket currency)) self.old result self.new }
+        ensures { CommandStep self.old (FundCurrency ticket currency) result self.new }
     {
         match self.ledger.fund_currency(ticket, currency) {
             Err(refusal) => self.refuse(refusal),
             Ok(()) => {
                 self.counts.events += 1;
-                level(&mut self.queue, &self.ledger, &mut self.levels);
+                level(&mut self.queue, &self.ledger, &mut self.levelled_with);
                 Reply::Done
             }
         }
@@ -86,13 +85,13 @@ impl<S: Rates> Link<S> {
 
     fn fund_flow(&mut self, ticket: u64, flow: Name) -> Reply
         requires { is_spent self.old ≡ false }
-        ensures { Steps (λ rates l. command_step rates l (FundFlow ticket flow)) self.old result self.new }
+        ensures { CommandStep self.old (FundFlow ticket flow) result self.new }
     {
         match self.ledger.fund_flow(ticket, flow) {
             Err(refusal) => self.refuse(refusal),
             Ok(()) => {
                 self.counts.events += 1;
-                level(&mut self.queue, &self.ledger, &mut self.levels);
+                level(&mut self.queue, &self.ledger, &mut self.levelled_with);
                 Reply::Done
             }
         }
@@ -100,13 +99,13 @@ impl<S: Rates> Link<S> {
 
     fn unfund(&mut self, ticket: u64) -> Reply
         requires { is_spent self.old ≡ false }
-        ensures { Steps (λ rates l. command_step rates l (Unfund ticket)) self.old result self.new }
+        ensures { CommandStep self.old (Unfund ticket) result self.new }
     {
         match self.ledger.unfund(ticket) {
             Err(refusal) => self.refuse(refusal),
             Ok(()) => {
                 self.counts.events += 1;
-                level(&mut self.queue, &self.ledger, &mut self.levels);
+                level(&mut self.queue, &self.ledger, &mut self.levelled_with);
                 Reply::Done
             }
         }
@@ -115,7 +114,7 @@ impl<S: Rates> Link<S> {
     /// Makes a command: one event, or no event where memory was refused.
     pub fn command(&mut self, command: Command) -> Reply
         requires { is_spent self.old ≡ false }
-        ensures { CommandDid self.old command result self.new }
+        ensures { CommandCall self.old command result self.new }
     {
         match command {
             Command::MakeCurrency(name) => self.make_currency(name),

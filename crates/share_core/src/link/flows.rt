@@ -1,13 +1,13 @@
 //! Flows that are opened and closed.
 ghost use Rattle.std.specs.Prelude.{◌≡◌, false, None, if◌then◌else◌};
 ghost use Rattle.share_base.specs.declared.command.Command.TheVariants.{OpenFlow, CloseFlow};
-ghost use Rattle.share_model.specs.link.CommandLaws.{IsClosable};
-ghost use Rattle.share_model.specs.link.Did.{is_spent, Stepped, Steps, CommandDid};
-ghost use Rattle.share_model.specs.link.Live.{command_step, open_flow_refusal, is_part_of, is_torn_of, waiting_of};
-ghost use Rattle.share_model.specs.link.Live.{close_flow, closed_reply};
+ghost use Rattle.share_model.specs.link.Commands.{IsClosable};
+ghost use Rattle.share_model.specs.link.Calls.{is_spent, Stepped, CommandCall, CommandStep};
+ghost use Rattle.share_model.specs.link.Commands.{open_flow_refusal, is_part_of, is_torn_of, waiting_of};
+ghost use Rattle.share_model.specs.link.Commands.{close_flow, closed_reply};
 
 use super::Link;
-use super::levelling::level_anew;
+use super::levelling::level_from_scratch;
 use share_base::{FlowNo, Name, Refusal, Reply};
 use share_flows::MAX_LIMIT;
 use share_model::Rates;
@@ -28,7 +28,7 @@ impl<S: Rates> Link<S> {
 
     pub fn open_flow(&mut self, name: Name, limit: u64, tariff: u64) -> Reply
         requires { is_spent self.old ≡ false }
-        ensures { CommandDid self.old (OpenFlow name limit tariff) result self.new }
+        ensures { CommandCall self.old (OpenFlow name limit tariff) result self.new }
     {
         match self.open_flow_refusal(&name, limit, tariff) {
             Some(refusal) => self.refuse(refusal),
@@ -40,7 +40,7 @@ impl<S: Rates> Link<S> {
     fn open_allowed(&mut self, name: Name, limit: u64, tariff: u64) -> Reply
         requires living { is_spent self.old ≡ false }
         requires allowed { open_flow_refusal self.old.rates self.old.live name limit tariff ≡ None }
-        ensures { CommandDid self.old (OpenFlow name limit tariff) result self.new }
+        ensures { CommandCall self.old (OpenFlow name limit tariff) result self.new }
     {
         let flow = FlowNo(self.ledger.next_flow());
         let Ok(()) = self.buffers.open(flow, limit) else {
@@ -55,7 +55,7 @@ impl<S: Rates> Link<S> {
                 let _ = self.queue.add(flow);
                 self.books.open(flow, tariff);
                 self.counts.events += 1;
-                level_anew(&mut self.queue, &self.ledger, &mut self.levels);
+                level_from_scratch(&mut self.queue, &self.ledger, &mut self.levelled_with);
                 Reply::Flow(flow)
             }
         }
@@ -91,7 +91,7 @@ impl<S: Rates> Link<S> {
 
     pub fn close_flow(&mut self, name: Name) -> Reply
         requires { is_spent self.old ≡ false }
-        ensures { Steps (λ rates l. command_step rates l (CloseFlow name)) self.old result self.new }
+        ensures { CommandStep self.old (CloseFlow name) result self.new }
     {
         match self.ledger.flow(name) {
             None => self.refuse(Refusal::NoFlow),
@@ -123,7 +123,7 @@ impl<S: Rates> Link<S> {
         self.counts.events += 1;
         self.counts.dropped += u64::from(dropped);
         self.counts.past += account;
-        level_anew(&mut self.queue, &self.ledger, &mut self.levels);
+        level_from_scratch(&mut self.queue, &self.ledger, &mut self.levelled_with);
         Reply::Closed {
             flow,
             dropped,
@@ -132,7 +132,7 @@ impl<S: Rates> Link<S> {
     }
 }
 
-// The flow whose head packet was torn, where it is not the one that is closed.
+// The flow whose head packet was torn, unless that flow is closed.
 fn without_torn(torn: Option<FlowNo>, closed: FlowNo) -> Option<FlowNo>
     ensures { result ≡ (if is_torn_of closed torn then None else torn) }
 {

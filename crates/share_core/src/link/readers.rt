@@ -3,8 +3,8 @@ ghost use Rattle.std.specs.Prelude.{◌≡◌, ◌<◌, ◌≤◌, ◌^◌, find
 ghost use Rattle.std.specs.FinMap.{get};
 ghost use Rattle.share_model.specs.funding.Changes.{flow_named};
 ghost use Rattle.share_model.specs.funding.Graph.{tickets};
-ghost use Rattle.share_model.specs.link.Did.{is_spent};
-ghost use Rattle.share_model.specs.link.Live.{is_book_of};
+ghost use Rattle.share_model.specs.link.Calls.{is_spent};
+ghost use Rattle.share_model.specs.link.Books.{is_book_of};
 ghost use Rattle.share_model.specs.link.Tariff.{AreInRange};
 ghost use Rattle.share_model.specs.link.Totals.{torn_count, waiting, state_by, totals, row};
 ghost use Rattle.share_model.specs.run.Sound.{Sound};
@@ -75,7 +75,7 @@ impl<S: Rates> Link<S> {
         Some(self.ledger.tickets(flow))
     }
 
-    /// Where an open flow stands in the queue.
+    /// The position of an open flow in the queue.
     pub fn position(&self, flow: FlowNo) -> Option<Position>
         ensures { result ≡ option_map position_of (get self.now.live.queue.clients flow) }
     {

@@ -1,31 +1,31 @@
 //! The frame that is sent, and what the writer's answers make of it.
 ghost use Rattle.std.specs.Prelude.{◌≡◌, ◌<◌, ◌≤◌, ◌+◌, true, false, option_map, IsSome, IfSome, MatchOption, None};
-ghost use Rattle.std.specs.Prelude.{vec_capacity};
+ghost use Rattle.std.specs.Prelude.{IfOk, IfErr, vec_capacity};
 ghost use Rattle.share_model.specs.link.Buffers.{head_of};
-ghost use Rattle.share_model.specs.link.Did.{is_spent, Stepped};
+ghost use Rattle.share_model.specs.link.Calls.{is_spent, Stepped};
 ghost use Rattle.share_model.specs.link.Frame.{frame};
-ghost use Rattle.share_model.specs.link.Live.{sending_at, sending, whole, in_part, wrote_turn, write_step, fault_step};
-ghost use Rattle.share_core.specs.Place.{IsPlaceOf, IsWithin};
+ghost use Rattle.share_model.specs.link.Turns.{sending_at, sending, whole, in_part, wrote_turn, write_step, fault_step};
+ghost use Rattle.share_core.specs.NextWrite.{IsNextWriteOf, IsWithinRest, WritesNothing};
 ghost use Rattle.share_flows.specs.Places.{Stands};
 
 use super::Link;
-use super::levelling::settle;
-use crate::frame;
-use crate::place::Place;
+use super::levelling::rest;
+use crate::frame::{self, MAX_FRAME};
+use crate::next_write::NextWrite;
 use share_base::{FlowNo, Turn};
 use share_frame::HEADER;
 use share_model::{Part, Rates};
 
 impl<S: Rates> Link<S> {
     // The place at the head packet of a flow.
-    fn place(&self, flow: FlowNo, out: u32) -> Option<Place>
+    fn next_write(&self, flow: FlowNo, out: u32) -> Option<NextWrite>
         ensures { MatchOption result (head_of self.now.live.buffers flow ≡ None) (λ p.
-            IsPlaceOf (option_map (sending_at out) (head_of self.now.live.buffers flow)) p
+            IsNextWriteOf (option_map (sending_at out) (head_of self.now.live.buffers flow)) p
             × Stands self.now.live.buffers p.buffer) }
     {
         let buffer = self.buffers.find(flow)?;
         let (seq, body) = self.buffers.head_at(&buffer)?;
-        Some(Place {
+        Some(NextWrite {
             buffer,
             seq,
             out,
@@ -35,26 +35,48 @@ impl<S: Rates> Link<S> {
 
     /// Where a write goes on: at the frame in part, and otherwise at a new frame of the next flow.
     #[inline(always)]
-    pub fn sending(&self) -> Option<Place>
+    pub fn sending(&self) -> Option<NextWrite>
         ensures { MatchOption result (sending self.now.live ≡ None) (λ p.
-            IsPlaceOf (sending self.now.live) p × Stands self.now.live.buffers p.buffer) }
+            IsNextWriteOf (sending self.now.live) p × Stands self.now.live.buffers p.buffer) }
     {
         match self.part {
-            Some(part) => self.place(part.flow, part.out),
+            Some(part) => self.next_write(part.flow, part.out),
             None => match self.queue.least() {
-                Some(flow) => self.place(flow, 0),
+                Some(flow) => self.next_write(flow, 0),
                 None => None,
             },
         }
     }
 
+    /// The next write of a turn, or what the turn answers where there is none: `Spent`, `Broken` or `Idle`, in this
+    /// order.
+    #[inline(always)]
+    pub fn due(&self) -> Result<NextWrite, Turn>
+        ensures ok { IfOk result (λ p. (is_spent self.now ≡ false)
+            × (self.now.live.broken ≡ false)
+            × IsNextWriteOf (sending self.now.live) p
+            × Stands self.now.live.buffers p.buffer) }
+        ensures none { IfErr result (WritesNothing self.now) }
+    {
+        if self.spent() {
+            return Err(Turn::Spent);
+        }
+        if self.broken() {
+            return Err(Turn::Broken);
+        }
+        match self.sending() {
+            None => Err(Turn::Idle),
+            Some(place) => Ok(place),
+        }
+    }
+
     // The last k bytes of a frame are out: its flow is charged and posted for the whole, and its packet is taken out.
-    fn finish(&mut self, place: Place, k: u32) -> Turn
+    fn finish(&mut self, place: NextWrite, k: u32) -> Turn
         requires living { is_spent self.old ≡ false }
         requires unbroken { self.old.live.broken ≡ false }
-        requires place { IsPlaceOf (sending self.old.live) place }
+        requires place { IsNextWriteOf (sending self.old.live) place }
         requires stands { Stands self.old.live.buffers place.buffer }
-        requires within { IsWithin (sending self.old.live) k }
+        requires within { IsWithinRest (sending self.old.live) k }
         ensures { IfSome (sending self.old.live) (λ s.
             Stepped (whole self.old.rates self.old.live s k, wrote_turn s k true)
             self.old result self.new) }
@@ -70,15 +92,14 @@ impl<S: Rates> Link<S> {
         self.counts.events += 1;
         self.counts.written += 1;
         self.counts.sent += u64::from(k);
-        let busy = self.buffers.is_busy_at(&buffer);
-        settle(
-            &mut self.queue,
-            &mut self.ledger,
-            &mut self.levels,
-            flow,
-            busy,
-            busy,
-        );
+        if !self.buffers.is_busy_at(&buffer) {
+            rest(
+                &mut self.queue,
+                &mut self.ledger,
+                &mut self.levelled_with,
+                flow,
+            );
+        }
         Turn::Wrote {
             flow,
             seq: place.seq,
@@ -88,11 +109,11 @@ impl<S: Rates> Link<S> {
     }
 
     // k more bytes of a frame are out, and it is in part.
-    fn advance(&mut self, place: Place, k: u32) -> Turn
+    fn advance(&mut self, place: NextWrite, k: u32) -> Turn
         requires living { is_spent self.old ≡ false }
         requires unbroken { self.old.live.broken ≡ false }
-        requires place { IsPlaceOf (sending self.old.live) place }
-        requires within { IsWithin (sending self.old.live) k }
+        requires place { IsNextWriteOf (sending self.old.live) place }
+        requires within { IsWithinRest (sending self.old.live) k }
         requires part { place.out + k < place.length }
         ensures { IfSome (sending self.old.live)
             (λ s. Stepped (in_part self.old.live s k, wrote_turn s k false) self.old result self.new) }
@@ -113,12 +134,12 @@ impl<S: Rates> Link<S> {
     }
 
     /// The writer accepted k bytes of the frame that is sent. It takes no memory.
-    pub fn wrote(&mut self, place: Place, k: u32) -> Turn
+    pub fn write(&mut self, place: NextWrite, k: u32) -> Turn
         requires living { is_spent self.old ≡ false }
         requires unbroken { self.old.live.broken ≡ false }
-        requires place { IsPlaceOf (sending self.old.live) place }
+        requires place { IsNextWriteOf (sending self.old.live) place }
         requires stands { Stands self.old.live.buffers place.buffer }
-        requires within { IsWithin (sending self.old.live) k }
+        requires within { IsWithinRest (sending self.old.live) k }
         ensures { IfSome (sending self.old.live)
             (λ s. Stepped (write_step self.old.rates self.old.live s k) self.old result self.new) }
     {
@@ -130,10 +151,10 @@ impl<S: Rates> Link<S> {
     }
 
     /// The writer failed on the frame that is sent. It takes no memory.
-    pub fn fail(&mut self, place: Place) -> Turn
+    pub fn fail(&mut self, place: NextWrite) -> Turn
         requires living { is_spent self.old ≡ false }
         requires unbroken { self.old.live.broken ≡ false }
-        requires place { IsPlaceOf (sending self.old.live) place }
+        requires place { IsNextWriteOf (sending self.old.live) place }
         requires stands { Stands self.old.live.buffers place.buffer }
         ensures { IfSome (sending self.old.live)
             (λ s. Stepped (fault_step self.old.rates self.old.live s) self.old result self.new) }
@@ -155,15 +176,15 @@ impl<S: Rates> Link<S> {
         }
     }
 
-    /// Puts the frame of the head packet of a flow, whose buffer stands at a place, into a buffer that has room for it.
-    /// It takes no memory.
+    /// Puts the frame of a flow's head packet into a buffer that has room for it. `place` is that of the flow's own
+    /// buffer. It takes no memory.
     pub fn fill(&self, place: &share_flows::Place, buffer: &mut Vec<u8>)
         requires stands { Stands self.now.live.buffers place.now }
         requires there { IsSome (head_of self.now.live.buffers place.now.flow) }
-        requires room { 1502 ≤ vec_capacity buffer.old }
+        requires room { MAX_FRAME ≤ vec_capacity buffer.old }
         ensures frame { IfSome (head_of self.now.live.buffers place.now.flow)
             (λ h. buffer.new.items ≡ frame h) }
-        ensures room { 1502 ≤ vec_capacity buffer.new }
+        ensures room { MAX_FRAME ≤ vec_capacity buffer.new }
     {
         match self.buffers.head_at(place) {
             None => unreachable!(),

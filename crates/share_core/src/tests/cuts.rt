@@ -15,7 +15,7 @@ const READY: [Row; 4] = [
     (Call::Events, Wanted::Number(4)),
 ];
 
-// The link has the packet of the frame to send, after four events, and then so many bytes of the frame are out.
+// After four events the link has the packet of the frame to send; then this many bytes of the frame are out.
 fn get_ready<S: Rates>(
     rt: &impl Abort,
     alloc: Global,
@@ -143,7 +143,7 @@ const AFTER_A_FAULT: [Row; 3] = [
     (Call::Send("a", b"hi"), Wanted::Packet(2)),
 ];
 
-/// A link with a flow of this tariff, of whose frame so many bytes are out.
+/// A link with a flow of this tariff, and this many bytes of its frame are out.
 #[derive(Clone, Copy)]
 pub(super) struct Standing {
     tariff: u64,

@@ -10,7 +10,7 @@ use super::{Call, FLOW, Row, TURN, Wanted, play};
 use crate::Engine;
 use share_base::{FlowNo, Refusal, Reply, Turn};
 use share_model::allocator::{IS_HELD_OTHER, MARK_HELD, REFUSE_EACH, WAS_REFUSED};
-use share_model::{PlainWriter, Rates, Telling, asks};
+use share_model::{PlainWriter, Rates, TellingWriter, asks};
 use std::alloc::Global;
 use std::io;
 use std::io::{ErrorKind, Write};
@@ -240,7 +240,7 @@ const OPENED_AND_CLOSED: [Row; 4] = [
 ];
 
 // No block is kept of what the rows hand in.
-fn keeps_nothing<W: Telling, S: Rates>(
+fn keeps_nothing<W: TellingWriter, S: Rates>(
     rt: &impl Abort,
     alloc: Global,
     engine: &mut Engine<W, S>,

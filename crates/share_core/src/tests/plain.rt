@@ -1,5 +1,5 @@
-//! A plain link to compare with: lists that are searched from the front, and each figure computed anew from the rules
-//! after each event. Its sums saturate, so that nothing is proved of them.
+//! A plain link to compare with: lists that are searched from the front, and each figure computed from scratch by the
+//! rules after each event. Its sums saturate, so that nothing is proved of them.
 
 mod chains;
 mod commands;
@@ -219,7 +219,7 @@ impl Plain {
         self.tenants.len()
     }
 
-    /// What is told of the flow that was opened after so many others, if it is open.
+    /// What is told of the n-th flow that was opened, counted from 0, if it is open.
     pub(crate) fn told(&self, place: usize) -> Option<Told> {
         let tenant = self.tenants.get(place)?;
         if !tenant.open {

@@ -194,7 +194,7 @@ fn shows_flows<S: Rates>(rt: &impl Abort, pair: &Pair<S>) {
     assert!(rt; pair.engine.row(n).is_none(), "{n} flows are open");
 }
 
-// Both have the same bytes after the first so many.
+// Both have the same bytes from this place on.
 fn agree_on_bytes(rt: &impl Abort, ours: &[u8], plain: &[u8], written: usize) {
     assert_eq!(rt; ours.len(), plain.len());
     assert_eq!(rt; ours.get(written..), plain.get(written..));
@@ -208,7 +208,7 @@ fn agree_on_the_link<S: Rates>(rt: &impl Abort, engine: &Engine<Scripted, S>, pl
     assert_eq!(rt; engine.global(), plain.global());
 }
 
-// Both show the same, and wrote the same bytes after the first so many.
+// Both show the same, and wrote the same bytes from this place on.
 fn agree<S: Rates>(rt: &impl Abort, pair: &Pair<S>, written: usize) {
     agree_on_the_link(rt, &pair.engine, &pair.plain);
     shows_flows(rt, pair);
@@ -247,7 +247,7 @@ fn goes_on<S: Rates>(
     Ok(outcome)
 }
 
-// Runs both through a world. The run ends so many events after a fault.
+// Runs both through a world. The run ends this many events after a fault.
 fn goes_through<S: Rates>(
     rt: &impl Abort,
     alloc: Global,

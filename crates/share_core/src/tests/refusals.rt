@@ -173,7 +173,7 @@ fn lives_up_to_the_longest_life<S: Rates + Copy>(rt: &impl Abort, alloc: Global,
 pub(super) enum Case<'a> {
     OnANewLink,
     OneTicketTooMany,
-    /// A life of so many events, which the rows make.
+    /// A life of this many events, which the rows make.
     Life(usize, &'a [Row]),
 }
 
@@ -190,7 +190,7 @@ pub(super) fn plays<S: Rates>(
     }
 }
 
-// Each row of the tables is one event, and the first so many of them are the life.
+// Each row of the tables is one event, and the first of them, as many as the life allows, are made.
 fn lives_end<S: Rates + Copy>(rt: &impl Abort, alloc: Global, shelf: S) {
     for life in 1..6 {
         for rows in [&ENDS_WITH_A_FRAME, &ENDS_WITH_A_FAULT] {

@@ -1,4 +1,4 @@
-//! The calls, each made only where it may be, on packets whose payload is one byte; `None` where it may not.
+//! The calls, on packets of one byte. Each is made only if its contract allows it, and is `None` otherwise.
 ghost use Rattle.std.specs.Prelude.{◌≡◌, ◌<◌, ◌^◌, false, IfSome};
 ghost use Rattle.share_model.specs.link.Buffers.{buffer_of, is_full};
 ghost use Rattle.share_flows.specs.Places.{Stands};
@@ -53,7 +53,7 @@ pub(crate) fn close(buffers: &mut Buffers, flow: FlowNo) -> Option<u32> {
     Some(buffers.close(flow))
 }
 
-// The number of the head packet at a place, and 0 where there is none.
+// The number of the head packet at a place, and 0 if there is none.
 fn number_at(buffers: &Buffers, place: &Place) -> u32
     requires { Stands buffers.now place.now }
 {

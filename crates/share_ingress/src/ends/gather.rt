@@ -1,8 +1,9 @@
-//! All ends of a queue are joined to its intake.
+//! Joins all ends of a queue to its intake.
 ghost use Rattle.std.specs.Prelude.{◌≡◌, ◌∷◌, ℕ, true, length, sum, Any, IfOk, IfErr, MatchBool, MatchResult};
 ghost use Rattle.share_model.specs.ingress.Queue.{of_worker, has};
 ghost use Rattle.share_model.specs.lists.Each.{Each};
-ghost use Rattle.share_ingress.specs.Gathers.{AllThere, Gathered, HasLeft, IsMissing, IsTaken, IsWhole, Refuses};
+ghost use Rattle.share_ingress.specs.Gathers.{AllThere, Gathered, HasLeft, IsMissing, IsTaken, IsWhole};
+ghost use Rattle.share_ingress.specs.Gathers.{RefusesToGather};
 ghost use Rattle.share_ingress.specs.Gathers.{has_end, tallies_of};
 
 use super::{IngressEnd, Intake};
@@ -14,13 +15,13 @@ use std::alloc::{AllocError, Global};
 pub enum WhyNot {
     /// The end of a worker is missing.
     Mismatch,
-    /// An end has queued more than was popped of it.
+    /// An end has queued more than was popped of its worker.
     LeftOver,
-    /// No room for the tallies was to be had.
+    /// Memory for the tallies was refused.
     NoMemory,
 }
 
-/// Ends that were not joined to their intake, and why. All are as they were.
+/// The intake and the ends that were not joined, as they were, and why.
 #[derive(Drop)]
 pub struct Ungathered {
     pub why: WhyNot,
@@ -29,10 +30,10 @@ pub struct Ungathered {
 }
 
 impl Intake {
-    /// Joins all ends of this queue to the intake, and tells how many offers were popped of each worker, in the order
-    /// of the workers: all that its end queued. Afterwards each worker is closed, and no offer can be taken any more.
-    /// `Mismatch` where an end is missing, then `LeftOver` where one has queued more than was popped of it, then
-    /// `NoMemory`; what was passed comes back as it was.
+    /// Joins all ends of this queue to the intake, and says how many offers were popped of each worker, in the order of
+    /// the workers: all that its end queued. Afterwards each worker is closed, and no offer can be taken any more.
+    /// Errors, in the order of the tests: `Mismatch` if an end is missing, `LeftOver` if one has queued more than was
+    /// popped of its worker, `NoMemory`. Then intake and ends come back as they were.
     pub fn gather(
         self,
         alloc: Global,
@@ -41,7 +42,7 @@ impl Intake {
         requires { Each (λ e. e.link ≡ self.link) ends.items }
         ensures ok { IfOk result (λ made. Gathered self ends.items made.0 made.1.items) }
         ensures back { IfErr result (λ back. (back.intake ≡ self) × (back.ends.items ≡ ends.items)
-            × Refuses back.why self ends.items) }
+            × RefusesToGather back.why self ends.items) }
     {
         if let Err(why) = self.are_ready(ends.as_slice()) {
             return Err(Ungathered {
@@ -60,11 +61,11 @@ impl Intake {
         Ok((self.close_all(ends), tallies))
     }
 
-    // Whether all ends are there, and none has queued more than was popped of it.
+    // An error if an end is missing, or has queued more than was popped of its worker.
     fn are_ready(&self, ends: &[IngressEnd]) -> Result<(), WhyNot>
         ensures { MatchResult result
             (λ _. AllThere self.now.workers ends.now × Each (IsTaken self.now.popped) ends.now)
-            (λ why. Refuses why self.now ends.now) }
+            (λ why. RefusesToGather why self.now ends.now) }
     {
         if !self.are_there(ends) {
             return Err(WhyNot::Mismatch);
@@ -87,7 +88,7 @@ impl Intake {
         true
     }
 
-    // Whether none has queued more than was popped of it.
+    // Whether no end has queued more than was popped of its worker.
     fn are_taken(&self, ends: &[IngressEnd]) -> bool
         ensures { MatchBool result (Each (IsTaken self.now.popped) ends.now) (Any (HasLeft self.now.popped) ends.now) }
     {
@@ -120,7 +121,7 @@ impl Intake {
         self.counts[..self.workers as usize].to_vec(alloc)
     }
 
-    // Joins ends of this queue of which all was popped.
+    // Joins ends of this queue, all of whose offers were popped.
     fn close_all(self, ends: Vec<IngressEnd>) -> Intake
         requires link { Each (λ e. e.link ≡ self.link) ends.items }
         requires taken { Each (IsTaken self.popped) ends.items }
@@ -136,7 +137,7 @@ impl Intake {
         intake
     }
 
-    // Joins an end of this queue of which all was popped.
+    // Joins an end of this queue, all of whose offers were popped.
     fn close(&mut self, end: IngressEnd)
         requires link { end.link ≡ self.old.link }
         requires taken { IsTaken self.old.popped end }

@@ -1,9 +1,9 @@
-//! Two workers run beside each other.
+//! Two workers run at the same time.
 
 use crate::tests::queueing::taken;
 use crate::tests::working::{RECORD, word};
 use crate::{Done, Ended, Gate, IngressEnd, IngressReader, Intake, Job, Why, queue, run_workers};
-use share_model::{Got, Source};
+use share_model::{Got, TellingReader};
 use std::alloc::Global;
 use std::process::Abort;
 use std::sync::atomic::{AtomicU64, Ordering};
@@ -12,14 +12,14 @@ use std::sync::{Arc, Wait};
 /// How often a reader looks at a word, at most.
 const LOOKS: u64 = 1000000000;
 
-/// Gives a record a read; the second only after a word is set, and it fails where that does not come.
+/// Gives a record a read. Before the second it waits until a word is set, and fails if it never is.
 #[derive(Drop)]
 struct Waiting {
     reads: u64,
     word: Arc<AtomicU64>,
 }
 
-impl Source for Waiting {
+impl TellingReader for Waiting {
     ghost use Rattle.std.specs.Prelude.{None};
     ghost use Rattle.share_model.specs.io.Given.{Gives};
 
@@ -96,7 +96,7 @@ fn job(
     }
 }
 
-// Two jobs, of which each reads on only after the other has queued an item.
+// Two jobs, each of which reads on only after the other has queued an item.
 fn jobs_beside(
     rt: &impl Abort,
     alloc: Global,
@@ -121,7 +121,7 @@ fn are_done(rt: &impl Abort, all: &[Done<Setting>]) {
     }
 }
 
-// Four offers stand in the queue, those of each worker in their order.
+// Checks that the queue holds four offers, those of each worker in their order.
 fn come_in_order<T: Wait + Abort>(rt: &T, intake: &mut Intake) {
     let mut numbers: [u64; 2] = [0, 0];
     for _ in 0..4 {

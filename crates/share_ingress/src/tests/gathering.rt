@@ -8,7 +8,7 @@ use std::alloc::Global;
 use std::process::Abort;
 use std::sync::Wait;
 
-// A queue of four places for two workers; the first offers two, and the second one between them.
+// A queue of four places for two workers: the first made two offers, and the second made one between them.
 fn offered_three<T: Wait + Abort>(rt: &T, alloc: Global) -> (Intake, Vec<IngressEnd>)
     ensures { Each (λ e. e.link ≡ result.0.link) result.1.items }
 {
@@ -45,7 +45,7 @@ fn ends_of_which_all_was_taken_are_joined(rt: HostRuntime) {
     }
 }
 
-// The ends are not joined, for this reason: what comes back.
+// Checks that the ends are not joined, for this reason, and gives what comes back.
 fn not_joined<T: Abort>(
     rt: &T,
     alloc: Global,

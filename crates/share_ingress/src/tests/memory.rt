@@ -1,6 +1,6 @@
-//! Calls that may find no memory: each of their requests is refused in turn, until none is, and then the answer is that
-//! of a call that was never refused. Requests are refused over the allocator of `.ci/allocator.c` alone, as
-//! `.ci/memory` runs these tests; over any other the first call is the last one.
+//! Calls that may find no memory. Each call is made again and again: first its first request is refused, then its
+//! second, and so on, until none is refused and it succeeds. Requests are refused by the allocator of `.ci/allocator.c`
+//! alone, with which `.ci/memory` runs these tests; with any other the first call succeeds.
 ghost use Rattle.std.specs.Prelude.{◌≡◌};
 ghost use Rattle.share_model.specs.lists.Each.{Each};
 
@@ -11,11 +11,11 @@ use crate::{
 };
 use share_base::Refusal;
 use share_model::allocator::WAS_REFUSED;
-use share_model::{Got, Source, asks};
+use share_model::{Got, TellingReader, asks};
 use std::alloc::Global;
 use std::process::Abort;
 
-/// More requests than a call here makes.
+/// More requests than any call here makes.
 const REQUESTS: u16 = 64;
 
 /// A record for the flow a, whose payload is kept on the heap.
@@ -36,7 +36,7 @@ fn a_queue_is_made_once_its_memory_is_found(rt: HostRuntime) {
     panic!(rt; "there is none for good");
 }
 
-// Joins the ends, and tells the tallies.
+// Joins the ends, and gives the tallies.
 fn joined(rt: &impl Abort, alloc: Global, intake: Intake, ends: Vec<IngressEnd>) -> Vec<u64>
     requires { Each (λ e. e.link ≡ intake.link) ends.items }
 {
@@ -111,7 +111,7 @@ struct Once {
     given: bool,
 }
 
-impl Source for Once {
+impl TellingReader for Once {
     ghost use Rattle.std.specs.Prelude.{None};
     ghost use Rattle.share_model.specs.io.Given.{Gives};
 
@@ -131,7 +131,7 @@ impl Source for Once {
     }
 }
 
-/// Stops a worker at once where the queue is full.
+/// Stops a worker as soon as the queue is full.
 #[derive(Drop)]
 struct Impatient;
 
@@ -165,7 +165,7 @@ fn one_item_each(rt: &impl Abort, alloc: Global) -> Vec<Job<Once, Impatient>> {
     jobs
 }
 
-// Whether each job was done; those that were not, were not started.
+// Whether each job was done. Checks that the others were not started.
 fn all_done(rt: &impl Abort, all: &[Done<Impatient>]) -> bool {
     let mut done = true;
     for one in all {

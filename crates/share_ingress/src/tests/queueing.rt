@@ -1,4 +1,4 @@
-//! The queue on one thread: numbers, order, and what comes back where it is full.
+//! The queue on one thread: numbers, order, and what comes back if it is full.
 ghost use Rattle.std.specs.Prelude.{◌≡◌};
 
 use crate::{IngressEnd, Intake, Offered, queue};
@@ -7,7 +7,7 @@ use std::alloc::Global;
 use std::process::Abort;
 use std::sync::Wait;
 
-/// What an end answers to one byte for the flow a.
+/// The number of an offer of one byte for the flow a; 0 if it came back.
 pub fn offered<T: Wait>(rt: &T, alloc: Global, end: &mut IngressEnd, payload: u8) -> Option<u64>
     ensures { end.new.link ≡ end.old.link }
 {
@@ -26,7 +26,7 @@ pub fn offered<T: Wait>(rt: &T, alloc: Global, end: &mut IngressEnd, payload: u8
     }
 }
 
-/// The worker and the number of the offer in front, and its payload's first byte.
+/// Takes the offer in front: its worker, its number, and the first byte of its payload.
 pub fn taken<T: Wait>(rt: &T, intake: &mut Intake) -> Option<(u64, u64, u8)>
     ensures { intake.new.link ≡ intake.old.link }
 {
@@ -54,7 +54,7 @@ fn a_queue_of_one_place_takes_one(rt: HostRuntime) {
     drop(intake);
 }
 
-// Two offers of the first end, and one of the second between them.
+// Makes two offers with the first end, and one with the second between them.
 fn offer_three<T: Wait + Abort>(
     rt: &T,
     alloc: Global,
@@ -88,13 +88,13 @@ fn offers_come_in_the_order_of_their_pushes(rt: HostRuntime) {
 
 #[test]
 fn numbers_out_of_range_make_no_queue(rt: HostRuntime) {
-    for (capacity, workers) in [(0, 1), (1025, 1), (1, 0), (1, 3), (0, 0)] {
+    for (capacity, workers) in [(0, 1), (1025, 1), (1, 0), (1, 9), (0, 0)] {
         assert_eq!(rt;
             queue(rt.alloc(), capacity, workers).err(),
             Some(Refusal::Range)
         );
     }
-    for (capacity, workers) in [(1, 1), (1024, 2)] {
+    for (capacity, workers) in [(1, 1), (1024, 8)] {
         assert!(rt; queue(rt.alloc(), capacity, workers).is_ok());
     }
 }

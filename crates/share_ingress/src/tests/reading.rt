@@ -2,7 +2,7 @@
 
 use crate::{Ended, IngressReader, Next};
 use share_base::Parcel;
-use share_model::{Got, PlainReader, Source};
+use share_model::{Got, PlainReader, TellingReader};
 use std::alloc::{AllocError, Global};
 use std::process::Abort;
 use std::test::Fail;
@@ -13,7 +13,7 @@ const TWO: &[u8] = &[1, 97, 0, 1, 98, 1, 97, 0, 2, 99, 100];
 /// More items than any stream here has.
 const MANY: usize = 1000000;
 
-/// Gives its bytes one a read, fails in place of the byte at a place, and interrupts each other read where it is to.
+/// Gives its bytes one a read, fails in place of the byte at a place, and if told so interrupts every second read.
 #[derive(Drop)]
 pub struct Dripping<'a> {
     bytes: &'a [u8],
@@ -35,7 +35,7 @@ impl<'a> Dripping<'a> {
     }
 }
 
-impl<'a> Source for Dripping<'a> {
+impl<'a> TellingReader for Dripping<'a> {
     ghost use Rattle.std.specs.Prelude.{None};
     ghost use Rattle.share_model.specs.io.Given.{Gives};
 
@@ -66,7 +66,7 @@ impl<'a> Source for Dripping<'a> {
 }
 
 /// How many items a reader gives, and how it ends.
-fn count<R: Source>(reader: &mut IngressReader<R>) -> (usize, Ended) {
+fn count<R: TellingReader>(reader: &mut IngressReader<R>) -> (usize, Ended) {
     for items in 0..MANY {
         match reader.next() {
             Next::Item { .. } => (),
@@ -76,7 +76,7 @@ fn count<R: Source>(reader: &mut IngressReader<R>) -> (usize, Ended) {
     (MANY, Ended::Bound)
 }
 
-/// The same of bytes that are read as a whole, and one a read.
+/// The same of bytes that are read as a whole, and of bytes that are read one by one.
 fn counts_of(alloc: Global, bytes: &[u8]) -> Option<[(usize, Ended); 2]> {
     let mut whole = IngressReader::new(alloc, PlainReader(bytes), 2).ok()?;
     let at_once = count(&mut whole);
@@ -138,7 +138,7 @@ fn a_stream_is_cut_at_each_byte(rt: HostRuntime) {
     }
 }
 
-// Both halves of a parcel hold the payload.
+// Checks that both halves of a parcel hold the payload.
 fn holds(rt: &impl Abort, parcel: Parcel, payload: &[u8]) {
     let (sending, audit) = parcel.split();
     assert_eq!(rt; sending.as_slice(), payload);
@@ -147,8 +147,8 @@ fn holds(rt: &impl Abort, parcel: Parcel, payload: &[u8]) {
     drop(audit);
 }
 
-// The next item is a packet of the flow a with this payload.
-fn gives<R: Source>(rt: &impl Abort, reader: &mut IngressReader<R>, payload: &[u8]) {
+// Checks that the next item is this payload for the flow a.
+fn gives<R: TellingReader>(rt: &impl Abort, reader: &mut IngressReader<R>, payload: &[u8]) {
     match reader.next() {
         Next::Item { name, parcel } => {
             assert_eq!(rt; name.as_bytes(), b"a".as_slice());
@@ -168,7 +168,7 @@ fn an_item_is_the_name_and_the_payload(rt: HostRuntime) {
     drop(reader);
 }
 
-// A reader of the two records ends so, and again so: how many items it gives, and how it ends.
+// Checks how many items a reader of the two records gives and how it ends, and that it ends so again.
 fn ends_again(
     rt: &impl Abort,
     alloc: Global,
@@ -216,17 +216,17 @@ fn an_interrupted_read_is_made_again(rt: HostRuntime) {
 /// How many bytes a read asks for.
 const CHUNK: usize = 65536;
 
-/// Gives a pattern again and again, some 100 MB of it.
+/// Gives a pattern over and over, some 100 MB of it.
 #[derive(Drop)]
 struct Flood {
-    /// The pattern, and so much of it again that a chunk stands at each of its places.
+    /// The pattern, repeated far enough that a chunk can begin at each of its bytes.
     bytes: Vec<u8>,
     pattern: usize,
     at: usize,
     chunks: usize,
 }
 
-impl Source for Flood {
+impl TellingReader for Flood {
     ghost use Rattle.std.specs.Prelude.{None};
     ghost use Rattle.share_model.specs.io.Given.{Gives};
 

@@ -1,9 +1,9 @@
-//! Workers: which calls a gate gets, and what stops them.
+//! Workers: which calls their gate gets, and what stops them.
 
 use crate::tests::queueing::taken;
 use crate::tests::reading::Dripping;
 use crate::{Done, Ended, Gate, IngressEnd, IngressReader, Intake, Why, queue, run_worker};
-use share_model::{Got, Source};
+use share_model::{Got, TellingReader};
 use std::alloc::Global;
 use std::process::Abort;
 use std::sync::atomic::{AtomicU64, Ordering};
@@ -15,7 +15,7 @@ const THREE: &[u8] = &[1, 97, 0, 1, 98, 1, 97, 0, 1, 99, 1, 97, 0, 1, 100];
 /// A record for the flow a, with the payload `b`.
 pub(super) const RECORD: [u8; 5] = [1, 97, 0, 1, 98];
 
-/// Writes down its calls as letters, and lets an item be offered again so many times.
+/// Writes down its calls as letters, and lets an item be offered again `again` times.
 #[derive(Drop)]
 struct Notes {
     calls: Vec<u8>,
@@ -50,7 +50,7 @@ impl Gate for Notes {
     }
 }
 
-// A queue of so many places, with one end.
+// A queue of `capacity` places, with one end.
 fn one_end(rt: &impl Abort, alloc: Global, capacity: usize) -> (Intake, IngressEnd) {
     let (intake, mut ends) = queue(alloc, capacity, 1).expect(rt, "a queue");
     let end = ends.pop().expect(rt, "an end");
@@ -78,7 +78,7 @@ fn noting(alloc: Global, again: u64) -> Notes {
     }
 }
 
-/// What a worker leaves that has the three records, a queue of two places, and a bound.
+/// What a worker leaves that reads the three records within a bound, into a queue of two places.
 fn worked<T: Wait + Abort>(rt: &T, alloc: Global, again: u64, bound: u64) -> Done<Notes> {
     let (intake, end) = one_end(rt, alloc, 2);
     let done = run_worker(
@@ -91,7 +91,7 @@ fn worked<T: Wait + Abort>(rt: &T, alloc: Global, again: u64, bound: u64) -> Don
     done
 }
 
-// Why the worker ended, how many items it queued, and the calls of its gate.
+// Checks why the worker ended, how many items it queued, and the calls of its gate.
 fn left(rt: &impl Abort, done: &Done<Notes>, why: Why, tally: u64, calls: &[u8]) {
     assert_eq!(rt; done.why, why);
     assert_eq!(rt; done.tally, tally);
@@ -113,7 +113,7 @@ fn each_round_on_a_full_queue_is_a_turn(rt: HostRuntime) {
     drop(done);
 }
 
-// The three records stand in the queue, the first of them with the number after this one.
+// Checks that the queue holds the three records, numbered from the number after `last`.
 fn three_are_taken<T: Wait + Abort>(rt: &T, intake: &mut Intake, last: u64) {
     for (n, payload) in [(1, b'b'), (2, b'c'), (3, b'd')] {
         assert_eq!(rt;
@@ -123,7 +123,7 @@ fn three_are_taken<T: Wait + Abort>(rt: &T, intake: &mut Intake, last: u64) {
     }
 }
 
-// A round of the worker with this end, which it gives back.
+// One more run of a worker with this end, which it gives back.
 fn one_more_round<T: Wait + Abort>(
     rt: &T,
     alloc: Global,
@@ -153,8 +153,8 @@ fn a_worker_counts_its_own_items(rt: HostRuntime) {
     drop(intake);
 }
 
-/// Has the queue's other side, and writes down what stands in the queue at each of its calls. It takes what is queued
-/// at once, or only where the queue is full.
+/// Has the intake, and writes down what it takes of the queue at its calls. It takes an offer at each call, or only
+/// when the queue is full.
 #[derive(Drop)]
 struct Watching<T> {
     rt: T,
@@ -195,7 +195,7 @@ impl<T: Wait> Gate for Watching<T> {
     }
 }
 
-// A worker that has the three records and a queue of one place makes these calls.
+// Checks the calls of a worker that reads the three records into a queue of one place.
 fn watched<T: Wait + Abort + Copy + Drop>(rt: &T, alloc: Global, at_once: bool, calls: &[u8]) {
     let (intake, end) = one_end(rt, alloc, 1);
     let gate = Watching {
@@ -215,7 +215,7 @@ fn an_item_is_offered_between_the_calls_of_its_gate(rt: HostRuntime) {
     watched(&rt, rt.alloc(), false, b"bobf1obf2o");
 }
 
-// A worker whose reader has these bytes, and fails in place of the byte at a place, ends so.
+// Checks how a worker ends whose reader has these bytes and fails in place of the byte at a place.
 fn worker_ends<T: Wait + Abort>(rt: &T, alloc: Global, row: (&[u8], usize, Ended, u64)) {
     let (bytes, failing, ended, tally) = row;
     let (intake, end) = one_end(rt, alloc, 4);
@@ -246,7 +246,7 @@ struct Counting {
     reads: Arc<AtomicU64>,
 }
 
-impl Source for Counting {
+impl TellingReader for Counting {
     ghost use Rattle.std.specs.Prelude.{None};
     ghost use Rattle.share_model.specs.io.Given.{Gives};
 
@@ -266,7 +266,7 @@ impl Source for Counting {
     }
 }
 
-// A word that is 0.
+// A new word, which is 0.
 pub(super) fn word(rt: &impl Abort, alloc: Global) -> Arc<AtomicU64> {
     Arc::new(alloc, AtomicU64::new(0)).ok().expect(rt, "memory")
 }

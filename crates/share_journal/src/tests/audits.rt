@@ -5,7 +5,7 @@ use super::runs::Run;
 use crate::{Fault, Journal, Recorder};
 use share_base::Outcome;
 use share_core::Engine;
-use share_model::{Answer, PlainReader, Rates, Scripted, Tape, Telling};
+use share_model::{Answer, PlainReader, Rates, Scripted, Tape, TellingWriter};
 use share_script::{run_script, write_reply, write_turn};
 use std::alloc::Global;
 use std::process::Abort;
@@ -23,7 +23,7 @@ fn agreeing(bytes: &[u8], want: &[u8]) -> usize {
     bytes.len().min(want.len())
 }
 
-// A long text that is another one is not printed.
+// A long text that differs is not printed.
 fn is_text(rt: &impl Abort, bytes: &[u8], want: &[u8]) {
     assert!(rt;
         bytes == want,
@@ -53,7 +53,7 @@ fn replies_of(rt: &impl Abort, alloc: Global, journal: &Journal) -> Tape {
     text
 }
 
-// A writer that accepts so many bytes, one a call, and then answers this.
+// A writer that accepts this many bytes, one a call, and then answers this.
 fn bytewise(rt: &impl Abort, alloc: Global, accepted: usize, last: Answer) -> Scripted {
     let mut answers = vec![in alloc; Answer::Accepted(1); accepted].expect(rt, "memory");
     answers.push(last).expect(rt, "memory");

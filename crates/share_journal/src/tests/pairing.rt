@@ -7,14 +7,14 @@ use super::runs::{Call, Row, Wanted};
 use super::{compare_parts, linked, play, recording, scripted};
 use crate::{Journal, Recorder};
 use share_core::Engine;
-use share_model::{PlainWriter, Rates, Telling};
+use share_model::{PlainWriter, Rates, TellingWriter};
 use std::alloc::Global;
 use std::process::Abort;
 
 const MAKES_A_CURRENCY: [Row; 1] = [(1, Call::MakeCurrency("x"), Wanted::Done, true)];
 
 // Both parts, which make no recorder.
-fn parts_back<W: Telling + Drop, S: Rates + Drop>(
+fn parts_back<W: TellingWriter + Drop, S: Rates + Drop>(
     rt: &impl Abort,
     engine: Engine<W, S>,
     journal: Journal,

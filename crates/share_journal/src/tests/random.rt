@@ -141,7 +141,7 @@ fn ask<S: Rates>(
     }
 }
 
-// Makes so many calls, and tells how many of them were interrupted.
+// Makes this many calls, and tells how many of them were interrupted.
 fn drive<S: Rates>(
     rt: &impl Abort,
     alloc: Global,
@@ -174,7 +174,7 @@ fn run<S: Rates + Copy>(rt: &impl Abort, alloc: Global, shelf: S, world: &World,
     met
 }
 
-// Each kind of event but a fault was done so often at least, and so many faults were met.
+// Each kind of event but a fault was done at least this often, and this many faults were met.
 fn has_met(rt: &impl Abort, met: &Met, least: u32, faults: u32) {
     for (place, kind) in KINDS.iter().enumerate() {
         let done = met.done.get(place).copied().unwrap_or(0);

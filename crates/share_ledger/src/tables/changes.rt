@@ -5,12 +5,12 @@ ghost use Rattle.share_model.specs.funding.Changes.{with_holder, make_currency_r
 ghost use Rattle.share_model.specs.funding.Changes.{remove_currency_refusal, remove_currency, make_ticket_refusal};
 ghost use Rattle.share_model.specs.funding.Changes.{make_ticket, remove_ticket_refusal, remove_ticket};
 ghost use Rattle.share_model.specs.funding.Changes.{fund_currency_refusal, fund_currency, fund_flow_refusal, fund_flow};
-ghost use Rattle.share_model.specs.funding.Changes.{unfund, add_flow_refusal, add_flow, released};
+ghost use Rattle.share_model.specs.funding.Changes.{unfund, add_flow_refusal, add_flow, release_from};
 ghost use Rattle.share_model.specs.funding.Changes.{remove_flow, set_active};
 ghost use Rattle.share_model.specs.declared.funding.OpenFlow.{OpenFlow};
 ghost use Rattle.share_model.specs.funding.Kept.{IsKept};
 ghost use Rattle.share_ledger.specs.Ranks.{AreBacking};
-ghost use Rattle.share_ledger.specs.Seats.{AreSeated, funds_of};
+ghost use Rattle.share_ledger.specs.FundingTickets.{AreTicketed, funds_of};
 
 use super::Tables;
 use crate::holders;
@@ -87,7 +87,7 @@ impl Tables {
         Ok(())
     }
 
-    // The first ticket of this number gets this holder.
+    // Gives the first ticket of this number this holder.
     fn give(&mut self, number: u64, holder: &Holder)
         requires { IsKept
             (record self.old { tickets = with_holder number holder.now self.old.tickets }) }
@@ -99,7 +99,7 @@ impl Tables {
         }
     }
 
-    /// `net` has the seats and the ranks of the currencies.
+    /// `net` has the funding tickets and the ranks of the currencies.
     pub(crate) fn fund_currency(
         &mut self,
         ticket: u64,
@@ -121,9 +121,9 @@ impl Tables {
         Ok(())
     }
 
-    /// `net` has the seats of the flows.
+    /// `net` has the funding tickets of the flows.
     pub(crate) fn fund_flow(&mut self, ticket: u64, flow: Name, net: &Net) -> Result<(), Refusal>
-        requires { AreSeated (funds_of self.old) net.now.funding.items }
+        requires { AreTicketed (funds_of self.old) net.now.funding.items }
         ensures done { IfOk result
             (λ _. (fund_flow_refusal self.old ticket flow ≡ None) × (self.new ≡ fund_flow self.old ticket flow)) }
         ensures refused { IfErr result
@@ -179,7 +179,7 @@ impl Tables {
         }
     }
 
-    /// Makes a flow active or idle, and gives its place where it was not so before.
+    /// Makes a flow active or idle, and gives its place if that is a change.
     pub(crate) fn set_active(&mut self, flow: FlowNo, active: bool) -> Option<usize>
         ensures change { self.new ≡ set_active self.old flow active }
         ensures still { result ≡ None → self.new ≡ self.old }
@@ -198,9 +198,9 @@ impl Tables {
     }
 }
 
-// The ticket without its holder, where that is this flow.
-fn released(ticket: Ticket, flow: FlowNo) -> Ticket
-    ensures { result ≡ released flow ticket }
+// The ticket, without its holder if that is this flow.
+fn release_from(ticket: Ticket, flow: FlowNo) -> Ticket
+    ensures { result ≡ release_from flow ticket }
 {
     if holders::is_flow(&ticket.holder, flow) {
         return Ticket {
@@ -211,11 +211,11 @@ fn released(ticket: Ticket, flow: FlowNo) -> Ticket
     ticket
 }
 
-// The tickets that fund a flow lose their holder.
+// Takes the tickets that fund a flow from it.
 fn release(tickets: &mut [Ticket], flow: FlowNo)
-    ensures { tickets.new ≡ map (released flow) tickets.old }
+    ensures { tickets.new ≡ map (release_from flow) tickets.old }
 {
     for ticket in tickets.iter_mut() {
-        *ticket = released(*ticket, flow);
+        *ticket = release_from(*ticket, flow);
     }
 }

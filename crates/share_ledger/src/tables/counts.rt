@@ -1,4 +1,5 @@
-//! How many tickets fund a holder, and whether one more would lead back or be too much: by the seats that are kept.
+//! How many tickets fund a holder, and whether one more would make a cycle or a chain that is too long. The kept
+//! funding tickets tell it.
 ghost use Rattle.std.specs.Prelude.{◌≡◌, ◌≤◌, length, true, false, bytes_eq, [], ◌∷◌, is_some};
 ghost use Rattle.share_base.specs.Refusal.{first_refusal};
 ghost use Rattle.share_base.specs.declared.refusal.Refusal as Refusal;
@@ -8,43 +9,43 @@ ghost use Rattle.share_model.specs.funding.Changes.{is_currency, ticket_of, is_f
 ghost use Rattle.share_model.specs.funding.Changes.{with_holder};
 ghost use Rattle.share_model.specs.funding.Kept.{times_open};
 ghost use Rattle.share_ledger.specs.Ranks.{AreBacking};
-ghost use Rattle.share_ledger.specs.Seats.{AreSeated, funds_of};
+ghost use Rattle.share_ledger.specs.FundingTickets.{AreTicketed, funds_of};
 
 use super::Tables;
+use crate::funding_tickets::funding_tickets_at;
 use crate::net::Net;
-use crate::seats::seats_at;
 use share_base::{FlowNo, Name, Refusal};
 
 impl Tables {
     /// How many tickets fund a currency.
     pub(super) fn count_backing(&self, name: Name, net: &Net) -> usize
         requires known { is_currency self.now name ≡ true }
-        requires seated { AreBacking self.now net.now }
+        requires ticketed { AreBacking self.now net.now }
         ensures { result ≡ length (backing self.now.tickets name) }
     {
         self.is_kept();
-        seats_at(&net.backing, self.place_of(name)).len()
+        funding_tickets_at(&net.backing, self.place_of(name)).len()
     }
 
     /// How many tickets fund an open flow.
     pub(super) fn count_funding(&self, flow: FlowNo, net: &Net) -> usize
         requires open { 1 ≤ times_open flow self.now.flows }
-        requires seated { AreSeated (funds_of self.now) net.now.funding.items }
+        requires ticketed { AreTicketed (funds_of self.now) net.now.funding.items }
         ensures { result ≡ length (funding self.now.tickets flow) }
     {
         self.is_kept();
         let Some(place) = self.place_of_flow(flow) else {
             unreachable!();
         };
-        seats_at(&net.funding, place).len()
+        funding_tickets_at(&net.funding, place).len()
     }
 
-    /// Cycle or Deep, where the currency cannot be funded by this ticket for one of them.
+    /// `Cycle` or `Deep`, if the currency cannot be funded by this ticket for one of these reasons.
     pub(super) fn chain_refusal(&self, number: u64, currency: Name, net: &Net) -> Option<Refusal>
         requires known { is_currency self.now currency ≡ true }
         requires made { bytes_eq currency base ≡ false }
         requires free { is_found_held (ticket_of self.now number) ≡ false }
-        requires seated { AreBacking self.now net.now }
+        requires ticketed { AreBacking self.now net.now }
         ensures { is_some (ticket_of self.now number) ≡ true
             → result ≡ first_refusal (
             (chain_within self.now.tickets 8 currency (found_denomination (ticket_of self.now number)), Refusal.Cycle)

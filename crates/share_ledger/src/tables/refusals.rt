@@ -1,4 +1,4 @@
-//! When each command is refused, want of memory aside.
+//! When each command is refused, memory aside.
 ghost use Rattle.std.specs.Prelude.{◌≡◌, Some};
 ghost use Rattle.share_model.specs.funding.Changes.{uses, make_currency_refusal};
 ghost use Rattle.share_model.specs.funding.Changes.{remove_currency_refusal, make_ticket_refusal};
@@ -6,7 +6,7 @@ ghost use Rattle.share_model.specs.funding.Changes.{remove_ticket_refusal, fund_
 ghost use Rattle.share_model.specs.funding.Changes.{unfund_refusal, add_flow_refusal};
 ghost use Rattle.std.specs.List.{list_any};
 ghost use Rattle.share_ledger.specs.Ranks.{AreBacking};
-ghost use Rattle.share_ledger.specs.Seats.{AreSeated, funds_of};
+ghost use Rattle.share_ledger.specs.FundingTickets.{AreTicketed, funds_of};
 
 use super::{MAX_AMOUNT, MAX_CURRENCIES, MAX_FLOWS, MAX_FUNDING, MAX_TICKETS, Tables, is_base};
 use crate::holders;
@@ -78,7 +78,7 @@ impl Tables {
         }
     }
 
-    /// `net` has the seats and the ranks of the currencies.
+    /// `net` has the funding tickets and the ranks of the currencies.
     pub(crate) fn fund_currency_refusal(
         &self,
         number: u64,
@@ -106,9 +106,9 @@ impl Tables {
         self.chain_refusal(number, currency, net)
     }
 
-    /// `net` has the seats of the flows.
+    /// `net` has the funding tickets of the flows.
     pub(crate) fn fund_flow_refusal(&self, number: u64, flow: Name, net: &Net) -> Option<Refusal>
-        requires { AreSeated (funds_of self.now) net.now.funding.items }
+        requires { AreTicketed (funds_of self.now) net.now.funding.items }
         ensures { result ≡ fund_flow_refusal self.now number flow }
     {
         let Some(ticket) = self.ticket(number) else {

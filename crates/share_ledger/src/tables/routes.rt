@@ -1,7 +1,7 @@
 //! The routes of the tickets that have a holder.
-ghost use Rattle.std.specs.Prelude.{◌≡◌, ℕ, ◌≤◌, ◌<◌, length, map, take, slice_get, option_map, Some, true};
-ghost use Rattle.share_model.specs.funding.Kept.{names_of, times, times_open, IsHolderKnown};
-ghost use Rattle.share_ledger.specs.Routes.{flow_place, holder_place, is_kind, route_of, routes_of, IsRouteWithin};
+ghost use Rattle.std.specs.Prelude.{◌≡◌, ◌≤◌, ◌<◌, length, take, slice_get, option_map, Some, true};
+ghost use Rattle.share_model.specs.funding.Kept.{names_of, times, IsHolderKnown};
+ghost use Rattle.share_ledger.specs.Routes.{holder_place, is_kind, route_of, routes_of, IsRouteWithin};
 ghost use Rattle.share_ledger.specs.Routes.{IsRouted};
 ghost use Rattle.share_model.specs.funding.Changes.{ticket_of, is_found_held};
 

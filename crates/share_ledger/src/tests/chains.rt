@@ -1,4 +1,4 @@
-//! Cycles, long chains, and the deepest graph that may stand.
+//! Cycles, long chains, and the deepest graph that is allowed.
 
 use super::many::Many;
 use super::{Call, DONE, Row, Table, plays};
@@ -6,7 +6,7 @@ use share_base::Refusal;
 use std::alloc::Global;
 use std::process::Abort;
 
-/// Nine currencies c1 to c9, a ticket of each with its number, of which the first seven fund the next currency.
+/// Nine currencies c1 to c9, and a ticket of each with its number. The first seven tickets fund the next currency.
 pub(super) const CHAIN_OF_EIGHT: [Row; 25] = [
     (Call::MakeCurrency("c1"), DONE),
     (Call::MakeTicket(1, "c1"), Ok(Some(1))),

@@ -8,15 +8,15 @@ use std::process::Abort;
 /// Many calls of a ledger.
 #[derive(Clone, Copy)]
 pub(super) enum Many {
-    /// Sixteen tickets of this amount of a currency come to back another.
+    /// Sixteen tickets of this amount of a currency are made to back another.
     Back(u64, &'static str, &'static str),
-    /// Sixteen tickets of `base` come to fund a flow.
+    /// Sixteen tickets of `base` are made to fund a flow.
     Fund(&'static str),
-    /// 64 flows are opened, and fourteen tickets of a currency come to fund each.
+    /// 64 flows are opened, and each is funded by fourteen tickets of a currency.
     Flows(&'static str),
     /// 64 currencies c00 to c63 are made, 64 flows of the same names, and 1024 tickets.
     Full,
-    /// The flows 1 to 64 turn active.
+    /// The flows 1 to 64 become active.
     Activate,
 }
 

@@ -1,4 +1,4 @@
-//! A plain model of the ledger: lists, and all else computed of them from nothing, by the rules as they stand.
+//! A plain model of the ledger: lists, and all else computed from them from scratch, by the rules.
 
 mod chains;
 mod commands;
@@ -8,7 +8,7 @@ use share_base::Name;
 use std::alloc::{AllocError, Global};
 use worths::Worths;
 
-/// `base`, and 64 currencies more.
+/// The most currencies: `base`, and 64 more.
 pub(super) const CURRENCIES: usize = 65;
 
 /// The most flows.
@@ -48,7 +48,7 @@ struct Opened {
     active: bool,
 }
 
-/// What a model tells of a currency: its active amount, its value, and how many tickets fund it.
+/// What a model says of a currency: its active amount, its value, and how many tickets fund it.
 #[derive(Clone, Copy)]
 pub(super) struct Currency {
     pub(super) active: u64,
@@ -56,7 +56,7 @@ pub(super) struct Currency {
     pub(super) backing: usize,
 }
 
-/// What a model tells of a flow: its tickets, and how many tickets fund it, among the rest.
+/// What a model says of a flow: among the rest its tickets, and how many tickets fund it.
 #[derive(Clone, Copy)]
 pub(super) struct Flow {
     pub(super) name: Name,
@@ -132,7 +132,7 @@ impl Model {
     }
 
     /// Computes all that the tickets come to.
-    pub(super) fn settle(&mut self) {
+    pub(super) fn recompute(&mut self) {
         self.worths = worths::of(&self.issued, &self.opened);
     }
 
@@ -188,7 +188,7 @@ impl Model {
         self.issued.len()
     }
 
-    /// The number of the ticket that was issued at a place among those that are there.
+    /// The number of the ticket at a place, in the order of issuing.
     pub(super) fn ticket_at(&self, place: usize) -> Option<u64> {
         match self.issued.get(place) {
             Some(ticket) => Some(u64::from(ticket.number)),
@@ -222,7 +222,7 @@ impl Model {
         }
     }
 
-    /// The currency at a place, as last settled.
+    /// The currency at a place, as computed last.
     pub(super) fn currency_at(&self, place: usize) -> Option<Currency> {
         match self.made.get(place) {
             Some(made) => self.worths.currency(made.slot),
@@ -230,7 +230,7 @@ impl Model {
         }
     }
 
-    /// The flow at a place in the order of opening, as last settled.
+    /// The flow at a place in the order of opening, as computed last.
     pub(super) fn flow_at(&self, place: usize) -> Option<Flow> {
         let open = self.opened.get(place).copied()?;
         let (tickets, funding) = self.worths.flow(open.slot)?;

@@ -1,4 +1,4 @@
-//! Long runs of changes, drawn by a generator, of a ledger and of the model beside it.
+//! Long runs of random changes, of a ledger and of a plain model.
 
 mod agrees;
 mod draws;
@@ -11,7 +11,7 @@ use share_base::{FlowNo, Name, Refusal, Reply};
 use std::alloc::Global;
 use std::process::Abort;
 
-/// What each command is refused for, but for want of memory and of numbers: a full table last.
+/// The refusals of each command, those for lack of memory or numbers left out; that of a full table is last.
 const REFUSALS: [&[Refusal]; 8] = [
     &[Refusal::Taken, Refusal::TableFull],
     &[Refusal::NoCurrency, Refusal::Base, Refusal::InUse],
@@ -54,8 +54,8 @@ fn bit_of(refusal: &Refusal) -> u64 {
     1_u64.wrapping_shl(refusal.number())
 }
 
-/// What a run met: the refusals of each command, how often a currency came to be backed by one that was made after it,
-/// how many currencies were removed before others that were made after them, and how many flows were closed.
+/// What a run met: the refusals of each command, how often a currency was backed by a later one, how many currencies
+/// were removed while later ones were there, and how many flows were closed.
 #[derive(Clone, Copy)]
 struct Met {
     refusals: [u64; 8],
@@ -71,7 +71,7 @@ const NOTHING: Met = Met {
     closed: 0,
 };
 
-/// What is seen of a change before it is made.
+/// What is noted of a change before it is made.
 #[derive(Clone, Copy)]
 struct Noted {
     kind: usize,
@@ -103,7 +103,7 @@ impl Met {
     }
 }
 
-// Whether a ticket is denominated in a currency that was made after another one.
+// Whether a ticket is denominated in a currency that was made after `currency`.
 fn is_late(model: &Model, ticket: u64, currency: Name) -> bool {
     match model.denomination(ticket) {
         Some(denomination) => model.place_of(denomination) > model.place_of(currency),
@@ -111,7 +111,7 @@ fn is_late(model: &Model, ticket: u64, currency: Name) -> bool {
     }
 }
 
-// Whether other currencies were made after one.
+// Whether other currencies were made after this one.
 fn is_in_the_middle(model: &Model, name: Name) -> bool {
     match model.place_of(name) {
         Some(place) => place.saturating_add(1) < model.currency_count(),
@@ -135,7 +135,7 @@ fn seen(model: &Model, change: &Change) -> Noted {
     }
 }
 
-// The number of an open flow, which both give.
+// The number of an open flow. Checks that both give the same.
 fn number_in_both(rt: &impl Abort, ledger: &Ledger, model: &Model, name: Name) -> Option<u32> {
     let number = model.flow(name);
     assert_eq!(rt; number_of(ledger.flow(name)), number);
@@ -148,7 +148,7 @@ fn is_taken(rt: &impl Abort, ledger: &Ledger, model: &Model, name: Name) {
     assert_eq!(rt; refusal.is_some(), refused);
 }
 
-// Asks both for a change, compares the answers, and keeps what was met.
+// Asks both for a change, compares the answers, and notes what was met.
 fn ask(
     rt: &impl Abort,
     draws: &mut Draws,
@@ -175,7 +175,7 @@ fn close(ledger: &mut Ledger, model: &mut Model, flow: u32, name: Name) {
     model.close(name);
 }
 
-// Makes one step on both: a flow turns active or idle, or is removed, or a change is asked of both.
+// Makes one step on both: a flow becomes active or idle, or is removed, or a change is asked for.
 fn step(
     rt: &impl Abort,
     draws: &mut Draws,
@@ -205,7 +205,7 @@ fn compare(rt: &impl Abort, ledger: &Ledger, model: &Model, count: u32) {
     }
 }
 
-// The refusals of full tables are met where the tables are to be full.
+// Whether a run has to meet a refusal: that of a full table only if its tables get full.
 fn is_wanted(scene: &Scene, refusal: &Refusal) -> bool {
     scene.tickets >= 1024 || bit_of(refusal) != bit_of(&Refusal::TableFull)
 }
@@ -229,7 +229,7 @@ fn run(rt: &impl Abort, ledger: &mut Ledger, model: &mut Model, scene: &Scene) {
     let mut met = NOTHING;
     for count in 0..scene.steps {
         step(rt, &mut draws, scene, ledger, model, &mut met);
-        model.settle();
+        model.recompute();
         compare(rt, ledger, model, count);
     }
     met_all(rt, scene, &met);
@@ -255,7 +255,7 @@ fn few(seed: u64) -> Scene {
     }
 }
 
-// So many names that no table is full, and chains of all lengths.
+// Names enough for chains of all lengths, but not for a full table.
 fn many(seed: u64) -> Scene {
     Scene {
         seed,

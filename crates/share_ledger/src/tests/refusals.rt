@@ -1,4 +1,4 @@
-//! Each refusal, and the order in which they stand.
+//! Each refusal, and their order.
 
 use super::chains::CHAIN_OF_EIGHT;
 use super::many::Many;
@@ -33,8 +33,8 @@ const OF_A_BACKED_CURRENCY: [Row; 8] = [
     (Call::RemoveTicket(2), Err(Refusal::Funding)),
 ];
 
-/// After the chain of eight: the tickets 10 to 25, of `base`, fund the ninth currency. Each ticket and currency meets
-/// one test more than the one before it, and the first that stands answers.
+/// After the chain of eight: the tickets 10 to 25, of `base`, fund the ninth currency. Each row passes one test more
+/// than the row before it, and fails the next, which gives the answer.
 const OF_FUNDING_IN_ORDER: [Row; 12] = [
     (Call::Many(Many::Back(1, "base", "c9")), DONE),
     (Call::Back(99, "nope"), Err(Refusal::NoTicket)),

@@ -1,4 +1,4 @@
-//! Worked figures: the tickets of flows, as activity comes and goes.
+//! Worked figures: the tickets of flows, as flows become active and idle.
 
 use super::{Call, DONE, NONE, Row, Table, plays};
 use std::alloc::Global;

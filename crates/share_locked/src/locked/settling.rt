@@ -1,10 +1,11 @@
-//! The settling of a link that is served no more.
-ghost use Rattle.std.specs.Prelude.{◌≡◌, ◌≤◌, [], length, sum, count_by, Any, MatchBool, IfOk, IfErr};
+//! Settles a link that is no longer served.
+ghost use Rattle.std.specs.Prelude.{◌≡◌, count_by, Any, MatchBool, IfOk, IfErr};
 ghost use Rattle.share_model.specs.lists.Each.{Each};
-ghost use Rattle.share_ingress.specs.Gathers.{Gathered, Refuses};
+ghost use Rattle.share_ingress.specs.Gathers.{RefusesToGather};
 ghost use Rattle.share_journal.specs.Arrivals.{arrivals};
 ghost use Rattle.std.specs.Prelude.{◌≢◌, ◌++◌, ◌↔◌, List, IsTrue, MatchOption};
-ghost use Rattle.share_locked.specs.Receipts.{Agrees, Disagrees, booked, listed, commands_in, has_clerk, is_command};
+ghost use Rattle.share_locked.specs.Receipts.{Agrees, Disagrees, receipt_in, list_of, commands_in, has_clerk};
+ghost use Rattle.share_locked.specs.Receipts.{is_command};
 ghost use Rattle.share_locked.specs.Receipts.{is_arrival, receipts_in};
 ghost use Rattle.share_locked.specs.declared.clerk.Receipt.{Receipt};
 ghost use Rattle.share_locked.specs.Settles.{is_unsent, AreAgreed, AreClerks, ClerkIsMissing, Disagreed, IsJoined};
@@ -13,11 +14,11 @@ ghost use Rattle.share_locked.specs.Settles.{IsSettled, Unsettles, why_of};
 
 use super::Locked;
 use crate::clerk::{Clerk, Receipt, receipt_of};
-use crate::link::Link;
+use crate::link::LinkBrand;
 use share_base::{Command, Event, Outcome, Reply};
 use share_ingress::{IngressEnd, Ungathered, WhyNot};
 use share_journal::{Entry, Recorder, Source, audits_replay};
-use share_model::{Rates, Telling};
+use share_model::{Rates, TellingWriter};
 use std::alloc::Global;
 
 /// Why a link was not settled.
@@ -27,42 +28,43 @@ pub enum WhyUnsettled {
     Unsent,
     /// An end or a clerk is missing, or the receipts of the clerks are not the commands of the journal.
     Mismatch,
-    /// An end has queued more than was taken of it.
+    /// An end has queued more than was taken of its worker.
     LeftOver,
     /// Memory was refused.
     NoMemory,
 }
 
 /// A settled link: its recorder; how many offers were taken of each worker, in the order of the workers; how many
-/// arrivals the journal has, refused ones too; and how many commands.
+/// arrivals the journal has, refused ones too; and how many commands it has.
 #[derive(Drop)]
-pub struct Settled<W: Telling, S: Rates> {
+pub struct Settled<W: TellingWriter, S: Rates> {
     pub recorder: Recorder<W, S>,
     pub tallies: Vec<u64>,
     pub arrivals: u64,
     pub commands: u64,
 }
 
-/// A link that was not settled, with its ends and its clerks, as they were, and why.
+/// A link that was not settled, with its ends and its clerks, all as they were, and why.
 #[derive(Drop)]
-pub struct Unsettled<W: Telling, S: Rates, L: Link> {
+pub struct Unsettled<W: TellingWriter, S: Rates, L: LinkBrand> {
     pub why: WhyUnsettled,
     pub locked: Locked<W, S, L>,
     pub ends: Vec<IngressEnd>,
     pub clerks: Vec<Clerk<L>>,
 }
 
-/// Settles a link with all its ends and clerks. Refusals, in order, after which everything comes back as it was:
+/// Settles a link with all its ends and clerks. Errors, in the order of the tests, after which all comes back as it
+/// was:
 ///
 /// - `Unsent`: there is a frame to send, the link is not broken, and its life is not spent;
 /// - `Mismatch`: an end or a clerk is missing, or the receipts of the clerks are not the commands of the journal;
-/// - `LeftOver`: an end has queued more than was taken of it;
+/// - `LeftOver`: an end has queued more than was taken of its worker;
 /// - `NoMemory`.
 ///
-/// Of a settled link, all that the end of each worker queued came to the link, once and in order; and the audit of its
-/// journal, run as a script in a life that is not shorter, gives the bytes that the writer tells, where no line of the
-/// output is `no 1 NoMemory`.
-pub fn settle<W: Telling, S: Rates, L: Link>(
+/// All that the end of each worker queued came to a settled link, once and in order. The audit of its journal, run as a
+/// script in a life that is not shorter, gives the bytes that the writer tells, if no line of the output is
+/// `no 1 NoMemory`.
+pub fn settle<W: TellingWriter, S: Rates, L: LinkBrand>(
     alloc: Global,
     locked: Locked<W, S, L>,
     ends: Vec<IngressEnd>,
@@ -104,7 +106,7 @@ pub fn settle<W: Telling, S: Rates, L: Link>(
     }
 }
 
-// The same want, of a whole link.
+// Why a link is not settled, if this is why its ends were not joined.
 fn why_of(why: WhyNot) -> WhyUnsettled
     ensures { result ≡ why_of why }
 {
@@ -118,8 +120,8 @@ fn why_of(why: WhyNot) -> WhyUnsettled
 // A link that was not joined with its ends, and why.
 type Unjoined<W, S, L> = (WhyNot, Locked<W, S, L>, Vec<IngressEnd>);
 
-impl<W: Telling, S: Rates, L: Link> Locked<W, S, L> {
-    // Whether there is a frame to send, where the link is not broken and its life is not spent.
+impl<W: TellingWriter, S: Rates, L: LinkBrand> Locked<W, S, L> {
+    // Whether there is a frame to send, the link is not broken and its life is not spent.
     fn is_unsent(&self) -> bool
         ensures { result ≡ is_unsent self.now.recorder.link }
     {
@@ -127,7 +129,7 @@ impl<W: Telling, S: Rates, L: Link> Locked<W, S, L> {
         !engine.spent() && !engine.broken() && engine.sends()
     }
 
-    // Whether these are all clerks, and their receipts the commands of the journal.
+    // Whether these are all clerks, and their receipts are the commands of the journal.
     fn agrees(&self, clerks: &[Clerk<L>]) -> bool
         ensures { MatchBool result (AreAgreed self.now clerks.now) (Disagreed self.now clerks.now) }
     {
@@ -141,7 +143,7 @@ impl<W: Telling, S: Rates, L: Link> Locked<W, S, L> {
         are_all(commands_in(entries), clerks)
     }
 
-    // Joins the ends to the intake, and lets go of both.
+    // Joins the ends to the intake, and drops both.
     fn join(self, alloc: Global, ends: Vec<IngressEnd>) -> Result<Settled<W, S>, Unjoined<W, S, L>>
         requires { Each (λ e. e.link ≡ L.link) ends.items }
         ensures ok { IfOk result (λ s.
@@ -149,7 +151,7 @@ impl<W: Telling, S: Rates, L: Link> Locked<W, S, L> {
         ensures accounts { IfOk result (λ s. IsAccounted W.told s.recorder ends.items) }
         ensures back { IfErr result (λ u. (u.1 ≡ self)
             × (u.2.items ≡ ends.items)
-            × Refuses u.0 self.intake ends.items) }
+            × RefusesToGather u.0 self.intake ends.items) }
     {
         let Locked {
             recorder,
@@ -160,7 +162,7 @@ impl<W: Telling, S: Rates, L: Link> Locked<W, S, L> {
         match intake.gather(alloc, ends) {
             Ok((intake, tallies)) => {
                 drop(intake);
-                // It does nothing: its contract says what the audit comes to.
+                // A law: its contract says what the audit gives.
                 audits_replay(&recorder);
                 let arrivals = arrivals_in(recorder.journal().entries());
                 let commands = commands_in(recorder.journal().entries());
@@ -185,8 +187,8 @@ impl<W: Telling, S: Rates, L: Link> Locked<W, S, L> {
     }
 }
 
-// Whether so many clerks are among these, numbered from 1.
-fn are_there<L: Link>(clerks: &[Clerk<L>], count: u64) -> bool
+// Whether the clerks with the numbers 1 to `count` are among these.
+fn are_there<L: LinkBrand>(clerks: &[Clerk<L>], count: u64) -> bool
     ensures { MatchBool result (AreClerks count clerks.now) (ClerkIsMissing count clerks.now) }
 {
     for made in 0..count {
@@ -198,14 +200,14 @@ fn are_there<L: Link>(clerks: &[Clerk<L>], count: u64) -> bool
 }
 
 // Whether one of the clerks has this number.
-fn is_there<L: Link>(clerks: &[Clerk<L>], number: u64) -> bool
+fn is_there<L: LinkBrand>(clerks: &[Clerk<L>], number: u64) -> bool
     ensures { result ≡ has_clerk number clerks.now }
 {
     clerks.iter().any(|clerk| clerk.number() == number)
 }
 
 // Whether the receipts of each clerk are its commands among these entries.
-fn all_agree<L: Link>(entries: &[Entry], clerks: &[Clerk<L>]) -> bool
+fn all_agree<L: LinkBrand>(entries: &[Entry], clerks: &[Clerk<L>]) -> bool
     ensures { MatchBool result (Each (Agrees entries.now) clerks.now) (Any (Disagrees entries.now) clerks.now) }
 {
     for clerk in clerks {
@@ -217,7 +219,7 @@ fn all_agree<L: Link>(entries: &[Entry], clerks: &[Clerk<L>]) -> bool
 }
 
 // Whether the receipts of a clerk are its commands among these entries.
-fn agrees<L: Link>(entries: &[Entry], clerk: &Clerk<L>) -> bool
+fn agrees<L: LinkBrand>(entries: &[Entry], clerk: &Clerk<L>) -> bool
     ensures { MatchBool result (Agrees entries.now clerk.now) (Disagrees entries.now clerk.now) }
 {
     let mut left = clerk.receipts();
@@ -234,8 +236,8 @@ fn agrees<L: Link>(entries: &[Entry], clerk: &Clerk<L>) -> bool
     left.is_empty()
 }
 
-// The receipts after that of an entry, where the entry is a command of this clerk; all where it is not; and `None`
-// where the first receipt is another one.
+// The receipts that are left after an entry: all but the first if the entry is a command of this clerk, else all.
+// `None` if the first is not the receipt of that command.
 fn after_entry<'a>(
     clerk: u64,
     number: u64,
@@ -243,8 +245,8 @@ fn after_entry<'a>(
     receipts: &'a [Receipt],
 ) -> Option<&'a [Receipt]>
     ensures { MatchOption result
-        ((rest : List Receipt) → receipts.now ≢ booked clerk number entry.now ++ rest)
-        (λ rest. receipts.now ≡ booked clerk number entry.now ++ rest.now) }
+        ((rest : List Receipt) → receipts.now ≢ receipt_in clerk number entry.now ++ rest)
+        (λ rest. receipts.now ≡ receipt_in clerk number entry.now ++ rest.now) }
 {
     let Some(due) = due(clerk, number, entry) else {
         return Some(receipts);
@@ -265,7 +267,7 @@ fn is_same(one: &Receipt, other: &Receipt) -> bool
         && is_same_reply(&one.reply, &other.reply)
 }
 
-// As derived, `==` does not tell a contract that the commands are the same.
+// The derived `==` does not tell a contract that the commands are the same.
 fn is_same_command(one: &Command, other: &Command) -> bool
     ensures { IsTrue result ↔ (one.now ≡ other.now) }
 {
@@ -301,9 +303,9 @@ fn is_same_reply(one: &Reply, other: &Reply) -> bool
     one == other
 }
 
-// The receipt that a clerk has of an entry, where that is one of its commands.
+// The receipt that a clerk has of an entry, if that is one of its commands.
 fn due(clerk: u64, number: u64, entry: &Entry) -> Option<Receipt>
-    ensures { booked clerk number entry.now ≡ listed result }
+    ensures { receipt_in clerk number entry.now ≡ list_of result }
 {
     match (&entry.source, &entry.event, &entry.reply) {
         (Source::Clerk(from), Event::Commanded(command), Outcome::Replied(reply))
@@ -312,8 +314,8 @@ fn due(clerk: u64, number: u64, entry: &Entry) -> Option<Receipt>
     }
 }
 
-// Whether the clerks have so many receipts together.
-fn are_all<L: Link>(commands: u64, clerks: &[Clerk<L>]) -> bool
+// Whether the clerks have together as many receipts as there are commands.
+fn are_all<L: LinkBrand>(commands: u64, clerks: &[Clerk<L>]) -> bool
     ensures { IsTrue result ↔ (receipts_in clerks.now ≡ commands) }
 {
     let mut left = commands;

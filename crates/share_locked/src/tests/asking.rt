@@ -1,8 +1,8 @@
-//! What a new link and its clerks tell.
+//! What a new link and its clerks answer.
 ghost use Rattle.std.specs.Prelude.{◌≡◌, []};
 
 use crate::tests::made::{LONG, commanded, name, queued, recording};
-use crate::{Clerk, Link, Locked, Receipt};
+use crate::{Clerk, LinkBrand, Locked, Receipt};
 use share_base::{Command, Refusal, Reply};
 use share_ingress::Intake;
 use share_journal::Recorder;
@@ -12,7 +12,7 @@ use std::marker::Brand;
 use std::process::Abort;
 use std::str::from_utf8;
 
-/// The report of a link of which nothing was asked.
+/// The report of a link that made no event.
 const ZERO: &str = "clock                            0
 accepted                         0
 written                          0
@@ -27,10 +27,10 @@ link                             0
 end
 ";
 
-/// What a name is answered that is taken.
+/// The reply to a name that is taken.
 const TAKEN: Reply = Reply::Refused(Refusal::Taken);
 
-fn reports<S: Rates, L: Link>(rt: &impl Abort, alloc: Global, locked: &Locked<Tape, S, L>) {
+fn reports<S: Rates, L: LinkBrand>(rt: &impl Abort, alloc: Global, locked: &Locked<Tape, S, L>) {
     let text = locked.report(alloc).expect(rt, "memory");
     assert!(rt; from_utf8(text.as_slice()).ok() == Some(ZERO));
     drop(text);
@@ -40,7 +40,7 @@ fn make_x(rt: &impl Abort) -> Command {
     Command::MakeCurrency(name(rt, "x"))
 }
 
-// The receipt of such a command.
+// The receipt of a command that makes the currency x.
 fn receipt(rt: &impl Abort, number: u64, reply: Reply) -> Receipt {
     Receipt {
         number,
@@ -49,8 +49,8 @@ fn receipt(rt: &impl Abort, number: u64, reply: Reply) -> Receipt {
     }
 }
 
-// The second clerk makes a currency, once.
-fn keeps_receipts<S: Rates, L: Link>(
+// The second clerk makes a currency twice, and keeps a receipt of each command.
+fn keeps_receipts<S: Rates, L: LinkBrand>(
     rt: &impl Abort,
     locked: &mut Locked<Tape, S, L>,
     clerk: &mut Clerk<L>,
@@ -63,7 +63,7 @@ fn keeps_receipts<S: Rates, L: Link>(
     assert!(rt; clerk.receipts() == kept.as_slice());
 }
 
-fn tells<T: Abort, S: Rates + Copy, L: Link>(
+fn tells<T: Abort, S: Rates + Copy, L: LinkBrand>(
     rt: &T,
     alloc: Global,
     recorder: Recorder<Tape, S>,

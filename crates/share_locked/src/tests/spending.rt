@@ -5,7 +5,7 @@ ghost use Rattle.share_model.specs.lists.Each.{Each};
 use crate::tests::made::{
     entries_of, not_settled, offering, one, open_and_fund, queued, recording,
 };
-use crate::{Admit, Link, LinkEnd, Locked, Port, Stop, WhyUnsettled, run_link};
+use crate::{Admit, LinkBrand, LinkEnd, Locked, Port, Stop, WhyUnsettled, run_link};
 use share_base::Turn;
 use share_ingress::{IngressEnd, Intake};
 use share_journal::Recorder;
@@ -15,8 +15,8 @@ use std::marker::Brand;
 use std::process::Abort;
 use std::sync::{Mutex, Wait};
 
-// Neither an admission nor a turn nor the link's worker does anything.
-fn does_nothing<T: Abort + Wait, S: Rates, L: Link>(rt: &T, port: &Port<Tape, S, L>) {
+// Checks that an admission, a turn and the link's worker do nothing.
+fn does_nothing<T: Abort + Wait, S: Rates, L: LinkBrand>(rt: &T, port: &Port<Tape, S, L>) {
     let stop = Stop::new();
     assert!(rt; admits(rt, port) == Admit::Spent);
     assert!(rt; run_link(rt, port, &stop) == LinkEnd::Spent);
@@ -24,16 +24,16 @@ fn does_nothing<T: Abort + Wait, S: Rates, L: Link>(rt: &T, port: &Port<Tape, S,
     assert!(rt; entries_of(rt, port) == 3);
 }
 
-fn admits<T: Wait, S: Rates, L: Link>(rt: &T, port: &Port<Tape, S, L>) -> Admit {
+fn admits<T: Wait, S: Rates, L: LinkBrand>(rt: &T, port: &Port<Tape, S, L>) -> Admit {
     port.lock(rt).admit(rt)
 }
 
-fn turns<T: Wait, S: Rates, L: Link>(rt: &T, port: &Port<Tape, S, L>) -> Turn {
+fn turns<T: Wait, S: Rates, L: LinkBrand>(rt: &T, port: &Port<Tape, S, L>) -> Turn {
     port.lock(rt).turn(65535)
 }
 
 // Three commands spend the life, and one offer is queued.
-fn spent<T: Abort + Wait, S: Rates + Copy, L: Link>(
+fn spent<T: Abort + Wait, S: Rates + Copy, L: LinkBrand>(
     rt: &T,
     alloc: Global,
     recorder: Recorder<Tape, S>,
@@ -51,7 +51,7 @@ fn spent<T: Abort + Wait, S: Rates + Copy, L: Link>(
     let ends = offering::<T, L>(rt, alloc, ends, b"a", Some(1));
     let port = Mutex::new(locked);
     does_nothing(rt, &port);
-    // The one place of the queue is not free.
+    // The only place of the queue is taken.
     let ends = offering::<T, L>(rt, alloc, ends, b"b", None);
     let clerks = one(rt, alloc, clerk);
     let locked = port.into_inner();

@@ -3,7 +3,7 @@ ghost use Rattle.std.specs.Prelude.{◌≡◌, []};
 ghost use Rattle.share_model.specs.lists.Each.{Each};
 
 use crate::tests::made::{LONG, offering, open_and_fund, queued, recording};
-use crate::{Link, LinkEnd, Locked, Port, Stop, run_link};
+use crate::{LinkBrand, LinkEnd, Locked, Port, Stop, run_link};
 use share_ingress::{IngressEnd, Intake};
 use share_journal::Recorder;
 use share_model::{Rates, Tape};
@@ -15,12 +15,12 @@ use std::sync::{Mutex, Wait};
 /// How many bytes two frames of one byte have.
 const TWO_FRAMES: usize = 26;
 
-fn written<T: Wait, S: Rates, L: Link>(rt: &T, port: &Port<Tape, S, L>) -> usize {
+fn written<T: Wait, S: Rates, L: LinkBrand>(rt: &T, port: &Port<Tape, S, L>) -> usize {
     port.lock(rt).recorder().engine().writer().bytes().len()
 }
 
-// A service that is stopped before it begins sends what is queued all the same.
-fn sends_the_rest<T: Abort + Wait, S: Rates, L: Link>(rt: &T, port: &Port<Tape, S, L>) {
+// A service that is stopped before it begins still sends what is queued.
+fn sends_the_rest<T: Abort + Wait, S: Rates, L: LinkBrand>(rt: &T, port: &Port<Tape, S, L>) {
     let stop = Stop::new();
     stop.set();
     assert!(rt; run_link(rt, port, &stop) == LinkEnd::Drained);
@@ -28,7 +28,7 @@ fn sends_the_rest<T: Abort + Wait, S: Rates, L: Link>(rt: &T, port: &Port<Tape, 
 }
 
 // Two offers are queued.
-fn stopped<T: Abort + Wait, S: Rates + Copy, L: Link>(
+fn stopped<T: Abort + Wait, S: Rates + Copy, L: LinkBrand>(
     rt: &T,
     alloc: Global,
     recorder: Recorder<Tape, S>,

@@ -1,11 +1,11 @@
-//! Tariffs without boxes. Threads share a link, so its shelf has to be one that may cross to another thread; the
+//! Tariffs without boxes. Threads share a link, so its shelf must be one that may cross to another thread; the
 //! toolchain does not show that of boxed closures in a type of another crate.
 ghost use Rattle.std.specs.Prelude.{◌≡◌, ◌≤◌, true, IfSome};
 ghost use Rattle.share_model.specs.link.Tariff.{rate_at, is_rate};
 ghost use Rattle.share_locked.specs.Tariffs.{byte_rates};
 
 use share_model::{Rate, Rates};
-use share_tariff::{posted, units_by_division};
+use share_tariff::{account_after, units_by_division};
 
 /// One tariff, by the byte.
 #[derive(Clone, Copy)]
@@ -39,15 +39,15 @@ impl Rates for ByByte {
 
     fn units(&self, number: u64, count: u32) -> u64 {
         match tariff(number) {
-            None => 0,
+            None => unreachable!(),
             Some(rate) => units_by_division(rate.cell, rate.overhead, count),
         }
     }
 
     fn post(&self, number: u64, account: u64, units: u64) -> u64 {
         match tariff(number) {
-            None => 0,
-            Some(rate) => posted(rate.price, account, units),
+            None => unreachable!(),
+            Some(rate) => account_after(rate.price, account, units),
         }
     }
 }

@@ -4,26 +4,27 @@ ghost use Rattle.share_model.specs.lists.Each.{Each};
 
 use crate::tests::made::{commanded, name, queued, recording, without_last};
 use crate::{
-    Clerk, Duty, Left, Link, LinkEnd, Locked, Port, Post, Ran, Settled, Stop, run_and_settle,
+    Clerk, Duty, Left, LinkBrand, LinkEnd, Locked, Port, Post, Ran, Settled, Stop, run_and_settle,
 };
-use share_base::{Command, Event, FlowNo, Name, Refusal, Reply, TicketNo};
+use share_base::{Command, Event, FlowNo, Name, Reply, TicketNo};
 use share_core::Engine;
 use share_ingress::{Ended, Gate, IngressEnd, IngressReader, Intake, Job, Why};
 use share_journal::{Journal, Recorder};
-use share_model::{PlainReader, Rates, Tape, Telling};
+use share_model::{PlainReader, Rates, Tape, TellingWriter};
 use share_script::run_script;
 use std::alloc::Global;
 use std::io::Cursor;
 use std::marker::Brand;
 use std::process::Abort;
 use std::sync::{Arc, Wait};
+use std::thread;
 use std::thread::Threads;
 
 /// More events than the link makes.
 const LIFE: u64 = 16;
 
 /// How many reads and offers a worker makes at most.
-const TURNS: u64 = 65536;
+const TURNS: u64 = 1 << 24;
 
 /// The records of the first worker: 61 and 62 for the flow a.
 const FOR_A: &[u8] = &[1, b'a', 0, 1, 0x61, 1, b'a', 0, 1, 0x62];
@@ -31,9 +32,9 @@ const FOR_A: &[u8] = &[1, b'a', 0, 1, 0x61, 1, b'a', 0, 1, 0x62];
 /// The record of the second worker: 63 for the flow b.
 const FOR_B: &[u8] = &[1, b'b', 0, 1, 0x63];
 
-/// Stops a worker that waits on a full queue once the link is served no more.
+/// Lets a worker wait on a full queue while the link is served, and lets other threads go first.
 #[derive(Drop)]
-struct WhileServed {
+pub(super) struct WhileServed {
     ended: Arc<Stop>,
 }
 
@@ -45,6 +46,7 @@ impl Gate for WhileServed {
     fn offered(&mut self, _n: u64) {}
 
     fn full(&mut self) -> bool {
+        thread::yield_now();
         !self.ended.is_set()
     }
 }
@@ -58,7 +60,7 @@ struct Opening {
     found: bool,
 }
 
-impl<W: Telling, S: Rates, L: Link> Duty<W, S, L> for Opening {
+impl<W: TellingWriter, S: Rates, L: LinkBrand> Duty<W, S, L> for Opening {
     fn serve<T: Wait>(&mut self, rt: &T, port: &Port<W, S, L>, clerk: &mut Clerk<L>) {
         let Ok(()) = clerk.ready() else {
             return;
@@ -90,7 +92,7 @@ fn shows(text: &[u8], name: &[u8]) -> bool {
     false
 }
 
-// Whether a line is that of the flow with this name, which stands after its number.
+// Whether a line is that of the flow with this name, which is after its number.
 fn is_of(line: &[u8], name: &[u8]) -> bool {
     match line.get(14..) {
         Some(rest) => line.starts_with(b"flow ") && rest.starts_with(name),
@@ -99,9 +101,10 @@ fn is_of(line: &[u8], name: &[u8]) -> bool {
 }
 
 /// The jobs of workers that read these bytes.
-type Jobs = Vec<Job<PlainReader<Cursor<Vec<u8>>>, WhileServed>>;
+pub(super) type Jobs = Vec<Job<PlainReader<Cursor<Vec<u8>>>, WhileServed>>;
 
-fn job(
+/// The job of a worker that reads these bytes and offers what they hold at an end.
+pub(super) fn job(
     rt: &impl Abort,
     alloc: Global,
     end: IngressEnd,
@@ -123,7 +126,7 @@ fn job(
 }
 
 // The jobs of two workers.
-fn two_jobs<T: Abort, L: Link>(
+fn two_jobs<T: Abort, L: LinkBrand>(
     rt: &T,
     alloc: Global,
     ends: Vec<IngressEnd>,
@@ -141,8 +144,8 @@ fn two_jobs<T: Abort, L: Link>(
     with_job::<T, L>(rt, jobs, second)
 }
 
-// These jobs and one more.
-fn with_job<T: Abort, L: Link>(
+/// These jobs and one more.
+pub(super) fn with_job<T: Abort, L: LinkBrand>(
     rt: &T,
     jobs: Jobs,
     job: Job<PlainReader<Cursor<Vec<u8>>>, WhileServed>,
@@ -156,16 +159,14 @@ fn with_job<T: Abort, L: Link>(
     jobs
 }
 
-// The clerk opens this flow, and funds it by a ticket of 1 of the base currency. The flow and the ticket have this
-// number.
-fn opens_and_funds<S: Rates, L: Link>(
+/// The clerk opens this flow, and funds it by a ticket of 1 unit of `base`. The flow and the ticket have this number.
+pub(super) fn opens_and_funds<S: Rates, L: LinkBrand>(
     rt: &impl Abort,
     locked: &mut Locked<Tape, S, L>,
     clerk: &mut Clerk<L>,
     number: u32,
-    flow: &str,
+    flow: Name,
 ) {
-    let flow = name(rt, flow);
     let base = Command::MakeTicket {
         amount: 1,
         currency: name(rt, "base"),
@@ -190,18 +191,16 @@ fn opens_later(rt: &impl Abort, alloc: Global, flow: &str) -> Opening {
     }
 }
 
-// Two clerks, of which the first one opened and funded the flows a and b, and which are to open c and d. A third is not
-// to be had.
-fn two_posts<S: Rates, L: Link>(
+// Two clerks, which are to open the flows c and d. The first has opened and funded a and b.
+fn two_posts<S: Rates, L: LinkBrand>(
     rt: &impl Abort,
     alloc: Global,
     locked: &mut Locked<Tape, S, L>,
 ) -> Vec<Post<Opening, L>> {
     let mut first = locked.clerk(alloc).expect(rt, "a clerk");
     let second = locked.clerk(alloc).expect(rt, "a clerk");
-    assert!(rt; locked.clerk(alloc).err() == Some(Refusal::TableFull));
-    opens_and_funds(rt, locked, &mut first, 1, "a");
-    opens_and_funds(rt, locked, &mut first, 2, "b");
+    opens_and_funds(rt, locked, &mut first, 1, name(rt, "a"));
+    opens_and_funds(rt, locked, &mut first, 2, name(rt, "b"));
     let mut posts = Vec::new(alloc);
     let post = Post::new(first, opens_later(rt, alloc, "c"));
     assert!(rt; posts.push(post).is_ok());
@@ -210,7 +209,7 @@ fn two_posts<S: Rates, L: Link>(
     posts
 }
 
-// The workers read all, and queued it.
+// Checks that the workers read all, and queued it.
 fn are_done(rt: &impl Abort, workers: &[Left<WhileServed>]) {
     assert!(rt; workers.len() == 2);
     for worker in workers {
@@ -219,7 +218,7 @@ fn are_done(rt: &impl Abort, workers: &[Left<WhileServed>]) {
     assert!(rt; workers[0].tally == 2 && workers[1].tally == 1);
 }
 
-// The clerks opened their flows, and found them.
+// Checks that the clerks opened their flows, and found them.
 fn have_found(rt: &impl Abort, duties: &[Opening]) {
     assert!(rt; duties.len() == 2);
     for duty in duties {
@@ -227,7 +226,7 @@ fn have_found(rt: &impl Abort, duties: &[Opening]) {
     }
 }
 
-// At which place of the journal this payload came to a flow.
+// The place in the journal at which this payload came to a flow.
 fn place_of(rt: &impl Abort, journal: &Journal, name: Name, payload: u8) -> usize {
     for (place, entry) in journal.entries().iter().enumerate() {
         if is_arrival(&entry.event, name, payload) {
@@ -246,19 +245,21 @@ fn is_arrival(event: &Event, name: Name, payload: u8) -> bool {
     }
 }
 
-// The audit, run as a script, gives the bytes of the writer, which are three frames.
-fn replays<S: Rates + Copy>(
+/// Checks that the audit, run as a script in a life as long, gives the bytes of the writer, and how many they are.
+pub(super) fn replays<S: Rates + Copy>(
     rt: &impl Abort,
     alloc: Global,
     shelf: S,
+    life: u64,
     recorder: &Recorder<Tape, S>,
+    bytes: usize,
 ) {
     let written = recorder.engine().writer().bytes();
-    assert!(rt; written.len() == 39);
+    assert!(rt; written.len() == bytes);
     let mut audit = Tape::new(alloc);
     assert!(rt; recorder.journal().audit(&mut audit).is_ok());
     let mut output = Tape::new(alloc);
-    let engine = Engine::new(alloc, shelf, LIFE, Tape::new(alloc)).expect(rt, "a link");
+    let engine = Engine::new(alloc, shelf, life, Tape::new(alloc)).expect(rt, "a link");
     let ran = run_script(alloc, engine, &mut PlainReader(audit.bytes()), &mut output);
     let engine = ran.ok().expect(rt, "a run");
     assert!(rt; engine.writer().bytes() == written);
@@ -279,11 +280,11 @@ fn is_settled<S: Rates + Copy>(
     assert!(rt; journal.len() == 14);
     let a = name(rt, "a");
     assert!(rt; place_of(rt, journal, a, 0x61) < place_of(rt, journal, a, 0x62));
-    replays(rt, alloc, shelf, &settled.recorder);
+    replays(rt, alloc, shelf, LIFE, &settled.recorder, 39);
 }
 
-// The run ended well, and is settled.
-fn has_settled<S: Rates + Copy, L: Link>(
+// Checks that the run ended well, and is settled.
+fn has_settled<S: Rates + Copy, L: LinkBrand>(
     rt: &impl Abort,
     alloc: Global,
     shelf: S,
@@ -318,7 +319,7 @@ fn runs<T, S, L>(
 where
     T: Abort + Threads + Wait + Sync,
     S: Rates + Copy + Send,
-    L: Link + Send,
+    L: LinkBrand + Send,
     requires empty { recorder.entries ≡ [] }
     requires link { intake.link ≡ L.link }
     requires nothing { intake.popped ≡ [] }

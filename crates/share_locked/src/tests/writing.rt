@@ -2,11 +2,11 @@
 ghost use Rattle.std.specs.Prelude.{◌≡◌, []};
 
 use crate::tests::made::{LONG, offered, open_and_fund, queued, recording};
-use crate::{Admit, Link, Locked, Port};
+use crate::{Admit, LinkBrand, Locked, Port};
 use share_base::{FlowNo, Reply, Turn};
 use share_ingress::{IngressEnd, Intake};
 use share_journal::Recorder;
-use share_model::{Answer, Rates, Telling};
+use share_model::{Answer, Rates, TellingWriter};
 use std::alloc::Global;
 use std::marker::Brand;
 use std::process::Abort;
@@ -15,7 +15,7 @@ use std::sync::{Arc, Mutex, Wait};
 use std::thread;
 use std::thread::Threads;
 
-/// How often a word is looked at, at most.
+/// How often a thread looks at a word, at most.
 const LOOKS: u64 = 1000000000;
 
 fn is_set(word: &AtomicU64) -> bool {
@@ -27,14 +27,14 @@ fn is_set(word: &AtomicU64) -> bool {
     false
 }
 
-/// Tells when it is called, and accepts a piece once another word is set; it fails where that does not come.
+/// Sets a word when it is called, and accepts a piece once another word is set. It fails if that is never set.
 #[derive(Drop)]
 struct Waiting {
     called: Arc<AtomicU64>,
     word: Arc<AtomicU64>,
 }
 
-impl Telling for Waiting {
+impl TellingWriter for Waiting {
     ghost use Rattle.std.specs.Prelude.{None};
     ghost use Rattle.share_model.specs.io.Told.{WasTold};
 
@@ -54,7 +54,7 @@ impl Telling for Waiting {
     }
 }
 
-// Offers once more when the writer is called, and sets a word where that offer is the second one.
+// Offers once more when the writer is called, and sets a word if that is the second offer.
 fn offers_again<T: Abort + Wait>(
     rt: &T,
     alloc: Global,
@@ -69,7 +69,7 @@ fn offers_again<T: Abort + Wait>(
 }
 
 // A turn, while another thread offers.
-fn turned<T: Abort + Threads + Wait + Sync, S: Rates, L: Link>(
+fn turned<T: Abort + Threads + Wait + Sync, S: Rates, L: LinkBrand>(
     rt: &T,
     alloc: Global,
     port: &Port<Waiting, S, L>,
@@ -85,7 +85,7 @@ fn turned<T: Abort + Threads + Wait + Sync, S: Rates, L: Link>(
 }
 
 // A packet is admitted, and the second offer comes while its frame is written.
-fn writes<T: Abort + Threads + Wait + Sync, S: Rates, L: Link>(
+fn writes<T: Abort + Threads + Wait + Sync, S: Rates, L: LinkBrand>(
     rt: &T,
     alloc: Global,
     port: &Port<Waiting, S, L>,
@@ -105,12 +105,12 @@ fn writes<T: Abort + Threads + Wait + Sync, S: Rates, L: Link>(
     assert!(rt; admits(rt, port) == admitted(2));
 }
 
-fn admits<T: Wait, S: Rates, L: Link>(rt: &T, port: &Port<Waiting, S, L>) -> Admit {
+fn admits<T: Wait, S: Rates, L: LinkBrand>(rt: &T, port: &Port<Waiting, S, L>) -> Admit {
     port.lock(rt).admit(rt)
 }
 
 // A link whose one flow is open and funded.
-fn is_written<T: Abort + Threads + Wait + Sync, S: Rates + Copy, L: Link>(
+fn is_written<T: Abort + Threads + Wait + Sync, S: Rates + Copy, L: LinkBrand>(
     rt: &T,
     alloc: Global,
     recorder: Recorder<Waiting, S>,

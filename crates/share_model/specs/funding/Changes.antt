@@ -1,5 +1,5 @@
--- What each command does to the graph of tickets and currencies, and when it is refused: each refusal is a table
--- of tests in the order in which they are made.
+-- What each command does to the graph of tickets and currencies, and when it is refused: a table of tests, in the order
+-- in which they are made.
 use Rattle.std.specs.Prelude.{ℕ, ◌+◌, ◌^◌, Bool, true, false, not, ◌&&◌, ◌||◌, List, [], ◌∷◌, ◌++◌, map, length, find}
 use Rattle.std.specs.Prelude.{nat_eq, nat_le, bytes_eq, Option, None, Some, is_some, if◌then◌else◌}
 use Rattle.std.specs.List.{list_any}
@@ -18,7 +18,7 @@ use Rattle.share_model.specs.declared.funding.OpenFlow.{OpenFlow}
 use Rattle.share_model.specs.funding.Graph.{NameBytes, base, Graph, is_held_by_currency, is_held_by_flow, backing}
 use Rattle.share_model.specs.funding.Graph.{funding, chain_within, is_deep}
 
--- the first ticket of a number, and its parts where it is there
+-- the first ticket of a number, and its parts if there is one
 abbrev pub is_numbered : ℕ → Ticket → Bool
 is_numbered n t = nat_eq n t.number
 
@@ -38,7 +38,7 @@ abbrev pub found_denomination : Option Ticket → NameBytes
 found_denomination None = base
 found_denomination (Some t) = t.denomination
 
--- `base`, or one of those that were made
+-- `base`, or a currency that was made
 abbrev pub is_currency : Graph → NameBytes → Bool
 is_currency g c = bytes_eq c base || list_any (bytes_eq c) g.currencies
 
@@ -68,7 +68,7 @@ make_currency_refusal g c = first_refusal (
 abbrev pub make_currency : Graph → NameBytes → Graph
 make_currency g c = record g { currencies = g.currencies ++ c ∷ [] }
 
--- some ticket is denominated in the currency, or funds it
+-- whether a ticket is denominated in the currency, or funds it
 abbrev pub uses : NameBytes → Ticket → Bool
 uses c t = bytes_eq c t.denomination || is_held_by_currency c t.holder
 
@@ -160,8 +160,8 @@ abbrev pub add_flow : Graph → NameBytes → Graph
 add_flow g f = record g { flows = g.flows ++ (f, added_flow g) ∷ []; next_flow = g.next_flow + 1 }
 
 -- the tickets that fund a closed flow lose their holder
-abbrev pub released : ℕ → Ticket → Ticket
-released f t = if is_held_by_flow f t.holder then held_by Nobody t else t
+abbrev pub release_from : ℕ → Ticket → Ticket
+release_from f t = if is_held_by_flow f t.holder then held_by Nobody t else t
 
 abbrev pub is_open_as : ℕ → NameBytes × OpenFlow → Bool
 is_open_as f e = nat_eq f e.1.number
@@ -170,7 +170,7 @@ abbrev pub without_flow : ℕ → List (NameBytes × OpenFlow) → List (NameByt
 without_flow f es = remove_key (is_open_as f) es
 
 abbrev pub remove_flow : Graph → ℕ → Graph
-remove_flow g f = record g { tickets = map (released f) g.tickets; flows = without_flow f g.flows }
+remove_flow g f = record g { tickets = map (release_from f) g.tickets; flows = without_flow f g.flows }
 
 -- the flow, active or not
 abbrev pub active_as : Bool → NameBytes × OpenFlow → NameBytes × OpenFlow

@@ -1,6 +1,5 @@
--- Ticket currencies: which tickets are active, what each is worth, and the tickets of a flow, computed from
--- the whole graph at each use. A chain of steps is followed for at most nine of them, one more than the longest
--- chain of currencies.
+-- Ticket currencies: which tickets are active, what each is worth, and the tickets of a flow, computed from the whole
+-- graph at each use. Chains are followed for at most nine steps, one more than the longest chain of currencies.
 use Rattle.std.specs.Prelude.{ℕ, ◌*◌, ◌/◌, ◌^◌, zero, suc, Bool, true, false, not, ◌&&◌, ◌||◌, min, List, [], map}
 use Rattle.std.specs.Prelude.{filter, sum_by, nat_eq, bytes_eq, codes, if◌then◌else◌}
 use Rattle.std.specs.List.{list_any}
@@ -9,7 +8,7 @@ use Rattle.share_model.specs.declared.funding.Holder.TheVariants.{Nobody, Curren
 use Rattle.share_model.specs.declared.funding.Ticket.{Ticket}
 use Rattle.share_model.specs.declared.funding.OpenFlow.{OpenFlow}
 
--- a name as its bytes
+-- the bytes of a name
 abbrev pub NameBytes : Type 0
 NameBytes = List ℕ
 
@@ -17,8 +16,8 @@ NameBytes = List ℕ
 abbrev pub base : NameBytes
 base = codes "base"
 
--- the currencies besides `base`, the tickets, the flows with their names in order of opening, and the numbers
--- that are given next
+-- the currencies besides `base`, the tickets, the open flows and their names in order of opening, and the next numbers
+-- to be given
 pub record Graph : Type 0 where
   pub currencies : List NameBytes
   pub tickets : List Ticket
@@ -26,7 +25,7 @@ pub record Graph : Type 0 where
   pub flows : List (NameBytes × OpenFlow)
   pub next_flow : ℕ
 
--- nothing is there yet, and numbers count from 1
+-- a graph with nothing in it; numbers count from 1
 abbrev pub empty_graph : Graph
 empty_graph = record { currencies = []; tickets = []; next_ticket = 1; flows = []; next_flow = 1 }
 
@@ -37,7 +36,7 @@ ticket_numbers ts = map (λ (t : Ticket). t.number) ts
 abbrev pub flow_numbers : List (NameBytes × OpenFlow) → List ℕ
 flow_numbers es = map (λ (e : NameBytes × OpenFlow). e.1.number) es
 
--- what a holder is
+-- whether a holder is this currency, and whether it is this flow
 abbrev pub is_held_by_currency : NameBytes → Holder → Bool
 is_held_by_currency c Nobody = false
 is_held_by_currency c (Currency d) = bytes_eq c d
@@ -49,8 +48,8 @@ is_held_by_flow f (Currency d) = false
 is_held_by_flow f (Flow g) = nat_eq f g
 
 -- the tickets denominated in a currency
-unfoldable pub issued : List Ticket → NameBytes → List Ticket
-issued ts c = filter (λ t. bytes_eq c t.denomination) ts
+unfoldable pub denominated_in : List Ticket → NameBytes → List Ticket
+denominated_in ts c = filter (λ t. bytes_eq c t.denomination) ts
 
 -- the tickets that fund a currency
 unfoldable pub backing : List Ticket → NameBytes → List Ticket
@@ -64,10 +63,10 @@ funding ts f = filter (λ t. is_held_by_flow f t.holder) ts
 abbrev pub is_active_flow : Graph → ℕ → Bool
 is_active_flow g f = list_any (λ (e : NameBytes × OpenFlow). nat_eq f e.1.number && e.1.active) g.flows
 
--- a holder is active where it is an active flow, or a currency in which some active ticket is denominated
+-- a holder is active if it is an active flow, or a currency in which some active ticket is denominated
 abbrev pub is_active_holder : Graph → (Ticket → Bool) → Holder → Bool
 is_active_holder g act Nobody = false
-is_active_holder g act (Currency c) = list_any act (issued g.tickets c)
+is_active_holder g act (Currency c) = list_any act (denominated_in g.tickets c)
 is_active_holder g act (Flow f) = is_active_flow g f
 
 -- a ticket is active within n steps
@@ -80,9 +79,9 @@ is_active g t = act g 9 t
 
 -- the active amount of a currency
 unfoldable pub active : Graph → NameBytes → ℕ
-active g c = sum_by (λ (t : Ticket). t.amount) (filter (is_active g) (issued g.tickets c))
+active g c = sum_by (λ (t : Ticket). t.amount) (filter (is_active g) (denominated_in g.tickets c))
 
--- the worth of a ticket, where `value` says what the currencies are worth
+-- the worth of a ticket, given the values of the currencies
 unfoldable pub worth_by : Graph → (NameBytes → ℕ) → Ticket → ℕ
 worth_by g value t =
     if is_active g t
@@ -107,21 +106,21 @@ leads_on on Nobody = false
 leads_on on (Currency c) = on c
 leads_on on (Flow f) = false
 
--- a chain of n steps, each from a currency to one that it backs, goes from a to b
+-- whether a chain of n steps, each from a currency to one that it backs, goes from a to b
 unfoldable pub chain : List Ticket → ℕ → NameBytes → NameBytes → Bool
 chain ts zero a b = bytes_eq a b
-chain ts (suc n) a b = list_any (λ t. leads_on (λ c. chain ts n c b) t.holder) (issued ts a)
+chain ts (suc n) a b = list_any (λ t. leads_on (λ c. chain ts n c b) t.holder) (denominated_in ts a)
 
--- a chain of at most n steps does
+-- whether a chain of at most n steps does
 unfoldable pub chain_within : List Ticket → ℕ → NameBytes → NameBytes → Bool
 chain_within ts zero a b = chain ts 0 a b
 chain_within ts (suc n) a b = chain_within ts n a b || chain ts (suc n) a b
 
--- a chain of n steps begins at a currency
+-- whether a chain of n steps begins at a currency
 unfoldable pub runs : List Ticket → ℕ → NameBytes → Bool
 runs ts zero a = true
-runs ts (suc n) a = list_any (λ t. leads_on (runs ts n) t.holder) (issued ts a)
+runs ts (suc n) a = list_any (λ t. leads_on (runs ts n) t.holder) (denominated_in ts a)
 
--- nine currencies besides `base` would stand in a chain
+-- whether nine currencies besides `base` are in a chain
 unfoldable pub is_deep : List Ticket → Bool
 is_deep ts = list_any (λ t. not (bytes_eq t.denomination base) && runs ts 8 t.denomination) ts

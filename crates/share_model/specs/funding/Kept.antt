@@ -7,14 +7,15 @@ use Rattle.share_model.specs.declared.funding.Holder.{Holder}
 use Rattle.share_model.specs.declared.funding.Holder.TheVariants.{Nobody, Currency, Flow}
 use Rattle.share_model.specs.declared.funding.Ticket.{Ticket}
 use Rattle.share_model.specs.declared.funding.OpenFlow.{OpenFlow}
-use Rattle.share_model.specs.funding.Graph.{NameBytes, base, Graph, ticket_numbers, flow_numbers, issued, backing}
+use Rattle.share_model.specs.funding.Graph.{NameBytes, base, Graph, ticket_numbers, flow_numbers, denominated_in}
+use Rattle.share_model.specs.funding.Graph.{backing}
 use Rattle.share_model.specs.funding.Graph.{funding, is_held_by_currency, is_active_flow, chain}
 
 -- `base`, and the currencies that were made
 abbrev pub names_of : Graph → List NameBytes
 names_of g = base ∷ g.currencies
 
--- how often a name stands in a list of names, and a name and a number among open flows
+-- how often a name is in a list of names, and a name and a number among open flows
 abbrev pub times : NameBytes → List NameBytes → ℕ
 times c cs = count_by (λ d. bytes_eq d c) cs
 
@@ -24,27 +25,25 @@ times_named f es = count_by (λ (e : NameBytes × OpenFlow). bytes_eq e.0 f) es
 abbrev pub times_open : ℕ → List (NameBytes × OpenFlow) → ℕ
 times_open f es = count_by (λ (e : NameBytes × OpenFlow). nat_eq e.1.number f) es
 
--- a name is no two currencies and no two flows, a number no two flows, and the denomination of each ticket is a
--- currency
-pub record IsSound (g : Graph) : Type 0 where
+-- no two currencies have one name, no two flows one name or number, and each ticket's denomination is a currency
+pub record IsWellNamed (g : Graph) : Type 0 where
   pub names : (c : NameBytes) → times c (names_of g) ≤ 1
   pub flow_names : (f : NameBytes) → times_named f g.flows ≤ 1
   pub numbers : (f : ℕ) → times_open f g.flows ≤ 1
   pub known : Each (λ (t : Ticket). 1 ≤ times t.denomination (names_of g)) g.tickets
 
--- `base` has no backing, and no nine currencies besides `base` stand in a chain
+-- `base` has no backing, and no nine currencies besides `base` are in a chain
 pub record IsShallow (g : Graph) : Type 0 where
   pub unbacked : Each (λ (t : Ticket). is_held_by_currency base t.holder ≡ false) g.tickets
   pub short : (a b : NameBytes) → bytes_eq a base ≡ false → chain g.tickets 8 a b ≡ false
 
--- a ticket funds only what is there
+-- a holder is a currency or an open flow of the graph
 abbrev pub IsHolderKnown : Graph → Holder → Type 0
 IsHolderKnown g Nobody = Unit {0}
 IsHolderKnown g (Currency c) = 1 ≤ times c (names_of g)
 IsHolderKnown g (Flow f) = 1 ≤ times_open f g.flows
 
--- Numbers were given in turn from 1: they rise in the order of making and of opening, and stay below those that are
--- given next.
+-- Numbers were given in turn from 1: they rise in the order of making and of opening, and are below the next ones.
 pub record IsNumbered (g : Graph) : Type 0 where
   pub tickets : Rises g.next_ticket (0 ∷ ticket_numbers g.tickets)
   pub flows : Rises g.next_flow (0 ∷ flow_numbers g.flows)
@@ -56,7 +55,7 @@ pub record IsUncrowded (g : Graph) : Type 0 where
 
 -- The invariant of the graph.
 pub record IsKept (g : Graph) : Type 0 where
-  pub sound : IsSound g
+  pub sound : IsWellNamed g
   pub shallow : IsShallow g
   pub numbered : IsNumbered g
   pub uncrowded : IsUncrowded g
@@ -66,7 +65,7 @@ pub record IsKept (g : Graph) : Type 0 where
   pub few_currencies : length g.currencies ≤ 64
   pub few_flows : length g.flows ≤ 64
 
--- A currency is awake where an amount is kept for it that is not zero, a flow where it is active.
+-- A currency is awake if its kept amount is not zero, a flow if it is active.
 abbrev pub is_awake : Graph → (NameBytes → ℕ) → Holder → Bool
 is_awake g amount Nobody = false
 is_awake g amount (Currency c) = nat_lt 0 (amount c)
@@ -79,9 +78,10 @@ kept_worth g amount value t =
     then (if bytes_eq t.denomination base then t.amount else value t.denomination * t.amount / amount t.denomination)
     else 0
 
--- Kept amounts and values meet the equations of one step: an amount is the sum over the tickets of the currency
--- that are awake, a value the sum of what the backing is worth.
+-- Kept amounts and values meet the equations of one step: an amount is the sum over those tickets of the currency whose
+-- holder is awake, a value the sum of what the backing is worth.
 pub record IsCached (g : Graph) (amount value : NameBytes → ℕ) : Type 0 where
   pub amounts : (c : NameBytes)
-      → amount c ≡ sum_by (λ (t : Ticket). if is_awake g amount t.holder then t.amount else 0) (issued g.tickets c)
+      → amount c ≡ sum_by (λ (t : Ticket). if is_awake g amount t.holder then t.amount else 0)
+      (denominated_in g.tickets c)
   pub values : (c : NameBytes) → value c ≡ sum_by (kept_worth g amount value) (backing g.tickets c)

@@ -10,19 +10,19 @@ use Rattle.share_model.specs.lists.Each.{Each}
 use Rattle.share_model.specs.funding.Kept.{is_awake, kept_worth, IsCached}
 
 -- what the tickets that fund a flow are worth together, before the cap
-abbrev pub uncapped : Graph → ℕ → ℕ
-uncapped g f = sum_by (worth g 9) (funding g.tickets f)
+abbrev pub uncapped_tickets : Graph → ℕ → ℕ
+uncapped_tickets g f = sum_by (worth g 9) (funding g.tickets f)
 
--- What all flows are funded with is worth at most the active amount of `base`, before the cap and after it, and while
--- that amount is at most 2^20 the cap lowers no sum.
+-- The tickets that fund all flows are together worth at most the active amount of `base`, before the cap and after it.
+-- While that amount is at most 2^20, the cap lowers no sum.
 pub record SharesAreWithin (g : Graph) : Type 0 where
-  pub funded : sum_by (λ (e : NameBytes × OpenFlow). uncapped g e.1.number) g.flows ≤ active g base
+  pub funded : sum_by (λ (e : NameBytes × OpenFlow). uncapped_tickets g e.1.number) g.flows ≤ active g base
   pub shares : sum_by (λ (e : NameBytes × OpenFlow). tickets g e.1.number) g.flows ≤ active g base
   pub cap_idle : active g base ≤ 2 ^ 20
-      → Each (λ (e : NameBytes × OpenFlow). tickets g e.1.number ≡ uncapped g e.1.number) g.flows
+      → Each (λ (e : NameBytes × OpenFlow). tickets g e.1.number ≡ uncapped_tickets g e.1.number) g.flows
 
 -- Tickets without a holder count for nothing, and a flow that is idle or not open has no tickets. So these commands
--- leave the tickets of every flow.
+-- change the tickets of no flow.
 pub record LeavesTickets (g : Graph) : Type 0 where
   pub make_currency : (c : NameBytes) (f : ℕ) → tickets (make_currency g c) f ≡ tickets g f
   pub remove_currency : (c : NameBytes) (f : ℕ) → tickets (remove_currency g c) f ≡ tickets g f
@@ -32,7 +32,7 @@ pub record LeavesTickets (g : Graph) : Type 0 where
   pub idle : (f : ℕ) → is_active_flow g f ≡ false → tickets g f ≡ 0
 
 -- Nine steps are enough: further ones change neither what is active nor what a currency is worth.
-pub record IsSettled (g : Graph) : Type 0 where
+pub record NineStepsAreEnough (g : Graph) : Type 0 where
   pub activity : (k : ℕ) → Each (λ (t : Ticket). act g (k + 9) t ≡ is_active g t) g.tickets
   pub values : (k : ℕ) (c : NameBytes) → val g (k + 9) c ≡ val g 9 c
 
@@ -52,16 +52,16 @@ CachedIsAsDefined g = (amount value : NameBytes → ℕ) → IsCached g amount v
 abbrev pub IsAcyclic : Graph → Type 0
 IsAcyclic g = (n : ℕ) (c : NameBytes) → chain g.tickets (suc n) c c ≡ false
 
--- nine currencies besides `base` stand in a chain, each backing the next
+-- nine currencies besides `base` are in a chain, each backing the next
 abbrev pub HasNineInChain : List Ticket → Type 0
 HasNineInChain ts = (a : NameBytes) × ((b : NameBytes) × ((bytes_eq a base ≡ false) × (chain ts 8 a b ≡ true)))
 
--- Funding a currency is too deep exactly where nine would then stand in a chain.
+-- Funding a currency is too deep if and only if nine would then be in a chain.
 abbrev pub DeepIsNine : Graph → Type 0
 DeepIsNine g = (n : ℕ) (c : NameBytes)
     → (is_deep (fund_currency g n c).tickets ≡ true) ↔ HasNineInChain (fund_currency g n c).tickets
 
--- Funding a currency by a ticket is a cycle exactly where the currency backs the ticket's denomination already, by
+-- Funding a currency by a ticket is a cycle if and only if the currency backs the ticket's denomination already, by
 -- however many steps.
 abbrev pub CycleIsBacking : Graph → Type 0
 CycleIsBacking g = (c d : NameBytes)

@@ -3,7 +3,8 @@ use Rattle.std.specs.Prelude.{◌≡◌, ℕ, ◌^◌, Bool, true, false, List, 
 use Rattle.share_model.specs.declared.funding.Holder.TheVariants.{Currency, Flow}
 use Rattle.share_model.specs.declared.funding.Ticket.{Ticket}
 use Rattle.share_model.specs.declared.funding.OpenFlow.{OpenFlow}
-use Rattle.share_model.specs.funding.Graph.{NameBytes, base, Graph, issued, backing, funding, act, is_active, active}
+use Rattle.share_model.specs.funding.Graph.{NameBytes, base, Graph, denominated_in, backing, funding, act, is_active}
+use Rattle.share_model.specs.funding.Graph.{active}
 use Rattle.share_model.specs.funding.Graph.{worth_by, val, worth, tickets}
 
 x : NameBytes
@@ -18,8 +19,8 @@ backing_of n amount c d = record { number = n; amount = amount; denomination = c
 abbrev ticket_for : ℕ → ℕ → NameBytes → ℕ → Ticket
 ticket_for n amount c f = record { number = n; amount = amount; denomination = c; holder = Flow f }
 
-abbrev opened : ℕ → List ℕ → Bool → NameBytes × OpenFlow
-opened f name active = (name, record { number = f; active = active })
+abbrev flow_entry : ℕ → List ℕ → Bool → NameBytes × OpenFlow
+flow_entry f name active = (name, record { number = f; active = active })
 
 -- three currencies deep: 100 of base back x, 3 of x back y, 4 of x fund a, and 1 of y each fund b and c
 three_deep : Bool → Bool → Graph
@@ -28,7 +29,7 @@ three_deep b c = record {
   tickets =
       backing_of 1 100 base x ∷ backing_of 2 3 x y ∷ ticket_for 3 4 x 1 ∷ ticket_for 4 1 y 2 ∷ ticket_for 5 1 y 3 ∷ [];
   next_ticket = 6;
-  flows = opened 1 (codes "a") true ∷ opened 2 (codes "b") b ∷ opened 3 (codes "c") c ∷ [];
+  flows = flow_entry 1 (codes "a") true ∷ flow_entry 2 (codes "b") b ∷ flow_entry 3 (codes "c") c ∷ [];
   next_flow = 4;
 }
 
@@ -37,15 +38,15 @@ abbrev shares : Graph → List ℕ
 shares g = map (tickets g) (1 ∷ 2 ∷ 3 ∷ [])
 
 all_active : shares (three_deep true true) ≡ 57 ∷ 21 ∷ 21 ∷ []
-unfolding three_deep x y issued backing funding act is_active active worth_by val worth tickets
+unfolding three_deep x y denominated_in backing funding act is_active active worth_by val worth tickets
 all_active = refl
 
 c_idle : shares (three_deep true false) ≡ 57 ∷ 42 ∷ 0 ∷ []
-unfolding three_deep x y issued backing funding act is_active active worth_by val worth tickets
+unfolding three_deep x y denominated_in backing funding act is_active active worth_by val worth tickets
 c_idle = refl
 
 only_a : shares (three_deep false false) ≡ 100 ∷ 0 ∷ 0 ∷ []
-unfolding three_deep x y issued backing funding act is_active active worth_by val worth tickets
+unfolding three_deep x y denominated_in backing funding act is_active active worth_by val worth tickets
 only_a = refl
 
 -- 1000 of base back x, of which 1 funds a and 2 fund b
@@ -54,16 +55,16 @@ two_shares b = record {
   currencies = x ∷ [];
   tickets = backing_of 1 1000 base x ∷ ticket_for 2 1 x 1 ∷ ticket_for 3 2 x 2 ∷ [];
   next_ticket = 4;
-  flows = opened 1 (codes "a") true ∷ opened 2 (codes "b") b ∷ [];
+  flows = flow_entry 1 (codes "a") true ∷ flow_entry 2 (codes "b") b ∷ [];
   next_flow = 3;
 }
 
 b_waits : map (tickets (two_shares false)) (1 ∷ 2 ∷ []) ≡ 1000 ∷ 0 ∷ []
-unfolding two_shares x issued backing funding act is_active active worth_by val worth tickets
+unfolding two_shares x denominated_in backing funding act is_active active worth_by val worth tickets
 b_waits = refl
 
 both_share : map (tickets (two_shares true)) (1 ∷ 2 ∷ []) ≡ 333 ∷ 666 ∷ []
-unfolding two_shares x issued backing funding act is_active active worth_by val worth tickets
+unfolding two_shares x denominated_in backing funding act is_active active worth_by val worth tickets
 both_share = refl
 
 -- 5 of x fund a, and x has this backing
@@ -72,19 +73,19 @@ one_flow behind = record {
   currencies = x ∷ [];
   tickets = ticket_for 1 5 x 1 ∷ behind;
   next_ticket = 3;
-  flows = opened 1 (codes "a") true ∷ [];
+  flows = flow_entry 1 (codes "a") true ∷ [];
   next_flow = 2;
 }
 
 without_backing : tickets (one_flow []) 1 ≡ 0
-unfolding one_flow x issued backing funding act is_active active worth_by val worth tickets
+unfolding one_flow x denominated_in backing funding act is_active active worth_by val worth tickets
 without_backing = refl
 
 with_backing : tickets (one_flow (backing_of 2 10 base x ∷ [])) 1 ≡ 10
-unfolding one_flow x issued backing funding act is_active active worth_by val worth tickets
+unfolding one_flow x denominated_in backing funding act is_active active worth_by val worth tickets
 with_backing = refl
 
 -- two tickets of the greatest amount are worth no more than one
 capped : tickets (one_flow (ticket_for 2 (2 ^ 20) base 1 ∷ ticket_for 3 (2 ^ 20) base 1 ∷ [])) 1 ≡ 1048576
-unfolding one_flow x issued backing funding act is_active active worth_by val worth tickets
+unfolding one_flow x denominated_in backing funding act is_active active worth_by val worth tickets
 capped = refl

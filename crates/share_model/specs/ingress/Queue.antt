@@ -1,5 +1,5 @@
--- The rule of the queue from the workers to the link: of each worker, what its end pushed is what the intake popped of
--- it and then what the queue holds of it.
+-- The rule of the queue from the workers to the link: what the end of a worker pushed is what the intake popped of it,
+-- and then what the queue holds of it.
 use Rattle.std.specs.Prelude.{◌≡◌, ◌≤◌, ℕ, suc, Bool, true, false, ◌||◌, nat_eq, List, [], ◌∷◌, ◌++◌, length}
 use mathlib.Core.Option.{some}
 use lib.ListN.{get_elem?}
@@ -57,7 +57,7 @@ an_intake made popped ahead closed = record {
   closed = closed;
 }
 
--- an intake, with an end laid beside it
+-- an intake and an end together
 abbrev pub a_host : QueueView → QueueView → QueueView
 a_host intake end = record {
   gets = true;
@@ -70,8 +70,8 @@ a_host intake end = record {
   closed = intake.closed;
 }
 
-abbrev pub spent : QueueView
-spent = record {
+abbrev pub a_spent_side : QueueView
+a_spent_side = record {
   gets = false;
   sends = false;
   worker = 0;
@@ -84,20 +84,20 @@ spent = record {
 
 -- The rule
 
--- a worker of a queue that has so many: they are numbered from 1
+-- the workers of a queue are numbered from 1
 abbrev pub IsWorker : ℕ → ℕ → Type 0
 IsWorker workers w = (1 ≤ w) × (w ≤ workers)
 
--- an end is that of its worker, which is one of those made and not closed; what it pushed was popped or is held
-pub record IsEnd (seat : ℕ → ℕ) (got items : List Offer) (made : ℕ) (shut : ℕ → Bool) (pass : ℕ) (v : QueueView)
+-- each worker has one end, which was made and is not closed; what it pushed was popped or is held
+pub record IsEnd (pass_of : ℕ → ℕ) (got items : List Offer) (made : ℕ) (shut : ℕ → Bool) (pass : ℕ) (v : QueueView)
     : Type 0
   where
-    pub alone : pass ≡ seat v.worker
+    pub alone : pass ≡ pass_of v.worker
     pub known : IsWorker made v.worker
     pub still : shut v.worker ≡ false
     pub pushed : v.pushed ≡ of_worker v.worker got ++ of_worker v.worker items
 
--- there is one intake, which has all that was popped; what it saw ahead is still in front
+-- there is one intake, which knows all that was popped; what it saw ahead is still in front
 pub record IsIntake (reader : ℕ) (got items : List Offer) (made : ℕ) (shut : ℕ → Bool) (pass : ℕ) (v : QueueView)
     : Type 0 where
   pub alone : pass ≡ reader
@@ -109,7 +109,7 @@ pub record IsIntake (reader : ℕ) (got items : List Offer) (made : ℕ) (shut :
 pub record KeepsOrder (items : List Offer) (views : List QueueView) : Type 0 where
   -- the pass of the intake, and that of each worker's end
   pub reader : ℕ
-  pub seat : ℕ → ℕ
+  pub pass_of : ℕ → ℕ
   pub got : List Offer
   pub made : ℕ
   pub shut : ℕ → Bool
@@ -117,7 +117,7 @@ pub record KeepsOrder (items : List Offer) (views : List QueueView) : Type 0 whe
   pub numbered : (w : ℕ) → Numbered 0 (of_worker w got ++ of_worker w items)
   pub emptied : (w : ℕ) → shut w ≡ true → IsWorker made w × (of_worker w items ≡ [])
   pub ends : (pass : ℕ) (v : QueueView) → get_elem? views pass ≡ some v → v.sends ≡ true
-      → IsEnd seat got items made shut pass v
+      → IsEnd pass_of got items made shut pass v
   pub intake : (pass : ℕ) (v : QueueView) → get_elem? views pass ≡ some v → v.gets ≡ true
       → IsIntake reader got items made shut pass v
 
@@ -127,11 +127,11 @@ pub record KeepsOrder (items : List Offer) (views : List QueueView) : Type 0 whe
 abbrev pub Put : QueueView → Offer → QueueView → Type 0
 Put v x w = w ≡ an_end v.worker (v.pushed ++ x ∷ [])
 
--- what the queue holds of this worker is the last of what its end pushed
+-- what the queue holds of this worker is what its end pushed last
 abbrev pub OwnLast : QueueView → List Offer → Type 0
 OwnLast v items = (before : List Offer) × (v.pushed ≡ before ++ of_worker v.worker items)
 
--- the intake popped x: the first of what was ahead, from a worker of the queue that is not closed, with the next number
+-- the intake popped x: the first of what was ahead, with the next number of a worker whose end is not closed
 pub record Taken (v : QueueView) (x : Offer) (w : QueueView) : Type 0 where
   pub view_is : w ≡ an_intake v.made (v.popped ++ x ∷ []) w.ahead v.closed
   pub front : Begins (x ∷ w.ahead) v.ahead
@@ -140,9 +140,9 @@ pub record Taken (v : QueueView) (x : Offer) (w : QueueView) : Type 0 where
   pub still : has x.worker v.closed ≡ false
 
 -- what was ahead at the last pop is still in front
-abbrev pub Seen : QueueView → List Offer → Type 0
-Seen v items = Begins items v.ahead
+abbrev pub StillAhead : QueueView → List Offer → Type 0
+StillAhead v items = Begins items v.ahead
 
--- what an end beside the intake pushed begins with what was popped of it
+-- what the end that is with the intake pushed is what was popped of it, and then what the queue holds of it
 abbrev pub Behind : QueueView → List Offer → Type 0
 Behind v items = v.pushed ≡ of_worker v.worker v.popped ++ of_worker v.worker items

@@ -1,5 +1,5 @@
 -- The records of an ingress stream: the length of a name in one byte, the name, the length of a payload in two bytes,
--- the greater part first, and the payload.
+-- high byte first, and the payload.
 use Rattle.std.specs.Prelude.{◌≡◌, ◌<◌, ◌+◌, ◌*◌, ◌/◌, ◌%◌, ⊤, ℕ, Bool, true, false, ◌&&◌, nat_le}
 use Rattle.std.specs.Prelude.{List, [], ◌∷◌, ◌++◌, length}
 use Rattle.share_model.specs.lists.Each.{Each}
@@ -49,7 +49,7 @@ pub data IsBad (bs : List ℕ) : Type 0 where
   bad_length : (name : List ℕ) (high low : ℕ) (rest : List ℕ) → is_name name ≡ true
       → is_payload_length (high * 256 + low) ≡ false → bs ≡ (length name ∷ name) ++ high ∷ low ∷ rest → IsBad bs
 
--- how the bytes after the whole records end a stream; a fault, want of memory and a bound may come before any bytes
+-- how the bytes after the whole records end a stream; a fault, lack of memory and a bound may come before any bytes
 abbrev pub EndsAs : Ended → List ℕ → Type 0
 EndsAs End bs = bs ≡ []
 EndsAs Cut bs = IsCut bs

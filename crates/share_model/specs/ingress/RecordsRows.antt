@@ -18,7 +18,7 @@ a_good = record { name = refl; payload = refl }
 a_record : record_of a_item ≡ 1 ∷ 97 ∷ 0 ∷ 1 ∷ 97 ∷ []
 a_record = refl
 
--- the second record is two bytes of payload short by one
+-- the second record lacks the last of its two bytes of payload
 cut_after_one : IsRecords (1 ∷ 97 ∷ 0 ∷ 1 ∷ 97 ∷ 1 ∷ 97 ∷ 0 ∷ 2 ∷ 98 ∷ []) (a_item ∷ []) Cut
 cut_after_one = record {
   rest = 1 ∷ 97 ∷ 0 ∷ 2 ∷ 98 ∷ [];

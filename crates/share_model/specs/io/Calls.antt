@@ -1,4 +1,4 @@
--- Where the calls of one run lead: from a reader to a later one, and from a writer to a later one.
+-- Where the calls of one run lead: from a reader before them to the reader after them, and so for a writer.
 use Rattle.std.specs.Prelude.{◌≡◌, ◌<◌, ◌≤◌, ℕ, ◌+◌, List, length, ⊤}
 use Rattle.share_model.specs.declared.reader.Got.{Got}
 use Rattle.share_model.specs.declared.reader.Got.TheVariants.{
@@ -12,14 +12,14 @@ use Rattle.share_model.specs.declared.writer.Answer.TheVariants.{Accepted, Inter
 
 -- Reads: a relation `gives` says what a read call does to a reader and a buffer, and what it answers
 
--- the call gave bytes, or was interrupted: another one follows
+-- the call gave bytes, or was interrupted: one more call follows
 abbrev pub GoesOn : Got → Type 0
 GoesOn (Bytes n) = ⊤
 GoesOn End = ⊥
 GoesOn ReadInterrupted = ⊤
 GoesOn ReadFailed = ⊥
 
--- so many read calls, each of which gave bytes or was interrupted, lead from the first reader to the last
+-- n read calls, each of which gave bytes or was interrupted, lead from the first reader to the last
 pub data Reads {R : Type 0} (gives : R → List ℕ → Got → R → Type 0) (first : R) : ℕ → R → Type 0 where
   no_reads : Reads gives first 0 first
   one_read : (n : ℕ) (before : R) (buffer : List ℕ) (got : Got) (after : R) → Reads gives first n before
@@ -34,13 +34,13 @@ pub record ReadsToEnd {R : Type 0} (gives : R → List ℕ → Got → R → Typ
   pub few : count < most
   pub ended : gives before buffer End last
 
--- after fewer than `most` such calls, one more failed; or `most` calls were made, and none of them was the last
+-- after fewer than `most` such calls, one more failed; or `most` such calls were made
 pub data ReadFails {R : Type 0} (gives : R → List ℕ → Got → R → Type 0) (most : ℕ) (first last : R) : Type 0 where
   read_failed : (count : ℕ) (before : R) (buffer : List ℕ) → Reads gives first count before → count < most
       → gives before buffer ReadFailed last → ReadFails gives most first last
   too_many_reads : Reads gives first most last → ReadFails gives most first last
 
--- what was read where a run stopped for another reason: at most `most` such calls, or all up to the end
+-- what was read if a run stopped for another reason: at most `most` such calls, or all up to the end
 pub data HasRead {R : Type 0} (gives : R → List ℕ → Got → R → Type 0) (most : ℕ) (first last : R) : Type 0 where
   reading : (count : ℕ) → count ≤ most → Reads gives first count last → HasRead gives most first last
   read_to_end : ReadsToEnd gives most first last → HasRead gives most first last
@@ -53,7 +53,7 @@ IsNothing (Accepted k) = k ≡ 0
 IsNothing Interrupted = ⊤
 IsNothing Failed = ⊤
 
--- offers of which at least a byte each was accepted lead from the first writer to the last
+-- offers, of each of which at least a byte was accepted, lead from the first writer to the last
 pub data Offers {W : Type 0} (answers : W → List ℕ → Answer → W → Type 0) (first : W) : W → Type 0 where
   no_offers : Offers answers first first
   one_offer : (before : W) (piece : List ℕ) (k : ℕ) (after : W) → Offers answers first before

@@ -15,17 +15,17 @@ cut_to piece (Accepted k) = Accepted (min k (length piece))
 cut_to piece Interrupted = Interrupted
 cut_to piece Failed = Failed
 
--- the first of the answers that are left; all is accepted where none is left
-abbrev pub wanted : List Answer → List ℕ → Answer
-wanted [] piece = Accepted (length piece)
-wanted (answer ∷ answers) piece = cut_to piece answer
+-- the first of the answers that are left; if none is left, all is accepted
+abbrev pub next_answer : List Answer → List ℕ → Answer
+next_answer [] piece = Accepted (length piece)
+next_answer (answer ∷ answers) piece = cut_to piece answer
 
 abbrev pub told_after : Told → List ℕ → Answer → Told
 told_after t piece (Accepted k) = with_first t piece k
 told_after t piece Interrupted = t
 told_after t piece Failed = t
 
--- an answer is as wanted; but bytes that are wanted may find no memory, and then the call failed
+-- the answer is the wanted one; but a call that is to accept bytes fails if it finds no memory
 abbrev pub IsGiven : Answer → Answer → Type 0
 IsGiven (Accepted k) answer = (answer ≡ Accepted k) ⊎ (answer ≡ Failed)
 IsGiven Interrupted answer = answer ≡ Interrupted
@@ -37,4 +37,4 @@ pub record ScriptedAnswers (before : ScriptedState) (piece : List ℕ) (answer :
   pub left : after.answers ≡ drop 1 before.answers
   pub told : after.told ≡ told_after before.told piece answer
   pub fits : Fits piece answer
-  pub given : IsGiven (wanted before.answers piece) answer
+  pub given : IsGiven (next_answer before.answers piece) answer

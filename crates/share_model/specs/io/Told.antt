@@ -13,7 +13,7 @@ pub record Told : Type 0 where
 abbrev pub with_first : Told → List ℕ → ℕ → Told
 with_first t piece k = record { bytes = t.bytes ++ take k piece; counts = t.counts ++ k ∷ [] }
 
--- an accepted count appends that many bytes of the piece and itself; the other answers append nothing
+-- an accepted count appends as many bytes of the piece, and itself to the counts; other answers append nothing
 abbrev pub WasTold : Option Told → List ℕ → Answer → Option Told → Type 0
 WasTold before piece (Accepted k) after = (k ≤ length piece) × (after ≡ option_map (λ t. with_first t piece k) before)
 WasTold before piece Interrupted after = after ≡ before
@@ -31,8 +31,8 @@ TapeAnswers before piece (Accepted k) after = (k ≡ length piece) × (after ≡
 TapeAnswers before piece Interrupted after = ⊥
 TapeAnswers before piece Failed after = after ≡ before
 
--- a writer of std's accepts no more than it is offered; the bytes that it holds, where they are known, grow by what was
--- accepted, and else stay
+-- a writer of std accepts no more than it is offered; the bytes that it holds, if they are known, grow by what was
+-- accepted
 abbrev pub PlainAnswers : Option (List ℕ) → List ℕ → Answer → Option (List ℕ) → Type 0
 PlainAnswers old piece (Accepted k) new = (k ≤ length piece) × Appends old new (take k piece)
 PlainAnswers old piece Interrupted new = Keeps old new

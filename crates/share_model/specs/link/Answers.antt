@@ -4,7 +4,7 @@ use Rattle.share_base.specs.declared.command.Reply.{Reply}
 use Rattle.share_base.specs.declared.command.Reply.TheVariants.{Refused}
 use Rattle.share_base.specs.declared.refusal.Refusal.TheVariants.{NoMemory, Spent}
 
--- what is answered to an event: a call that found the life spent, or no memory, made none
+-- whether a reply answers an event: a call that found the life spent, or no memory, made none
 abbrev pub answers_event : Reply → Bool
 answers_event (Refused NoMemory) = false
 answers_event (Refused Spent) = false

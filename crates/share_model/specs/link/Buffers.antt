@@ -1,5 +1,5 @@
--- The buffers of the open flows, in order of opening: each a list of payloads, with a limit and the sequence number
--- that is given next. A packet's number is the next one less the packets from it to the back.
+-- The buffers of the open flows, in order of opening: each a list of payloads, a limit, and the next sequence number.
+-- A packet's number is the next number less how many packets there are from it to the back.
 use Rattle.std.specs.Prelude.{ℕ, ◌+◌, ◌-◌, Bool, true, false, List, [], ◌∷◌, ◌++◌, length, drop, find, nat_eq, nat_le}
 use Rattle.std.specs.Set.{remove_key}
 use Rattle.std.specs.Prelude.{Option, None, Some, option_and_then}
@@ -21,13 +21,13 @@ buffer_of bs f = find (is_buffer_of f) bs
 abbrev pub new_buffer : ℕ → ℕ → Buffer
 new_buffer f limit = record { flow = f; limit = limit; next = 1; packets = [] }
 
-abbrev pub opened : List Buffer → ℕ → ℕ → List Buffer
-opened bs f limit = bs ++ new_buffer f limit ∷ []
+abbrev pub open_in : List Buffer → ℕ → ℕ → List Buffer
+open_in bs f limit = bs ++ new_buffer f limit ∷ []
 
-abbrev pub closed : List Buffer → ℕ → List Buffer
-closed bs f = remove_key (is_buffer_of f) bs
+abbrev pub close_in : List Buffer → ℕ → List Buffer
+close_in bs f = remove_key (is_buffer_of f) bs
 
--- the packets in the buffer of a flow, and 0 where it is not open
+-- how many packets are in the buffer of a flow: 0 if it is not open
 abbrev pub count_by : Option Buffer → ℕ
 count_by None = 0
 count_by (Some b) = length b.packets
@@ -39,8 +39,8 @@ count_in bs f = count_by (buffer_of bs f)
 abbrev pub with_packet : List ℕ → Buffer → Buffer
 with_packet body b = record b { next = b.next + 1; packets = b.packets ++ body ∷ [] }
 
-abbrev pub pushed : List Buffer → ℕ → List ℕ → List Buffer
-pushed bs f body = change_first (is_buffer_of f) (with_packet body) bs
+abbrev pub push_in : List Buffer → ℕ → List ℕ → List Buffer
+push_in bs f body = change_first (is_buffer_of f) (with_packet body) bs
 
 abbrev pub is_full : Buffer → Bool
 is_full b = nat_le b.limit (length b.packets)
@@ -49,8 +49,8 @@ is_full b = nat_le b.limit (length b.packets)
 abbrev pub without_head : Buffer → Buffer
 without_head b = record b { packets = drop 1 b.packets }
 
-abbrev pub popped : List Buffer → ℕ → List Buffer
-popped bs f = change_first (is_buffer_of f) without_head bs
+abbrev pub pop_in : List Buffer → ℕ → List Buffer
+pop_in bs f = change_first (is_buffer_of f) without_head bs
 
 abbrev pub head_in : Buffer → List (List ℕ) → Option Packet
 head_in b [] = None

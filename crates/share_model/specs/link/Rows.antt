@@ -16,7 +16,8 @@ use Rattle.share_model.specs.declared.rates.Rate.{Rate}
 use Rattle.share_model.specs.link.Frame.{header, frame}
 use Rattle.share_model.specs.lists.Change.{change_first}
 use Rattle.share_model.specs.funding.Graph.{base, funding}
-use Rattle.share_model.specs.link.Live.{empty_link, no_counts, sending}
+use Rattle.share_model.specs.link.Live.{empty_link, no_counts}
+use Rattle.share_model.specs.link.Turns.{sending}
 use Rattle.share_model.specs.run.Fold.{State, empty_state, state_after, outcomes, out}
 
 -- the first two tariffs of the program's shelf
@@ -65,7 +66,7 @@ refused_says : outcomes shelf empty_state refused
 unfolding refused hi shelf a outcomes
 refused_says = refl
 
--- a flow under this tariff that holds two packets, of the first of which so many bytes are out
+-- a flow under this tariff that holds two packets, and this frame in part
 
 abbrev part_at : ℕ → Part
 part_at n = record { flow = 1; out = n }

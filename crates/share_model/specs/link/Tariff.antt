@@ -17,7 +17,7 @@ abbrev pub rate_at : List Rate → ℕ → Option Rate
 rate_at rates zero = None
 rate_at rates (suc n) = slice_get rates n
 
--- the same, and a tariff that costs nothing where there is none
+-- the same, and a tariff that costs nothing if no tariff has the number
 abbrev pub rate_of : List Rate → ℕ → Rate
 rate_of rates number = unwrap_or (rate_at rates number) (record { cell = 1; overhead = 0; price = 0 })
 

@@ -10,7 +10,8 @@ use Rattle.share_model.specs.declared.link.Totals.{Totals}
 use Rattle.share_model.specs.declared.funding.OpenFlow.{OpenFlow}
 use Rattle.share_model.specs.funding.Graph.{NameBytes}
 use Rattle.share_model.specs.link.Buffers.{Buffer}
-use Rattle.share_model.specs.link.Live.{Live, waiting_of}
+use Rattle.share_model.specs.link.Live.{Live}
+use Rattle.share_model.specs.link.Commands.{waiting_of}
 use Rattle.share_model.specs.stride.Moves.{total}
 
 -- the packets in the buffers, a torn one among them
@@ -22,7 +23,7 @@ abbrev pub torn_packets : Option ℕ → ℕ
 torn_packets None = 0
 torn_packets (Some f) = 1
 
--- the packets in the buffers besides
+-- the packets in the buffers, a torn one not counted
 abbrev pub waiting : Live → ℕ
 waiting l = packets_in l.buffers - torn_packets l.torn
 
@@ -31,7 +32,7 @@ state_by true part = Torn
 state_by false None = Free
 state_by false (Some p) = InPart
 
--- how many packets are torn, of flows that are open or were closed since
+-- how many packets are torn, also if the flow was closed since
 abbrev pub torn_count : Bool → ℕ
 torn_count broken = if broken then 1 else 0
 

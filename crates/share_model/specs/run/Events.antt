@@ -1,14 +1,15 @@
--- Which events a link makes: none after its life; commands and arrivals whose fields a line can spell; and those of the
--- writer only while the link is whole and has a frame to send, of which the writer accepts at least one byte.
+-- Which events a link makes: none after its life; commands and arrivals whose fields a line can spell; a write or a
+-- fault only while the link is not broken and has a frame to send; and a write of at least one byte.
 use Rattle.std.specs.Prelude.{◌≡◌, ◌<◌, ◌≤◌, ℕ, false, List, [], ◌∷◌, length, take, flat_map, Option, None, Some}
 use Rattle.share_base.specs.declared.command.Event.{Event}
 use Rattle.share_base.specs.declared.command.Event.TheVariants.{Commanded, Arrived, Written, Faulted}
 use Rattle.share_model.specs.declared.rates.Rate.{Rate}
 use Rattle.share_model.specs.link.Fields.{IsName, IsBody, HasCommandFields}
-use Rattle.share_model.specs.link.Live.{Live, Sending, sending, rest_of}
-use Rattle.share_model.specs.run.Fold.{State, step}
+use Rattle.share_model.specs.link.Live.{Live}
+use Rattle.share_model.specs.link.Turns.{Sending, sending, rest_of}
+use Rattle.share_model.specs.run.Fold.{State, empty_state, step}
 
--- the link is whole, and this frame is sent next
+-- the link is not broken, and this frame is sent next
 pub record Sends (l : Live) (s : Sending) : Type 0 where
   pub unbroken : l.broken ≡ false
   pub is : sending l ≡ Some s
@@ -35,7 +36,7 @@ event_bytes l (Arrived flow body) = []
 event_bytes l (Written k) = bytes_by k (sending l)
 event_bytes l Faulted = []
 
--- the count of an event's write, where it is one
+-- the count of an event's write, if it is one
 abbrev pub write_of : Event → List ℕ
 write_of (Commanded c) = []
 write_of (Arrived flow body) = []
@@ -58,3 +59,7 @@ unfoldable pub MayFollow : ℕ → List Rate → State → List Event → Type 0
 MayFollow life rates s [] = Unit {0}
 MayFollow life rates s (e ∷ es) =
     (s.live.counts.events < life) × MayCome s.live e × MayFollow life rates (step rates s e) es
+
+-- a list of events that a new link may make one after another
+abbrev pub MayRun : ℕ → List Rate → List Event → Type 0
+MayRun life rates events = MayFollow life rates empty_state events

@@ -1,5 +1,5 @@
--- The whole state of a run: what the link holds, the packets that were written whole, and the torn one; and the bytes
--- that a run has written.
+-- The state of a run: what the link holds, the packets that were written whole, and the torn one; and the bytes that a
+-- run has written.
 use Rattle.std.specs.Prelude.{ℕ, List, [], ◌∷◌, ◌++◌, take, find, flat_map, Option, None, Some, option_map}
 use Rattle.std.specs.Prelude.{if◌then◌else◌}
 use Rattle.share_base.specs.declared.command.Event.{Event}
@@ -8,8 +8,11 @@ use Rattle.share_base.specs.declared.command.Outcome.{Outcome}
 use Rattle.share_model.specs.declared.link.Book.{Book}
 use Rattle.share_model.specs.declared.rates.Rate.{Rate}
 use Rattle.share_model.specs.link.Frame.{Packet, frame}
-use Rattle.share_model.specs.link.Live.{Live, empty_link, Sending, frame_in_part, sending, is_book_of}
-use Rattle.share_model.specs.link.Live.{is_whole, live_step}
+use Rattle.share_model.specs.link.Live.{Live, empty_link}
+use Rattle.share_model.specs.link.Turns.{Sending, frame_in_part, sending}
+use Rattle.share_model.specs.link.Books.{is_book_of}
+use Rattle.share_model.specs.link.Turns.{is_whole}
+use Rattle.share_model.specs.link.Step.{live_step}
 
 -- a packet that was written whole, and the number of its flow's tariff
 pub record Sent : Type 0 where
@@ -44,11 +47,11 @@ finished_by l k None = []
 finished_by l k (Some s) =
     if is_whole s k then record { head = s.head; tariff = tariff_of l.books s.head.flow } ∷ [] else []
 
-abbrev pub finished : Live → Event → List Sent
-finished l (Commanded c) = []
-finished l (Arrived flow body) = []
-finished l (Written k) = finished_by l k (sending l)
-finished l Faulted = []
+abbrev pub sent_by_event : Live → Event → List Sent
+sent_by_event l (Commanded c) = []
+sent_by_event l (Arrived flow body) = []
+sent_by_event l (Written k) = finished_by l k (sending l)
+sent_by_event l Faulted = []
 
 abbrev pub torn_by : Live → Sending → TornFrame
 torn_by l s = record { head = s.head; tariff = tariff_of l.books s.head.flow; out = s.out }
@@ -62,7 +65,7 @@ torn_after l Faulted t = option_map (torn_by l) (sending l)
 abbrev pub step : List Rate → State → Event → State
 step rates s e = record {
   live = (live_step rates s.live e).0;
-  done = s.done ++ finished s.live e;
+  done = s.done ++ sent_by_event s.live e;
   torn = torn_after s.live e s.torn;
 }
 

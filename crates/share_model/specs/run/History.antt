@@ -1,4 +1,4 @@
--- The history of a run: whose packets were accepted and sent, what they cost, and the bytes that tell them.
+-- The history of a run: which packets were accepted and sent, what they cost, and the bytes that tell them.
 use Rattle.std.specs.Prelude.{◌≡◌, ◌<◌, ◌+◌, ◌-◌, ◌*◌, ℕ, Bool, not, List, [], ◌∷◌, ◌++◌, length, take, map, flat_map}
 use Rattle.std.specs.Prelude.{filter}
 use Rattle.std.specs.Prelude.{sum_by, nat_eq, Option, None, Some, if◌then◌else◌}
@@ -13,19 +13,19 @@ use Rattle.share_model.specs.link.Frame.{Packet, FitsFrame, frame}
 use Rattle.share_model.specs.link.Buffers.{Buffer, buffer_of}
 use Rattle.share_model.specs.run.Fold.{Sent, TornFrame, State, step, outcome}
 use Rattle.share_model.specs.lists.Each.{Each}
-use Rattle.share_model.specs.lists.Laws.{has_number}
+use Rattle.share_model.specs.lists.Rises.{has_number}
 use Rattle.share_model.specs.funding.Graph.{flow_numbers}
 
--- the packet that an event accepted, as its outcome tells: the payload that came, under the numbers of the answer
+-- the packet that an event accepted: the payload that arrived, under the numbers of the answer
 abbrev pub accepted_by : Event → Outcome → List Packet
 accepted_by (Arrived name body) (Replied (PacketReply flow seq)) =
     record { flow = flow; seq = seq; payload = body } ∷ []
 accepted_by _ _ = []
 
 -- the packets that a list of events accepted
-unfoldable pub accepted : List Rate → State → List Event → List Packet
-accepted rates s [] = []
-accepted rates s (e ∷ es) = accepted_by e (outcome rates s e) ++ accepted rates (step rates s e) es
+unfoldable pub accepted_packets : List Rate → State → List Event → List Packet
+accepted_packets rates s [] = []
+accepted_packets rates s (e ∷ es) = accepted_by e (outcome rates s e) ++ accepted_packets rates (step rates s e) es
 
 -- the packets of one flow
 abbrev pub packets_of : ℕ → List Packet → List Packet
@@ -36,13 +36,13 @@ abbrev pub held_in : Buffer → List (List ℕ) → List Packet
 held_in b [] = []
 held_in b (p ∷ ps) = record { flow = b.flow; seq = b.next - length (p ∷ ps); payload = p } ∷ held_in b ps
 
-abbrev pub held_by : Option Buffer → List Packet
-held_by None = []
-held_by (Some b) = held_in b b.packets
+abbrev pub packets_in_buffer : Option Buffer → List Packet
+packets_in_buffer None = []
+packets_in_buffer (Some b) = held_in b b.packets
 
--- the packets in the buffer of a flow: none where it is not open
+-- the packets in the buffer of a flow: none if it is not open
 abbrev pub held_packets : List Buffer → ℕ → List Packet
-held_packets bs f = held_by (buffer_of bs f)
+held_packets bs f = packets_in_buffer (buffer_of bs f)
 
 -- the packets that were written whole
 abbrev pub sent_packets : List Sent → List Packet
@@ -75,7 +75,7 @@ cost_of rates p done t = sum_by (sent_cost rates) (filter (λ (d : Sent). p d.he
 abbrev pub bill : List Rate → State → ℕ → ℕ
 bill rates s f = cost_of rates (nat_eq f) s.done s.torn
 
--- a flow that is not open: among those with packets, one that was closed
+-- whether a flow is not open; if it has packets, it was closed then
 abbrev pub is_closed : List ℕ → ℕ → Bool
 is_closed flows f = not (has_number f flows)
 

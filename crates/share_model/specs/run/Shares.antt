@@ -4,17 +4,19 @@ use Rattle.share_base.specs.declared.command.Event.{Event}
 use Rattle.share_base.specs.declared.command.Event.TheVariants.{Commanded, Arrived, Written, Faulted}
 use Rattle.share_model.specs.declared.rates.Rate.{Rate}
 use Rattle.share_model.specs.link.Frame.{frame}
-use Rattle.share_model.specs.link.Live.{Live, Sending, sending, is_whole, units_due}
+use Rattle.share_model.specs.link.Live.{Live}
+use Rattle.share_model.specs.link.Turns.{Sending, sending, is_whole}
+use Rattle.share_model.specs.link.Books.{units_due}
 use Rattle.share_model.specs.run.Fold.{State, step}
 use Rattle.share_model.specs.stride.Moves.{Stride, client}
 use Rattle.share_model.specs.stride.Runs.{Charges, charges_in}
 use Rattle.share_model.specs.stride.Shares.{Charge}
 
--- the charge of a flow for n bytes of its frame, where it is one of the two
+-- the charge of a flow for n bytes of its frame, if it is one of the two
 abbrev pub charges_for : ℕ → ℕ → List Rate → Live → ℕ → ℕ → List Charge
 charges_for one other rates l f n = charges_in one other l.queue (Charges f (units_due rates l.books f n)) []
 
--- a flow is charged where its frame is whole, for all bytes of it
+-- a flow is charged when its frame is whole, for all bytes of it
 abbrev pub written_charges : ℕ → ℕ → List Rate → Live → ℕ → Option Sending → List Charge
 written_charges one other rates l k None = []
 written_charges one other rates l k (Some s) =
@@ -36,7 +38,7 @@ stretch_charges one other rates s [] = []
 stretch_charges one other rates s (e ∷ es) =
     event_charges one other rates s.live e ++ stretch_charges one other rates (step rates s e) es
 
--- the flow competes with so many tickets
+-- the flow competes with `many` tickets
 pub record CompetesWith (q : Stride) (f many : ℕ) : Type 0 where
   pub competes : (client q f).competes ≡ true
   pub tickets : (client q f).tickets ≡ many

@@ -1,12 +1,12 @@
--- What holds of every link that events have made, layer by layer: the bounds by which no number leaves its type, and
--- the ties between the funding, the queue, the buffers and the books. Callers learn it from each call; the laws say
--- that each event keeps it.
+-- What holds of every link that events have made, layer by layer: the bounds that keep each number in its type, and the
+-- ties between the funding, the queue, the buffers and the books. Callers learn it from each call; the laws say that
+-- each event keeps it.
 use Rattle.std.specs.Prelude.{◌≡◌, ◌⊎◌, ◌<◌, ◌≤◌, ◌+◌, ◌-◌, ◌*◌, ◌^◌, ℕ, Bool, true, false, List, map, length, sum_by}
 use Rattle.std.specs.Prelude.{Option, None, Some, IsTrue, is_some}
 use Rattle.std.specs.FinMap as finmap
 use Rattle.std.specs.FinMap.{get}
 use Rattle.share_model.specs.lists.Each.{Each}
-use Rattle.share_model.specs.lists.Laws.{has_number}
+use Rattle.share_model.specs.lists.Rises.{has_number}
 use Rattle.share_model.specs.declared.link.Book.{Book}
 use Rattle.share_model.specs.declared.link.Counts.{Counts}
 use Rattle.share_model.specs.declared.link.Part.{Part}
@@ -19,7 +19,7 @@ use Rattle.share_model.specs.link.Buffers.{Buffer, buffer_of, head_of, is_some_p
 use Rattle.share_model.specs.link.Totals.{packets_in}
 use Rattle.share_model.specs.funding.Graph.{NameBytes, Graph, flow_numbers}
 use Rattle.share_model.specs.funding.Kept.{IsKept}
-use Rattle.share_model.specs.link.Live.{Live, empty_link, wants}
+use Rattle.share_model.specs.link.Live.{Live, empty_link, tickets_of_all}
 use Rattle.share_model.specs.run.Fold.{TornFrame, State, out}
 use Rattle.share_model.specs.stride.Moves.{Stride}
 use Rattle.share_model.specs.stride.Level.{IsLevel}
@@ -27,7 +27,7 @@ use Rattle.share_model.specs.stride.Bound.{IsSound as IsSoundQueue}
 
 -- ---- Counts
 
--- 1 where the torn packet's flow was closed, so that the packet is in no buffer
+-- 1 if the torn packet's flow was closed, so that the packet is in no buffer
 abbrev pub torn_gone : Bool → Option ℕ → ℕ
 torn_gone true None = 1
 torn_gone true (Some f) = 0
@@ -42,13 +42,13 @@ pub record CountsAreSound (life : ℕ) (c : Counts) (held gone : ℕ) : Type 0 w
 
 -- ---- Funding and flows
 
--- each number that was given was given by an event
+-- each event gave at most one number to a ticket, and one to a flow
 pub record FundingIsSound (events : ℕ) (g : Graph) : Type 0 where
   pub kept : IsKept g
   pub next_ticket : g.next_ticket ≤ events + 1
   pub next_flow : g.next_flow ≤ events + 1
 
--- each open flow has a buffer and a book, in order of opening, and is active where its buffer holds a packet
+-- each open flow has a buffer and a book, in order of opening, and is active if its buffer holds a packet
 pub record FlowsAreTied (es : List (NameBytes × OpenFlow)) (buffers : List Buffer) (books : List Book) : Type 0 where
   pub buffered : map (λ (b : Buffer). b.flow) buffers ≡ flow_numbers es
   pub booked : map (λ (b : Book). b.flow) books ≡ flow_numbers es
@@ -61,8 +61,8 @@ pub record FlowsAreTied (es : List (NameBytes × OpenFlow)) (buffers : List Buff
 abbrev pub max_life : ℕ
 max_life = 2 ^ 24
 
--- the clients are the open flows, each event charges at most 4026 units, and in a life of at most 2^24 events the queue
--- is sound
+-- the clients are the open flows, an event charges at most 4026 units, and the queue is sound if the life is at most
+-- the longest one
 pub record QueueIsSound (life events : ℕ) (flows : List ℕ) (q : Stride) : Type 0 where
   pub clients : (f : ℕ) → is_some (get q.clients f) ≡ has_number f flows
   pub count : finmap.len q.clients ≡ length flows
@@ -111,8 +111,8 @@ abbrev pub TornIsNamed : List Buffer → Bool → Option ℕ → Type 0
 TornIsNamed buffers broken None = Unit {0}
 TornIsNamed buffers broken (Some f) = NamesTorn buffers broken f
 
--- a flow whose packet was torn is named only while it is open and has a packet, and only of a broken link; and a broken
--- link has no frame in part
+-- a link names the flow of a torn packet only if it is broken and that flow has a packet; a broken link has no frame in
+-- part
 pub record TornIsSound (buffers : List Buffer) (broken : Bool) (torn : Option ℕ) (part : Option Part) : Type 0 where
   pub named : TornIsNamed buffers broken torn
   pub unparted : broken ≡ true → part ≡ None
@@ -126,8 +126,8 @@ pub record Sound (life : ℕ) (rates : List Rate) (l : Live) : Type 0 where
   pub funding : FundingIsSound l.counts.events l.graph
   pub flows : FlowsAreTied l.graph.flows l.buffers l.books
   pub queue : QueueIsSound life l.counts.events (flow_numbers l.graph.flows) l.queue
-  -- each open flow competes with as many tickets as it has
-  pub level : IsLevel l.queue (wants l.graph)
+  -- each open flow competes with exactly its tickets
+  pub level : IsLevel l.queue (tickets_of_all l.graph)
   pub buffers : Each (IsSoundBuffer l.counts.events) l.buffers
   pub books : BooksAreSound rates l.counts l.books
   pub part : PartIsSound l.buffers l.part
@@ -135,12 +135,12 @@ pub record Sound (life : ℕ) (rates : List Rate) (l : Live) : Type 0 where
 
 -- ---- The whole state
 
--- while its flow is open the torn packet is at its head, and the flow is named
+-- the flow of the torn packet is open and named, and the packet is its head
 pub record IsTornHead (buffers : List Buffer) (torn : Option ℕ) (t : TornFrame) : Type 0 where
   pub named : torn ≡ Some t.head.flow
   pub head : head_of buffers t.head.flow ≡ Some t.head
 
--- its flow was closed
+-- the flow of the torn packet was closed
 pub record IsTornGone (buffers : List Buffer) (torn : Option ℕ) (t : TornFrame) : Type 0 where
   pub unnamed : torn ≡ None
   pub closed : buffer_of buffers t.head.flow ≡ None
@@ -150,12 +150,12 @@ pub record IsTornFrame (l : Live) (t : TornFrame) : Type 0 where
   pub given : t.head.flow < l.graph.next_flow
   pub place : IsTornHead l.buffers l.torn t ⊎ IsTornGone l.buffers l.torn t
 
--- a frame is torn exactly where the link is broken
+-- a frame is torn if and only if the link is broken
 abbrev pub TornIsTold : Live → Option TornFrame → Type 0
 TornIsTold l None = (l.broken ≡ false) × (l.torn ≡ None)
 TornIsTold l (Some t) = IsTornFrame l t
 
--- the same of a whole state: the counts are those of its history
+-- the same of the state of a run: the counts are those of its history
 pub record SoundState (life : ℕ) (rates : List Rate) (s : State) : Type 0 where
   pub live : Sound life rates s.live
   pub done : length s.done ≡ s.live.counts.written

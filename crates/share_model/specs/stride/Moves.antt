@@ -1,7 +1,7 @@
--- The dynamic stride queue. Each client has a stride, 2^40 divided by its tickets, and a pass, to which a charge of
--- u units adds stride * u / 1024. The competing client with the least pass comes next. The global pass is that of a
--- client that had all tickets of those that compete; a client that ceases to compete keeps by how much its pass was
--- ahead of the global pass, its remain, and begins there when it returns. All divisions round down.
+-- The dynamic stride queue. Each client has a stride, 2^40 divided by its tickets, and a pass, to which a charge of u
+-- units adds stride * u / 1024. The competing client with the least pass comes next. The global pass is that of a
+-- client with all tickets of those that compete. A client that ceases to compete keeps its remain, which is by how much
+-- its pass was ahead of the global pass, and begins there when it returns. All divisions round down.
 use Rattle.std.specs.Prelude.{◌≡◌, ◌≢◌, ℕ, zero, suc, ◌+◌, ◌-◌, ◌*◌, ◌/◌, ◌^◌, ◌<◌, ℤ, pos, ◌+ℤ◌, ◌-ℤ◌, ◌*ℤ◌, ◌<ℤ◌}
 use Rattle.std.specs.Prelude.{int_lt, Bool, true, false, List, [], ◌∷◌, sum_by, nat_le, Option, None, Some, option_map}
 use Rattle.std.specs.Prelude.{unwrap_or, IsTrue, ◌⊎◌, if◌then◌else◌, refl}
@@ -17,8 +17,8 @@ use Rattle.share_model.specs.declared.stride.Client.{Client}
 use Rattle.share_model.specs.declared.stride.Position.{Position}
 use Rattle.share_model.specs.declared.stride.GlobalPart.{GlobalPart}
 
--- the clients by their flow numbers, the global pass at the last update, the clock then, and the clock: all units
--- that were charged
+-- the clients by their flow numbers; the global pass and the clock at the last update; and the clock: all units that
+-- were charged
 pub record Stride : Type 0 where
   pub clients : FinMap nat_cmp Client
   pub pass : ℕ
@@ -44,8 +44,8 @@ coded_stride =
     (λ _. refl)
 
 -- no client yet
-abbrev pub start : Stride
-start = record { clients = map.empty; pass = 0; last = 0; clock = 0 }
+abbrev pub empty_queue : Stride
+empty_queue = record { clients = map.empty; pass = 0; last = 0; clock = 0 }
 
 -- ---- Tickets, strides and the global pass
 
@@ -53,7 +53,7 @@ start = record { clients = map.empty; pass = 0; last = 0; clock = 0 }
 abbrev pub floor_div : ℤ → ℕ → ℤ
 floor_div z d = int_div_euclid z (pos d)
 
--- 0 where there are no tickets
+-- 0 if there are no tickets
 abbrev pub stride_of : ℕ → ℕ
 stride_of tickets = 2 ^ 40 / tickets
 
@@ -73,7 +73,7 @@ update s = record s { pass = s.pass + global_stride s * (s.clock - s.last) / 102
 
 -- ---- One client
 
--- one that never competed
+-- a client that never competed
 abbrev pub new_client : Client
 new_client = record { tickets = 0; stride = 0; remain = pos 0; pass = pos 0; competes = false }
 
@@ -81,13 +81,13 @@ abbrev pub client : Stride → ℕ → Client
 client s f = unwrap_or (get s.clients f) new_client
 
 -- the remain on a new stride. The first remain is the stride itself
-abbrev pub rescaled : ℕ → ℕ → ℤ → ℤ
-rescaled new_stride zero remain = pos new_stride
-rescaled new_stride (suc n) remain = floor_div (remain *ℤ pos new_stride) (suc n)
+abbrev pub remain_on : ℕ → ℕ → ℤ → ℤ
+remain_on new_stride zero remain = pos new_stride
+remain_on new_stride (suc n) remain = floor_div (remain *ℤ pos new_stride) (suc n)
 
-abbrev pub joined : ℕ → Client → ℕ → Client
-joined global_pass c tickets =
-    let remain = rescaled (stride_of tickets) c.stride c.remain in
+abbrev pub after_join : ℕ → Client → ℕ → Client
+after_join global_pass c tickets =
+    let remain = remain_on (stride_of tickets) c.stride c.remain in
     record {
       tickets = tickets;
       stride = stride_of tickets;
@@ -97,12 +97,12 @@ joined global_pass c tickets =
     }
 
 -- tickets and stride stay
-abbrev pub left : ℕ → Client → Client
-left global_pass c = record c { remain = c.pass -ℤ pos global_pass; competes = false }
+abbrev pub after_leave : ℕ → Client → Client
+after_leave global_pass c = record c { remain = c.pass -ℤ pos global_pass; competes = false }
 
--- the share goes to the pass of a client that competes, to the remain of one that ceased to
-abbrev pub charged : Client → ℕ → Client
-charged c units =
+-- the share is added to the pass of a client that competes, and to the remain of one that does not
+abbrev pub after_charge : Client → ℕ → Client
+after_charge c units =
     let share = pos (c.stride * units / 1024) in
     if c.competes then record c { pass = c.pass +ℤ share } else record c { remain = c.remain +ℤ share }
 
@@ -119,16 +119,16 @@ abbrev pub add : Stride → ℕ → Stride
 add s f = with_client s f new_client
 
 abbrev pub join : Stride → ℕ → ℕ → Stride
-join s f tickets = let now = update s in with_client now f (joined now.pass (client s f) tickets)
+join s f tickets = let now = update s in with_client now f (after_join now.pass (client s f) tickets)
 
 abbrev pub leave : Stride → ℕ → Stride
-leave s f = let now = update s in with_client now f (left now.pass (client s f))
+leave s f = let now = update s in with_client now f (after_leave now.pass (client s f))
 
 abbrev pub modify : Stride → ℕ → ℕ → Stride
 modify s f tickets = join (leave s f) f tickets
 
 abbrev pub charge : Stride → ℕ → ℕ → Stride
-charge s f units = record s { clients = insert s.clients f (charged (client s f) units); clock = s.clock + units }
+charge s f units = record s { clients = insert s.clients f (after_charge (client s f) units); clock = s.clock + units }
 
 abbrev pub remove : Stride → ℕ → Stride
 remove s f = record s { clients = map.remove s.clients f }
@@ -139,14 +139,15 @@ pub data Move : Type 0 where
   Leave : Move
   Modify : ℕ → Move
 
-abbrev pub moved : Stride → ℕ → Move → Stride
-moved s f (Join tickets) = join s f tickets
-moved s f Leave = leave s f
-moved s f (Modify tickets) = modify s f tickets
+abbrev pub after_move : Stride → ℕ → Move → Stride
+after_move s f (Join tickets) = join s f tickets
+after_move s f Leave = leave s f
+after_move s f (Modify tickets) = modify s f tickets
 
 -- the moves of two flows give one state in either order
 abbrev pub MovesCommute : Type 0
-MovesCommute = (s : Stride) (f g : ℕ) (a b : Move) → f ≢ g → moved (moved s f a) g b ≡ moved (moved s g b) f a
+MovesCommute = (s : Stride) (f g : ℕ) (a b : Move) → f ≢ g → after_move (after_move s f a) g b
+    ≡ after_move (after_move s g b) f a
 
 -- ---- What is read
 
@@ -164,7 +165,7 @@ global_part s = record { tickets = total s.clients; pass = s.pass; last = s.last
 
 -- ---- The next flow
 
--- a lesser pass comes first, and of equal passes the lesser flow number
+-- the lesser pass comes first, and of equal passes the lesser flow number
 abbrev pub Precedes : ℤ → ℕ → ℤ → ℕ → Type 0
 Precedes p f q g = (p <ℤ q) ⊎ ((p ≡ q) × (f < g))
 
@@ -172,13 +173,13 @@ pub record Competes (clients : FinMap nat_cmp Client) (f : ℕ) (c : Client) : T
   pub found : get clients f ≡ Some c
   pub competing : IsTrue c.competes
 
--- f competes, and precedes each other flow that does
+-- f competes, and precedes each other flow that competes
 pub record IsNextFlow (clients : FinMap nat_cmp Client) (f : ℕ) : Type 0 where
   pub chosen : Client
   pub competes : Competes clients f chosen
   pub least : (g : ℕ) (d : Client) → Competes clients g d → g ≢ f → Precedes chosen.pass f d.pass g
 
--- no flow is next exactly where none competes
+-- no flow is next if and only if none competes
 abbrev pub IsNext : FinMap nat_cmp Client → Option ℕ → Type 0
 IsNext clients None = (g : ℕ) (d : Client) → Competes clients g d → ⊥
 IsNext clients (Some f) = IsNextFlow clients f
@@ -187,7 +188,7 @@ IsNext clients (Some f) = IsNextFlow clients f
 abbrev pub NextIsUnique : Type 0
 NextIsUnique = (clients : FinMap nat_cmp Client) (a b : Option ℕ) → IsNext clients a → IsNext clients b → a ≡ b
 
--- e, or the one chosen among those after it, where that has the lesser pass
+-- e, or the choice among the entries after it if that has a lesser pass
 abbrev pub earlier : ℕ × Client → Option (ℕ × Client) → ℕ × Client
 earlier e None = e
 earlier e (Some later) = if int_lt later.1.pass e.1.pass then later else e
@@ -196,6 +197,6 @@ abbrev pub first_competing : List (ℕ × Client) → Option (ℕ × Client)
 first_competing [] = None
 first_competing (e ∷ es) = if e.1.competes then Some (earlier e (first_competing es)) else first_competing es
 
--- the entries stand by rising flow number
+-- the entries are in the order of flow numbers
 unfoldable pub next : FinMap nat_cmp Client → Option ℕ
 next clients = option_map (λ e. e.0) (first_competing (entries clients))

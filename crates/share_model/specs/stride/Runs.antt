@@ -1,7 +1,7 @@
 -- Runs of the stride queue, and what two flows are charged in one.
 use Rattle.std.specs.Prelude.{◌≡◌, ◌≢◌, ℕ, ◌*◌, ◌/◌, IsTrue, List, [], ◌∷◌, nat_eq, ◌≤ℤ◌, if◌then◌else◌}
 use Rattle.share_model.specs.declared.stride.Client.{Client}
-use Rattle.share_model.specs.stride.Moves.{Stride, Move, moved, charge, client, add, remove}
+use Rattle.share_model.specs.stride.Moves.{Stride, Move, after_move, charge, client, add, remove}
 use Rattle.share_model.specs.stride.Shares.{Charge, One, Other, IsWithinShare}
 
 -- a charge of a flow, a move of one, or its client added or removed
@@ -11,13 +11,13 @@ pub data Step : Type 0 where
   Adds : ℕ → Step
   Removes : ℕ → Step
 
-abbrev pub stepped : Stride → Step → Stride
-stepped s (Charges f units) = charge s f units
-stepped s (Moves f move) = moved s f move
-stepped s (Adds f) = add s f
-stepped s (Removes f) = remove s f
+abbrev pub after_step : Stride → Step → Stride
+after_step s (Charges f units) = charge s f units
+after_step s (Moves f move) = after_move s f move
+after_step s (Adds f) = add s f
+after_step s (Removes f) = remove s f
 
--- neither of the two flows moves, and the one is charged only where its pass is at most the other's
+-- neither flow moves, and `one` is charged only while its pass is at most that of `other`
 abbrev pub IsFairStep : ℕ → ℕ → Stride → Step → Type 0
 IsFairStep one other s (Charges f units) = f ≡ one → (client s one).pass ≤ℤ (client s other).pass
 IsFairStep one other s (Moves f move) = (one ≢ f) × (other ≢ f)
@@ -26,7 +26,7 @@ IsFairStep one other s (Removes f) = (one ≢ f) × (other ≢ f)
 
 abbrev pub IsFairRun : ℕ → ℕ → Stride → List Step → Type 0
 IsFairRun one other s [] = Unit {0}
-IsFairRun one other s (step ∷ steps) = IsFairStep one other s step × IsFairRun one other (stepped s step) steps
+IsFairRun one other s (step ∷ steps) = IsFairStep one other s step × IsFairRun one other (after_step s step) steps
 
 -- what a charge adds to a pass
 abbrev pub share : Client → ℕ → ℕ
@@ -44,9 +44,9 @@ charges_in one other s (Charges f units) later =
 
 abbrev pub charges_of : ℕ → ℕ → Stride → List Step → List Charge
 charges_of one other s [] = []
-charges_of one other s (step ∷ steps) = charges_in one other s step (charges_of one other (stepped s step) steps)
+charges_of one other s (step ∷ steps) = charges_in one other s step (charges_of one other (after_step s step) steps)
 
--- of two flows that compete and do not move, the one is charged within its share beside the other
+-- of two flows that compete and do not move, `one` is charged within its share beside `other`
 abbrev pub RunsStayClose : Type 0
 RunsStayClose =
     (one other : ℕ) (s : Stride) (steps : List Step) → one ≢ other → IsTrue (client s one).competes

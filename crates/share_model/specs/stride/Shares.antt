@@ -1,8 +1,8 @@
--- What two flows that compete are charged, one beside the other, on the scale of their passes.
+-- What two flows that compete, `one` and `other`, are charged, on the scale of their passes.
 use Rattle.std.specs.Prelude.{ℕ, ◌+◌, max, List, [], ◌∷◌, ℤ, pos, ◌+ℤ◌, ◌-ℤ◌, ◌≤ℤ◌}
 use Rattle.std.specs.Int.{int_max}
 
--- a charge of this much to the one flow, or to the other
+-- a charge of this much to `one`, or to `other`
 pub data Charge : Type 0 where
   One : ℕ → Charge
   Other : ℕ → Charge
@@ -17,25 +17,25 @@ to_other [] = 0
 to_other (One n ∷ rest) = to_other rest
 to_other (Other n ∷ rest) = n + to_other rest
 
--- the largest single charge to the one flow
+-- the largest single charge to `one`
 abbrev pub largest_to_one : List Charge → ℕ
 largest_to_one [] = 0
 largest_to_one (One n ∷ rest) = max n (largest_to_one rest)
 largest_to_one (Other n ∷ rest) = largest_to_one rest
 
--- from these passes on, the one flow is charged only where its pass is at most the other's
+-- from these passes on, `one` is charged only while its pass is at most that of `other`
 abbrev pub ChargesLeast : ℤ → ℤ → List Charge → Type 0
 ChargesLeast one other [] = Unit {0}
 ChargesLeast one other (One n ∷ rest) = (one ≤ℤ other) × ChargesLeast (one +ℤ pos n) other rest
 ChargesLeast one other (Other n ∷ rest) = ChargesLeast one (other +ℤ pos n) rest
 
--- what the one flow is charged is at most what the other is, and what the other's pass was ahead at the start, and
--- the largest charge to the one; or it is nothing
+-- what `one` is charged is at most the greater of 0 and this sum: what `other` is charged, by how much the pass of
+-- `other` was ahead at the start, and the largest charge to `one`
 abbrev pub IsWithinShare : ℤ → ℤ → List Charge → Type 0
 IsWithinShare one other charges =
     pos (to_one charges) ≤ℤ int_max (pos 0) (pos (to_other charges) +ℤ (other -ℤ one) +ℤ pos (largest_to_one charges))
 
--- whatever the passes at the start
+-- this holds whatever the passes at the start
 abbrev pub SharesStayClose : Type 0
 SharesStayClose =
     (one other : ℤ) (charges : List Charge) → ChargesLeast one other charges → IsWithinShare one other charges

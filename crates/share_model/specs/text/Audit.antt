@@ -8,11 +8,11 @@ use Rattle.share_model.specs.declared.line.Line.{Line}
 use Rattle.share_model.specs.declared.line.Line.TheVariants.{Change, Send, Turn, Torn, Audit}
 use Rattle.share_model.specs.declared.rates.Rate.{Rate}
 use Rattle.share_model.specs.run.Fold.{State}
-use Rattle.share_model.specs.text.Lines.{spelled}
-use Rattle.share_model.specs.text.Talk.{start, talk, after, lines_of}
+use Rattle.share_model.specs.text.Lines.{spelling_of}
+use Rattle.share_model.specs.text.Talk.{start_of_script, talk, after, lines_of}
 use Rattle.share_model.specs.text.Texts.{line_text}
 
--- the line that makes an event: a write of so many bytes is a turn that offers as many, and a fault is declared
+-- the line that makes an event: for a write a turn that offers the accepted bytes, for a fault its declaration
 abbrev pub event_line : Event → Line
 event_line (Commanded c) = Change c
 event_line (Arrived flow body) = Send flow body
@@ -25,7 +25,7 @@ audit_lines events = Audit ∷ map event_line events
 
 -- the spelling of a line and its line feed
 abbrev pub written_line : Line → List ℕ
-written_line l = spelled l ++ codes "\n"
+written_line l = spelling_of l ++ codes "\n"
 
 unfoldable pub audit : List Event → List ℕ
 audit events = flat_map written_line (audit_lines events)
@@ -38,5 +38,6 @@ IsAmple lacks = list_all not lacks ≡ true
 pub record AnswersWith (life : ℕ) (rates : List Rate) (script : List ℕ) (outcomes : List Outcome) (s : State) : Type 0
   where
     pub text : (lacks : List Bool) → IsAmple lacks
-        → talk life rates start lacks (lines_of script) ≡ flat_map line_text outcomes
-    pub state : (lacks : List Bool) → IsAmple lacks → (after life rates start lacks (lines_of script)).state ≡ s
+        → talk life rates start_of_script lacks (lines_of script) ≡ flat_map line_text outcomes
+    pub state : (lacks : List Bool) → IsAmple lacks → (after life rates start_of_script lacks (lines_of script)).state
+        ≡ s

@@ -1,4 +1,4 @@
--- The run of a script: a line makes an event, or is answered without one.
+-- The run of a script: each line makes an event, or is answered without one.
 use Rattle.std.specs.Prelude.{ℕ, Bool, List, [], ◌∷◌, ◌++◌, drop, flat_map, Result, Ok, Err}
 use Rattle.share_base.specs.declared.command.Event.{Event}
 use Rattle.share_base.specs.declared.command.Outcome.{Outcome}
@@ -7,7 +7,7 @@ use Rattle.share_model.specs.text.Lines.{reading}
 use Rattle.share_model.specs.text.Talk.{Progress, read_event, answer, first_flag}
 use Rattle.share_model.specs.text.Texts.{line_text}
 
--- what each line makes: its event, or its text without one
+-- what each line makes: an event, or a text without one
 unfoldable pub made_of : ℕ → List Rate → Progress → List Bool → List (List ℕ) → List (Result Event (List ℕ))
 made_of life rates p lacks [] = []
 made_of life rates p lacks (l ∷ ls) =
@@ -22,7 +22,7 @@ events_by (Err text) = []
 abbrev pub events_of : ℕ → List Rate → Progress → List Bool → List (List ℕ) → List Event
 events_of life rates p lacks ls = flat_map events_by (made_of life rates p lacks ls)
 
--- the texts of the lines: that of the next of the run's outcomes where the line made an event, else its own
+-- the answers to the lines: the text of the next outcome for a line that made an event, else the line's own text
 abbrev pub texts_of : List (Result Event (List ℕ)) → List Outcome → List ℕ
 texts_of [] outcomes = []
 texts_of (Err text ∷ rs) outcomes = text ++ texts_of rs outcomes

@@ -1,5 +1,5 @@
--- The lines of a script: words joined by one space, one spelling for each line. What is not spelled exactly so is no
--- line.
+-- The lines of a script: words joined by one space, one spelling for each line. Bytes that are spelled in any other way
+-- are no line.
 use Rattle.std.specs.Prelude.{◌≡◌, ◌≢◌, ◌≤◌, ◌+◌, ◌-◌, ◌*◌, ◌/◌, ◌%◌, ◌^◌, ◌==◌, ◌⊎◌, ℕ, Bool, true, false, ◌&&◌}
 use Rattle.std.specs.Prelude.{◌||◌, List, [], ◌∷◌, length, nat_le, nat_lt, codes, decimal, Option, None, Some, Result}
 use Rattle.std.specs.Prelude.{Ok, Err, if◌then◌else◌}
@@ -72,8 +72,8 @@ words Report = codes "report" ∷ []
 words Audit = codes "audit" ∷ codes "1" ∷ []
 
 -- the bytes of a line before its line feed
-abbrev pub spelled : Line → List ℕ
-spelled l = join_with_byte 32 (words l)
+abbrev pub spelling_of : Line → List ℕ
+spelling_of l = join_with_byte 32 (words l)
 
 -- Which values a line can have
 
@@ -92,7 +92,7 @@ HasFields Audit = Unit {0}
 -- a line has at most 20480 bytes
 pub record IsLine (l : Line) : Type 0 where
   pub fields : HasFields l
-  pub short : length (spelled l) ≤ 20480
+  pub short : length (spelling_of l) ≤ 20480
 
 -- a payload has at most 1490 bytes, and a turn offers 1 to 65535
 abbrev pub is_in_range : Line → Bool
@@ -151,63 +151,63 @@ abbrev pub funding_of : HolderKind → ℕ → List ℕ → Command
 funding_of CurrencyKind ticket name = FundCurrency ticket name
 funding_of FlowKind ticket name = FundFlow ticket name
 
--- the line, where no word is left
-abbrev pub ended : List (List ℕ) → Line → Option Line
-ended [] l = Some l
-ended (w ∷ ws) l = None
+-- the line, if no word is left
+abbrev pub line_at_end : List (List ℕ) → Line → Option Line
+line_at_end [] l = Some l
+line_at_end (w ∷ ws) l = None
 
 abbrev pub open_of : List (List ℕ) → Option Line
 open_of ws = do
   name ← field name_of ws
   limit ← field number_of name.1
   tariff ← field number_of limit.1
-  ended tariff.1 (Change (OpenFlow name.0 limit.0 tariff.0))
+  line_at_end tariff.1 (Change (OpenFlow name.0 limit.0 tariff.0))
 
 -- a command of a name alone, and one of a number
 abbrev pub named_of : (List ℕ → Command) → List (List ℕ) → Option Line
 named_of command ws = do
   name ← field name_of ws
-  ended name.1 (Change (command name.0))
+  line_at_end name.1 (Change (command name.0))
 
 abbrev pub numbered_of : (ℕ → Command) → List (List ℕ) → Option Line
 numbered_of command ws = do
   number ← field number_of ws
-  ended number.1 (Change (command number.0))
+  line_at_end number.1 (Change (command number.0))
 
 abbrev pub mktkt_of : List (List ℕ) → Option Line
 mktkt_of ws = do
   amount ← field number_of ws
   currency ← field name_of amount.1
-  ended currency.1 (Change (MakeTicket amount.0 currency.0))
+  line_at_end currency.1 (Change (MakeTicket amount.0 currency.0))
 
 abbrev pub fund_of : List (List ℕ) → Option Line
 fund_of ws = do
   ticket ← field number_of ws
   kind ← field kind_of ticket.1
   name ← field name_of kind.1
-  ended name.1 (Change (funding_of kind.0 ticket.0 name.0))
+  line_at_end name.1 (Change (funding_of kind.0 ticket.0 name.0))
 
 abbrev pub send_of : List (List ℕ) → Option Line
 send_of ws = do
   flow ← field name_of ws
   payload ← field payload_of flow.1
-  ended payload.1 (Send flow.0 payload.0)
+  line_at_end payload.1 (Send flow.0 payload.0)
 
 abbrev pub turn_of : List (List ℕ) → Option Line
 turn_of ws = do
   most ← field number_of ws
-  ended most.1 (Turn most.0)
+  line_at_end most.1 (Turn most.0)
 
 abbrev pub torn_of : List (List ℕ) → Option Line
-torn_of ws = ended ws Torn
+torn_of ws = line_at_end ws Torn
 
 abbrev pub report_of : List (List ℕ) → Option Line
-report_of ws = ended ws Report
+report_of ws = line_at_end ws Report
 
 -- the version is 1, and no other
 abbrev pub audit_of : List (List ℕ) → Option Line
 audit_of [] = None
-audit_of (w ∷ ws) = if bytes_eq w (codes "1") then ended ws Audit else None
+audit_of (w ∷ ws) = if bytes_eq w (codes "1") then line_at_end ws Audit else None
 
 unfoldable pub line_by : List ℕ → List (List ℕ) → Option Line
 line_by w ws =
@@ -230,21 +230,21 @@ abbrev pub line_of : List (List ℕ) → Option Line
 line_of [] = None
 line_of (w ∷ ws) = line_by w ws
 
-abbrev pub ranged : Option Line → Result Line Refusal
-ranged None = Err Syntax
-ranged (Some l) = if is_in_range l then Ok l else Err Range
+abbrev pub line_or_refusal : Option Line → Result Line Refusal
+line_or_refusal None = Err Syntax
+line_or_refusal (Some l) = if is_in_range l then Ok l else Err Range
 
--- the line that these bytes spell: Syntax where they spell none, Range where they spell one that is out of range
+-- the line that these bytes spell: Syntax if they spell none, Range if it is out of range
 unfoldable pub reading : List ℕ → Result Line Refusal
-reading bs = if nat_lt 20480 (length bs) then Err Syntax else ranged (line_of (words_of bs))
+reading bs = if nat_lt 20480 (length bs) then Err Syntax else line_or_refusal (line_of (words_of bs))
 
--- What a reading answers, in the words of spellings
+-- What a reading answers, said of spellings
 
 -- the line is spelled by these bytes and in range
 pub record IsReading (bs : List ℕ) (l : Line) : Type 0 where
   pub line : IsLine l
   pub in_range : is_in_range l ≡ true
-  pub spells : spelled l ≡ bs
+  pub spells : spelling_of l ≡ bs
 
 abbrev pub is_send : Line → Bool
 is_send (Change c) = false
@@ -254,11 +254,10 @@ is_send Torn = false
 is_send Report = false
 is_send Audit = false
 
--- Syntax where no line has these bytes, Range where a line out of range has them, NoMemory where a packet in range
--- does
+-- Syntax if no line is spelled by these bytes, Range if a line out of range is, NoMemory if a packet in range is
 abbrev pub IsUnread : List ℕ → Refusal → Type 0
-IsUnread bs Syntax = (l : Line) → IsLine l → spelled l ≢ bs
-IsUnread bs Range = (l : Line) × IsLine l × (is_in_range l ≡ false) × (spelled l ≡ bs)
+IsUnread bs Syntax = (l : Line) → IsLine l → spelling_of l ≢ bs
+IsUnread bs Range = (l : Line) × IsLine l × (is_in_range l ≡ false) × (spelling_of l ≡ bs)
 IsUnread bs NoMemory = (l : Line) × IsReading bs l × (is_send l ≡ true)
 IsUnread bs Spent = ⊥
 IsUnread bs NoCurrency = ⊥
@@ -279,5 +278,5 @@ IsUnread bs BufferFull = ⊥
 IsUnread bs Broken = ⊥
 
 -- a reading that may have found no memory for a payload
-abbrev pub Reads : List ℕ → Result Line Refusal → Type 0
-Reads bs r = (r ≡ reading bs) ⊎ ((r ≡ Err NoMemory) × ((l : Line) × (reading bs ≡ Ok l) × (is_send l ≡ true)))
+abbrev pub ReadsLine : List ℕ → Result Line Refusal → Type 0
+ReadsLine bs r = (r ≡ reading bs) ⊎ ((r ≡ Err NoMemory) × ((l : Line) × (reading bs ≡ Ok l) × (is_send l ≡ true)))

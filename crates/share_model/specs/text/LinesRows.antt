@@ -8,7 +8,7 @@ use Rattle.share_base.specs.declared.command.Command.TheVariants.{RemoveTicket, 
 use Rattle.share_base.specs.declared.command.Command.TheVariants.{OpenFlow, CloseFlow}
 use Rattle.share_model.specs.declared.line.Line.{Line}
 use Rattle.share_model.specs.declared.line.Line.TheVariants.{Change, Send, Turn, Torn, Report, Audit}
-use Rattle.share_model.specs.text.Lines.{number_of, line_by, reading, spelled}
+use Rattle.share_model.specs.text.Lines.{number_of, line_by, reading, spelling_of}
 
 read : List (List ℕ) → List (Result Line Refusal)
 read lines = map reading lines
@@ -63,7 +63,7 @@ turns_out_of_range : read (codes "turn 0" ∷ codes "turn 65536" ∷ codes "turn
 unfolding read reading line_by number_of digits
 turns_out_of_range = refl
 
-lines_are_spelled : map spelled (
+lines_are_spelled : map spelling_of (
     Change (OpenFlow (codes "a") 4 1) ∷ Change (FundFlow 1 (codes "a")) ∷ Change (FundCurrency 1 (codes "x"))
     ∷ Change (MakeCurrency (codes "x")) ∷ Change (RemoveCurrency (codes "x")) ∷ Change (RemoveTicket 1)
     ∷ Change (Unfund 1) ∷ Change (CloseFlow (codes "a")) ∷ Send (codes "a") (104 ∷ 255 ∷ []) ∷ Torn

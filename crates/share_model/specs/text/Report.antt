@@ -8,7 +8,9 @@ use Rattle.share_model.specs.declared.link.LinkState.{LinkState}
 use Rattle.share_model.specs.declared.link.LinkState.TheVariants.{Free, InPart, Torn}
 use Rattle.share_model.specs.declared.link.Totals.{Totals}
 use Rattle.share_model.specs.funding.Graph.{NameBytes, tickets}
-use Rattle.share_model.specs.link.Live.{Live, waiting_of, account_of}
+use Rattle.share_model.specs.link.Live.{Live}
+use Rattle.share_model.specs.link.Commands.{waiting_of}
+use Rattle.share_model.specs.link.Books.{account_of}
 use Rattle.share_model.specs.link.Totals.{totals}
 use Rattle.share_model.specs.stride.Moves.{client, position}
 use Rattle.share_model.specs.text.Columns.{at_left, at_right}
@@ -69,8 +71,8 @@ flow_line f = join_with_byte 32 (fields_of f) ++ codes "\n"
 unfoldable pub report_text : Totals → List FlowLine → List ℕ
 report_text t flows = totals_text t ++ flat_map flow_line flows ++ codes "end\n"
 
--- what the report shows of an open flow: the tickets that it has now, and not those with which it competed last; its
--- pass or its remain, as it competes or not
+-- what the report shows of an open flow: the tickets that it has now, not those with which it competed last; its pass
+-- if it competes, else its remain
 abbrev pub flow_shown : Live → NameBytes × OpenFlow → FlowLine
 flow_shown l e =
     let f = e.1.number in

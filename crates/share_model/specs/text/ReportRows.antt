@@ -7,7 +7,7 @@ use Rattle.share_model.specs.declared.link.LinkState.TheVariants.{Free, Torn}
 use Rattle.share_model.specs.declared.link.Totals.{Totals}
 use Rattle.share_model.specs.link.Live.{empty_link}
 use Rattle.share_model.specs.link.Totals.{totals}
-use Rattle.share_model.specs.stride.MoveLaws.{total-empty}
+use Rattle.share_model.specs.stride.Rows.{total-empty}
 use Rattle.share_model.specs.text.Columns.{at_left, at_right}
 use Rattle.share_model.specs.text.Report.{total_line, totals_text, flow_line, report_text, report}
 

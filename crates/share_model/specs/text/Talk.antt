@@ -1,5 +1,5 @@
--- A whole script: its lines, the text that each is answered with, and what its link comes to. Every write is taken to
--- accept all that it was offered.
+-- A whole script: its lines, the answer to each, and what its link comes to. Every write is taken to accept all that it
+-- was offered.
 use Rattle.std.specs.Prelude.{◌≢◌, ℕ, ◌+◌, ◌==◌, Bool, true, false, ◌&&◌, List, [], ◌∷◌, ◌++◌, codes, drop, length, min}
 use Rattle.std.specs.Prelude.{Option, None, Some, Result, Ok, Err, is_none, if◌then◌else◌}
 use Rattle.std.specs.List.{slice_split}
@@ -15,7 +15,9 @@ use Rattle.share_base.specs.declared.command.Outcome.TheVariants.{Replied, Turne
 use Rattle.share_model.specs.declared.line.Line.{Line}
 use Rattle.share_model.specs.declared.line.Line.TheVariants.{Change, Send, Turn as TurnLine, Torn, Report, Audit}
 use Rattle.share_model.specs.declared.rates.Rate.{Rate}
-use Rattle.share_model.specs.link.Live.{life_is_spent, takes_memory, Sending, sending, rest_of, command_refusal}
+use Rattle.share_model.specs.link.Live.{life_is_spent}
+use Rattle.share_model.specs.link.Commands.{takes_memory, command_refusal}
+use Rattle.share_model.specs.link.Turns.{Sending, sending, rest_of}
 use Rattle.share_model.specs.run.Events.{write_of}
 use Rattle.share_model.specs.run.Fold.{State, empty_state, step, outcome}
 use Rattle.share_model.specs.lists.Each.{Each}
@@ -30,21 +32,21 @@ pub record Progress : Type 0 where
   pub lines : ℕ
   pub writes : List ℕ
 
-abbrev pub start : Progress
-start = record { state = empty_state; lines = 0; writes = [] }
+abbrev pub start_of_script : Progress
+start_of_script = record { state = empty_state; lines = 0; writes = [] }
 
 -- one more line was answered, without an event
 abbrev pub onward : Progress → Progress
 onward p = record { state = p.state; lines = p.lines + 1; writes = p.writes }
 
 -- one more line was answered, with this event
-abbrev pub stepped : List Rate → Progress → Event → Progress
-stepped rates p e = record { state = step rates p.state e; lines = p.lines + 1; writes = p.writes ++ write_of e }
+abbrev pub after_event : List Rate → Progress → Event → Progress
+after_event rates p e = record { state = step rates p.state e; lines = p.lines + 1; writes = p.writes ++ write_of e }
 
 -- What a line makes: an event, or a text without one
 
-abbrev pub refused : Refusal → Result Event (List ℕ)
-refused e = Err (line_text (Replied (Refused e)))
+abbrev pub refusal_line : Refusal → Result Event (List ℕ)
+refusal_line e = Err (line_text (Replied (Refused e)))
 
 -- a turn that was no event
 abbrev pub no_event : Turn → Result Event (List ℕ)
@@ -54,27 +56,27 @@ abbrev pub is_syntax : Refusal → Bool
 is_syntax Syntax = true
 is_syntax _ = false
 
--- a fault of spelling stands before a spent life, and a number out of range after it
+-- Syntax is tested before Spent, any other refusal of a reading after it
 abbrev pub unread_event : ℕ → State → Refusal → Result Event (List ℕ)
 unread_event life s e =
-    if is_syntax e then refused Syntax
-    else if life_is_spent life s.live then refused SpentRefusal
-    else refused e
+    if is_syntax e then refusal_line Syntax
+    else if life_is_spent life s.live then refusal_line SpentRefusal
+    else refusal_line e
 
--- a command that no other refusal meets may find no memory
+-- a command finds no memory only if nothing else refuses it
 abbrev pub finds_none : Bool → List Rate → State → Command → Bool
 finds_none lack rates s c = lack && takes_memory c && is_none (command_refusal rates s.live c)
 
 abbrev pub change_event : ℕ → List Rate → State → Bool → Command → Result Event (List ℕ)
 change_event life rates s lack c =
-    if life_is_spent life s.live then refused SpentRefusal
-    else if finds_none lack rates s c then refused NoMemory
+    if life_is_spent life s.live then refusal_line SpentRefusal
+    else if finds_none lack rates s c then refusal_line NoMemory
     else Ok (Commanded c)
 
 abbrev pub send_event : ℕ → State → Bool → List ℕ → List ℕ → Result Event (List ℕ)
 send_event life s lack flow body =
-    if life_is_spent life s.live then refused SpentRefusal
-    else if lack then refused NoMemory
+    if life_is_spent life s.live then refusal_line SpentRefusal
+    else if lack then refusal_line NoMemory
     else Ok (Arrived flow body)
 
 -- the writer accepts all that it is offered
@@ -97,9 +99,9 @@ unless_over life s event =
 abbrev pub report_event : State → Result Event (List ℕ)
 report_event s = Err (report s.live)
 
--- `audit 1` is answered by nothing at all as the first line, and is Syntax in any other place
+-- `audit 1` has no answer if it is the first line, and is Syntax anywhere else
 abbrev pub audit_event : Bool → Result Event (List ℕ)
-audit_event first = if first then Err [] else refused Syntax
+audit_event first = if first then Err [] else refusal_line Syntax
 
 abbrev pub is_first : Progress → Bool
 is_first p = p.lines == 0
@@ -118,21 +120,21 @@ read_event life rates p lack (Err e) = unread_event life p.state e
 
 -- What a line is answered
 
--- an event is one step, and is answered with its outcome; a text without an event leaves the state
-abbrev pub answered : List Rate → Progress → Result Event (List ℕ) → Progress × List ℕ
-answered rates p (Ok e) = (stepped rates p e, line_text (outcome rates p.state e))
-answered rates p (Err text) = (onward p, text)
+-- an event is one step, answered with its outcome; a text without an event changes no state
+abbrev pub progress_and_text : List Rate → Progress → Result Event (List ℕ) → Progress × List ℕ
+progress_and_text rates p (Ok e) = (after_event rates p e, line_text (outcome rates p.state e))
+progress_and_text rates p (Err text) = (onward p, text)
 
 abbrev pub line_answer : ℕ → List Rate → Progress → Bool → Line → Progress × List ℕ
-line_answer life rates p lack l = answered rates p (line_event life rates p lack l)
+line_answer life rates p lack l = progress_and_text rates p (line_event life rates p lack l)
 
--- what these bytes are answered as the next line, where memory may be lacking
+-- the answer to these bytes as the next line; the flag says whether memory is lacking
 unfoldable pub answer : ℕ → List Rate → Progress → Bool → List ℕ → Progress × List ℕ
-answer life rates p lack bytes = answered rates p (read_event life rates p lack (reading bytes))
+answer life rates p lack bytes = progress_and_text rates p (read_event life rates p lack (reading bytes))
 
 -- Whole scripts
 
--- whether the first line finds no memory; a line beyond the flags finds it
+-- whether the first line finds no memory; a line without a flag finds it
 abbrev pub first_flag : List Bool → Bool
 first_flag [] = false
 first_flag (lack ∷ lacks) = lack
@@ -152,18 +154,18 @@ after life rates p lacks (l ∷ ls) = after life rates (answer life rates p (fir
 abbrev pub is_feed : ℕ → Bool
 is_feed b = b == 10
 
--- the bytes after the last line feed are a line where there are any
+-- the bytes after the last line feed are a line if there are any
 abbrev pub last_line : List ℕ → List (List ℕ)
 last_line [] = []
 last_line (b ∷ bs) = (b ∷ bs) ∷ []
 
-abbrev pub kept : List (List ℕ) → List (List ℕ)
-kept [] = []
-kept (l ∷ []) = last_line l
-kept (l ∷ m ∷ ls) = l ∷ kept (m ∷ ls)
+abbrev pub without_empty_end : List (List ℕ) → List (List ℕ)
+without_empty_end [] = []
+without_empty_end (l ∷ []) = last_line l
+without_empty_end (l ∷ m ∷ ls) = l ∷ without_empty_end (m ∷ ls)
 
 abbrev pub lines_of : List ℕ → List (List ℕ)
-lines_of bytes = kept (slice_split is_feed bytes)
+lines_of bytes = without_empty_end (slice_split is_feed bytes)
 
 -- none of a text's lines says that memory was lacking
 abbrev pub FoundMemory : List ℕ → Type 0

@@ -14,7 +14,7 @@ use Rattle.share_model.specs.text.Lines.{number_of, line_by, reading}
 use Rattle.share_model.specs.text.ReportRows.{zero_report, new_link_shows}
 use Rattle.share_model.specs.text.Texts.{line_text}
 use Rattle.share_model.specs.text.Events.{made_of, events_of}
-use Rattle.share_model.specs.text.Talk.{start, answer, talk, lines_of}
+use Rattle.share_model.specs.text.Talk.{start_of_script, answer, talk, lines_of}
 
 -- the program's shelf
 shelf : List Rate
@@ -23,7 +23,7 @@ shelf =
     ∷ record { cell = 1024; overhead = 0; price = 1 } ∷ record { cell = 2048; overhead = 1024; price = 3 } ∷ []
 
 printed : List Bool → List ℕ → List ℕ
-printed lacks script = talk 65536 shelf start lacks (lines_of script)
+printed lacks script = talk 65536 shelf start_of_script lacks (lines_of script)
 
 one_packet : List ℕ
 one_packet = codes "open a 4 1\nmktkt 10 base\nfund 1 flow a\nsend a 6869\nclose a"
@@ -32,7 +32,7 @@ one_packet_prints : printed [] one_packet ≡ codes "flow 1\nticket 1\nok\npacke
 unfolding printed one_packet shelf talk answer line_text reading line_by number_of digits change_first funding
 one_packet_prints = refl
 
-one_packet_runs : events_of 65536 shelf start [] (lines_of one_packet)
+one_packet_runs : events_of 65536 shelf start_of_script [] (lines_of one_packet)
     ≡ Commanded (OpenFlow (codes "a") 4 1) ∷ Commanded (MakeTicket 10 (codes "base"))
     ∷ Commanded (FundFlow 1 (codes "a")) ∷ Arrived (codes "a") (104 ∷ 105 ∷ [])
     ∷ Commanded (CloseFlow (codes "a")) ∷ []
@@ -61,7 +61,7 @@ full_buffer_prints = refl
 spent_life : List ℕ
 spent_life = codes "open a 4 1\nmktkt 0 nope\nopen a 4 1\nturn 0\nturn 5\ntorn\nsend a 61\nturn 01\nclose a\n"
 
-spent_life_prints : talk 2 shelf start [] (lines_of spent_life)
+spent_life_prints : talk 2 shelf start_of_script [] (lines_of spent_life)
     ≡ codes "flow 1\nno 4 Range\nno 2 Spent\nno 2 Spent\nno 2 Spent\nno 2 Spent\nno 2 Spent\nno 3 Syntax\n"
     ++ codes "no 2 Spent\n"
 unfolding spent_life shelf talk answer line_text reading line_by number_of digits change_first funding
@@ -83,7 +83,7 @@ report_prints : printed [] (codes "report\naudit 1\n") ≡ zero_report ++ codes 
 unfolding printed shelf talk answer line_text reading line_by digits
 report_prints = ap (λ text. text ++ codes "no 3 Syntax\n") new_link_shows
 
-report_is_no_event : events_of 65536 shelf start [] (lines_of (codes "report\nmkcur x\naudit 1\n"))
+report_is_no_event : events_of 65536 shelf start_of_script [] (lines_of (codes "report\nmkcur x\naudit 1\n"))
     ≡ Commanded (MakeCurrency (codes "x")) ∷ []
 unfolding shelf made_of answer reading line_by change_first funding
 report_is_no_event = refl
@@ -96,7 +96,7 @@ audit_alone_prints : printed [] (codes "audit 1") ≡ []
 unfolding printed shelf talk answer reading line_by
 audit_alone_prints = refl
 
--- the line counts: after it another one is a later one; and another version is no line
+-- the line of an audit counts as a line, so a second one is Syntax; and another version is no line
 audits_print : printed [] (codes "audit 1\naudit 1\naudit 2\n") ≡ codes "no 3 Syntax\nno 3 Syntax\n"
 unfolding printed shelf talk answer line_text reading line_by digits
 audits_print = refl
@@ -107,7 +107,7 @@ unfolding printed shelf talk answer line_text reading line_by digits
 late_audit_prints = refl
 
 -- in a spent life too a report is answered, and the line of an audit is a fault of spelling
-spent_report_prints : talk 1 shelf start [] (lines_of (codes "mkcur x\nreport\naudit 1\nmkcur y\n"))
+spent_report_prints : talk 1 shelf start_of_script [] (lines_of (codes "mkcur x\nreport\naudit 1\nmkcur y\n"))
     ≡ codes "ok\n" ++ zero_report ++ codes "no 3 Syntax\nno 2 Spent\n"
 unfolding shelf talk answer line_text reading line_by digits change_first funding
 spent_report_prints = ap (λ text. codes "ok\n" ++ text ++ codes "no 3 Syntax\nno 2 Spent\n") new_link_shows

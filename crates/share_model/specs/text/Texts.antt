@@ -37,6 +37,6 @@ abbrev pub outcome_text : Outcome → List ℕ
 outcome_text (Replied reply) = reply_text reply
 outcome_text (Turned turn) = turn_text turn
 
--- the text and its line feed
+-- the text of an answer and its line feed
 unfoldable pub line_text : Outcome → List ℕ
 line_text o = outcome_text o ++ 10 ∷ []

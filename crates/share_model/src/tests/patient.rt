@@ -1,6 +1,6 @@
-//! How often a patient writer offers a piece, and which one.
+//! How often a patient writer offers a piece, and which piece.
 
-use crate::{Answer, PatientWriter, PlainWriter, Scripted, Telling};
+use crate::{Answer, PatientWriter, PlainWriter, Scripted, TellingWriter};
 use std::alloc::{AllocError, Global};
 use std::io;
 use std::io::{ErrorKind, Write};
@@ -9,7 +9,7 @@ use std::process::Abort;
 /// How often a piece is offered in one call, at most.
 const OFFERS: u64 = 1048577;
 
-/// Is interrupted so many times, and then takes two bytes of each piece, or fails. It counts its calls.
+/// Is interrupted `interruptions` times, and then takes two bytes of each piece, or fails. It counts its calls.
 #[derive(Drop)]
 struct InterruptedWriter {
     interruptions: u64,
@@ -50,7 +50,7 @@ fn interrupted(
     }))
 }
 
-// The answer to a piece, the calls that were made for it, and the bytes that are held then.
+// Whether a piece gets this answer, after which `calls` calls were made in all and these bytes are held.
 fn answers(
     writer: &mut PatientWriter<PlainWriter<InterruptedWriter>>,
     answer: Answer,
@@ -92,7 +92,7 @@ fn an_interrupted_offer_is_made_again(rt: HostRuntime) {
     }
 }
 
-// After an interruption that was answered, the next call offers as often again.
+// After a call that answered an interruption, the next one offers as often again.
 #[test]
 fn each_call_is_as_patient(rt: HostRuntime) {
     let mut writer = interrupted(rt.alloc(), OFFERS + 2, None);

@@ -1,12 +1,12 @@
 //! What the plain writer and the plain reader make of each answer of what they wrap, how often they call it, and with
-//! how many bytes. std's traits tell nothing of an error's kind, and no contract counts calls. So bodies like these
-//! meet every clause, and a test here sees each of them: an interruption told as a failure, and a failure, also of one
-//! kind alone, as an interruption; an end, or 0 accepted bytes, told as a failure or as an interruption; no call where
-//! there are more than 4096 or 40000 bytes, or none; half of the bytes handed on; a second call after one that was
-//! interrupted, failed or accepted nothing; a flush.
+//! how many bytes. std's traits tell nothing of an error's kind, and no contract counts calls. So these wrong bodies
+//! meet every clause, and only a test here finds them: an interruption told as a failure; a failure, of any kind or of
+//! one, told as an interruption; an end, or 0 accepted bytes, told as either; no call for more than 4096 or 40000
+//! bytes, or for none; half of the bytes handed on; a second call after one that was interrupted, failed or accepted
+//! nothing; a flush.
 ghost use Rattle.std.specs.Prelude.{◌≤◌, IfOk};
 
-use crate::{Answer, Got, PlainReader, PlainWriter, Source, Telling};
+use crate::{Answer, Got, PlainReader, PlainWriter, TellingReader, TellingWriter};
 use std::io;
 use std::io::{ErrorKind, Read, Write};
 use std::process::Abort;
@@ -15,7 +15,7 @@ use std::test::Fail;
 /// The longest piece and the longest buffer, in bytes.
 const LONGEST: usize = 65536;
 
-/// What a call of std's answers: how many of the bytes that it was called with, or an error.
+/// What a call of std's answers: how many of its bytes, or an error.
 #[derive(Clone, Copy, Debug)]
 enum StdAnswer {
     All,
@@ -80,7 +80,7 @@ const FAILURES: [ErrorKind; 41] = [
     ErrorKind::Uncategorized,
 ];
 
-/// Answers as it is told to. It counts its calls, and keeps the length of the bytes of the last one.
+/// Gives the answer that it is told to. It counts its calls, and keeps the length of the last one's bytes.
 #[derive(Drop)]
 struct Counting {
     answer: StdAnswer,
@@ -97,7 +97,7 @@ const UNCALLED: Counting = Counting {
 };
 
 impl Counting {
-    // A call with so many bytes.
+    // A call with `length` bytes.
     fn answer(&mut self, length: usize) -> io::Result<usize>
         ensures { IfOk result (λ count. count ≤ length) }
     {
@@ -111,13 +111,13 @@ impl Counting {
         }
     }
 
-    // From here on it answers so, and counts from 0.
+    // From here on it gives this answer, and counts from 0.
     fn begin(&mut self, answer: StdAnswer) {
         self.answer = answer;
         self.calls = 0;
     }
 
-    // It was called once since then, with so many bytes.
+    // Whether it was called once since `begin`, with `length` bytes.
     fn was_called_once(&self, length: usize) -> bool {
         self.calls == 1 && self.length == length && self.flushes == 0
     }
@@ -140,7 +140,7 @@ impl Read for Counting {
     }
 }
 
-// What an offer of so many bytes answers, where std's call answers this.
+// The answer to an offer of `length` bytes when std's call gives this one.
 fn offered(answer: StdAnswer, length: usize) -> Answer {
     match answer {
         StdAnswer::All => Answer::Accepted(length),
@@ -151,7 +151,7 @@ fn offered(answer: StdAnswer, length: usize) -> Answer {
     }
 }
 
-// What is taken into so many bytes, where std's call answers this.
+// What a read into `length` bytes gives when std's call gives this answer.
 fn taken(answer: StdAnswer, length: usize) -> Got {
     match (answer, length) {
         (StdAnswer::All, _) => Got::Bytes(length),

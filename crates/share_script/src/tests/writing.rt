@@ -2,24 +2,24 @@
 
 use crate::{read_line, write_line, write_reply, write_turn};
 use share_base::{Body, Command, FlowNo, Name, Outcome, Refusal, Reply, TicketNo, Turn};
-use share_model::{Answer, Line, NotWritten, Scripted, Tape, Telling};
+use share_model::{Answer, Fault, Line, Scripted, Tape, TellingWriter};
 use std::alloc::Global;
 use std::process::Abort;
 use std::test::Fail;
 
 /// What can be written.
 trait Written {
-    fn write<V: Telling>(&self, output: &mut V) -> Result<(), NotWritten>;
+    fn write<V: TellingWriter>(&self, output: &mut V) -> Result<(), Fault>;
 }
 
 impl Written for Line {
-    fn write<V: Telling>(&self, output: &mut V) -> Result<(), NotWritten> {
+    fn write<V: TellingWriter>(&self, output: &mut V) -> Result<(), Fault> {
         write_line(self, output)
     }
 }
 
 impl Written for Outcome {
-    fn write<V: Telling>(&self, output: &mut V) -> Result<(), NotWritten> {
+    fn write<V: TellingWriter>(&self, output: &mut V) -> Result<(), Fault> {
         match self {
             Outcome::Replied(reply) => write_reply(reply, output),
             Outcome::Turned(turn) => write_turn(turn, output),
@@ -54,7 +54,7 @@ fn is_refused<T: Written>(
     let mut answers = vec![in alloc; Answer::Accepted(1); before.len()]?;
     answers.push(fault)?;
     let mut output = Scripted::new(alloc, answers);
-    assert_eq!(rt; written.write(&mut output), Err(NotWritten));
+    assert_eq!(rt; written.write(&mut output), Err(Fault));
     assert_eq!(rt; output.bytes(), before);
     drop(output);
     Ok(())

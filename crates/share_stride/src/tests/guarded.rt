@@ -1,4 +1,4 @@
-//! The calls, each made only where it may be; each answers whether it was.
+//! The calls. Each is made only if its contract allows it, and says whether it was.
 
 use crate::Queue;
 use share_base::FlowNo;
@@ -70,7 +70,7 @@ pub(crate) fn remove(queue: &mut Queue, flow: u32) -> bool {
     ready
 }
 
-// A client that is not there stands nowhere.
+// Of a flow without a client, zeros.
 pub(crate) fn position(queue: &Queue, flow: u32) -> Position {
     let flow = FlowNo(flow);
     if queue.contains(flow) {

@@ -1,5 +1,5 @@
-//! A plain queue to compare with: its clients in a list, each figure computed anew from the rules. Its sums wrap, so
-//! that nothing is proved of them.
+//! A plain queue to compare with: its clients in a list, each figure computed from scratch by the rules. Its sums wrap,
+//! so nothing has to be proved of them.
 
 use super::Move;
 
@@ -21,7 +21,7 @@ const FREE: Row = Row {
     competes: false,
 };
 
-/// The clock goes no further.
+/// The greatest value of the clock.
 const LAST_CLOCK: i128 = 1_099_511_627_776;
 
 #[derive(Drop)]
@@ -69,7 +69,7 @@ impl Plain {
         total
     }
 
-    // The row of a flow, a free one where it is not there.
+    // The row of a flow, or a free row if it has none.
     pub(crate) fn row(&self, flow: u32) -> Row {
         let mut found = FREE;
         for row in &self.rows {
@@ -165,7 +165,7 @@ impl Plain {
         self.clock = self.clock.wrapping_add(units);
     }
 
-    /// Makes a move where it may be made, and says whether it was.
+    /// Makes a move if the queue's contract allows it, and says whether it was made.
     pub(crate) fn make(&mut self, flow: u32, step: Move) -> bool {
         let row = self.row(flow);
         let there = row.flow == flow;
@@ -194,7 +194,7 @@ impl Plain {
         ready
     }
 
-    // The competing flow with the least pass, and of these the least number; 0 where none competes.
+    // The competing flow with the least pass, and of equal passes with the least number; 0 if none competes.
     pub(crate) fn least(&self) -> u32 {
         let mut least = FREE;
         for row in &self.rows {

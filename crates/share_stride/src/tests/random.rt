@@ -1,4 +1,4 @@
-//! Long runs of drawn moves on a queue, beside a plain model.
+//! Long runs of random moves, on a queue and on a plain model.
 ghost use Rattle.std.specs.Prelude.{◌<◌};
 
 use super::guarded::{least, position};
@@ -9,7 +9,7 @@ use share_base::FlowNo;
 use std::alloc::Global;
 use std::process::Abort;
 
-// Few tickets or many, one or as many as there may be.
+// Few tickets, many, one, or the most that a flow can have.
 fn drawn_tickets(number: u64) -> u32 {
     match number >> 62 {
         0 => (number >> 43) as u32 % 8 + 1,
@@ -19,7 +19,7 @@ fn drawn_tickets(number: u64) -> u32 {
     }
 }
 
-// The units of a frame, or now and then of very many.
+// The units of a frame, or now and then very many.
 fn drawn_units(number: u64) -> u64 {
     if (number >> 52) % 512 == 0 {
         (number >> 14) % 274_877_906_944 + 1
@@ -28,7 +28,7 @@ fn drawn_units(number: u64) -> u64 {
     }
 }
 
-// A move that a number draws.
+// The move that a random number stands for.
 fn drawn(number: u64) -> Move {
     let tickets = drawn_tickets(number);
     match (number >> 33) as u32 % 16 {
@@ -64,14 +64,14 @@ fn agrees(queue: &Queue, plain: &Plain) -> bool {
         && least(queue) == plain.least()
 }
 
-// The number that is drawn after another.
+// The next random number.
 fn after(number: u64) -> u64 {
     number
         .wrapping_mul(6_364_136_223_846_793_005)
         .wrapping_add(1_442_695_040_888_963_407)
 }
 
-// Makes the move that a number draws on both, and compares them. Says whether it was made.
+// Makes the move of a random number on both, and compares them. Says whether it was made.
 fn makes_on_both(
     rt: &impl Abort,
     queue: &mut Queue,
@@ -89,8 +89,7 @@ fn makes_on_both(
     ours
 }
 
-// Ten thousand moves of all kinds of so many flows, in an order that is drawn from a sequence of numbers, of which it
-// gives the last.
+// Ten thousand random moves of all kinds, of this many flows. Gives the last random number.
 fn run(rt: &impl Abort, queue: &mut Queue, plain: &mut Plain, flows: u32, start: u64) -> u64
     requires { 0 < flows }
 {

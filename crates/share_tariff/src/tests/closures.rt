@@ -2,7 +2,7 @@
 ghost use Rattle.std.specs.Prelude.{◌≡◌, ◌≤◌, ℕ};
 ghost use Rattle.share_model.specs.link.Tariff.{units_of};
 
-/// The units of so many bytes, one cell after the other.
+/// The units of `count` bytes, computed cell by cell.
 pub fn units_by_steps(cell: u64, overhead: u64, count: u32) -> u64
     requires some { 1 ≤ cell }
     requires cell { cell ≤ 2048 }

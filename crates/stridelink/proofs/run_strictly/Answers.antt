@@ -1,11 +1,18 @@
-use Rattle.std.proofs.Common.{rules}
-use Rattle.stridelink.proofs.ProgramLemmas.{output_refused}
+use Rattle.std.specs.Prelude.{Err}
+use Rattle.std.proofs.Common.{◌≡◌, ap, rules}
+use Rattle.share_script.specs.declared.script.ScriptFault.TheVariants.{Output}
 use Rattle.stridelink.proofs.run_strictly.Goals as goal
 
 pub returns-in_ok-end-in-Err-Output-clause-stops : goal.returns-in_ok-end-in-Err-Output-clause-stops
 returns-in_ok-end-in-Err-Output-clause-stops g c same =
+    let is : c.in-Err-Output.field-0 ≡ Output = search rules in
     record {
       last = c.run.new.output;
-      calls = output_refused _ _ _ _ _ _ _ _ _ c.in-Err-Output.field-0 (search rules) c.in-Err-Output.ensures.fault;
+      calls = (c.in-Err-Output.ensures.output (ap Err is)).1;
       marked = search rules;
     }
+
+pub returns-in_ok-end-in-Err-Output-clause-read : goal.returns-in_ok-end-in-Err-Output-clause-read
+returns-in_ok-end-in-Err-Output-clause-read g c same =
+    let is : c.in-Err-Output.field-0 ≡ Output = search rules in
+    (c.in-Err-Output.ensures.output (ap Err is)).0

@@ -11,16 +11,16 @@ use std::{fs, io};
 /// How many bytes of an audit are written together.
 const ROOM: usize = 65536;
 
-/// How many names are tried for the file beside.
+/// How many names are tried for the new file.
 const MOST_NAMES: u32 = 1000;
 
-/// Where an audit goes: into a file beside the one that is named, which takes its name at the end; or, where that is
-/// no regular file, into it. A file beside that did not take the name is removed.
+/// Where an audit goes. If the path names a regular file or nothing, the audit goes into a new file beside it, which
+/// takes its name at the end; if it never does, it is removed. Otherwise the audit goes into what the path names.
 pub struct AuditFile<'a, R: Files> {
     files: &'a R,
     path: &'a str,
     output: PatientWriter<PlainWriter<BufWriter<R::File>>>,
-    // The path of the file beside, where there is one.
+    // The path of the new file, if there is one.
     beside: Option<String>,
 }
 
@@ -39,7 +39,7 @@ impl<'a, R: Files> Drop for AuditFile<'a, R> {
     }
 }
 
-// What is at a path, `None` where nothing is.
+// What is at a path. `None` if nothing is.
 fn found_at<R: Files>(files: &R, path: &str) -> io::Result<Option<Metadata>> {
     match fs::symlink_metadata(files, path) {
         Ok(found) => Ok(Some(found)),
@@ -48,15 +48,15 @@ fn found_at<R: Files>(files: &R, path: &str) -> io::Result<Option<Metadata>> {
     }
 }
 
-// The path with a number behind it.
-fn numbered(alloc: Global, path: &str, number: u32) -> Result<String, AllocError> {
+// The path with a dot and a number after it.
+fn numbered_path(alloc: Global, path: &str, number: u32) -> Result<String, AllocError> {
     let mut name = String::new(alloc);
     write!(name, "{path}.{number}")?;
     Ok(name)
 }
 
 impl<'a, R: Files> AuditFile<'a, R> {
-    /// Tries the file of this path. Nothing of an old audit is lost by that.
+    /// Opens the file of this path for an audit. Nothing of an old audit is lost by that.
     pub fn open(files: &'a R, alloc: Global, path: &'a str) -> io::Result<AuditFile<'a, R>> {
         match found_at(files, path)? {
             None => AuditFile::open_beside(files, alloc, path),
@@ -72,10 +72,10 @@ impl<'a, R: Files> AuditFile<'a, R> {
         }
     }
 
-    // A file beside the one of this path, under the first name that is free.
+    // Makes a new file beside this path, under the first name that is free.
     fn open_beside(files: &'a R, alloc: Global, path: &'a str) -> io::Result<AuditFile<'a, R>> {
         for number in 1..=MOST_NAMES {
-            let beside = numbered(alloc, path, number)?;
+            let beside = numbered_path(alloc, path, number)?;
             let opened = OpenOptions::new()
                 .write(true)
                 .create_new(true)
@@ -126,8 +126,8 @@ impl<'a, R: Files> AuditFile<'a, R> {
         self.output.0.0.flush()
     }
 
-    /// Writes the audit of a journal, and gives it its name. On a fault what was there before stays, where that was a
-    /// regular file.
+    /// Writes the audit of a journal, and gives it its name. If that fails, a regular file that was there before stays
+    /// as it was.
     pub fn write(self, journal: &Journal) -> io::Result<()> {
         let mut audit = self;
         if audit.beside.is_none() {

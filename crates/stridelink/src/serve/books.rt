@@ -1,42 +1,42 @@
-//! What is done with a link that is served no more.
+//! What is done with a link after its service.
 ghost use Rattle.std.specs.Prelude.{◌≡◌, false, true, not};
 ghost use Rattle.share_model.specs.lists.Each.{Each};
-ghost use Rattle.stridelink.specs.Books.{journal_of, with_want, is_unsettled, IsKept, KeepsRun, WasSettled};
+ghost use Rattle.stridelink.specs.Books.{journal_of, with_want, is_unsettled, IsAuditKept, KeepsRun, LinkWasSettled};
 
 use crate::serve::connections::Connections;
-use crate::serve::fault::Found;
+use crate::serve::fault::FoundFaults;
 use crate::serve::keep::Keep;
 use crate::serve::uplink::Uplink;
 use share_ingress::IngressEnd;
 use share_journal::{Journal, Recorder, Source};
-use share_locked::{Clerk, Link, Locked, Unsettled, WhyUnsettled, settle};
-use share_model::{PlainWriter, Rates, Telling};
+use share_locked::{Clerk, LinkBrand, Locked, Unsettled, WhyUnsettled, settle};
+use share_model::{PlainWriter, Rates, TellingWriter};
 use share_report::report;
 use std::alloc::Global;
 use std::io::Eprint;
 use std::sync::Arc;
 use std::time::Clock;
 
-/// A link that is served no more, with the ends of its queue, its clerks, and what went wrong in its run.
+/// A link after its service, with the ends of its queue, its clerks, and what went wrong in its run.
 #[derive(Drop)]
-pub struct EndedLink<S: Rates, L: Link> {
+pub struct EndedLink<S: Rates, L: LinkBrand> {
     pub locked: Locked<PlainWriter<Uplink>, S, L>,
     pub ends: Vec<IngressEnd>,
     pub clerks: Vec<Clerk<L>>,
     pub connections: Arc<Connections>,
-    pub found: Found,
+    pub found: FoundFaults,
 }
 
 /// How many entries of each kind a journal has.
 #[derive(Clone, Copy, Debug, PartialEq, Eq)]
-struct Counts {
+struct EntryCounts {
     commands: u64,
     arrivals: u64,
     turns: u64,
 }
 
-fn counts_of(journal: &Journal) -> Counts {
-    let mut counts = Counts {
+fn counts_of(journal: &Journal) -> EntryCounts {
+    let mut counts = EntryCounts {
         commands: 0,
         arrivals: 0,
         turns: 0,
@@ -52,15 +52,15 @@ fn counts_of(journal: &Journal) -> Counts {
     counts
 }
 
-/// Writes the audit of the link and its report, and lets the uplink's peer have all that was sent.
-fn finish<S: Rates, R: Clock + Eprint, K: Keep, O: Telling>(
+/// Writes the audit of the link and its report, and gives the uplink's peer time to take all that was sent.
+fn finish<S: Rates, R: Clock + Eprint, K: Keep, O: TellingWriter>(
     rt: &R,
     recorder: &Recorder<PlainWriter<Uplink>, S>,
     connections: &Connections,
     keep: K,
     output: &mut O,
-    found: Found,
-) -> Found
+    found: FoundFaults,
+) -> FoundFaults
     ensures audit { K.kept keep (journal_of recorder.now) (not result.audit) }
     ensures uplink { result.uplink ≡ recorder.now.link.live.broken }
     ensures same { result ≡ record found { uplink = result.uplink; audit = result.audit; output = result.output } }
@@ -81,8 +81,8 @@ fn finish<S: Rates, R: Clock + Eprint, K: Keep, O: Telling>(
     found
 }
 
-// Why a link was not settled, among the faults.
-fn with_want(found: Found, why: WhyUnsettled) -> Found
+// Adds why a link was not settled to the faults.
+fn with_want(found: FoundFaults, why: WhyUnsettled) -> FoundFaults
     ensures { result ≡ with_want found why }
 {
     let mut found = found;
@@ -95,15 +95,15 @@ fn with_want(found: Found, why: WhyUnsettled) -> Found
     found
 }
 
-// The same of a link that was not settled. Why is among the faults.
-fn finish_unsettled<S: Rates + Drop, L: Link, R: Clock + Eprint, K: Keep, O: Telling>(
+// The same for a link that was not settled. The reason is among the faults.
+fn finish_unsettled<S: Rates + Drop, L: LinkBrand, R: Clock + Eprint, K: Keep, O: TellingWriter>(
     rt: &R,
     back: Unsettled<PlainWriter<Uplink>, S, L>,
     connections: &Connections,
     keep: K,
     output: &mut O,
-    found: Found,
-) -> Found
+    found: FoundFaults,
+) -> FoundFaults
     ensures audit { K.kept keep (journal_of back.locked.recorder) (not result.audit) }
     ensures uplink { result.uplink ≡ back.locked.recorder.link.live.broken }
     ensures told { is_unsettled result ≡ true }
@@ -115,20 +115,20 @@ fn finish_unsettled<S: Rates + Drop, L: Link, R: Clock + Eprint, K: Keep, O: Tel
     found
 }
 
-/// Settles the link, and writes its audit and its report, also where it was not settled.
-pub fn close<S: Rates + Drop, L: Link, R: Clock + Eprint, K: Keep, O: Telling>(
+/// Settles the link, and writes its audit and its report, also if it was not settled.
+pub fn close<S: Rates + Drop, L: LinkBrand, R: Clock + Eprint, K: Keep, O: TellingWriter>(
     rt: &R,
     alloc: Global,
     ended: EndedLink<S, L>,
     keep: K,
     output: &mut O,
-) -> Found
+) -> FoundFaults
     requires { Each (λ e. e.link ≡ L.link) ended.ends.items }
     ensures audit { K.kept keep (journal_of ended.locked.recorder) (not result.audit) }
-    ensures kept { IsKept K.kept keep (not result.audit) }
+    ensures kept { IsAuditKept K.kept keep (not result.audit) }
     ensures uplink { result.uplink ≡ ended.locked.recorder.link.live.broken }
     ensures settled { is_unsettled result ≡ false
-        → WasSettled ended.locked ended.ends.items ended.clerks.items }
+        → LinkWasSettled ended.locked ended.ends.items ended.clerks.items }
     ensures run { KeepsRun ended.found result }
 {
     let EndedLink {

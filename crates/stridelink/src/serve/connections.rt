@@ -12,13 +12,13 @@ use std::thread::{Parker, Threads};
 use std::time::Duration;
 use std::{io, thread};
 
-/// How long a reply, or a write call on the uplink, may wait once the end has begun: so many rests.
+/// How many rests a reply, or a write call on the uplink, may wait once the end has begun.
 const GRACE: u64 = 50;
 
 /// How many milliseconds a rest is.
 const REST: u64 = 100;
 
-/// Whose connection it is.
+/// What a connection is for.
 #[derive(Clone, Copy, Debug, PartialEq, Eq)]
 pub enum Kind {
     Control,
@@ -37,17 +37,17 @@ struct Open {
 #[derive(Drop)]
 pub struct Connections {
     open: Mutex<Vec<Open>>,
-    // Notified where a connection is over.
+    // Notified when a connection is over.
     closed: Condvar,
-    // The listeners as streams, which can be shut down: that wakes an accept which waits.
+    // The listeners as streams, which can be shut down. That wakes an accept that waits.
     control: TcpStream,
     ingress: TcpStream,
     wire: Arc<Wire>,
-    // No more connections are accepted, and those that are open give only what has come.
+    // Set when no more connections are accepted, and those that are open give only what has come.
     ending: Stop,
-    // The link takes nothing any more.
+    // Set when the link takes nothing any more.
     link_ended: Stop,
-    // Nothing is left to be watched.
+    // Set when nothing is left to watch.
     over: Stop,
     watcher: Parker,
     is_verbose: bool,
@@ -59,7 +59,7 @@ fn as_stream(listener: &TcpListener) -> io::Result<TcpStream> {
 }
 
 impl Connections {
-    /// Of these listeners and this uplink, with room for so many connections.
+    /// The connections of these listeners and this uplink: none yet, and room for `room` of them.
     pub fn new(
         alloc: Global,
         control: &TcpListener,
@@ -82,7 +82,7 @@ impl Connections {
         })
     }
 
-    /// Tells a line on standard error, where that is wanted.
+    /// Writes a line to standard error, if that is wanted.
     pub fn tell<R: Eprint, D: Display + Drop>(&self, rt: &R, line: D) {
         if self.is_verbose {
             let _ = rt.eprintln(line);
@@ -103,7 +103,7 @@ impl Connections {
         self.link_ended.is_set()
     }
 
-    /// A connection is there, which may have to end at once. Whether there was room for it.
+    /// Adds a connection, and ends it at once if it has to. Returns false if there was no memory for it.
     pub fn add<R: Wait>(&self, rt: &R, kind: Kind, number: usize, stream: Arc<TcpStream>) -> bool {
         let mut open = self.open.lock(rt);
         if self.ending.is_set() {
@@ -120,7 +120,7 @@ impl Connections {
         .is_ok()
     }
 
-    /// A connection is over.
+    /// Removes a connection that is over.
     pub fn remove<R: Wait>(&self, rt: &R, kind: Kind, number: usize) {
         let mut open = self.open.lock(rt);
         open.retain(|one| one.kind != kind || one.number != number);
@@ -143,13 +143,13 @@ impl Connections {
         }
     }
 
-    /// The link takes nothing any more, so the ingress connections end.
+    /// Ends the ingress connections, since the link takes nothing any more.
     pub fn end_link<R: Wait>(&self, rt: &R) {
         self.link_ended.set();
         self.shut(rt, Kind::Ingress, Shutdown::Both);
     }
 
-    /// Accepts no more, and lets all connections give only what has come.
+    /// Begins the end: no more connections are accepted, and those that are open give only what has come.
     pub fn end<R: Wait>(&self, rt: &R) {
         self.ending.set();
         let _ = self.control.shutdown(Shutdown::Both);
@@ -159,14 +159,14 @@ impl Connections {
         self.watcher.unpark();
     }
 
-    /// Nothing is left to be watched.
+    /// Ends the watch, since nothing is left to watch.
     pub fn end_watch(&self) {
         self.over.set();
         self.watcher.unpark();
     }
 
-    /// Waits until the end begins; then ends replies that are not written in time, and an uplink that takes nothing
-    /// for so long.
+    /// Waits until the end begins. Then it ends replies that are not written in time, and an uplink that takes nothing
+    /// for as long.
     pub fn watch<R: Wait>(&self, rt: &R) {
         self.watcher.park(rt);
         let mut steps = self.wire.steps();
@@ -187,7 +187,7 @@ impl Connections {
         }
     }
 
-    // Lets the grace pass. Whether nothing is left to be watched.
+    // Waits for `GRACE` rests, or until nothing is left to watch. Returns true if nothing is.
     fn rest<R: Wait>(&self, rt: &R) -> bool {
         for _ in 0..GRACE {
             if self.over.is_set() {
@@ -199,7 +199,7 @@ impl Connections {
     }
 }
 
-// Reads to the end, and ends the connections then.
+// Reads to the end, and then ends the connections.
 fn end_at_end<R: Wait + Eprint, I: Read + Drop>(rt: &R, input: I, connections: &Connections) {
     let mut input = input;
     let mut buffer = [0u8; 256];
@@ -216,8 +216,8 @@ fn end_at_end<R: Wait + Eprint, I: Read + Drop>(rt: &R, input: I, connections: &
     connections.end(rt);
 }
 
-/// Ends the connections at the end of standard input, for which a thread waits that nobody waits for. Whether there
-/// is one.
+/// Starts a thread, which nobody waits for, that ends the connections at the end of standard input. Returns false if
+/// there is none.
 pub fn end_at_eof<R, I>(rt: &R, input: I, connections: &Arc<Connections>) -> bool
 where
     R: Threads + Wait + Eprint + Copy + Send + 'static,

@@ -1,19 +1,20 @@
-//! What is said on a control connection.
-ghost use Rattle.std.specs.Prelude.{◌≡◌, ℕ, List, OnOk, MatchResult};
-ghost use Rattle.std.specs.Io.KnownBytes.{Appends};
-ghost use Rattle.share_model.specs.io.Printing.{bytes_told, AppendsPart};
+//! The lines of a control connection, and their answers.
+ghost use Rattle.std.specs.Prelude.{◌≡◌, ℕ, List, OnOk};
+ghost use Rattle.share_model.specs.io.Printing.{WritesText};
 ghost use Rattle.share_script.specs.Lines.{IsUnfinished};
-ghost use Rattle.stridelink.specs.Control.{request_of, request_in, Changed, Reported, Answers};
+ghost use Rattle.stridelink.specs.Control.{request_of, request_in, Changed, Reported, AnswersRequest};
 
 use share_base::{Command, Refusal, Reply};
-use share_locked::{Clerk, Link, Port};
-use share_model::{Got, Line, NotWritten, PatientWriter, PlainWriter, Rates, Source, Telling, put};
+use share_locked::{Clerk, LinkBrand, Port};
+use share_model::{
+    Fault, Got, Line, PatientWriter, PlainWriter, Rates, TellingReader, TellingWriter, put,
+};
 use share_script::{Incoming, IncomingLines, read_line, write_reply};
 use std::alloc::Global;
 use std::io::{BufWriter, Write};
 use std::sync::Wait;
 
-/// How many bytes of answers wait at most. A report, the longest answer, has at most 6400.
+/// How many bytes of answers wait at most. A report, the longest answer, has at most 6400 bytes.
 const ROOM: usize = 65536;
 
 /// How a control connection ended.
@@ -25,13 +26,13 @@ pub enum How {
     ReadFault,
     /// An answer could not be written.
     WriteFault,
-    /// There was no memory for its answers, and nothing was read.
+    /// There was no memory for its answers. Nothing was read.
     NoMemory,
 }
 
 /// A control connection that has ended, and its clerk.
 #[derive(Drop)]
-pub struct Attended<L: Link> {
+pub struct Attended<L: LinkBrand> {
     pub how: How,
     pub clerk: Clerk<L>,
 }
@@ -43,14 +44,14 @@ pub enum Request {
     Change(Command),
     /// The report of the link.
     Report,
-    /// The line has no place on a control connection.
+    /// No line that may come on a control connection.
     NoPlace,
 }
 
-/// A writer of answers, which go out when they are flushed or there is no room for another one.
+/// A writer of answers, which go out when they are flushed or there is no room for one more.
 type Output<O> = PatientWriter<PlainWriter<BufWriter<O>>>;
 
-// What a line asks for that was read so.
+// What a line asks for, from how it was read.
 fn request_of(line: &Result<Line, Refusal>) -> Request
     ensures { result ≡ request_of line.now }
 {
@@ -69,8 +70,8 @@ fn request_in(alloc: Global, bytes: &[u8]) -> Request
     request_of(&line)
 }
 
-// Makes a command in one hold of the lock. Room for its receipt is made before.
-fn change<W: Telling, S: Rates, L: Link, R: Wait>(
+// Makes a command in one hold of the lock, after room for its receipt was made.
+fn change<W: TellingWriter, S: Rates, L: LinkBrand, R: Wait>(
     rt: &R,
     port: &Port<W, S, L>,
     clerk: &mut Clerk<L>,
@@ -85,16 +86,14 @@ fn change<W: Telling, S: Rates, L: Link, R: Wait>(
     reply
 }
 
-// Writes the report of the link as it is in one hold of the lock, which is over before anything is written.
-fn answer_report<W: Telling, S: Rates, L: Link, R: Wait, O: Telling>(
+// Takes the report of the link in one hold of the lock, and writes it after the hold.
+fn answer_report<W: TellingWriter, S: Rates, L: LinkBrand, R: Wait, O: TellingWriter>(
     rt: &R,
     alloc: Global,
     port: &Port<W, S, L>,
     output: &mut O,
-) -> Result<(), NotWritten>
-    ensures { (text : List ℕ) × Reported W text × MatchResult result
-        (λ _. Appends (bytes_told (O.told output.old)) (bytes_told (O.told output.new)) text)
-        (λ _. AppendsPart (bytes_told (O.told output.old)) (bytes_told (O.told output.new)) text) }
+) -> Result<(), Fault>
+    ensures { (text : List ℕ) × Reported W text × WritesText O.told O.answers output.old output.new text result }
 {
     let found = port.lock(rt).report(alloc);
     match found {
@@ -104,17 +103,16 @@ fn answer_report<W: Telling, S: Rates, L: Link, R: Wait, O: Telling>(
 }
 
 // Does what a line asks for, and writes the answer.
-fn answer<W: Telling, S: Rates, L: Link, R: Wait, O: Telling>(
+fn answer<W: TellingWriter, S: Rates, L: LinkBrand, R: Wait, O: TellingWriter>(
     rt: &R,
     alloc: Global,
     port: &Port<W, S, L>,
     clerk: &mut Clerk<L>,
     request: Request,
     output: &mut O,
-) -> Result<(), NotWritten>
-    ensures { (text : List ℕ) × Answers W clerk.old request text clerk.new × MatchResult result
-        (λ _. Appends (bytes_told (O.told output.old)) (bytes_told (O.told output.new)) text)
-        (λ _. AppendsPart (bytes_told (O.told output.old)) (bytes_told (O.told output.new)) text) }
+) -> Result<(), Fault>
+    ensures { (text : List ℕ) × AnswersRequest W clerk.old request text clerk.new
+        × WritesText O.told O.answers output.old output.new text result }
 {
     match request {
         Request::Change(command) => {
@@ -126,15 +124,22 @@ fn answer<W: Telling, S: Rates, L: Link, R: Wait, O: Telling>(
     }
 }
 
-// Answers all lines that came as a whole.
-fn answer_all<W: Telling, S: Rates, L: Link, R: Wait, I: Source + Drop, O: Telling>(
+// Answers all lines that came whole.
+fn answer_all<
+    W: TellingWriter,
+    S: Rates,
+    L: LinkBrand,
+    R: Wait,
+    I: TellingReader + Drop,
+    O: TellingWriter,
+>(
     rt: &R,
     alloc: Global,
     port: &Port<W, S, L>,
     clerk: &mut Clerk<L>,
     input: &mut IncomingLines<I>,
     output: &mut O,
-) -> Result<(), NotWritten>
+) -> Result<(), Fault>
     ensures { OnOk result (IsUnfinished input.new.ahead) }
 {
     for _ in rt.forever() {
@@ -150,7 +155,14 @@ fn answer_all<W: Telling, S: Rates, L: Link, R: Wait, I: Source + Drop, O: Telli
 
 // Answers lines until the connection ends. The answers to lines that came together go out together, before the next
 // read.
-fn converse<W: Telling, S: Rates, L: Link, R: Wait, I: Source + Drop, O: Write + Drop>(
+fn converse<
+    W: TellingWriter,
+    S: Rates,
+    L: LinkBrand,
+    R: Wait,
+    I: TellingReader + Drop,
+    O: Write + Drop,
+>(
     rt: &R,
     alloc: Global,
     port: &Port<W, S, L>,
@@ -175,9 +187,16 @@ fn converse<W: Telling, S: Rates, L: Link, R: Wait, I: Source + Drop, O: Write +
     unreachable!()
 }
 
-/// Answers the lines of a control connection, by this clerk, until the connection ends or an answer can't be written.
-/// What came behind the last line feed is dropped.
-pub fn attend<W: Telling, S: Rates, L: Link, R: Wait, I: Source + Drop, O: Write + Drop>(
+/// Answers the lines of a control connection, by this clerk, until the connection ends or an answer cannot be written.
+/// What came after the last line feed is dropped.
+pub fn attend<
+    W: TellingWriter,
+    S: Rates,
+    L: LinkBrand,
+    R: Wait,
+    I: TellingReader + Drop,
+    O: Write + Drop,
+>(
     rt: &R,
     alloc: Global,
     port: &Port<W, S, L>,

@@ -1,4 +1,4 @@
-//! What went wrong in a run of the server, and what is told of it.
+//! What went wrong in a run of the server, and which fault is told.
 ghost use Rattle.std.specs.Prelude.{◌≡◌, None};
 ghost use Rattle.stridelink.specs.Faults.{first_of, faults_of, no_fault};
 
@@ -6,7 +6,7 @@ use share_base::Refusal;
 use std::alloc::AllocError;
 use thiserror::Error;
 
-/// Why a run of the server was not as it should be.
+/// What went wrong in a run of the server.
 #[derive(Clone, Copy, Debug, PartialEq, Eq, Error)]
 pub enum ServeFault {
     /// A connection could not be accepted.
@@ -21,7 +21,7 @@ pub enum ServeFault {
     /// The life of the link is spent.
     #[error("the life is spent")]
     Life,
-    /// There is a frame to send that was not sent.
+    /// A frame was left to send.
     #[error("packets are left over")]
     Unsent,
     /// A worker has queued more than came to the link.
@@ -43,7 +43,7 @@ pub enum ServeFault {
 
 /// Which faults a run had.
 #[derive(Clone, Copy, Debug, PartialEq, Eq)]
-pub struct Found {
+pub struct FoundFaults {
     pub accept: bool,
     pub thread: bool,
     pub uplink: bool,
@@ -56,12 +56,12 @@ pub struct Found {
     pub output: bool,
 }
 
-impl Found {
+impl FoundFaults {
     /// No fault.
-    pub fn none() -> Found
+    pub fn none() -> FoundFaults
         ensures { result ≡ no_fault }
     {
-        Found {
+        FoundFaults {
             accept: false,
             thread: false,
             uplink: false,

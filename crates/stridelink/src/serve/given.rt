@@ -8,8 +8,8 @@ use std::net::TcpStream;
 /// How many bytes a connection gives once the end has begun, at most.
 const LAST_BYTES: usize = 1 << 24;
 
-/// A reader of a connection. Once the end has begun it gives no more than so many bytes: a socket that is shut down for
-/// reading still gives what comes later.
+/// A reader of a connection. Once the end has begun it gives at most `LAST_BYTES` bytes more, since a socket that is
+/// shut down for reading still gives what comes later.
 #[derive(Drop)]
 pub struct Given<'a> {
     stream: &'a TcpStream,

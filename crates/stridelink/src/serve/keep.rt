@@ -2,15 +2,15 @@
 
 use share_journal::Journal;
 
-/// Keeps the audit of a journal. What is `kept` is what contracts know of that.
+/// Keeps the audit of a journal. `kept` is what contracts know of that.
 pub trait Keep {
     ghost use Rattle.std.specs.Prelude.{Bool};
-    ghost use Rattle.share_journal.specs.Entries.{JournalSeen};
+    ghost use Rattle.share_journal.specs.Entries.{JournalView};
 
-    /// What keeps, the journal, and whether all of its audit was written.
-    ghost kept: { Self → JournalSeen → Bool → Type 0 };
+    /// Relates the keeper, the journal, and whether all of its audit was written.
+    ghost kept: { Self → JournalView → Bool → Type 0 };
 
-    /// Writes the audit. Whether all of it was written.
+    /// Writes the audit, and says whether all of it was written.
     fn keep(self, journal: &Journal) -> bool
         ensures { kept self journal.now result };
 }

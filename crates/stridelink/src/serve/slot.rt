@@ -1,8 +1,8 @@
-//! What a thread of a connection borrows, and gives back at its end.
+//! Holds what the thread of a connection takes, and gives back at its end.
 
 use std::sync::{Mutex, Wait};
 
-/// A place of something that one thread uses at a time.
+/// A place for a value that one thread at a time takes and uses.
 #[derive(Drop)]
 pub struct Slot<X> {
     held: Mutex<Option<X>>,
@@ -15,17 +15,17 @@ impl<X: Drop> Slot<X> {
         }
     }
 
-    /// Puts something in.
+    /// Puts a value in.
     pub fn put<R: Wait>(&self, rt: &R, item: X) {
         *self.held.lock(rt) = Some(item);
     }
 
-    /// Takes out what is there.
+    /// Takes the value out, if there is one.
     pub fn take<R: Wait>(&self, rt: &R) -> Option<X> {
         self.held.lock(rt).take()
     }
 
-    /// What is there.
+    /// The value, if there is one.
     pub fn into_inner(self) -> Option<X> {
         self.held.into_inner()
     }

@@ -18,7 +18,7 @@ use std::thread::Threads;
 use std::time::Clock;
 use thiserror::Error;
 
-/// Why a server did not run, or its run was not as it should be, with the word of the command line that this is about.
+/// Why a server did not run, or what went wrong in its run, with the word of the command line that it is about.
 #[derive(Clone, Copy, Debug, PartialEq, Eq, Error)]
 pub enum Unserved<'a> {
     /// Memory was refused.
@@ -27,7 +27,7 @@ pub enum Unserved<'a> {
     /// The file of the audit could not be made, or the audit could not be written.
     #[error("cannot write the audit {0}")]
     Audit(Word<'a>),
-    /// Nothing can be accepted at an address.
+    /// The server cannot listen on an address.
     #[error("cannot listen on {0}")]
     Listen(Word<'a>),
     /// The uplink's peer could not be reached.
@@ -65,7 +65,7 @@ fn sockets<'a, R: Net<Listener = TcpListener, Stream = TcpStream>>(
     }
 }
 
-// The file of the audit, before anything listens.
+// Opens the file of the audit.
 fn audit_file<'a, R: Files>(
     rt: &'a R,
     alloc: Global,
@@ -78,8 +78,8 @@ fn audit_file<'a, R: Files>(
     }
 }
 
-// What a run needs, in this order: a journal, the file of the audit, and sockets. What was made before a fault is let
-// go by calls: here each of its parts would be gone through in the proof.
+// What a run needs, in this order: a journal, the file of the audit, and sockets. At a fault what was made already is
+// dropped by calls, which keeps the proof short.
 fn prepared<'a, R>(
     rt: &'a R,
     alloc: Global,
@@ -108,8 +108,8 @@ where
     }
 }
 
-/// Serves a new link with the program's tariffs as these words ask for. Its journal is made first, then the file of
-/// the audit is tried, and then it listens and connects.
+/// Serves a new link with the program's tariffs, as the command line asks. First its journal is made, then the file of
+/// the audit is tried, and then the server listens and connects.
 pub fn serve<'a, R, S, I>(
     rt: &'a R,
     alloc: Global,

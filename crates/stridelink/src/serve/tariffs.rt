@@ -1,11 +1,11 @@
-//! The tariffs of a served link, without boxes. Threads share such a link, so its shelf has to be one that may cross to
+//! The tariffs of a served link, without boxes. Threads share such a link, so its shelf must be one that may cross to
 //! another thread; the toolchain does not show that of boxed closures in a type of another crate.
 ghost use Rattle.std.specs.Prelude.{◌≡◌, ◌≤◌, true, IfSome};
 ghost use Rattle.share_model.specs.link.Tariff.{rate_at, is_rate};
 ghost use Rattle.stridelink.specs.Program.{program_rates};
 
 use share_model::{Rate, Rates};
-use share_tariff::{posted, units_by_division};
+use share_tariff::{account_after, units_by_division};
 
 /// The program's tariffs, by the plain rule.
 #[derive(Clone, Copy, Debug, Drop)]
@@ -44,15 +44,15 @@ impl Rates for PlainTariffs {
 
     fn units(&self, number: u64, count: u32) -> u64 {
         match tariff(number) {
-            None => 0,
+            None => unreachable!(),
             Some(rate) => units_by_division(rate.cell, rate.overhead, count),
         }
     }
 
     fn post(&self, number: u64, account: u64, units: u64) -> u64 {
         match tariff(number) {
-            None => 0,
-            Some(rate) => posted(rate.price, account, units),
+            None => unreachable!(),
+            Some(rate) => account_after(rate.price, account, units),
         }
     }
 }

@@ -2,12 +2,12 @@
 
 use crate::serve::connections::{Connections, Kind};
 use crate::serve::control::{Attended, How, attend};
-use crate::serve::fault::Found;
+use crate::serve::fault::FoundFaults;
 use crate::serve::given::Given;
 use crate::serve::slot::Slot;
 use crate::serve::uplink::Uplink;
 use crate::serve::worker::{LinkedEnd, why_text, work};
-use share_locked::{Clerk, Link, LinkEnd, Port, Stop, run_link};
+use share_locked::{Clerk, LinkBrand, LinkEnd, Port, Stop, run_link};
 use share_model::{PlainReader, PlainWriter, Rates};
 use share_script::IncomingLines;
 use std::alloc::Global;
@@ -19,28 +19,28 @@ use std::thread::{Scope, Threads};
 
 /// What the threads share.
 #[derive(Drop)]
-pub struct Server<S: Rates, L: Link> {
+pub struct Server<S: Rates, L: LinkBrand> {
     pub alloc: Global,
     pub port: Port<PlainWriter<Uplink>, S, L>,
     pub stop: Stop,
     pub connections: Arc<Connections>,
     pub control: TcpListener,
     pub ingress: TcpListener,
-    // The clerk of each control connection, from its accept on.
+    // The clerk of each control connection, from when it is accepted.
     pub clerks: Vec<Slot<Clerk<L>>>,
     // The end of the queue for each ingress connection.
     pub ends: Vec<Slot<LinkedEnd<L>>>,
 }
 
-// Serves the link until it ends, and tells the connections then.
-fn serve_link<R: Wait, S: Rates, L: Link>(rt: &R, server: &Server<S, L>) -> LinkEnd {
+// Serves the link until it ends, and then tells the connections.
+fn serve_link<R: Wait, S: Rates, L: LinkBrand>(rt: &R, server: &Server<S, L>) -> LinkEnd {
     let end = run_link(rt, &server.port, &server.stop);
     server.connections.end_link(rt);
     end
 }
 
 // Answers the lines of a control connection.
-fn answer<R: Wait, S: Rates, L: Link>(
+fn answer<R: Wait, S: Rates, L: LinkBrand>(
     rt: &R,
     server: &Server<S, L>,
     stream: &TcpStream,
@@ -57,7 +57,7 @@ fn answer<R: Wait, S: Rates, L: Link>(
 }
 
 // The thread of a control connection.
-fn serve_control<R: Wait + Eprint, S: Rates, L: Link>(
+fn serve_control<R: Wait + Eprint, S: Rates, L: LinkBrand>(
     rt: &R,
     server: &Server<S, L>,
     number: usize,
@@ -78,7 +78,7 @@ fn serve_control<R: Wait + Eprint, S: Rates, L: Link>(
 }
 
 // The thread of an ingress connection.
-fn serve_ingress<R: Wait + Eprint, S: Rates, L: Link>(
+fn serve_ingress<R: Wait + Eprint, S: Rates, L: LinkBrand>(
     rt: &R,
     server: &Server<S, L>,
     number: usize,
@@ -98,13 +98,13 @@ fn serve_ingress<R: Wait + Eprint, S: Rates, L: Link>(
     server.connections.remove(rt, Kind::Ingress, number);
 }
 
-// Accepts a connection. Where that fails, the end begins.
-fn accept<R: Wait + Eprint, S: Rates, L: Link>(
+// Accepts a connection. If that fails, the end begins.
+fn accept<R: Wait + Eprint, S: Rates, L: LinkBrand>(
     rt: &R,
     server: &Server<S, L>,
     kind: Kind,
     number: usize,
-    found: &mut Found,
+    found: &mut FoundFaults,
 ) -> Option<Arc<TcpStream>> {
     let (listener, word) = match kind {
         Kind::Control => (&server.control, "control"),
@@ -128,8 +128,8 @@ fn accept<R: Wait + Eprint, S: Rates, L: Link>(
     None
 }
 
-// Makes a connection that was accepted one of those that are open. `None` where there is no memory for it.
-fn open<R: Wait, S: Rates, L: Link>(
+// Adds a connection that was accepted to those that are open. `None` if there is no memory for it.
+fn open<R: Wait, S: Rates, L: LinkBrand>(
     rt: &R,
     server: &Server<S, L>,
     kind: Kind,
@@ -146,8 +146,13 @@ fn open<R: Wait, S: Rates, L: Link>(
     }
 }
 
-// A connection that was accepted cannot be served: the end begins.
-fn refuse<R: Wait, S: Rates, L: Link>(rt: &R, server: &Server<S, L>, kind: Kind, number: usize) {
+// Begins the end, since a connection that was accepted cannot be served.
+fn refuse<R: Wait, S: Rates, L: LinkBrand>(
+    rt: &R,
+    server: &Server<S, L>,
+    kind: Kind,
+    number: usize,
+) {
     server.connections.remove(rt, kind, number);
     server.connections.end(rt);
 }
@@ -157,12 +162,12 @@ fn accept_control<'s, E, R, S, L>(
     scope: &Scope<'s, E>,
     rt: &'s R,
     server: &'s Server<S, L>,
-    found: &mut Found,
+    found: &mut FoundFaults,
 )
 where
     R: Wait + Eprint + Sync,
     S: Rates + Send,
-    L: Link + Send,
+    L: LinkBrand + Send,
 {
     for (at, slot) in server.clerks.iter().enumerate() {
         let number = at + 1;
@@ -192,12 +197,12 @@ fn accept_ingress<'s, E, R, S, L>(
     scope: &Scope<'s, E>,
     rt: &'s R,
     server: &'s Server<S, L>,
-    found: &mut Found,
+    found: &mut FoundFaults,
 )
 where
     R: Wait + Eprint + Sync,
     S: Rates + Send,
-    L: Link + Send,
+    L: LinkBrand + Send,
 {
     for (at, slot) in server.ends.iter().enumerate() {
         let number = at + 1;
@@ -216,14 +221,14 @@ where
     }
 }
 
-/// Runs all threads until the link has ended, and tells which faults there were.
-pub fn run<R, S, L>(rt: &R, server: &Server<S, L>, found: Found) -> Found
+/// Runs all threads until the link has ended, and says which faults there were.
+pub fn run<R, S, L>(rt: &R, server: &Server<S, L>, found: FoundFaults) -> FoundFaults
 where
     R: Threads + Wait + Eprint + Sync,
     S: Rates + Send,
-    L: Link + Send,
+    L: LinkBrand + Send,
 {
-    thread::scope(thread::scope_env(), rt, |scope| -> Found {
+    thread::scope(thread::scope_env(), rt, |scope| -> FoundFaults {
         let mut found = found;
         let connections = &*server.connections;
         let watch = scope.spawn(move || connections.watch(rt));

@@ -8,16 +8,16 @@ use std::sync::Arc;
 use std::sync::atomic::{AtomicU64, Ordering};
 use std::time::{Clock, Duration, Instant};
 
-/// How long what the peer sent is read away, in seconds.
+/// How long bytes that the peer sent are read and thrown away, in seconds.
 const AWAY_SECONDS: u64 = 5;
 
-/// How many read calls are made to read it away, at most.
+/// How many read calls are made for that, at most.
 const MOST_READS: u64 = 4096;
 
-/// How many bytes one of them reads, at most.
+/// How many bytes each of them reads, at most.
 const AWAY: usize = 4096;
 
-/// The connection, and how many times a write call on it began or ended: odd while one is made.
+/// The connection, and how many times a write call on it began or ended: odd during a call.
 #[derive(Drop)]
 pub struct Wire {
     stream: TcpStream,
@@ -38,23 +38,23 @@ impl Wire {
         }
     }
 
-    /// How many times a write call began or ended. It is odd while one is made.
+    /// How many times a write call began or ended. It is odd during a call.
     pub fn steps(&self) -> u64 {
         self.steps.load(Ordering::SeqCst)
     }
 
-    /// Ends the connection, and a write call that waits.
+    /// Ends the connection, and with it a write call that waits.
     pub fn tear(&self) {
         let _ = self.stream.shutdown(Shutdown::Both);
     }
 
-    /// Says that no more is sent.
+    /// Tells the peer that nothing more is sent.
     pub fn end_writing(&self) {
         let _ = self.stream.shutdown(Shutdown::Write);
     }
 
-    /// Reads away what the peer sent, until it ends or for a while: a connection that is closed with bytes unread is
-    /// reset, and its last frames may be lost.
+    /// Reads and throws away what the peer sent, until the peer ends or time is up. If a connection is closed with
+    /// bytes unread, it is reset, and its last frames may be lost.
     pub fn read_away(&self, rt: &impl Clock) {
         let Ok(start) = Instant::now(rt) else {
             return;
@@ -67,7 +67,7 @@ impl Wire {
         }
     }
 
-    // Makes one read call, and tells whether another one may find more.
+    // Makes one read call, and says whether one more may find more.
     fn reads_more(&self, rt: &impl Clock, start: Instant, buffer: &mut [u8]) -> bool {
         let Ok(past) = start.elapsed(rt) else {
             return false;

@@ -4,7 +4,7 @@ ghost use Rattle.std.specs.Prelude.{◌≡◌};
 use crate::serve::connections::Connections;
 use crate::serve::given::Given;
 use share_ingress::{Done, Ended, Gate, IngressEnd, IngressReader, Why, run_worker};
-use share_locked::Link;
+use share_locked::LinkBrand;
 use share_model::PlainReader;
 use std::alloc::Global;
 use std::marker::{Model, PhantomData};
@@ -14,28 +14,28 @@ use std::thread;
 use std::thread::Parker;
 use std::time::Duration;
 
-/// How many turns a worker has.
+/// How many reads and repeated offers a worker may make.
 const TURNS: u64 = 1 << 40;
 
-/// How often an offer that a full queue refused is made again at once.
+/// How many times a full queue is tried again without a rest.
 const EAGER: u32 = 16;
 
-/// How many microseconds the worker rests at least after each further one. It draws how many more, up to as many, so
-/// that of two workers that wait for places of one queue neither is always the second.
+/// How many microseconds the worker rests at least after each further refusal. A random time, up to as long, is added,
+/// so that neither of two workers that wait for places of one queue always comes second.
 const SHORT_REST: u64 = 100;
 
-/// After so many offers that were refused it rests longer, so that it costs little where the link waits for its peer.
+/// After this many refusals in a row it rests longer, so that it costs little while the link waits for its peer.
 const STALLED: u32 = 80;
 
-/// How many microseconds it rests at least then.
+/// How many microseconds it then rests at least.
 const LONG_REST: u64 = 4000;
 
-/// After a full queue so many records are offered in portions, with a rest behind each: what comes free at once is more
-/// than a buffer may hold, and the first worker to find it would else leave nothing to those that rest.
+/// After a full queue this many records are offered in portions, with a rest after each. More places become free at
+/// once than a buffer may hold, and without a rest the first worker to find them would leave none to those that rest.
 const CAREFUL: u32 = 256;
 
-/// How many microseconds such a rest has at least where the worker had come to rest longer, as others may have: so that
-/// they find places too.
+/// How many microseconds such a rest has at least if the worker had rested longer before. Other workers may rest longer
+/// too, and shall find places when they wake.
 const CAREFUL_REST: u64 = 1000;
 
 /// How many records such a portion has.
@@ -43,12 +43,12 @@ const PORTION: u32 = 32;
 
 /// An end of the queue of this link.
 #[derive(Drop)]
-pub struct LinkedEnd<L: Link> {
+pub struct LinkedEnd<L: LinkBrand> {
     end: IngressEnd,
     of: PhantomData<L>,
 }
 
-impl<L: Link> Model for LinkedEnd<L> {
+impl<L: LinkBrand> Model for LinkedEnd<L> {
     ghost use Rattle.std.specs.Prelude.{◌≡◌};
     ghost use Rattle.share_ingress.specs.Ends.{EndView};
 
@@ -59,7 +59,7 @@ impl<L: Link> Model for LinkedEnd<L> {
     ghost invariant = { λ l. l.end.link ≡ L.link };
 }
 
-impl<L: Link> LinkedEnd<L> {
+impl<L: LinkBrand> LinkedEnd<L> {
     pub fn new(end: IngressEnd) -> LinkedEnd<L>
         requires { end.link ≡ L.link }
         ensures { result ≡ end }
@@ -79,7 +79,7 @@ impl<L: Link> LinkedEnd<L> {
     }
 }
 
-/// Lets a worker go on until the link has ended. It rests where the queue stays full.
+/// Lets a worker go on until the link has ended. It rests while the queue stays full.
 #[derive(Drop)]
 struct UntilLinkEnds<'a, R> {
     rt: &'a R,
@@ -92,7 +92,7 @@ struct UntilLinkEnds<'a, R> {
 }
 
 impl<'a, R: Wait> UntilLinkEnds<'a, R> {
-    // Rests for this many microseconds and some more, which are drawn by a linear congruential generator.
+    // Rests for this many microseconds and a random time, of a linear congruential generator.
     fn rest(&mut self, least: u64) {
         self.drawn = self
             .drawn
@@ -139,9 +139,9 @@ impl<'a, R: Wait> Gate for UntilLinkEnds<'a, R> {
     }
 }
 
-/// Queues the records of the connection with this number until it ends, or the link: the end of the queue, why, and how
-/// many.
-pub fn work<R: Wait, L: Link>(
+/// Queues the records of the connection with this number until the connection or the link ends. Gives the end of the
+/// queue, why the worker stopped, and how many records it queued.
+pub fn work<R: Wait, L: LinkBrand>(
     rt: &R,
     alloc: Global,
     connections: &Connections,

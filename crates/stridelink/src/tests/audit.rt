@@ -17,7 +17,7 @@ const OLD: &str = "what was there before";
 /// How many names are tried for the folder.
 const MOST_FOLDERS: u32 = 10000;
 
-// A folder that was not there.
+// Makes a new folder.
 fn folder(rt: &(impl Files + Abort), alloc: Global) -> Result<String, Fail> {
     for number in 0..MOST_FOLDERS {
         let mut name = String::new(alloc);
@@ -35,7 +35,7 @@ fn in_folder(alloc: Global, folder: &str, name: &str) -> Result<String, Fail> {
     Ok(path)
 }
 
-// Whether the file of this path holds this text, or is not there where that is `None`.
+// Whether the file of this path holds this text, or does not exist if that is `None`.
 fn holds<R: Files>(rt: &R, path: &str, text: Option<&str>) -> bool {
     let Ok(mut file) = fs::open(rt, path) else {
         return text.is_none();
@@ -47,7 +47,7 @@ fn holds<R: Files>(rt: &R, path: &str, text: Option<&str>) -> bool {
     }
 }
 
-// The file beside is made, and takes the name at the end; the old file stays until then.
+// Checks that the new file takes the name at the end, and the old file stays until then.
 fn takes_the_name<R: Files + Abort>(
     rt: &R,
     alloc: Global,
@@ -68,7 +68,7 @@ fn takes_the_name<R: Files + Abort>(
     Ok(())
 }
 
-// Where nothing is written, or what was written can't take the name, all is as before.
+// Checks that nothing changes if nothing is written, or what was written cannot take the name.
 fn leaves_the_old<R: Files + Abort>(rt: &R, alloc: Global, folder: &str) -> Result<(), Fail> {
     let (path, beside) = (
         in_folder(alloc, folder, "b")?,
@@ -86,7 +86,7 @@ fn leaves_the_old<R: Files + Abort>(rt: &R, alloc: Global, folder: &str) -> Resu
     Ok(())
 }
 
-// A name that is taken is left alone, and the next one is used.
+// Checks that a file whose name is taken stays as it was, and the next name is used.
 fn leaves_other_files<R: Files + Abort>(rt: &R, alloc: Global, folder: &str) -> Result<(), Fail> {
     let (path, taken) = (
         in_folder(alloc, folder, "c")?,
@@ -104,7 +104,7 @@ fn leaves_other_files<R: Files + Abort>(rt: &R, alloc: Global, folder: &str) -> 
     Ok(())
 }
 
-// What is behind a link is written in place, and a folder is refused.
+// Checks that a file behind a symbolic link is written in place, and a folder is refused.
 fn writes_in_place<R: Files + Abort>(rt: &R, alloc: Global, folder: &str) -> Result<(), Fail> {
     let (path, link) = (
         in_folder(alloc, folder, "d")?,

@@ -1,4 +1,4 @@
-//! What control connections are answered.
+//! The answers on control connections.
 ghost use Rattle.std.specs.Prelude.{◌≡◌, ◌≤◌, [], length};
 
 use crate::serve::PlainTariffs;
@@ -6,7 +6,7 @@ use crate::serve::control::{Attended, How, attend};
 use share_core::Engine;
 use share_ingress::{IngressEnd, Intake, queue};
 use share_journal::{Journal, Recorder};
-use share_locked::{Link, Locked, Port};
+use share_locked::{LinkBrand, Locked, Port};
 use share_model::{PlainReader, Rates, Tape};
 use share_script::IncomingLines;
 use std::alloc::Global;
@@ -17,11 +17,11 @@ use std::process::Abort;
 use std::sync::{Mutex, Wait};
 use std::test::Fail;
 
-/// The life of a link where it is not spent.
+/// A life that is not spent.
 const LIFE: u64 = 100;
 
-/// What comes on a connection, with a bar behind what one read gives, so that a read of nothing is interrupted; and
-/// what is written, with a bar behind what one write call takes.
+/// What comes on a connection, with a bar after what one read gives, and two bars where a read is interrupted; and what
+/// is written, with a bar after what one write call takes.
 const CONVERSATIONS: [(&[u8], &[u8]); 9] = [
     (b"", b""),
     (b"nonsense\n", b"no 3 Syntax\n|"),
@@ -54,14 +54,14 @@ const CONVERSATIONS: [(&[u8], &[u8]); 9] = [
     ),
 ];
 
-/// A reader that gives what stands before each bar, is interrupted where that is nothing, and fails at the end or not.
+/// A reader that gives what is before each bar, is interrupted if that is nothing, and may fail at the end.
 #[derive(Drop)]
 struct Pieces<'a> {
     rest: &'a [u8],
     fails: bool,
 }
 
-// How many bytes stand before the first bar.
+// How many bytes are before the first bar.
 fn piece_length(bytes: &[u8], most: usize) -> usize
     ensures fits { result ≤ length bytes.now }
     ensures few { result ≤ most }
@@ -95,15 +95,15 @@ impl<'a> Read for Pieces<'a> {
     }
 }
 
-/// A writer that takes all, with a bar behind each call, and fails after so many calls, or where the link is locked.
+/// A writer that takes all, with a bar after each call. It fails after `left` calls, or if the link is locked.
 #[derive(Drop)]
-struct Barred<'a, S: Rates, L: Link> {
+struct Barred<'a, S: Rates, L: LinkBrand> {
     port: &'a Port<Tape, S, L>,
     bytes: &'a mut Vec<u8>,
     left: u64,
 }
 
-impl<'a, S: Rates, L: Link> Write for Barred<'a, S, L> {
+impl<'a, S: Rates, L: LinkBrand> Write for Barred<'a, S, L> {
     fn write(&mut self, buf: &[u8]) -> io::Result<usize> {
         if self.left == 0 || self.port.try_lock().is_none() {
             return Err(Error::from(ErrorKind::BrokenPipe));
@@ -119,7 +119,7 @@ impl<'a, S: Rates, L: Link> Write for Barred<'a, S, L> {
     }
 }
 
-/// What comes on a connection and how, and in how many write calls the answers go out before one fails.
+/// What comes on a connection, whether its last read fails, and how many write calls are taken before one fails.
 #[derive(Clone, Copy)]
 struct Asked<'a> {
     life: u64,
@@ -128,7 +128,7 @@ struct Asked<'a> {
     writes: u64,
 }
 
-// What comes whole, and is answered.
+// A connection without faults.
 fn whole<'a>(bytes: &'a [u8]) -> Asked<'a> {
     Asked {
         life: LIFE,
@@ -138,7 +138,7 @@ fn whole<'a>(bytes: &'a [u8]) -> Asked<'a> {
     }
 }
 
-// Answers a connection to a link of this name: how it ended, and how many receipts its clerk has.
+// Answers a connection to a link of this name. Gives how it ended, and how many receipts its clerk has.
 fn attended<T, S, L>(
     rt: &T,
     alloc: Global,
@@ -150,7 +150,7 @@ fn attended<T, S, L>(
 where
     T: Wait + Abort,
     S: Rates + Drop,
-    L: Link,
+    L: LinkBrand,
     requires empty { recorder.entries ≡ [] }
     requires link { intake.link ≡ L.link }
     requires nothing { intake.popped ≡ [] }
@@ -209,7 +209,7 @@ fn are_answered<T: Wait + Abort, S: Rates + Copy>(
     Ok(())
 }
 
-// A line of more than 20480 bytes has no place, and the line behind it has its own answer.
+// Checks that a line of more than 20480 bytes has no place, and the line after it has its own answer.
 fn over_long_lines_have_no_place<T: Wait + Abort, S: Rates + Copy>(
     rt: &T,
     alloc: Global,
@@ -228,7 +228,7 @@ fn over_long_lines_have_no_place<T: Wait + Abort, S: Rates + Copy>(
     Ok(())
 }
 
-// A spent life is told of changes alone, and these have no receipts.
+// Checks that only changes are answered with a spent life, and have no receipts.
 fn spent_lives_are_told<T: Wait + Abort, S: Rates + Copy>(
     rt: &T,
     alloc: Global,
@@ -248,7 +248,7 @@ fn spent_lives_are_told<T: Wait + Abort, S: Rates + Copy>(
     Ok(())
 }
 
-// What was commanded before an answer could not be written stands, and the connection has ended.
+// Checks that commands made before an answer could not be written keep their receipts, and the connection has ended.
 fn faults_end_a_connection<T: Wait + Abort, S: Rates + Copy>(
     rt: &T,
     alloc: Global,
@@ -273,8 +273,8 @@ fn faults_end_a_connection<T: Wait + Abort, S: Rates + Copy>(
     Ok(())
 }
 
-// No answer is written in a hold of the lock, also where more answers than may wait are those to lines that came
-// together.
+// Checks that no answer is written in a hold of the lock, even if lines that came together have more answers than may
+// wait.
 fn answers_are_written_outside_of_holds<T: Wait + Abort, S: Rates + Copy>(
     rt: &T,
     alloc: Global,

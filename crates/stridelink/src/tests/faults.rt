@@ -1,9 +1,9 @@
-//! What is told of each fault of the server.
+//! The text of each fault of the server.
 
 use crate::serve::ServeFault;
 use std::alloc::Global;
 
-/// Each fault, and the text that is told.
+/// Each fault, and its text.
 const FAULTS: [(ServeFault, &str); 10] = [
     (ServeFault::Accept, "cannot accept a connection"),
     (ServeFault::Thread, "cannot start a worker"),
@@ -17,7 +17,7 @@ const FAULTS: [(ServeFault, &str); 10] = [
     (ServeFault::Output, "cannot write the output"),
 ];
 
-// The fault is shown by this text.
+// Whether the fault is shown by this text.
 fn is_shown(alloc: Global, fault: ServeFault, text: &str) -> bool {
     match fault.to_string(alloc) {
         Ok(shown) => shown.as_bytes() == text.as_bytes(),

@@ -18,12 +18,12 @@ use std::{io, thread};
 /// The life of the link.
 const LIFE: u64 = 100;
 
-/// What the control connection says, and what it is answered.
+/// The lines of the control connection, and their answers.
 const ASKED: &[u8] = b"open a 4 1\nmktkt 1 base\nfund 1 flow a\n";
 
 const ANSWERED: &[u8] = b"flow 1\nticket 1\nok\n";
 
-/// What the ingress connection gives, and the frame that it becomes.
+/// The record of the ingress connection, and its frame.
 const RECORD: &[u8] = &[1, 0x61, 0, 1, 0x61];
 
 const FRAME: &[u8] = &[0x4c, 1, 0, 0, 0, 1, 0, 0, 0, 1, 0, 1, 0x61];
@@ -45,7 +45,7 @@ impl<'a> Keep for InMemory<'a> {
     }
 }
 
-/// The end of standard input after a while, which ends a server whose clients failed.
+/// A standard input that ends after a while, which ends a server whose clients failed.
 #[derive(Drop)]
 struct Deadline<T> {
     rt: T,
@@ -61,7 +61,7 @@ impl<T: Wait> Read for Deadline<T> {
     }
 }
 
-// Reads until so many bytes are there, or the end.
+// Reads until `most` bytes are there, or the end.
 fn read_bytes(stream: &TcpStream, most: usize) -> [u8; 64] {
     let mut buffer = [0u8; 64];
     let mut count = 0;
@@ -88,7 +88,7 @@ fn patient(stream: &TcpStream) {
     let _ = stream.set_read_timeout(Some(Duration::from_secs(PATIENCE)));
 }
 
-// What the clients do, and whether they got what is wanted.
+// Plays the clients, and says whether they got what is wanted.
 fn play<T: Net<Listener = TcpListener, Stream = TcpStream>>(
     rt: &T,
     control: SocketAddr,
@@ -114,7 +114,7 @@ fn play<T: Net<Listener = TcpListener, Stream = TcpStream>>(
     is_asked && is_answered && is_sent && is_framed
 }
 
-// Whether the audit gives the frame as a script.
+// Checks that the audit, run as a script, gives the frame.
 fn audit_gives_the_frame<S: Rates + Copy>(rt: &impl Abort, alloc: Global, shelf: S, audit: &Tape) {
     let engine = Engine::new(alloc, shelf, LIFE, Tape::new(alloc)).expect(rt, "a link");
     let mut input = PlainReader(audit.bytes());

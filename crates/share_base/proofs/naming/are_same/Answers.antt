@@ -4,7 +4,7 @@ use Rattle.std.proofs.Math.Bool.{and-true, and_assoc}
 use Rattle.std.specs.Cmp.Lexicographic.{pointwise}
 use Rattle.share_base.proofs.naming.are_same.Goals as goal
 
--- one byte more of each
+-- one more byte of each
 pointwise-more : (xs ys : List ℕ) (n : ℕ) → n < length xs → n < length ys
     → pointwise nat_eq (take (suc n) xs) (take (suc n) ys)
     ≡ (pointwise nat_eq (take n xs) (take n ys) && nat_eq (get_or xs n 0) (get_or ys n 0))

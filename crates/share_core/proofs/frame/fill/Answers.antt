@@ -1,4 +1,4 @@
-use Rattle.std.proofs.Common.{◌++◌, ◌∙◌, ℕ, List, length, ap}
+use Rattle.std.proofs.Common.{◌++◌, ◌∙◌, ℕ, List, ap}
 use Rattle.share_model.specs.link.Frame.{frame}
 use Rattle.share_core.proofs.frame.fill.Goals as goal
 

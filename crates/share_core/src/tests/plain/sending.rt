@@ -78,7 +78,7 @@ impl Plain {
         }
     }
 
-    // Charges a flow for so many bytes of a frame, on the queue and on its account.
+    // Charges a flow for this many bytes of a frame, on the queue and on its account.
     fn bill(&mut self, flow: u32, count: usize) {
         let number = match self.tenant(flow) {
             Some(tenant) => tenant.tariff,
@@ -174,7 +174,7 @@ impl Plain {
         }
     }
 
-    /// A turn that offers at most so many bytes.
+    /// A turn that offers at most this many bytes.
     pub(crate) fn turn(&mut self, most: u32) -> Result<Turn, AllocError> {
         if let Some(turn) = self.refuses_turns() {
             return Ok(turn);

@@ -37,7 +37,7 @@ pub(super) struct World {
 #[derive(Clone, Copy, Debug)]
 pub(super) enum Asked {
     Command(Command),
-    /// A packet with a payload of so many bytes comes.
+    /// A packet comes, with a payload of this many bytes.
     Arrive(Name, usize),
     Turn(u32),
     Tear,

@@ -8,7 +8,7 @@ use std::alloc::Global;
 use std::process::Abort;
 use std::test::Fail;
 
-/// What a run has to meet: these refusals, so many torn frames, and at least so many of the others.
+/// What a run has to meet: these refusals, this many torn frames, and at least this many of the others.
 #[derive(Clone, Copy)]
 struct Wanted {
     refusals: &'static [Refusal],

@@ -1,6 +1,6 @@
 use Rattle.std.proofs.Common.{[], sym, append-nil}
 use Rattle.share_model.specs.link.Frame.{frame}
-use Rattle.share_model.specs.link.FrameLaws.{frame-prefix}
+use Rattle.share_model.proofs.lemmas.link.FrameLaws.{frame-prefix}
 use Rattle.share_frame.proofs.OneAnswer.{frame-whole}
 use Rattle.share_frame.proofs.laws.no_frame_begins_another.Goals as goal
 

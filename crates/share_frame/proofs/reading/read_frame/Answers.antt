@@ -21,7 +21,7 @@ returns-in-Some-clause-more c = read-exact c.args.bytes.now (Bad c.in-Some.place
 pub returns-in-Some-clause-bad : goal.returns-in-Some-clause-bad
 returns-in-Some-clause-bad c = λ place. read-exact c.args.bytes.now (Bad c.in-Some.place) (Bad place) (bad c)
 
--- less than a header, and good
+-- less than a header, with nothing bad
 less : (c : goal.Then-bytes-lt-HEADER) → IsBeginning c.args.bytes.now
 less c =
     let short : length c.args.bytes.now ≤ 12 = omega arith in
@@ -38,7 +38,7 @@ returns-then-bytes-lt-HEADER-clause-more c = read-exact c.args.bytes.now More Mo
 pub returns-then-bytes-lt-HEADER-clause-bad : goal.returns-then-bytes-lt-HEADER-clause-bad
 returns-then-bytes-lt-HEADER-clause-bad c = λ place. read-exact c.args.bytes.now More (Bad place) (less c)
 
--- a header, and less than its payload
+-- a header and not all of its payload
 part : (c : goal.Then-bytes-from) → IsBeginning c.args.bytes.now
 part c =
     let front : IsBeginning (take 12 c.args.bytes.now) = rw c.in_default.is at c.first_bad.ensures in

@@ -42,7 +42,8 @@ pub loop-one-preserved : goal.loop-one-preserved
 loop-one-preserved g c = record {
   joined = joined_more _ _ _ _ _ _ _ c.in-Some-pop.one c.finish.result c.in-Some-pop.ensures.items
       c.put_last-in-Some-pop.ensures.items (finished c.in-Some-pop.one c.finish.result
-      (IsWorkDone g.R.Source.gives g.R.Source.left g.G.Gate.told) IsNotStarted (λ handle. handle.promise.0.value)
+      (IsWorkDone g.R.TellingReader.gives g.R.TellingReader.left g.G.Gate.told) IsNotStarted
+      (λ handle. handle.promise.0.value)
       c.finish.ensures)
       c.loop-one.invariant.joined;
   total = omega (arith, c.loop-one.invariant.total, c.in-Some-pop.ensures.cases, c.put_last-in-Some-pop.ensures.len);

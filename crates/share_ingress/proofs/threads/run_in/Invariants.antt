@@ -1,11 +1,11 @@
 use Rattle.std.proofs.Common.{◌≡◌, ◌≤◌, ◌+◌, [], MatchResult, vec_len, vec_capacity}
 use Rattle.share_ingress.specs.Threads.{IsJobDone, IsNotStarted}
-use Rattle.share_ingress.proofs.ThreadSteps.{Begun, Joined}
+use Rattle.share_ingress.proofs.ThreadSteps.{AreBegun, Joined}
 use Rattle.share_ingress.proofs.threads.run_in.Given as goal
 
 abbrev pub invariant-loop-job : goal.invariant-loop-job
 invariant-loop-job g l = record {
-  begun : Begun l.fn.jobs.items l.jobs.items l.begun.items
+  begun : AreBegun l.fn.jobs.items l.jobs.items l.begun.items
       (λ job slot. MatchResult slot (λ handle. handle.promise.0.value ≡ job) (IsNotStarted job));
   all : l.all.items ≡ [];
   len : vec_len l.all ≡ 0;
@@ -21,7 +21,7 @@ abbrev pub invariant-loop-one : goal.invariant-loop-one
 invariant-loop-one g l = record {
   joined : Joined l.fn.jobs.items l.begun.items l.all.items
       (λ job slot. MatchResult slot (λ handle. handle.promise.0.value ≡ job) (IsNotStarted job))
-      (IsJobDone g.R.Source.gives g.R.Source.left g.G.Gate.told);
+      (IsJobDone g.R.TellingReader.gives g.R.TellingReader.left g.G.Gate.told);
   total : vec_len l.begun + vec_len l.all ≡ vec_len l.fn.jobs;
   space : vec_len l.fn.jobs ≤ vec_capacity l.all;
 }

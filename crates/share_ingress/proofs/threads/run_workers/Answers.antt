@@ -10,9 +10,10 @@ returns-clause-each g c = search rules
 
 pub returns-clause-linked : goal.returns-clause-linked
 returns-clause-linked g c = IfOk-weaker c.scoped.result
-    (λ all. Matches (IsJobDone g.R.Source.gives g.R.Source.left g.G.Gate.told) c.args.jobs.items all.items)
+    (λ all. Matches (IsJobDone g.R.TellingReader.gives g.R.TellingReader.left g.G.Gate.told) c.args.jobs.items
+    all.items)
     (λ all. Matches (λ job done. done.end.link ≡ job.end.link) c.args.jobs.items all.items)
-    (λ all is. matches_more _ _ (same_link g.R.Source.gives g.R.Source.left g.G.Gate.told) _ _ is)
+    (λ all is. matches_more _ _ (same_link g.R.TellingReader.gives g.R.TellingReader.left g.G.Gate.told) _ _ is)
     (returns-clause-each g c)
 
 pub returns-clause-one_queue : goal.returns-clause-one_queue

@@ -1,9 +1,10 @@
-use Rattle.share_ingress.proofs.GateSteps.{Running}
+use Rattle.share_ingress.proofs.GateSteps.{HasQueuedSome}
 use Rattle.share_ingress.proofs.WorkerSteps.{Working}
 use Rattle.share_ingress.proofs.workers.work.Given as goal
 
 abbrev pub invariant-loop : goal.invariant-loop
 invariant-loop g l = record {
-  working : Working g.R.Source.left l.initial.reader l.reader l.initial.end l.end;
-  running : Running g.R.Source.gives g.G.Gate.told l.initial.reader l.initial.end l.initial.gate l.reader l.end l.gate;
+  working : Working g.R.TellingReader.left l.initial.reader l.reader l.initial.end l.end;
+  running : HasQueuedSome g.R.TellingReader.gives g.G.Gate.told l.initial.reader l.initial.end l.initial.gate l.reader
+      l.end l.gate;
 }

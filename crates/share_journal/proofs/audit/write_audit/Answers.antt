@@ -1,21 +1,17 @@
 use Rattle.std.proofs.Common.{codes}
 use Rattle.std.proofs.lemmas.Result.{err_from_is_err_and}
-use Rattle.share_model.specs.io.PrintingLaws.{part_longer, print_then, offer_then}
+use Rattle.share_model.proofs.lemmas.io.PrintingLaws.{write_longer, write_then}
 use Rattle.share_model.specs.text.Audit.{audit}
 use Rattle.share_journal.proofs.audit.write_audit.Goals as goal
 
-pub returns-in_err-write_line-clause-bytes : goal.returns-in_err-write_line-clause-bytes
+pub returns-in_err-write_line : goal.returns-in_err-write_line
 unfolding audit
-returns-in_err-write_line-clause-bytes g c =
+returns-in_err-write_line g c =
     let p = err_from_is_err_and c.from_residual.result c.from_residual.ensures.1 in
-    rw p.1 (part_longer _ _ (codes "audit 1\n") _ c.in_err-write_line.ensures.bytes)
+    rw p.1 (write_longer g.V.TellingWriter.told _ _ (codes "audit 1\n") _ c.in_err-write_line.ensures.written)
 
-pub returns-clause-bytes : goal.returns-clause-bytes
+pub returns : goal.returns
 unfolding audit
-returns-clause-bytes g c =
-    print_then c.write_events.result _ _ _ (codes "audit 1\n") _ c.in_ok-write_line.ensures.bytes
-    c.write_events.ensures.bytes
-
-pub returns-clause-offers : goal.returns-clause-offers
-returns-clause-offers g c =
-    offer_then c.write_events.result _ _ _ c.in_ok-write_line.ensures.offers c.write_events.ensures.offers
+returns g c =
+    write_then g.V.TellingWriter.told c.write_events.result _ _ _ (codes "audit 1\n") _
+    c.in_ok-write_line.ensures.written c.write_events.ensures

@@ -1,7 +1,7 @@
 use Rattle.std.proofs.Common.{◌≡◌, ◌∷◌}
 use Rattle.std.proofs.lemmas.Result.{err_from_is_err_and}
 use Rattle.share_model.specs.io.Calls.{no_offers}
-use Rattle.share_model.specs.io.CallsLaws.{offers_more, refused_later}
+use Rattle.share_model.proofs.lemmas.io.CallsLaws.{offers_more, refused_later}
 use Rattle.share_journal.proofs.AuditLemmas.{written_none, written_more, written_part}
 use Rattle.share_journal.proofs.audit.write_events.Goals as goal
 
@@ -12,18 +12,16 @@ pub loop-first-preserved : goal.loop-first-preserved
 loop-first-preserved g c =
     let is : c.loop-first.rest.now ≡ c.in-Some.first.now ∷ c.in-Some.after.now = c.in-Some.ensures.cases.0 in (
       written_more _ _ _ c.args.entries.now c.loop-first.rest.now c.in-Some.after.now c.in-Some.first.now is
-          c.loop-first.invariant.0 c.in_ok-write_event.ensures.bytes,
-      offers_more c.loop-first.invariant.1 c.in_ok-write_event.ensures.offers,
+          c.loop-first.invariant.0 c.in_ok-write_event.ensures.written.0,
+      offers_more c.loop-first.invariant.1 c.in_ok-write_event.ensures.written.1,
     )
 
-pub returns-in_err-write_event-clause-bytes : goal.returns-in_err-write_event-clause-bytes
-returns-in_err-write_event-clause-bytes g c =
+pub returns-in_err-write_event : goal.returns-in_err-write_event
+returns-in_err-write_event g c =
     let is : c.loop-first.rest.now ≡ c.in-Some.first.now ∷ c.in-Some.after.now = c.in-Some.ensures.cases.0 in
     let p = err_from_is_err_and c.from_residual.result c.from_residual.ensures.1 in
-    rw p.1 (written_part _ _ _ c.args.entries.now c.loop-first.rest.now c.in-Some.after.now c.in-Some.first.now is
-    c.loop-first.invariant.0 c.in_err-write_event.ensures.bytes)
-
-pub returns-in_err-write_event-clause-offers : goal.returns-in_err-write_event-clause-offers
-returns-in_err-write_event-clause-offers g c =
-    let p = err_from_is_err_and c.from_residual.result c.from_residual.ensures.1 in
-    rw p.1 (refused_later c.loop-first.invariant.1 c.in_err-write_event.ensures.offers)
+    rw p.1 (
+      written_part _ _ _ c.args.entries.now c.loop-first.rest.now c.in-Some.after.now c.in-Some.first.now is
+          c.loop-first.invariant.0 c.in_err-write_event.ensures.written.0,
+      refused_later c.loop-first.invariant.1 c.in_err-write_event.ensures.written.1,
+    )

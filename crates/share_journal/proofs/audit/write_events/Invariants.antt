@@ -6,9 +6,10 @@ use Rattle.share_journal.proofs.audit.write_events.Given as goal
 
 abbrev pub invariant-loop-first : goal.invariant-loop-first
 invariant-loop-first g l =
-    WrittenBefore (bytes_told (g.V.Telling.told l.initial.output)) (bytes_told (g.V.Telling.told l.output)) l.entries
+    WrittenBefore (bytes_told (g.V.TellingWriter.told l.initial.output)) (bytes_told (g.V.TellingWriter.told l.output))
+    l.entries
     l.rest
-    × Offers g.V.Telling.answers l.initial.output l.output
+    × Offers g.V.TellingWriter.answers l.initial.output l.output
 
 abbrev pub decreases-loop-first : goal.decreases-loop-first
 decreases-loop-first g l = length l.rest

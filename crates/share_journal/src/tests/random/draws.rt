@@ -69,7 +69,7 @@ impl Draws {
         bytes
     }
 
-    /// At most so many bytes in a turn.
+    /// At most this many bytes in a turn.
     pub(super) fn most(&mut self) -> u32 {
         let k = self.next();
         match k % 4 {

@@ -1,13 +1,14 @@
 use Rattle.std.proofs.Common.{true, false, arith, set}
 use Rattle.share_ledger.specs.Arrays.{flags_of}
-use Rattle.share_ledger.proofs.NetSteps.{array-set, gathered-woken, gathered-rested, counted-bound}
+use Rattle.share_ledger.proofs.NetSteps.{array-set, weight_from-woken, weight_from-rested, counted-bound}
 use Rattle.share_ledger.proofs.net.flip.Goals as goal
 use Rattle.std.proofs.lemmas.Bool.Decides.{nat_tests}
 
 pub lower-requires-clause-held : goal.lower-requires-clause-held
 lower-requires-clause-held c = λ x below.
     let was = c.requires.counted x below in
-    let moved = gathered-rested _ _ c.requires.seated _ c.requires.place _ c.seats_at-seats.ensures.value
+    let moved = weight_from-rested _ _ c.requires.ticketed _ c.requires.place _
+    c.funding_tickets_at-funding_tickets.ensures.value
     (flags_of c.args.awake.now) (flags_of (set c.args.awake.now c.args.place false)) c.if-awake-place.true
     (λ k. array-set c.args.awake.now _ k false false
     (let long = c.told-awake in let lt = c.requires.place in omega arith)) x in
@@ -17,7 +18,8 @@ pub returns-then-awake-place-clause-counted : goal.returns-then-awake-place-clau
 returns-then-awake-place-clause-counted c = λ x below.
     let was = c.requires.counted x below in
     let now = c.lower.ensures x below in
-    let moved = gathered-rested _ _ c.requires.seated _ c.requires.place _ c.seats_at-seats.ensures.value
+    let moved = weight_from-rested _ _ c.requires.ticketed _ c.requires.place _
+    c.funding_tickets_at-funding_tickets.ensures.value
     (flags_of c.args.awake.now) (flags_of (set c.args.awake.now c.args.place false)) c.if-awake-place.true
     (λ k. array-set c.args.awake.now _ k false false
     (let long = c.told-awake in let lt = c.requires.place in omega arith)) x in
@@ -33,7 +35,8 @@ pub returns-clause-counted : goal.returns-clause-counted
 returns-clause-counted c = λ x below.
     let was = c.requires.counted x below in
     let now = c.raise.ensures x below in
-    let moved = gathered-woken _ _ c.requires.seated _ c.requires.place _ c.seats_at-seats.ensures.value
+    let moved = weight_from-woken _ _ c.requires.ticketed _ c.requires.place _
+    c.funding_tickets_at-funding_tickets.ensures.value
     (flags_of c.args.awake.now) (flags_of (set c.args.awake.now c.args.place true)) c.if-awake-place.false
     (λ k. array-set c.args.awake.now _ k true false
     (let long = c.told-awake in let lt = c.requires.place in omega arith)) x in

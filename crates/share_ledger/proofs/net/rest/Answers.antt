@@ -1,13 +1,13 @@
 use Rattle.std.proofs.Common.{◌+◌, false, set, sym, ap, ◌∙◌, arith}
 use Rattle.share_ledger.specs.Arrays.{flags_of, numbers_of}
-use Rattle.share_ledger.specs.Seats.{taken}
-use Rattle.share_ledger.proofs.NetSteps.{array-set, gathered-rested}
+use Rattle.share_ledger.specs.FundingTickets.{amount_from}
+use Rattle.share_ledger.proofs.NetSteps.{array-set, weight_from-rested}
 use Rattle.share_ledger.proofs.net.rest.Goals as goal
 
 pub lower-requires-clause-held : goal.lower-requires-clause-held
 lower-requires-clause-held c = λ x below.
     let was = c.requires.counted x below in
-    let loss = gathered-rested _ _ c.requires.seated _ c.requires.place _ c.seats_at.ensures.value
+    let loss = weight_from-rested _ _ c.requires.ticketed _ c.requires.place _ c.funding_tickets_at.ensures.value
     (flags_of c.args.active.now) (flags_of (set c.args.active.now c.args.place false)) c.requires.active
     (λ k. array-set c.args.active.now _ k false false
     (let long = c.told-active in let lt = c.requires.place in omega arith)) x in
@@ -17,7 +17,7 @@ pub returns-clause-counted : goal.returns-clause-counted
 returns-clause-counted c = λ x below.
     let was = c.requires.counted x below in
     let now = c.lower.ensures x below in
-    let loss = gathered-rested _ _ c.requires.seated _ c.requires.place _ c.seats_at.ensures.value
+    let loss = weight_from-rested _ _ c.requires.ticketed _ c.requires.place _ c.funding_tickets_at.ensures.value
     (flags_of c.args.active.now) (flags_of (set c.args.active.now c.args.place false)) c.requires.active
     (λ k. array-set c.args.active.now _ k false false
     (let long = c.told-active in let lt = c.requires.place in omega arith)) x in
@@ -25,4 +25,5 @@ returns-clause-counted c = λ x below.
 
 pub returns-clause-lowered : goal.returns-clause-lowered
 returns-clause-lowered c = λ p lt.
-    ap (λ ss. numbers_of c.lower.new.weights p + taken ss p) (sym c.seats_at.ensures.value) ∙ c.lower.ensures p lt
+    ap (λ ss. numbers_of c.lower.new.weights p + amount_from ss p) (sym c.funding_tickets_at.ensures.value)
+    ∙ c.lower.ensures p lt

@@ -7,7 +7,7 @@ use Rattle.share_ledger.proofs.Numbers.{searched}
 use Rattle.share_ledger.proofs.tickets.by_halves.Goals as goal
 use Rattle.share_ledger.proofs.tickets.by_halves.Goals.{After-binary_search_by_key}
 
--- the closure gives a ticket's number
+-- the closure returns a ticket's number
 place : (c : After-binary_search_by_key)
     → IfOk c.binary_search_by_key.result
     (λ i. position (is_numbered c.args.number) c.args.tickets.now ≡ Some i)

@@ -1,5 +1,5 @@
 use Rattle.std.proofs.Common.{◌≡◌, ◌≤◌, ◌+◌, ◌*◌, ◌^◌, ℕ, arith}
-use Rattle.share_ledger.proofs.NetSeats.{gathered-none}
+use Rattle.share_ledger.proofs.NetFundings.{weight_from-none}
 use Rattle.share_ledger.proofs.turns.rouse.Goals as goal
 use Rattle.std.proofs.lemmas.Bool.Decides.{nat_tests}
 
@@ -7,7 +7,7 @@ nothing : (n a b : ℕ) → n ≡ 0 → a ≡ 0 → b ≡ 0 → n ≡ a + b
 nothing n a b p q r = omega arith
 
 pub wake_all-requires-clause-counted : goal.wake_all-requires-clause-counted
-wake_all-requires-clause-counted c = grind (arith, nat_tests, nothing, gathered-none)
+wake_all-requires-clause-counted c = grind (arith, nat_tests, nothing, weight_from-none)
 
 none_small : (n : ℕ) → n ≡ 0 → n ≤ 9 * 2 ^ 30
 none_small n e = omega arith

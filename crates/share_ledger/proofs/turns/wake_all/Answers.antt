@@ -1,9 +1,9 @@
 use Rattle.std.proofs.Common.{◌+◌, ℕ, List, Bool, sym, ap, ◌∙◌}
 use Rattle.share_ledger.specs.Nets.{activity_of}
 use Rattle.share_ledger.specs.Arrays.{flags_of, numbers_of}
-use Rattle.share_ledger.specs.Routes.{gathered}
-use Rattle.share_ledger.specs.Seats.{backs_of, funds_of}
-use Rattle.share_ledger.proofs.NetSeats.{activity-here, before-wakes, before-idle}
+use Rattle.share_ledger.specs.Routes.{weight_from}
+use Rattle.share_ledger.specs.FundingTickets.{backs_of, funds_of}
+use Rattle.share_ledger.proofs.NetFundings.{activity-here, before-wakes, before-idle}
 use Rattle.share_ledger.proofs.turns.wake_all.Goals.{then-is_active_at, else-is_active_at}
 use Rattle.share_ledger.proofs.turns.wake_all.Goals as goal
 
@@ -15,7 +15,7 @@ loop-place-preserved c =
     elim c.if-is_active_at.branch [
       | then-is_active_at w ↦ record {
         counted = λ p lt. ap (λ (ws : List ℕ). numbers_of ws p) w.weights-is ∙ w.wake.ensures.counted p lt
-            ∙ ap (λ (flags : List Bool). gathered backs (flags_of c.args.awake.now) p + gathered funds
+            ∙ ap (λ (flags : List Bool). weight_from backs (flags_of c.args.awake.now) p + weight_from funds
             (flags_of flags) p)
             (sym w.active-is);
         woken = λ k. ap (λ (flags : List Bool). flags_of flags k) w.active-is
@@ -25,7 +25,7 @@ loop-place-preserved c =
       }
       | else-is_active_at w ↦ record {
         counted = λ p lt. ap (λ (ws : List ℕ). numbers_of ws p) w.weights-is ∙ c.loop-place.invariant.counted p lt
-            ∙ ap (λ (flags : List Bool). gathered backs (flags_of c.args.awake.now) p + gathered funds
+            ∙ ap (λ (flags : List Bool). weight_from backs (flags_of c.args.awake.now) p + weight_from funds
             (flags_of flags) p)
             (sym w.active-is);
         woken = λ k. ap (λ (flags : List Bool). flags_of flags k) w.active-is

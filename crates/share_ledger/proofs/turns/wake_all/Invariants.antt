@@ -1,6 +1,6 @@
 use Rattle.std.proofs.Common.{◌≡◌, ℕ, ◌&&◌, nat_lt}
 use Rattle.share_ledger.specs.Arrays.{flags_of, numbers_of}
-use Rattle.share_ledger.specs.Seats.{AreCounted, backs_of, funds_of}
+use Rattle.share_ledger.specs.FundingTickets.{AreCounted, backs_of, funds_of}
 use Rattle.share_ledger.specs.Nets.{activity_of}
 use Rattle.share_ledger.proofs.turns.wake_all.Given as goal
 

@@ -1,9 +1,9 @@
-//! Which currencies back which, and how many stand in a chain.
+//! Which currencies back which, and how many are in a chain.
 
 use super::worths::{flag, has};
 use super::{BASE, CURRENCIES, Funds, Issued};
 
-// Whether a currency was found that a flagged one backs, and that was not flagged.
+// Flags the currencies that flagged ones back. Returns true if one was not flagged before.
 fn spread(issued: &[Issued], flags: &mut [bool; CURRENCIES]) -> bool {
     let mut more = false;
     for ticket in issued {
@@ -17,7 +17,7 @@ fn spread(issued: &[Issued], flags: &mut [bool; CURRENCIES]) -> bool {
     more
 }
 
-/// Whether one currency is another one or backs it, by however many steps.
+/// Whether the currency `from` is the currency `to` or backs it, by however many steps.
 pub(super) fn leads(issued: &[Issued], from: usize, to: usize) -> bool {
     let mut flags = [false; CURRENCIES];
     flag(&mut flags, from);
@@ -29,7 +29,7 @@ pub(super) fn leads(issued: &[Issued], from: usize, to: usize) -> bool {
     has(&flags, to)
 }
 
-// Lifts what a ticket funds above its denomination. Whether it rose.
+// Lifts what a ticket funds above its denomination. Returns true if it rose.
 fn lift(heights: &mut [u64; CURRENCIES], from: usize, to: usize) -> bool {
     if from == BASE {
         return false;
@@ -58,7 +58,7 @@ fn lift_all(issued: &[Issued], heights: &mut [u64; CURRENCIES]) -> bool {
     risen
 }
 
-/// How many currencies stand in the longest chain, `base` not counted, where none backs itself.
+/// How many currencies are in the longest chain, `base` not counted, if none backs itself.
 pub(super) fn longest(issued: &[Issued]) -> u64 {
     let mut heights = [1; CURRENCIES];
     for _ in 0..CURRENCIES {

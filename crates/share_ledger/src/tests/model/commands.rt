@@ -45,7 +45,7 @@ impl Model {
         }
     }
 
-    // The tickets that fund a flow fund nothing any more.
+    // Takes the tickets that fund a flow from it.
     fn release(&mut self, flow: usize) {
         for ticket in self.issued.iter_mut() {
             if funds_flow(ticket, flow) {
@@ -206,7 +206,7 @@ impl Model {
         None
     }
 
-    /// Makes a change, or answers why not.
+    /// Makes a change, or says why not.
     pub(crate) fn apply(&mut self, change: Change) -> Result<Reply, AllocError> {
         let refusal = match change {
             Change::MakeCurrency(name) => return self.make_currency(name),

@@ -1,4 +1,4 @@
-//! What the tickets come to: a rule is used on all of them until it changes nothing any more.
+//! What the tickets come to: each rule is used on all of them until it changes nothing.
 
 use super::{BASE, CURRENCIES, Currency, FLOWS, Funds, Issued, Opened};
 
@@ -15,7 +15,7 @@ pub(super) struct Worths {
     funding: [usize; FLOWS],
 }
 
-/// Those of no tickets.
+/// The worths if there are no tickets.
 pub(super) const NOTHING: Worths = Worths {
     busy: [false; FLOWS],
     lives: [false; CURRENCIES],
@@ -29,7 +29,7 @@ pub(super) const NOTHING: Worths = Worths {
 /// The most tickets of a flow.
 const MOST: u64 = 1048576;
 
-// Flags a slot. Whether it was not flagged before.
+// Flags a slot. Returns true if it was not flagged before.
 pub(super) fn flag(flags: &mut [bool], slot: usize) -> bool {
     match flags.get_mut(slot) {
         Some(flag) => {
@@ -76,7 +76,7 @@ impl Worths {
         }
     }
 
-    // A ticket is active where it funds an active flow, or a currency in which an active ticket is denominated.
+    // Whether a ticket funds an active flow, or a currency in which an active ticket is denominated.
     fn is_active(&self, ticket: &Issued) -> bool {
         let funds = ticket.funds;
         match funds {
@@ -86,7 +86,7 @@ impl Worths {
         }
     }
 
-    // Whether a currency was found to have an active ticket that was not known to have one.
+    // Flags the currencies that have an active ticket. Returns true if one was not flagged before.
     fn enliven(&mut self, issued: &[Issued]) -> bool {
         let mut more = false;
         for ticket in issued {
@@ -126,7 +126,7 @@ impl Worths {
             .unwrap_or(0)
     }
 
-    // The value of each currency by the values that are known.
+    // The value of each currency, given the values so far.
     fn sums(&self, issued: &[Issued]) -> [u64; CURRENCIES] {
         let mut sums = [0; CURRENCIES];
         for ticket in issued {
@@ -163,7 +163,7 @@ impl Worths {
         }
     }
 
-    /// What is told of the currency in a slot.
+    /// What the model says of the currency in a slot.
     pub(super) fn currency(&self, slot: usize) -> Option<Currency> {
         Some(Currency {
             active: *self.active.get(slot)?,
@@ -172,7 +172,7 @@ impl Worths {
         })
     }
 
-    /// The tickets of the flow in a slot, and how many fund it.
+    /// The tickets of the flow in a slot, and how many tickets fund it.
     pub(super) fn flow(&self, slot: usize) -> Option<(u64, usize)> {
         let tickets = *self.tickets.get(slot)?;
         let funding = *self.funding.get(slot)?;

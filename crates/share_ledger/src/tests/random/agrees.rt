@@ -1,20 +1,20 @@
-//! Whether a ledger has what the model beside it computes.
+//! Whether a ledger has what the plain model computes.
 
 use super::super::model::{CURRENCIES, Currency, FLOWS, Flow, Model};
 use super::super::number_of;
 use crate::Ledger;
+use crate::funding_tickets::FundingTickets;
 use crate::net::Net;
-use crate::seats::Seats;
 use share_base::FlowNo;
 
-/// What is told of a place without a currency.
+/// What the model says of a place without a currency.
 const NONE: Currency = Currency {
     active: 0,
     value: 0,
     backing: 0,
 };
 
-fn has_seats(holders: &[Seats], place: usize, count: usize) -> bool {
+fn has_funding_tickets(holders: &[FundingTickets], place: usize, count: usize) -> bool {
     match holders.get(place) {
         Some(holder) => holder.count() == count,
         None => false,
@@ -28,11 +28,13 @@ fn has_weight(net: &Net, place: usize, told: &Currency) -> bool {
     }
 }
 
-/// Whether the currency at each place has the same active amount, the same value and as many tickets that fund it.
+/// Whether both have the same active amount, value and number of backing tickets for the currency at each place.
 fn agrees_on_currencies(net: &Net, model: &Model) -> bool {
     for place in 0..CURRENCIES {
         let told = model.currency_at(place).unwrap_or(NONE);
-        if !has_weight(net, place, &told) || !has_seats(&net.backing, place, told.backing) {
+        if !has_weight(net, place, &told)
+            || !has_funding_tickets(&net.backing, place, told.backing)
+        {
             return false;
         }
     }
@@ -55,18 +57,18 @@ fn has_tickets(ledger: &Ledger, place: usize, told: &Flow) -> bool {
     }
     let tickets = ledger.tickets_at(place);
     ledger.tickets(FlowNo(told.number)) == tickets
-        && ledger.all_tickets().get(place) == Some(&tickets)
+        && ledger.ticket_counts().get(place) == Some(&tickets)
 }
 
-// Whether the flow at a place is the same, or there is none.
+// Whether both have the same flow at a place, or none.
 fn agrees_on_flow(ledger: &Ledger, model: &Model, place: usize) -> bool {
-    let funding = &ledger.kept().net.funding;
+    let funding = &ledger.cache().net.funding;
     let Some(told) = model.flow_at(place) else {
-        return ledger.flow_at(place).is_none() && has_seats(funding, place, 0);
+        return ledger.flow_at(place).is_none() && has_funding_tickets(funding, place, 0);
     };
     has_flow(ledger, place, &told)
         && has_tickets(ledger, place, &told)
-        && has_seats(funding, place, told.funding)
+        && has_funding_tickets(funding, place, told.funding)
 }
 
 fn agrees_on_flows(ledger: &Ledger, model: &Model) -> bool {
@@ -84,7 +86,7 @@ fn agrees_on_counts(ledger: &Ledger, model: &Model) -> bool {
         && ledger.flow_count() == model.flow_count()
 }
 
-/// What the two do not agree on, if there is anything.
+/// What ledger and model differ in, if they do.
 pub(super) fn difference(ledger: &Ledger, model: &Model) -> Option<&'static str> {
     if !agrees_on_counts(ledger, model) {
         return Some("counts");
@@ -92,7 +94,7 @@ pub(super) fn difference(ledger: &Ledger, model: &Model) -> Option<&'static str>
     if !agrees_on_flows(ledger, model) {
         return Some("flows");
     }
-    if !agrees_on_currencies(&ledger.kept().net, model) {
+    if !agrees_on_currencies(&ledger.cache().net, model) {
         return Some("currencies");
     }
     None

@@ -1,12 +1,12 @@
-//! What is drawn: changes, of so many names, that keep so many tickets.
+//! Random changes, of few or many names, that keep the number of tickets near a given one.
 
 use super::super::model::{Model, User};
 use super::super::{Change, name, numbered};
 use share_base::Name;
 use std::process::Abort;
 
-/// How long a run is, how many names of currencies and of flows are drawn, how many tickets it comes to, and how many
-/// of eight changes see to that.
+/// How long a run is, how many names of currencies and of flows it uses, how many tickets it keeps, and how many of
+/// eight changes serve that.
 #[derive(Clone, Copy)]
 pub(super) struct Scene {
     pub(super) seed: u64,
@@ -17,7 +17,7 @@ pub(super) struct Scene {
     pub(super) keeping: u64,
 }
 
-/// The state of the generator; a currency that is being rid of its tickets, to be removed; and one that is made next.
+/// The state of the generator; a currency whose tickets are being removed, before it is; and a currency to make next.
 #[derive(Clone, Copy)]
 pub(super) struct Draws {
     pub(super) state: u64,
@@ -44,12 +44,12 @@ impl Draws {
         x >> 16
     }
 
-    /// A number below another one.
+    /// A random number below `count`.
     fn below(&mut self, count: u64) -> u64 {
         self.next().checked_rem(count).unwrap_or(0)
     }
 
-    // The same, every other time one of the first three after 0.
+    // The same, half of the time one of the first three after 0.
     fn crowded(&mut self, count: u64) -> u64 {
         match self.below(6) {
             0..3 => self.below(count),
@@ -57,7 +57,7 @@ impl Draws {
         }
     }
 
-    // One of some tickets, or the number of one of those issued last.
+    // The number of one of the first tickets, or of one that was issued lately.
     fn ticket(&mut self, model: &Model) -> u64 {
         let k = self.next();
         let back = u64::from(model.next_ticket()).saturating_sub(k / 64 % 40);
@@ -75,7 +75,7 @@ impl Draws {
         model.ticket_at(place as usize)
     }
 
-    // Mostly one of the tickets that fund nothing.
+    // Mostly a ticket that funds nothing.
     fn free(&mut self, model: &Model) -> u64 {
         let place = self.below(model.ticket_count() as u64);
         match model.free_from(place as usize) {
@@ -84,7 +84,7 @@ impl Draws {
         }
     }
 
-    // The least amount and the greatest, some too small and too great, as often as those between.
+    // An amount: the least, the greatest, too small, too great, or in between.
     fn amount(&mut self) -> u64 {
         let k = self.next();
         match k % 16 {
@@ -115,7 +115,7 @@ pub(super) fn flow(rt: &impl Abort, draws: &mut Draws, scene: &Scene) -> Name {
     numbered(rt, b'f', k as usize)
 }
 
-// A currency that is there, if the place is that of one.
+// The currency at a place, or any name if there is none.
 fn currency_at(rt: &impl Abort, scene: &Scene, model: &Model, place: u64) -> Name {
     match model.currency_named_at(place as usize) {
         Some(name) => name,
@@ -123,7 +123,7 @@ fn currency_at(rt: &impl Abort, scene: &Scene, model: &Model, place: u64) -> Nam
     }
 }
 
-// Every other ticket is denominated by its number, so that long chains come about where such a ticket funds the next
+// Half of the tickets are denominated by their number, so that long chains arise when such a ticket funds the next
 // currency.
 fn made_ticket(rt: &impl Abort, draws: &mut Draws, scene: &Scene, model: &Model) -> Change {
     let amount = draws.amount();
@@ -149,7 +149,7 @@ fn funded_flow(rt: &impl Abort, draws: &mut Draws, scene: &Scene, model: &Model)
     Change::FundFlow(ticket, numbered(rt, b'f', k as usize))
 }
 
-// What keeps the tickets as many as they are to be.
+// A change that keeps the number of tickets.
 fn kept(rt: &impl Abort, draws: &mut Draws, scene: &Scene, model: &Model) -> Change {
     if model.ticket_count() < scene.tickets {
         return made_ticket(rt, draws, scene, model);
@@ -170,7 +170,7 @@ fn any(rt: &impl Abort, draws: &mut Draws, scene: &Scene, model: &Model) -> Chan
     }
 }
 
-// Now and then a currency that is there comes to be cleared.
+// Now and then begins to clear a currency that is there.
 fn begin_clearing(draws: &mut Draws, model: &Model) {
     let place = draws.below((model.currency_count() as u64).saturating_mul(200)) as usize;
     if place > 0 {
@@ -178,7 +178,7 @@ fn begin_clearing(draws: &mut Draws, model: &Model) {
     }
 }
 
-// Takes away what uses a currency, bit by bit, and then the currency. It is made again next, or another one is.
+// Removes what uses a currency, step by step, and then the currency. Next it is made again, or another one is.
 fn cleared(
     rt: &impl Abort,
     draws: &mut Draws,

@@ -1,4 +1,4 @@
-use Rattle.share_model.specs.run.HistoryLaws.{run-frames, frames-unique}
+use Rattle.share_model.proofs.lemmas.run.HistoryLaws.{run-frames, frames-unique}
 use Rattle.share_model.proofs.laws.bytes_tell_packets.Goals as goal
 
 pub returns-clause-frames : goal.returns-clause-frames

@@ -1,6 +1,6 @@
 use Rattle.std.proofs.Common.{◌≡◌, ◌∙◌, ◌++◌, codes, ap, rules}
 use Rattle.std.specs.Fmt.{signed_decimal}
-use Rattle.share_report.specs.Columns.{placed}
+use Rattle.share_report.specs.Columns.{column_text}
 use Rattle.share_model.specs.text.Report.{flow_line}
 use Rattle.share_report.specs.declared.text.Column.TheVariants.{Right}
 use Rattle.share_report.proofs.LineLemmas.{field_added, fields_joined}
@@ -18,7 +18,7 @@ returns-clause-bytes c =
     let account = field_added old _ _ (codes " ") c.push-6.ensures.bytes c.push_number-4.ensures.bytes waiting in
     let standing = field_added old _ _ (codes " ") c.push-7.ensures.bytes c.push_column-2.ensures.bytes account in
     let number : c.push_number-5.new.self
-    ≡ c.push-7.new.self ++ placed (Right 26) (signed_decimal c.args.flow.now.place) = search rules in
+    ≡ c.push-7.new.self ++ column_text (Right 26) (signed_decimal c.args.flow.now.place) = search rules in
     let place = field_added old _ _ (codes "\n") c.push-8.ensures.bytes number standing in
     place ∙ ap (λ r. old ++ r)
     (rw (c.number.ensures, c.as_bytes.ensures.value, c.standing.ensures.word) (fields_joined _ _ _ _ _ _ _))

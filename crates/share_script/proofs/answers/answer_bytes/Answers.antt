@@ -10,7 +10,7 @@ returns-in-Ok-clause-says g c =
 
 pub returns-in-Err-clause-says : goal.returns-in-Err-clause-says
 returns-in-Err-clause-says g c =
-    rw c.refused.ensures
+    rw c.refusal_answer.ensures
     (unread_said _ c.args.engine.now c.args.first c.args.bytes.now c.in-Err.refusal c.unread.result
     c.spent.result c.in-Err.ensures.reads c.spent.ensures c.unread.ensures)
 

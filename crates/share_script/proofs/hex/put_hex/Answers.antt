@@ -1,7 +1,7 @@
 use Rattle.std.proofs.Common.{◌≤◌, ◌+◌, arith, length}
 use Rattle.std.proofs.lemmas.Result.{err_from_is_err_and}
 use Rattle.share_model.specs.io.Calls.{no_offers}
-use Rattle.share_model.specs.io.CallsLaws.{offers_more, refused_later}
+use Rattle.share_model.proofs.lemmas.io.CallsLaws.{offers_more, refused_later}
 use Rattle.share_script.proofs.HexLemmas.{hex_none, hex_more, hex_part}
 use Rattle.share_script.proofs.hex.put_hex.Goals as goal
 
@@ -12,17 +12,15 @@ pub loop-at-preserved : goal.loop-at-preserved
 loop-at-preserved g c =
     let few : c.loop-at.at + c.min-count.result ≤ length c.args.bytes.now = omega arith in (
       hex_more _ _ _ c.args.bytes.now c.loop-at.at c.min-count.result c.loop-at.invariant.0 few
-          c.in_ok-put_piece.ensures.bytes,
-      offers_more c.loop-at.invariant.1 c.in_ok-put_piece.ensures.offers,
+          c.in_ok-put_piece.ensures.0,
+      offers_more c.loop-at.invariant.1 c.in_ok-put_piece.ensures.1,
     )
 
-pub returns-in_err-put_piece-clause-bytes : goal.returns-in_err-put_piece-clause-bytes
-returns-in_err-put_piece-clause-bytes g c =
+pub returns-in_err-put_piece : goal.returns-in_err-put_piece
+returns-in_err-put_piece g c =
     let p = err_from_is_err_and c.from_residual.result c.from_residual.ensures.1 in
-    rw p.1 (hex_part _ _ _ c.args.bytes.now c.loop-at.at c.min-count.result c.loop-at.invariant.0
-    c.in_err-put_piece.ensures.bytes)
-
-pub returns-in_err-put_piece-clause-offers : goal.returns-in_err-put_piece-clause-offers
-returns-in_err-put_piece-clause-offers g c =
-    let p = err_from_is_err_and c.from_residual.result c.from_residual.ensures.1 in
-    rw p.1 (refused_later c.loop-at.invariant.1 c.in_err-put_piece.ensures.offers)
+    rw p.1 (
+      hex_part _ _ _ c.args.bytes.now c.loop-at.at c.min-count.result c.loop-at.invariant.0
+          c.in_err-put_piece.ensures.0,
+      refused_later c.loop-at.invariant.1 c.in_err-put_piece.ensures.1,
+    )

@@ -1,5 +1,5 @@
 use Rattle.std.proofs.Common.{inl, codes, refl, sym, ap, ◌∙◌, arith}
-use Rattle.share_model.specs.text.Lines.{send_of, turn_of, ranged}
+use Rattle.share_model.specs.text.Lines.{send_of, turn_of, line_or_refusal}
 use Rattle.share_script.proofs.ReadingLemmas.{too_long, reads, reads_same, line_by-send, line_by-turn}
 use Rattle.share_script.proofs.reading.read_bytes.Goals as goal
 
@@ -14,5 +14,5 @@ returns-in-Some c =
 pub returns-in-Some-after_turn : goal.returns-in-Some-after_turn
 returns-in-Some-after_turn c =
     reads c.args.bytes.now (codes "turn") _ _ (omega arith) c.in-Some-after_turn.ensures
-    (reads_same _ _ _ (line_by-turn _) (inl (c.ranged.ensures ∙ ap ranged (c.turn.ensures
+    (reads_same _ _ _ (line_by-turn _) (inl (c.line_or_refusal.ensures ∙ ap line_or_refusal (c.turn.ensures
     ∙ ap turn_of c.of-in-Some-after_turn.ensures))))

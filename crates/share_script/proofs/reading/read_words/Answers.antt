@@ -1,5 +1,5 @@
 use Rattle.std.proofs.Common.{inl, sym, ◌∙◌, ap}
-use Rattle.share_model.specs.text.Lines.{ranged}
+use Rattle.share_model.specs.text.Lines.{line_or_refusal}
 use Rattle.share_script.proofs.ReadingLemmas.{line_by-send, line_by-short, reads_same}
 use Rattle.share_script.proofs.reading.read_words.Goals as goal
 
@@ -12,4 +12,4 @@ pub returns : goal.returns
 returns c =
     reads_same _ _ _
     (line_by-short c.args.keyword.now c.args.words.now (sym c.is_word.ensures ∙ c.if-is_word.false))
-    (inl (c.ranged.ensures ∙ ap ranged c.short_line.ensures))
+    (inl (c.line_or_refusal.ensures ∙ ap line_or_refusal c.short_line.ensures))

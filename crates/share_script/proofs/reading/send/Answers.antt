@@ -5,4 +5,4 @@ pub returns : goal.returns
 returns c =
     reads_same _ _ _
     (send_ends c.args.words.now c.in-Some.flow c.in-Some-rest.digits.now _ c.in-Some.ensures c.in-Some-rest.ensures)
-    c.sent.ensures
+    c.send_line.ensures

@@ -6,10 +6,11 @@ use Rattle.share_script.proofs.script.read_all.Given as goal
 
 abbrev pub invariant-loop-reads : goal.invariant-loop-reads
 invariant-loop-reads g l =
-    Running g.W.Telling.told (g.I.Source.left l.initial.input) (g.I.Source.left l.input)
-    (bytes_told (g.O.Telling.told l.initial.output)) (bytes_told (g.O.Telling.told l.output)) l.initial.session
-    l.session l.carry
-    × Reads g.I.Source.gives l.initial.input l.reads l.input
-    × Wrote g.W.Telling.answers g.O.Telling.answers l.initial.session.link.writer l.session.link.writer
+    Running g.W.TellingWriter.told (g.I.TellingReader.left l.initial.input) (g.I.TellingReader.left l.input)
+    (bytes_told (g.O.TellingWriter.told l.initial.output)) (bytes_told (g.O.TellingWriter.told l.output))
+    l.initial.session
+    l.session l.pending.carry
+    × Reads g.I.TellingReader.gives l.initial.input l.reads l.input
+    × Wrote g.W.TellingWriter.answers g.O.TellingWriter.answers l.initial.session.link.writer l.session.link.writer
     l.initial.output l.output
-    × (l.spool ≡ [])
+    × (l.pending.spool ≡ [])

@@ -1,4 +1,4 @@
-use Rattle.share_model.specs.link.FieldLaws.{all_bytes}
+use Rattle.share_model.proofs.lemmas.link.FieldLaws.{all_bytes}
 use Rattle.share_script.proofs.spelling.push_hex.Goals as goal
 
 pub returns-clause-all : goal.returns-clause-all

@@ -5,7 +5,7 @@ use Rattle.share_stride.specs.Index.{IsAt, IsGapFor}
 use Rattle.share_stride.proofs.IndexLaws.{searched}
 use Rattle.share_stride.proofs.index.place_of.Goals as goal
 
--- the closure gives a pair's flow
+-- the closure returns a pair's flow
 place : (c : goal.After-binary_search_by_key)
     → IfOk c.binary_search_by_key.result (IsAt c.args.pairs.now c.args.flow)
     × IfErr c.binary_search_by_key.result (IsGapFor c.args.pairs.now c.args.flow)

@@ -1,7 +1,7 @@
-use Rattle.share_model.specs.stride.MoveLaws.{is_there}
+use Rattle.share_model.proofs.lemmas.stride.MoveLaws.{is_there}
 use Rattle.share_stride.specs.Table.{client_at}
 use Rattle.share_stride.specs.Queue.{state_of}
-use Rattle.share_stride.proofs.Soundness.{IsKept-charge, stride_fits, place_fits}
+use Rattle.share_stride.proofs.Soundness.{IsInStep-charge, stride_fits, place_fits}
 use Rattle.share_stride.proofs.moves.charge.Goals as goal
 
 pub charge-requires-clause-stride : goal.charge-requires-clause-stride
@@ -19,5 +19,5 @@ charge-requires-clause-fits c =
 pub returns-clause-kept : goal.returns-clause-kept
 returns-clause-kept c =
     rw c.charge.ensures
-    (IsKept-charge c.args.global.now.tickets (state_of c.args.clients.now c.args.global.now) c.args.place.flow
+    (IsInStep-charge c.args.global.now.tickets (state_of c.args.clients.now c.args.global.now) c.args.place.flow
     c.args.units c.requires.kept c.requires.there c.requires.clock)

@@ -1,24 +1,25 @@
 use Rattle.std.proofs.Common.{sym, subst, arith}
-use Rattle.share_model.specs.stride.MoveLaws.{is_there}
-use Rattle.share_model.specs.stride.SoundLaws.{total_small}
+use Rattle.share_model.proofs.lemmas.stride.MoveLaws.{is_there}
+use Rattle.share_model.proofs.lemmas.stride.SoundLaws.{total_small}
 use Rattle.share_stride.specs.Table.{client_at}
-use Rattle.share_stride.specs.Queue.{AreKept, state_of}
-use Rattle.share_stride.proofs.Soundness.{AreKept-updated, IsKept-joined, pass_fits, stride_is, remain_fits}
+use Rattle.share_stride.specs.Queue.{AreInStep, state_of}
+use Rattle.share_stride.proofs.Soundness.{AreInStep-after_update, IsInStep-after_join, pass_fits, stride_is}
+use Rattle.share_stride.proofs.Soundness.{remain_fits}
 use Rattle.share_stride.proofs.moves.join.Goals as goal
 
 pub enter-requires-clause-pass : goal.enter-requires-clause-pass
 enter-requires-clause-pass c =
     let kept =
-    subst (AreKept c.args.clients.now) (sym c.update.ensures)
-    (AreKept-updated c.args.clients.now c.args.global.now c.requires.kept) in
+    subst (AreInStep c.args.clients.now) (sym c.update.ensures)
+    (AreInStep-after_update c.args.clients.now c.args.global.now c.requires.kept) in
     let s = state_of c.args.clients.now c.update.new.global in
     pass_fits s kept.sound
 
 pub enter-requires-clause-stride : goal.enter-requires-clause-stride
 enter-requires-clause-stride c =
     let kept =
-    subst (AreKept c.args.clients.now) (sym c.update.ensures)
-    (AreKept-updated c.args.clients.now c.args.global.now c.requires.kept) in
+    subst (AreInStep c.args.clients.now) (sym c.update.ensures)
+    (AreInStep-after_update c.args.clients.now c.args.global.now c.requires.kept) in
     let s = state_of c.args.clients.now c.update.new.global in
     stride_is s c.args.place.flow (client_at c.args.clients.now c.args.place) kept.sound
     (is_there s c.args.place.flow c.requires.there)
@@ -26,8 +27,8 @@ enter-requires-clause-stride c =
 pub enter-requires-clause-remain : goal.enter-requires-clause-remain
 enter-requires-clause-remain c =
     let kept =
-    subst (AreKept c.args.clients.now) (sym c.update.ensures)
-    (AreKept-updated c.args.clients.now c.args.global.now c.requires.kept) in
+    subst (AreInStep c.args.clients.now) (sym c.update.ensures)
+    (AreInStep-after_update c.args.clients.now c.args.global.now c.requires.kept) in
     let s = state_of c.args.clients.now c.update.new.global in
     remain_fits s c.args.place.flow (client_at c.args.clients.now c.args.place) kept.sound
     (is_there s c.args.place.flow c.requires.there) c.requires.idle
@@ -35,8 +36,8 @@ enter-requires-clause-remain c =
 pub overflow_add-global : goal.overflow_add-global
 overflow_add-global c =
     let kept =
-    subst (AreKept c.args.clients.now) (sym c.update.ensures)
-    (AreKept-updated c.args.clients.now c.args.global.now c.requires.kept) in
+    subst (AreInStep c.args.clients.now) (sym c.update.ensures)
+    (AreInStep-after_update c.args.clients.now c.args.global.now c.requires.kept) in
     let s = state_of c.args.clients.now c.update.new.global in
     let total = kept.total in
     omega (arith, total_small s kept.sound, c.from.ensures, c.requires.few)
@@ -44,10 +45,10 @@ overflow_add-global c =
 pub returns-clause-kept : goal.returns-clause-kept
 returns-clause-kept c =
     let kept =
-    subst (AreKept c.args.clients.now) (sym c.update.ensures)
-    (AreKept-updated c.args.clients.now c.args.global.now c.requires.kept) in
+    subst (AreInStep c.args.clients.now) (sym c.update.ensures)
+    (AreInStep-after_update c.args.clients.now c.args.global.now c.requires.kept) in
     let s = state_of c.args.clients.now c.update.new.global in
     rw (c.enter.ensures, c.from.ensures)
-    (IsKept-joined c.update.new.global.tickets s c.args.place.flow
+    (IsInStep-after_join c.update.new.global.tickets s c.args.place.flow
     (client_at c.args.clients.now c.args.place) c.args.tickets kept
     (is_there s c.args.place.flow c.requires.there) c.requires.idle c.requires.some c.requires.few)

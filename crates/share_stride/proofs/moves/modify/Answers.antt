@@ -1,25 +1,25 @@
 use Rattle.std.proofs.Common.{sym, subst, arith, ap, ◌∙◌}
-use Rattle.share_model.specs.stride.MoveLaws.{is_there}
-use Rattle.share_model.specs.stride.SoundLaws.{total_small, tickets_le_total}
+use Rattle.share_model.proofs.lemmas.stride.MoveLaws.{is_there}
+use Rattle.share_model.proofs.lemmas.stride.SoundLaws.{total_small, tickets_le_total}
 use Rattle.share_stride.specs.Table.{client_at}
-use Rattle.share_stride.specs.Queue.{AreKept, state_of}
-use Rattle.share_stride.proofs.Soundness.{AreKept-updated, IsKept-modified, modified_is, updated_is, pass_fits}
+use Rattle.share_stride.specs.Queue.{AreInStep, state_of}
+use Rattle.share_stride.proofs.Soundness.{AreInStep-after_update, IsInStep-modified, modified_is, updated_is, pass_fits}
 use Rattle.share_stride.proofs.Soundness.{stride_is, pass_distance_fits}
 use Rattle.share_stride.proofs.moves.modify.Goals as goal
 
 pub modify-before-requires-clause-pass : goal.modify-before-requires-clause-pass
 modify-before-requires-clause-pass c =
     let kept =
-    subst (AreKept c.args.clients.now) (sym c.update.ensures)
-    (AreKept-updated c.args.clients.now c.args.global.now c.requires.kept) in
+    subst (AreInStep c.args.clients.now) (sym c.update.ensures)
+    (AreInStep-after_update c.args.clients.now c.args.global.now c.requires.kept) in
     let s = state_of c.args.clients.now c.update.new.global in
     pass_fits s kept.sound
 
 pub modify-before-requires-clause-stride : goal.modify-before-requires-clause-stride
 modify-before-requires-clause-stride c =
     let kept =
-    subst (AreKept c.args.clients.now) (sym c.update.ensures)
-    (AreKept-updated c.args.clients.now c.args.global.now c.requires.kept) in
+    subst (AreInStep c.args.clients.now) (sym c.update.ensures)
+    (AreInStep-after_update c.args.clients.now c.args.global.now c.requires.kept) in
     let s = state_of c.args.clients.now c.update.new.global in
     stride_is s c.args.place.flow (client_at c.args.clients.now c.args.place) kept.sound
     (is_there s c.args.place.flow c.requires.there)
@@ -27,8 +27,8 @@ modify-before-requires-clause-stride c =
 pub modify-before-requires-clause-distance : goal.modify-before-requires-clause-distance
 modify-before-requires-clause-distance c =
     let kept =
-    subst (AreKept c.args.clients.now) (sym c.update.ensures)
-    (AreKept-updated c.args.clients.now c.args.global.now c.requires.kept) in
+    subst (AreInStep c.args.clients.now) (sym c.update.ensures)
+    (AreInStep-after_update c.args.clients.now c.args.global.now c.requires.kept) in
     let s = state_of c.args.clients.now c.update.new.global in
     pass_distance_fits s c.args.place.flow (client_at c.args.clients.now c.args.place) kept.sound
     (is_there s c.args.place.flow c.requires.there) c.requires.competes
@@ -36,8 +36,8 @@ modify-before-requires-clause-distance c =
 pub overflow_sub-global : goal.overflow_sub-global
 overflow_sub-global c =
     let kept =
-    subst (AreKept c.args.clients.now) (sym c.update.ensures)
-    (AreKept-updated c.args.clients.now c.args.global.now c.requires.kept) in
+    subst (AreInStep c.args.clients.now) (sym c.update.ensures)
+    (AreInStep-after_update c.args.clients.now c.args.global.now c.requires.kept) in
     let s = state_of c.args.clients.now c.update.new.global in
     let total = kept.total in
     let le = tickets_le_total s.clients c.args.place.flow (client_at c.args.clients.now c.args.place) (sym
@@ -48,8 +48,8 @@ overflow_sub-global c =
 pub overflow_add-global : goal.overflow_add-global
 overflow_add-global c =
     let kept =
-    subst (AreKept c.args.clients.now) (sym c.update.ensures)
-    (AreKept-updated c.args.clients.now c.args.global.now c.requires.kept) in
+    subst (AreInStep c.args.clients.now) (sym c.update.ensures)
+    (AreInStep-after_update c.args.clients.now c.args.global.now c.requires.kept) in
     let s = state_of c.args.clients.now c.update.new.global in
     let total = kept.total in
     omega (arith, total_small s kept.sound, c.from-2.ensures, c.requires.few)
@@ -57,11 +57,11 @@ overflow_add-global c =
 pub returns-clause-kept : goal.returns-clause-kept
 returns-clause-kept c =
     let kept =
-    subst (AreKept c.args.clients.now) (sym c.update.ensures)
-    (AreKept-updated c.args.clients.now c.args.global.now c.requires.kept) in
+    subst (AreInStep c.args.clients.now) (sym c.update.ensures)
+    (AreInStep-after_update c.args.clients.now c.args.global.now c.requires.kept) in
     let s = state_of c.args.clients.now c.update.new.global in
     rw (c.modify-before.ensures.modified, c.from.ensures, c.from-2.ensures, c.modify-before.ensures.tickets)
-    (IsKept-modified c.update.new.global.tickets s c.args.place.flow
+    (IsInStep-modified c.update.new.global.tickets s c.args.place.flow
     (client_at c.args.clients.now c.args.place) c.args.tickets kept
     (is_there s c.args.place.flow c.requires.there) c.requires.competes c.requires.some c.requires.few)
 

@@ -3,4 +3,4 @@ use Rattle.share_model.specs.lists.Each.{Each}
 use Rattle.stridelink.proofs.serve.all_ends.Given as goal
 
 abbrev pub invariant-loop-slot : goal.invariant-loop-slot
-invariant-loop-slot g l = Each (λ e. e.link ≡ g.L.Link.link) l.ends.items
+invariant-loop-slot g l = Each (λ e. e.link ≡ g.L.LinkBrand.link) l.ends.items

@@ -4,7 +4,7 @@ use Rattle.stridelink.proofs.serve.filled.Given as goal
 
 abbrev pub invariant-loop-end : goal.invariant-loop-end
 invariant-loop-end g l = record {
-  linked : Each (λ e. e.link ≡ g.L.Link.link) l.ends.items;
+  linked : Each (λ e. e.link ≡ g.L.LinkBrand.link) l.ends.items;
   room : vec_len l.ends + vec_len l.slots ≤ vec_capacity l.slots;
 }
 

@@ -1,9 +1,9 @@
 use Rattle.std.proofs.Common.{◌≤◌, ap, ◌∙◌, subst, sym, position, find, Option, IsTrue, is_some}
 use Rattle.share_model.specs.declared.link.Book.{Book}
 use Rattle.share_model.specs.link.Tariff.{rate_at}
-use Rattle.share_model.specs.link.Live.{is_book_of, units_by, with_units, posted}
+use Rattle.share_model.specs.link.Books.{is_book_of, units_by, with_units, books_with_units}
 use Rattle.share_core.specs.Held.{IfFound}
-use Rattle.share_flows.specs.PlaceLaws.{changed, found}
+use Rattle.share_flows.proofs.PlaceLaws.{changed, found}
 use Rattle.share_core.proofs.books.Books.charge_at.Goals as goal
 
 pub post-requires-clause-known : goal.post-requires-clause-known
@@ -35,4 +35,4 @@ returns-clause-posted g c =
     changed (is_book_of c.args.flow)
     (with_units (g.S.Rates.rates c.args.shelf.now) c.post.result) _ _ c.index_mut-book.result.now _ place
     c.index_mut-book.ensures.value c.post.ensures.posted
-    ∙ ap (λ bs. posted (g.S.Rates.rates c.args.shelf.now) bs c.args.flow c.post.result) c.self.view_is
+    ∙ ap (λ bs. books_with_units (g.S.Rates.rates c.args.shelf.now) bs c.args.flow c.post.result) c.self.view_is

@@ -1,30 +1,30 @@
 use Rattle.std.proofs.Common.{◌≡◌, ◌∙◌, ap, refl, subst, sym, length, arith}
 use Rattle.share_model.specs.link.Frame.{frame}
-use Rattle.share_model.specs.link.Live.{Sending, sending, write_step}
-use Rattle.share_model.specs.link.Did.{Stepped}
-use Rattle.share_model.specs.link.Seen.{Seen}
-use Rattle.share_model.specs.run.SoundLaws.{sending-few}
-use Rattle.share_core.specs.declared.place.Place.{Place}
-use Rattle.share_core.specs.Place.{IsPlaceOf}
+use Rattle.share_model.specs.link.Turns.{Sending, sending, write_step}
+use Rattle.share_model.specs.link.Calls.{Stepped}
+use Rattle.share_model.specs.link.View.{LinkView}
+use Rattle.share_model.proofs.lemmas.run.SoundLaws.{sending-few}
+use Rattle.share_core.specs.declared.next_write.NextWrite.{NextWrite}
+use Rattle.share_core.specs.NextWrite.{IsNextWriteOf}
 use Rattle.share_core.proofs.Turns.{of_sent, framed-loaded, framed-wrote}
 use Rattle.share_core.proofs.Writes.{sent}
 use Rattle.share_core.proofs.engine.Engine.send.Goals as goal
 
 pub offer-requires : goal.offer-requires
 offer-requires g c =
-    let sends = subst (λ (x : Seen g.row.W.Denot). IsPlaceOf (sending x.live) c.args.place)
+    let sends = subst (λ (x : LinkView g.row.W.Denot). IsNextWriteOf (sending x.live) c.args.place)
     (sym c.self.view_is) c.requires.sends in
     let t = sent c.self.inside.link c.self.inside.link c.args.place refl sends in
     let loaded = of_sent c.self.inside.link.live c.args.place
     (λ (s : Sending). c.load.new.buffer.items ≡ frame s.head) t c.load.ensures.frame in
     let few = sending-few c.load.ensures.sound t.is in
-    let out = ap (λ (p : Place). p.out) t.place_is in
+    let out = ap (λ (p : NextWrite). p.out) t.place_is in
     let long = ap length (c.as_slice.ensures.value ∙ loaded) in
     omega (arith, few, out, long)
 
 pub invariant_of-self-in-Accepted : goal.invariant_of-self-in-Accepted
 invariant_of-self-in-Accepted g c =
-    let sends = subst (λ (x : Seen g.row.W.Denot). IsPlaceOf (sending x.live) c.args.place)
+    let sends = subst (λ (x : LinkView g.row.W.Denot). IsNextWriteOf (sending x.live) c.args.place)
     (sym c.self.view_is) c.requires.sends in
     let t = sent c.self.inside.link c.self.inside.link c.args.place refl sends in
     let loaded = of_sent c.self.inside.link.live c.args.place
@@ -32,14 +32,14 @@ invariant_of-self-in-Accepted g c =
     let made = of_sent c.self.inside.link.live c.args.place
     (λ (s : Sending). Stepped
     (write_step c.self.inside.link.rates c.self.inside.link.live s c.in-Accepted.count) c.self.inside.link
-    c.wrote.result c.wrote.new.self) t c.wrote.ensures in (
+    c.write.result c.write.new.self) t c.write.ensures in (
       c.load.ensures.room,
       framed-wrote c.self.inside.link.live _ t.s c.in-Accepted.count _ c.load.ensures.sound t.is loaded made.live,
     )
 
 pub invariant_of-self-in-Interrupted : goal.invariant_of-self-in-Interrupted
 invariant_of-self-in-Interrupted g c =
-    let sends = subst (λ (x : Seen g.row.W.Denot). IsPlaceOf (sending x.live) c.args.place)
+    let sends = subst (λ (x : LinkView g.row.W.Denot). IsNextWriteOf (sending x.live) c.args.place)
     (sym c.self.view_is) c.requires.sends in
     let t = sent c.self.inside.link c.self.inside.link c.args.place refl sends in
     let loaded = of_sent c.self.inside.link.live c.args.place

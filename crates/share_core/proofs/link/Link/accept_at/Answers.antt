@@ -1,34 +1,46 @@
 use Rattle.std.proofs.Common.{◌∙◌, refl, sym, true}
-use Rattle.share_model.specs.run.QueueLaws.{queue-later}
-use Rattle.share_core.proofs.Activities.{stays-active, can-settle}
+use Rattle.share_model.proofs.lemmas.run.QueueLaws.{queue-later}
+use Rattle.share_core.proofs.Activities.{stays-active, stays-level, can-set_active}
 use Rattle.share_core.proofs.Arrivals.{few_numbers, refused_full, took_number, sound-came}
 use Rattle.share_core.proofs.Living.{living}
 use Rattle.share_core.proofs.Standing.{buffered_at, stands_in}
 use Rattle.share_core.proofs.link.Link.accept_at.Goals as goal
+use Rattle.share_core.proofs.link.Link.accept_at.Goals.{then-not-busy, else-not-busy}
 
 pub push_at-requires-clause-numbers : goal.push_at-requires-clause-numbers
 push_at-requires-clause-numbers g c = few_numbers c.self.invariant.1 c.self.invariant.0.0 c.args.place.now.flow
 
-pub settle-requires-clause-stands : goal.settle-requires-clause-stands
-settle-requires-clause-stands g c =
-    λ busy. stays-active c.self.invariant.1 c.args.place.now.flow (sym c.is_busy_at-busy.ensures ∙ busy)
-
-pub settle-requires-clause-can : goal.settle-requires-clause-can
-settle-requires-clause-can g c =
-    can-settle c.self.invariant.1 c.self.inside.queue (queue-later c.self.invariant.1.queue) c.args.place.now.flow true
+pub wake-requires-clause-can : goal.wake-requires-clause-can
+wake-requires-clause-can g c =
+    can-set_active c.self.invariant.1 c.self.inside.queue (queue-later c.self.invariant.1.queue) c.args.place.now.flow
+    true
 
 pub invariant_of-self : goal.invariant_of-self
 invariant_of-self g c = rw (c.in_default.ensures.full.2) c.self.invariant
 
-pub invariant_of-self-2 : goal.invariant_of-self-2
-invariant_of-self-2 g c =
+pub invariant_of-self-then-not-busy : goal.invariant_of-self-then-not-busy
+invariant_of-self-then-not-busy g c =
     let sound = c.self.invariant.1 in
     let there = buffered_at c.self.inside.buffers c.args.place.now
     (stands_in _ _ c.args.place.now c.self.view_is c.requires.stands) in (
-      (c.self.invariant.0.0, c.settle.ensures.levels),
-      rw (c.settle.ensures.queue, c.settle.ensures.ledger, c.in-Ok.ensures.ok.1)
+      (c.self.invariant.0.0, c.wake.ensures.levelled_with),
+      rw (c.wake.ensures.queue, c.wake.ensures.ledger, c.in-Ok.ensures.ok.1)
           (sound-came sound (living _ _ c.self.view_is c.requires.living sound) c.args.place.now.flow c.args.body
           c.requires.body there),
+    )
+
+pub invariant_of-self-else-not-busy : goal.invariant_of-self-else-not-busy
+invariant_of-self-else-not-busy g c =
+    let sound = c.self.invariant.1 in
+    let there = buffered_at c.self.inside.buffers c.args.place.now
+    (stands_in _ _ c.args.place.now c.self.view_is c.requires.stands) in
+    let busy = sym c.is_busy_at-busy.ensures ∙ c.if-not-busy.false in (
+      c.self.invariant.0,
+      rw (c.in-Ok.ensures.ok.1) (rw (
+        stays-level sound c.args.place.now.flow busy c.self.inside.queue sound.level,
+        stays-active sound c.args.place.now.flow busy,
+      ) at (sound-came sound (living _ _ c.self.view_is c.requires.living sound) c.args.place.now.flow c.args.body
+          c.requires.body there)),
     )
 
 pub returns-in_default : goal.returns-in_default
@@ -45,4 +57,11 @@ returns g c =
     (stands_in _ _ c.args.place.now c.self.view_is c.requires.stands) in
     let ok = c.in-Ok.ensures.ok in
     took_number _ _ _ c.args.place.now.flow c.args.body c.in-Ok.seq c.self.view_is there ok.0
-    (rw (c.settle.ensures.queue, c.settle.ensures.ledger, ok.1) refl)
+    (elim c.if-not-busy.branch [
+      | then-not-busy w ↦ w.self-is ∙ rw (w.wake.ensures.queue, w.wake.ensures.ledger, ok.1) refl
+      | else-not-busy w ↦ let busy = sym c.is_busy_at-busy.ensures ∙ w.if-not-busy.false in w.self-is ∙ rw (
+        ok.1,
+        stays-level c.self.invariant.1 c.args.place.now.flow busy c.self.inside.queue c.self.invariant.1.level,
+        stays-active c.self.invariant.1 c.args.place.now.flow busy,
+      ) refl
+    ])

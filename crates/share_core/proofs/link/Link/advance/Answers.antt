@@ -1,5 +1,5 @@
 use Rattle.std.proofs.Common.{◌≡◌, false, subst, sym}
-use Rattle.share_model.specs.link.Seen.{Seen}
+use Rattle.share_model.specs.link.View.{LinkView}
 use Rattle.share_core.proofs.Living.{living}
 use Rattle.share_core.proofs.Writes.{sent, within, sound-advance}
 use Rattle.share_core.proofs.link.Link.advance.Goals as goal
@@ -9,7 +9,8 @@ invariant_of-self g c =
     let sound = c.self.invariant.1 in
     let t = sent _ _ c.args.place c.self.view_is c.requires.place in
     let fits = within _ _ c.args.place c.args.k c.self.view_is t c.requires.within in
-    let unbroken = subst (λ (k : Seen (Unit {0})). k.live.broken ≡ false) (sym c.self.view_is) c.requires.unbroken in (
+    let unbroken = subst (λ (k : LinkView (Unit {0})). k.live.broken ≡ false) (sym c.self.view_is)
+    c.requires.unbroken in (
       c.self.invariant.0,
       rw (c.from.ensures) (sound-advance _ _ _ c.args.place sound t
           (living _ _ c.self.view_is c.requires.living sound) unbroken c.args.k fits.0 c.requires.part),

@@ -1,8 +1,8 @@
 use Rattle.std.proofs.Common.{◌∙◌, ap, sym, arith}
-use Rattle.share_model.specs.link.Live.{waiting_of}
-use Rattle.share_model.specs.link.Seen.{Seen}
-use Rattle.share_model.specs.stride.LevelLaws.{is_there-level_one}
-use Rattle.share_model.specs.run.SoundCloseLaws.{sound-close_flow}
+use Rattle.share_model.specs.link.Commands.{waiting_of}
+use Rattle.share_model.specs.link.View.{LinkView}
+use Rattle.share_model.proofs.lemmas.stride.LevelLaws.{is_there-level_one}
+use Rattle.share_model.proofs.lemmas.run.SoundCloseLaws.{sound-close_flow}
 use Rattle.share_core.proofs.Arrivals.{stands-joined, stands-buffered, stands-booked}
 use Rattle.share_core.proofs.Closings.{closable, levelled-idle, can-close, past_few}
 use Rattle.share_core.proofs.Living.{living}
@@ -32,8 +32,8 @@ pub overflow_add-self-3 : goal.overflow_add-self-3
 overflow_add-self-3 g c =
     omega (arith, c.account-account.ensures, past_few c.self.invariant.1 c.self.invariant.0.0 c.args.flow)
 
-pub level_anew-requires : goal.level_anew-requires
-level_anew-requires g c =
+pub level_from_scratch-requires : goal.level_from_scratch-requires
+level_from_scratch-requires g c =
     rw (c.remove.ensures, c.level.ensures, c.remove_flow.ensures)
     (can-close c.self.invariant.1 c.args.flow (closable _ _ _ c.self.view_is c.requires.may).stands)
 
@@ -42,10 +42,10 @@ invariant_of-self g c =
     let sound = c.self.invariant.1 in
     let may = closable _ _ _ c.self.view_is c.requires.may in
     let dropped = c.waiting_of-dropped.ensures
-    ∙ ap (λ (k : Seen (Unit {0})). waiting_of k.live c.args.flow) (sym c.self.view_is) in (
-      (c.self.invariant.0.0, c.level_anew.ensures.levels),
+    ∙ ap (λ (k : LinkView (Unit {0})). waiting_of k.live c.args.flow) (sym c.self.view_is) in (
+      (c.self.invariant.0.0, c.level_from_scratch.ensures.levelled_with),
       rw (
-        c.level_anew.ensures.queue,
+        c.level_from_scratch.ensures.queue,
         c.remove.ensures,
         c.level.ensures,
         c.remove_flow.ensures,

@@ -1,5 +1,5 @@
 use Rattle.std.proofs.Common.{◌≡◌, false, subst, sym}
-use Rattle.share_model.specs.link.Seen.{Seen}
+use Rattle.share_model.specs.link.View.{LinkView}
 use Rattle.share_core.proofs.Living.{living}
 use Rattle.share_core.proofs.Standing.{booked_at, stands_in}
 use Rattle.share_core.proofs.Writes.{sent, known, posts, out_few, joined, clock, sound-fail}
@@ -39,7 +39,8 @@ pub invariant_of-self : goal.invariant_of-self
 invariant_of-self g c =
     let sound = c.self.invariant.1 in
     let t = sent _ _ c.args.place c.self.view_is c.requires.place in
-    let unbroken = subst (λ (k : Seen (Unit {0})). k.live.broken ≡ false) (sym c.self.view_is) c.requires.unbroken in (
+    let unbroken = subst (λ (k : LinkView (Unit {0})). k.live.broken ≡ false) (sym c.self.view_is)
+    c.requires.unbroken in (
       c.self.invariant.0,
       rw (c.charge.ensures, c.charge_at-units.ensures.posted, c.charge_at-units.ensures.units)
           (sound-fail _ _ _ c.args.place sound t (g.met.S.Rates.in_range c.self.inside.shelf)

@@ -1,13 +1,13 @@
-use Rattle.std.proofs.Common.{◌≡◌, ◌≤◌, ◌∙◌, false, ap, subst, sym}
-use Rattle.share_model.specs.link.Seen.{Seen}
-use Rattle.share_model.specs.run.SoundLaws.{units_due-few}
-use Rattle.share_model.specs.funding.Changes.{set_active}
-use Rattle.share_core.proofs.Activities.{stays-active}
+use Rattle.std.proofs.Common.{◌≡◌, ◌≤◌, ◌∙◌, true, false, refl, subst, sym}
+use Rattle.share_model.specs.link.View.{LinkView}
+use Rattle.share_model.proofs.lemmas.run.SoundLaws.{units_due-few}
 use Rattle.share_core.proofs.Living.{living}
 use Rattle.share_core.proofs.Standing.{booked_at, stands_in}
 use Rattle.share_core.proofs.Writes.{sent, within, known, posts, short, joined, clock, busy}
-use Rattle.share_core.proofs.Writes.{charged-level, charged-can, sound-finish}
+use Rattle.share_core.proofs.Writes.{charged-level, charged-can, due-stays, activity-stays, sound-finish}
+use Rattle.share_core.proofs.Writes.{left, finished}
 use Rattle.share_core.proofs.link.Link.finish.Goals as goal
+use Rattle.share_core.proofs.link.Link.finish.Goals.{then-not-is_busy_at, else-not-is_busy_at}
 
 pub charge_at-units-requires-clause-there : goal.charge_at-units-requires-clause-there
 charge_at-units-requires-clause-there g c =
@@ -46,20 +46,13 @@ pub pop_at-requires-clause-busy : goal.pop_at-requires-clause-busy
 pop_at-requires-clause-busy g c =
     busy _ _ _ c.args.place c.self.invariant.1 (sent _ _ c.args.place c.self.view_is c.requires.place)
 
-pub settle-requires-clause-stands : goal.settle-requires-clause-stands
-settle-requires-clause-stands g c =
-    let sound = c.self.invariant.1 in
-    let t = sent _ _ c.args.place c.self.view_is c.requires.place in
-    λ left. ap (set_active c.self.inside.ledger c.args.place.buffer.flow) left
-    ∙ stays-active sound c.args.place.buffer.flow (busy _ _ _ c.args.place sound t)
-
-pub settle-requires-clause-level : goal.settle-requires-clause-level
-settle-requires-clause-level g c =
+pub rest-requires-clause-level : goal.rest-requires-clause-level
+rest-requires-clause-level g c =
     let t = sent _ _ c.args.place c.self.view_is c.requires.place in
     rw (c.charge.ensures) (charged-level _ _ _ c.args.place c.self.invariant.1 t c.charge_at-units.result)
 
-pub settle-requires-clause-can : goal.settle-requires-clause-can
-settle-requires-clause-can g c =
+pub rest-requires-clause-can : goal.rest-requires-clause-can
+rest-requires-clause-can g c =
     let sound = c.self.invariant.1 in
     let t = sent _ _ c.args.place c.self.view_is c.requires.place in
     let few = subst (λ units. units ≤ 4026) (sym c.charge_at-units.ensures.units)
@@ -67,25 +60,82 @@ settle-requires-clause-can g c =
     (short _ _ _ c.args.place sound t)) in
     rw (c.charge.ensures)
     (charged-can _ _ _ c.args.place sound t c.charge_at-units.result
-    (living _ _ c.self.view_is c.requires.living sound) few c.is_busy_at-busy.result)
+    (living _ _ c.self.view_is c.requires.living sound) few false)
 
 pub invariant_of-self : goal.invariant_of-self
 invariant_of-self g c =
     let sound = c.self.invariant.1 in
     let t = sent _ _ c.args.place c.self.view_is c.requires.place in
     let fits = within _ _ c.args.place c.args.k c.self.view_is t c.requires.within in
-    let unbroken = subst (λ (k : Seen (Unit {0})). k.live.broken ≡ false) (sym c.self.view_is) c.requires.unbroken in (
-      (c.self.invariant.0.0, c.settle.ensures.levels),
+    let unbroken = subst (λ (k : LinkView (Unit {0})). k.live.broken ≡ false) (sym c.self.view_is)
+    c.requires.unbroken in
+    let idle = left _ _ _ _ false c.pop_at.ensures.after c.is_busy_at.ensures c.if-not-is_busy_at.true in (
+      (c.self.invariant.0.0, c.rest.ensures.levelled_with),
       rw (
-        c.settle.ensures.queue,
-        c.settle.ensures.ledger,
-        c.is_busy_at-busy.ensures,
+        c.rest.ensures.queue,
+        c.rest.ensures.ledger,
         c.pop_at.ensures.after,
         c.charge.ensures,
         c.charge_at-units.ensures.posted,
         c.charge_at-units.ensures.units,
         c.from.ensures,
       )
-          (sound-finish _ _ _ c.args.place sound t (g.met.S.Rates.in_range c.self.inside.shelf)
-          (living _ _ c.self.view_is c.requires.living sound) unbroken c.args.k fits.1),
+          (rw (idle) at (sound-finish _ _ _ c.args.place sound t (g.met.S.Rates.in_range c.self.inside.shelf)
+          (living _ _ c.self.view_is c.requires.living sound) unbroken c.args.k fits.1)),
     )
+
+pub invariant_of-self-else-not-is_busy_at : goal.invariant_of-self-else-not-is_busy_at
+invariant_of-self-else-not-is_busy_at g c =
+    let sound = c.self.invariant.1 in
+    let t = sent _ _ c.args.place c.self.view_is c.requires.place in
+    let fits = within _ _ c.args.place c.args.k c.self.view_is t c.requires.within in
+    let unbroken = subst (λ (k : LinkView (Unit {0})). k.live.broken ≡ false) (sym c.self.view_is)
+    c.requires.unbroken in
+    let still = left _ _ _ _ true c.pop_at.ensures.after c.is_busy_at.ensures c.if-not-is_busy_at.false in (
+      c.self.invariant.0,
+      rw (
+        c.pop_at.ensures.after,
+        c.charge.ensures,
+        c.charge_at-units.ensures.posted,
+        c.charge_at-units.ensures.units,
+        c.from.ensures,
+      )
+          (rw (
+            still,
+            due-stays _ _ _ c.args.place sound t,
+            activity-stays _ _ _ c.args.place sound t,
+          ) at (sound-finish _ _ _ c.args.place sound t (g.met.S.Rates.in_range c.self.inside.shelf)
+          (living _ _ c.self.view_is c.requires.living sound) unbroken c.args.k fits.1)),
+    )
+
+pub returns : goal.returns
+returns g c =
+    let sound = c.self.invariant.1 in
+    let t = sent _ _ c.args.place c.self.view_is c.requires.place in
+    finished _ _ _ c.args.place c.args.k c.self.view_is t
+    (elim c.if-not-is_busy_at.branch [
+      | then-not-is_busy_at w ↦
+          let idle = left _ _ _ _ false c.pop_at.ensures.after c.is_busy_at.ensures w.if-not-is_busy_at.true in
+          w.self-is ∙ rw (
+            w.rest.ensures.queue,
+            w.rest.ensures.ledger,
+            idle,
+            c.pop_at.ensures.after,
+            c.charge.ensures,
+            c.charge_at-units.ensures.posted,
+            c.charge_at-units.ensures.units,
+            c.from.ensures,
+          ) refl
+      | else-not-is_busy_at w ↦
+          let still = left _ _ _ _ true c.pop_at.ensures.after c.is_busy_at.ensures w.if-not-is_busy_at.false in
+          w.self-is ∙ rw (
+            c.pop_at.ensures.after,
+            c.charge.ensures,
+            c.charge_at-units.ensures.posted,
+            c.charge_at-units.ensures.units,
+            c.from.ensures,
+            still,
+            due-stays _ _ _ c.args.place sound t,
+            activity-stays _ _ _ c.args.place sound t,
+          ) refl
+    ])

@@ -1,6 +1,6 @@
 use Rattle.std.proofs.Common.{◌≡◌, None, arith, refl}
 use Rattle.std.proofs.lemmas.Bool.Decides.{nat_tests}
-use Rattle.share_model.specs.run.SoundStepLaws.{sound-empty}
+use Rattle.share_model.proofs.lemmas.run.SoundStepLaws.{sound-empty}
 use Rattle.share_core.specs.Life.{life_refusal}
 use Rattle.share_core.proofs.Unmet.{refused-memory}
 use Rattle.share_core.proofs.link.Link.new.Goals as goal

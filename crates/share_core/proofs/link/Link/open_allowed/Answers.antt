@@ -1,10 +1,11 @@
 use Rattle.std.proofs.Common.{◌≡◌, ◌∙◌, None, ap, refl, sym, subst, arith}
 use Rattle.std.specs.FinMap.{get}
 use Rattle.share_model.specs.link.Buffers.{buffer_of}
-use Rattle.share_model.specs.run.SoundStepLaws.{sound-open_flow}
+use Rattle.share_model.proofs.lemmas.run.SoundStepLaws.{sound-open_flow}
 use Rattle.share_core.proofs.Arrivals.{book_count}
 use Rattle.share_core.proofs.Living.{living}
-use Rattle.share_core.proofs.Openings.{added, next-unjoined, next-unbuffered, opened-found, closed-opened, found_none}
+use Rattle.share_core.proofs.Openings.{added, next-unjoined, next-unbuffered, open_in-found, close_in-open_in}
+use Rattle.share_core.proofs.Openings.{found_none}
 use Rattle.share_core.proofs.Openings.{can-open, allowed-room, queue-room, allowed_of}
 use Rattle.share_core.proofs.link.Link.open_allowed.Goals as goal
 
@@ -15,7 +16,7 @@ open-requires g c =
 pub close-requires : goal.close-requires
 close-requires g c =
     let none = ap (buffer_of c.self.inside.buffers) c.next_flow.ensures ∙ next-unbuffered c.self.invariant.1 in
-    rw (c.in-Ok.ensures.ok.0) (opened-found c.self.inside.buffers c.next_flow.result c.args.limit none)
+    rw (c.in-Ok.ensures.ok.0) (open_in-found c.self.inside.buffers c.next_flow.result c.args.limit none)
 
 pub invariant_of-self-in-Err : goal.invariant_of-self-in-Err
 invariant_of-self-in-Err g c =
@@ -24,7 +25,7 @@ invariant_of-self-in-Err g c =
       c.in-Err.ensures.refused.1,
       c.close.ensures.after,
       c.in-Ok.ensures.ok.0,
-      closed-opened c.self.inside.buffers c.next_flow.result c.args.limit none,
+      close_in-open_in c.self.inside.buffers c.next_flow.result c.args.limit none,
     )
     c.self.invariant
 
@@ -39,8 +40,8 @@ open-requires-in-Ok-add_flow g c =
     let room = allowed-room c.self.invariant.1 c.args.name c.args.limit c.args.tariff allowed in
     omega (arith, room, book_count c.self.invariant.1)
 
-pub level_anew-requires : goal.level_anew-requires
-level_anew-requires g c =
+pub level_from_scratch-requires : goal.level_from_scratch-requires
+level_from_scratch-requires g c =
     let sound = c.self.invariant.1 in
     let allowed = allowed_of _ _ c.args.name c.args.limit c.args.tariff c.self.view_is c.requires.allowed in
     let room = allowed-room c.self.invariant.1 c.args.name c.args.limit c.args.tariff allowed in
@@ -55,9 +56,9 @@ invariant_of-self-in-Ok-add_flow g c =
     let allowed = allowed_of _ _ c.args.name c.args.limit c.args.tariff c.self.view_is c.requires.allowed in
     let joined = added _ _ _ _ c.add.ensures.ok c.add.ensures.refused
     (queue-room sound c.args.name c.args.limit c.args.tariff allowed) in (
-      (c.self.invariant.0.0, c.level_anew.ensures.levels),
+      (c.self.invariant.0.0, c.level_from_scratch.ensures.levelled_with),
       rw (
-        c.level_anew.ensures.queue,
+        c.level_from_scratch.ensures.queue,
         joined,
         c.open-in-Ok-add_flow.ensures,
         c.in-Ok.ensures.ok.0,
@@ -77,6 +78,6 @@ returns-in-Err g c =
       c.in-Err.ensures.refused.1,
       c.close.ensures.after,
       c.in-Ok.ensures.ok.0,
-      closed-opened c.self.inside.buffers c.next_flow.result c.args.limit none,
+      close_in-open_in c.self.inside.buffers c.next_flow.result c.args.limit none,
     ) refl)
     c.requires.living c.requires.allowed

@@ -1,6 +1,6 @@
 use Rattle.std.proofs.Common.{◌∙◌, ap, sym, position}
-use Rattle.share_model.specs.link.Buffers.{is_buffer_of, count_by, closed}
-use Rattle.share_flows.specs.PlaceLaws.{taken}
+use Rattle.share_model.specs.link.Buffers.{is_buffer_of, count_by, close_in}
+use Rattle.share_flows.proofs.PlaceLaws.{taken}
 use Rattle.share_flows.proofs.Standing.{standing_of}
 use Rattle.share_flows.proofs.Apart.{apart-remove}
 use Rattle.share_flows.proofs.buffers.Buffers.close.Goals as goal
@@ -18,7 +18,7 @@ returns-clause-after c =
     ∙ c.place-place.ensures.stands in
     c.remove-ring.ensures.items
     ∙ (taken (is_buffer_of c.args.flow) _ c.place-place.result.at place
-    ∙ ap (λ bs. closed bs c.args.flow) c.self.view_is)
+    ∙ ap (λ bs. close_in bs c.args.flow) c.self.view_is)
 
 pub invariant_of-self : goal.invariant_of-self
 invariant_of-self c =

@@ -5,7 +5,7 @@ use Rattle.share_ingress.proofs.reader.IngressReader.end.Goals as goal
 pub invariant_of-self : goal.invariant_of-self
 invariant_of-self g c = (
   c.self.invariant.0,
-  stands_ended g.R.Source.gives g.R.Source.left c.args.ended (record {
+  stands_ended g.R.TellingReader.gives g.R.TellingReader.left c.args.ended (record {
     reader = c.self.inside.reader;
     held = c.self.inside.held.items;
     turns = c.self.inside.turns;

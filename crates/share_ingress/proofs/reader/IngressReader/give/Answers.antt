@@ -9,7 +9,8 @@ returns-in-Err g c = let e = c.end.ensures in answers_ended _ _ _ _ _ _ _ (no_me
 pub returns-in-Ok : goal.returns-in-Ok
 returns-in-Ok g c =
     rw (← c.self.view_is)
-    (given_whole g.R.Source.gives g.R.Source.left c.self.inside.reader c.self.inside.held.items c.args.name
+    (given_whole g.R.TellingReader.gives g.R.TellingReader.left c.self.inside.reader c.self.inside.held.items
+    c.args.name
     c.self.inside.turns c.args.size (3 + length c.as_bytes.result.now) c.self.inside.ended
     (rw (← c.self.view_is) at c.requires.whole) (rw (← c.self.view_is) at c.requires.still)
     (rw c.as_bytes.ensures.value refl) c.in-Ok.parcel (rw (← c.as_slice.ensures) c.in-Ok.ensures.ok.0) _

@@ -1,11 +1,11 @@
-use Rattle.share_ingress.specs.Reader.{Stands}
+use Rattle.share_ingress.specs.Reader.{EndStands}
 use Rattle.share_ingress.proofs.ReaderSteps.{some_known}
 use Rattle.share_ingress.proofs.reader.IngressReader.next.Goals as goal
 
 pub returns-in-Some-clause-reason : goal.returns-in-Some-clause-reason
 returns-in-Some-clause-reason g c =
     rw (← c.self.view_is)
-    (some_known _ _ (λ e. Stands g.R.Source.gives (record {
+    (some_known _ _ (λ e. EndStands g.R.TellingReader.gives (record {
       reader = c.self.inside.reader;
       held = c.self.inside.held.items;
       turns = c.self.inside.turns;

@@ -18,22 +18,26 @@ returns-in-Bytes-clause-read g c =
     let whole = read_whole _ _ _ _ c.deref.ensures.value
     (c.take_bytes.auto.buffer ∙ c.as_mut_slice.ensures.len) in
     rw (← c.self.view_is, c.extend_reserved.ensures.items, c.reserve.ensures.items, whole)
-    (bytes_read g.R.Source.gives g.R.Source.left g.met.R.Source.tells _ _ _ _ _ _ _ c.if-self-eq0.false
+    (bytes_read g.R.TellingReader.gives g.R.TellingReader.left g.met.R.TellingReader.tells _ _ _ _ _ _ _
+    c.if-self-eq0.false
     (rw (← c.self.view_is) at c.requires.still) c.in-Bytes.ensures)
 
 pub returns-in-Interrupted-clause-read : goal.returns-in-Interrupted-clause-read
 returns-in-Interrupted-clause-read g c =
     rw (← c.self.view_is, c.reserve.ensures.items)
-    (interrupted g.R.Source.gives g.R.Source.left g.met.R.Source.tells _ _ _ _ _ _ c.if-self-eq0.false
+    (interrupted g.R.TellingReader.gives g.R.TellingReader.left g.met.R.TellingReader.tells _ _ _ _ _ _
+    c.if-self-eq0.false
     (rw (← c.self.view_is) at c.requires.still) c.in-Interrupted.ensures)
 
 pub returns-in-End-clause-read : goal.returns-in-End-clause-read
 returns-in-End-clause-read g c =
     rw (← c.self.view_is, c.reserve.ensures.items)
-    (ended_input g.R.Source.gives g.R.Source.left g.met.R.Source.tells _ _ _ _ _ _ _ c.if-self-eq0.false
+    (ended_input g.R.TellingReader.gives g.R.TellingReader.left g.met.R.TellingReader.tells _ _ _ _ _ _ _
+    c.if-self-eq0.false
     (rw (← c.reserve.ensures.items, ← c.as_slice.ensures) c.end_of_input.ensures) c.in-End.ensures)
 
 pub returns-in-Failed-clause-read : goal.returns-in-Failed-clause-read
 returns-in-Failed-clause-read g c =
     rw (← c.self.view_is, c.reserve.ensures.items)
-    (failed g.R.Source.gives g.R.Source.left g.met.R.Source.tells _ _ _ _ _ _ c.if-self-eq0.false c.in-Failed.ensures)
+    (failed g.R.TellingReader.gives g.R.TellingReader.left g.met.R.TellingReader.tells _ _ _ _ _ _ c.if-self-eq0.false
+    c.in-Failed.ensures)

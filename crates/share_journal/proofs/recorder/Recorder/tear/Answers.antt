@@ -1,5 +1,5 @@
-use Rattle.share_model.specs.link.TurnLaws.{tear-went}
-use Rattle.share_model.specs.run.Laws.{tear-ran}
+use Rattle.share_model.proofs.lemmas.link.TurnLaws.{tear-went}
+use Rattle.share_model.proofs.lemmas.run.Laws.{tear-ran}
 use Rattle.share_journal.proofs.Runs.{run-sound, turn-room, turn-kept}
 use Rattle.share_journal.proofs.recorder.Recorder.tear.Goals as goal
 
@@ -7,14 +7,14 @@ pub note_turn-requires : goal.note_turn-requires
 note_turn-requires g c =
     let went = tear-went c.self.inside.engine c.tear-turn.result c.tear-turn.new.self (run-sound c.self.invariant.1)
     c.tear-turn.ensures in
-    turn-room g.W.Telling.told c.self.inside.engine c.tear-turn.new.self c.self.inside.journal c.tear-turn.result
-    c.self.invariant (tear-ran g.W.Telling.told c.self.inside.engine c.tear-turn.new.self c.self.invariant.1.range
+    turn-room g.W.TellingWriter.told c.self.inside.engine c.tear-turn.new.self c.self.inside.journal c.tear-turn.result
+    c.self.invariant (tear-ran g.W.TellingWriter.told c.self.inside.engine c.tear-turn.new.self c.self.invariant.1.range
     c.tear-turn.result went)
 
 pub invariant_of-self : goal.invariant_of-self
 invariant_of-self g c =
     let went = tear-went c.self.inside.engine c.tear-turn.result c.tear-turn.new.self (run-sound c.self.invariant.1)
     c.tear-turn.ensures in
-    turn-kept g.W.Telling.told c.self.inside.engine c.tear-turn.new.self c.self.inside.journal c.tear-turn.result
-    c.self.invariant (tear-ran g.W.Telling.told c.self.inside.engine c.tear-turn.new.self c.self.invariant.1.range
+    turn-kept g.W.TellingWriter.told c.self.inside.engine c.tear-turn.new.self c.self.inside.journal c.tear-turn.result
+    c.self.invariant (tear-ran g.W.TellingWriter.told c.self.inside.engine c.tear-turn.new.self c.self.invariant.1.range
     c.tear-turn.result went) c.note_turn.new.journal c.note_turn.ensures

@@ -16,7 +16,7 @@ pub give-requires-clause-begun : goal.give-requires-clause-begun
 give-requires-clause-begun c =
     let g = c.self.inside.tables in
     comes-to-fund g c.fund_flow.new.self c.args.ticket (Flow (flow_number (flow_named g c.args.flow)))
-    c.self.inside.kept.net _ _ c.in_ok-fund_flow.ensures.done.1
+    c.self.inside.cache.net _ _ c.in_ok-fund_flow.ensures.done.1
     (free-flow g c.args.ticket c.args.flow c.in_ok-fund_flow.ensures.done.0) c.self.invariant.net_ready.begun
     c.route_of-backing.ensures.routed
 

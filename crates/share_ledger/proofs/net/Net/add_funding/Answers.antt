@@ -1,9 +1,9 @@
 use Rattle.std.proofs.Common.{◌≡◌, ◌≤◌, ◌^◌, ℕ, true, false, List, ap, arith}
 use Rattle.std.proofs.lemmas.Bool.Decides.{nat_tests}
 use Rattle.share_ledger.specs.Arrays.{flags_of, numbers_of}
-use Rattle.share_ledger.specs.Seats.{backs_of, funds_of}
-use Rattle.share_ledger.proofs.NetMore.{counted-given, less-bound, seated-more, seated-same, sum-bound}
-use Rattle.share_ledger.proofs.SeatCounts.{room-more}
+use Rattle.share_ledger.specs.FundingTickets.{backs_of, funds_of}
+use Rattle.share_ledger.proofs.NetMore.{counted-given, less-bound, ticketed-more, ticketed-same, sum-bound}
+use Rattle.share_ledger.proofs.FundingCounts.{room-more}
 use Rattle.share_ledger.proofs.net.Net.add_funding.Goals as goal
 
 pub grow-requires-clause-small : goal.grow-requires-clause-small
@@ -18,8 +18,8 @@ grow-requires-clause-small c = λ p lt.
     ap (λ (ws : List ℕ). numbers_of ws p) c.deref_mut.ensures.value in
     omega (arith, bound, same)
 
-pub seat-requires-clause-room : goal.seat-requires-clause-room
-seat-requires-clause-room c =
+pub add_funding_ticket-requires-clause-room : goal.add_funding_ticket-requires-clause-room
+add_funding_ticket-requires-clause-room c =
     let b = c.requires.begun in
     room-more c.args.tables.now c.is_kept.ensures false b.1.0 c.args.route.now c.args.self.now.funding.items
     b.1.1.0.funding c.requires.within.to_place b.1.1.2
@@ -35,18 +35,18 @@ returns-clause-begun c =
     let was = b.1.1.0 in
     let gb = b.1.1.1 in
     let gf = b.1.1.2 in
-    let joined = c.seat.ensures.seated in
+    let joined = c.add_funding_ticket.ensures.ticketed in
     record {
-      backing = seated-same backs (backs_of g) r old.backing.items was.backing gb;
-      funding = seated-more funds (funds_of g) r old.funding.items c.seat.new.holders.items was.funding
+      backing = ticketed-same backs (backs_of g) r old.backing.items was.backing gb;
+      funding = ticketed-more funds (funds_of g) r old.funding.items c.add_funding_ticket.new.holders.items was.funding
           c.requires.within gf
-          joined c.seat.ensures.places;
+          joined c.add_funding_ticket.ensures.places;
       ranked = was.ranked;
       listed = was.listed;
       active_is = was.active_is;
       counted = counted-given _ _ _ _ r false true _ _ gb gf _ _ was.counted (λ p lt.
           let grew = c.grow.ensures p lt in
-          let amount = c.counted-amount.ensures in
+          let amount = c.amount_if-amount.ensures in
           grind (arith, nat_tests));
       small = was.small;
     }

@@ -1,6 +1,6 @@
 use Rattle.std.proofs.Common.{rules}
 use Rattle.share_ledger.specs.Arrays.{flags_of, numbers_of}
-use Rattle.share_ledger.proofs.Settled.{values-there}
+use Rattle.share_ledger.proofs.Computed.{values-there}
 use Rattle.share_ledger.proofs.StaleSteps.{shared-still}
 use Rattle.share_ledger.proofs.net.Net.follow_changed.Goals as goal
 
@@ -22,7 +22,8 @@ returns-clause-ready c =
       valued = search rules;
       shared = shared-still (flags_of c.revalue-moved.result.flags) (numbers_of old.values.value)
           (numbers_of c.revalue-moved.new.values) (numbers_of old.seen.value) (numbers_of c.spread.new.weights)
-          old.funding.items (flags_of old.active.value) (numbers_of c.args.shares.now) (numbers_of c.reshare.new.shares)
+          old.funding.items (flags_of old.active.value) (numbers_of c.args.tickets_of_all.now)
+          (numbers_of c.reshare.new.tickets_of_all)
           c.args.flow begun.funding.within (search rules) (λ p lt. let own = c.reshare.ensures p lt in cc)
           c.requires.was.shared;
       seen_is = search rules;

@@ -3,8 +3,8 @@ use Rattle.std.proofs.lemmas.Bool.Decides.{nat_tests}
 use Rattle.share_ledger.proofs.NetSteps.{array-set}
 use Rattle.share_ledger.proofs.net.Net.share_one.Goals as goal
 
-pub returns-then-flow-ge-MAX_FLOWS-clause-shares : goal.returns-then-flow-ge-MAX_FLOWS-clause-shares
-returns-then-flow-ge-MAX_FLOWS-clause-shares c = grind (arith, nat_tests)
+pub returns-then-flow-ge-MAX_FLOWS-clause-tickets_of_all : goal.returns-then-flow-ge-MAX_FLOWS-clause-tickets_of_all
+returns-then-flow-ge-MAX_FLOWS-clause-tickets_of_all c = grind (arith, nat_tests)
 
-pub returns-clause-shares : goal.returns-clause-shares
-returns-clause-shares c = grind (arith, nat_tests, array-set)
+pub returns-clause-tickets_of_all : goal.returns-clause-tickets_of_all
+returns-clause-tickets_of_all c = grind (arith, nat_tests, array-set)

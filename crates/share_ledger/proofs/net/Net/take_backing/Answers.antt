@@ -1,15 +1,15 @@
 use Rattle.std.proofs.Common.{ℕ, true, false, List, ap, arith}
 use Rattle.std.proofs.lemmas.Bool.Decides.{nat_tests}
 use Rattle.share_ledger.specs.Arrays.{numbers_of}
-use Rattle.share_ledger.specs.Seats.{backs_of, funds_of}
-use Rattle.share_ledger.proofs.NetMore.{gain-held, counted-taken, seated-less, seated-back, ranked-less}
-use Rattle.share_ledger.proofs.SeatCounts.{seat-there}
+use Rattle.share_ledger.specs.FundingTickets.{backs_of, funds_of}
+use Rattle.share_ledger.proofs.NetMore.{gain-held, counted-taken, ticketed-less, ticketed-back, ranked-less}
+use Rattle.share_ledger.proofs.FundingCounts.{funding_ticket-there}
 use Rattle.share_ledger.proofs.net.Net.take_backing.Goals as goal
 
-pub unseat-requires-clause-has : goal.unseat-requires-clause-has
-unseat-requires-clause-has c =
+pub remove_funding_ticket-requires-clause-has : goal.remove_funding_ticket-requires-clause-has
+remove_funding_ticket-requires-clause-has c =
     let b = c.requires.begun in
-    seat-there b.0 (backs_of c.args.tables.now) c.args.route.now c.args.self.now.backing.items b.1.1.0.backing
+    funding_ticket-there b.0 (backs_of c.args.tables.now) c.args.route.now c.args.self.now.backing.items b.1.1.0.backing
     c.requires.within.to_place b.1.1.1
 
 pub shrink-requires-clause-held : goal.shrink-requires-clause-held
@@ -20,7 +20,7 @@ shrink-requires-clause-held c =
     let held =
     gain-held (backs_of g) (funds_of g) _ _ r true false _ _ b.1.1.1 b.1.1.2 _ b.1.1.0.counted r.from
     c.requires.within.from_place in
-    let amount = c.counted-amount.ensures in
+    let amount = c.amount_if-amount.ensures in
     let same = ap (λ (ws : List ℕ). numbers_of ws r.from) c.deref_mut.ensures.value in
     grind (arith, nat_tests)
 
@@ -35,19 +35,21 @@ returns-clause-begun c =
     let was = b.1.1.0 in
     let gb = b.1.1.1 in
     let gf = b.1.1.2 in
-    let out = c.unseat.ensures.out in
+    let out = c.remove_funding_ticket.ensures.out in
     record {
-      backing = seated-less backs (backs_of g) r old.backing.items c.unseat.new.holders.items was.backing gb
-          c.unseat.ensures.others
-          out c.unseat.ensures.places;
-      funding = seated-back funds (funds_of g) r old.funding.items was.funding gf;
-      ranked = ranked-less backs (backs_of g) r old.backing.items c.unseat.new.holders.items was.backing gb
-          c.unseat.ensures.others out (numbers_of old.ranks.value) was.ranked;
+      backing = ticketed-less backs (backs_of g) r old.backing.items c.remove_funding_ticket.new.holders.items
+          was.backing gb
+          c.remove_funding_ticket.ensures.others
+          out c.remove_funding_ticket.ensures.places;
+      funding = ticketed-back funds (funds_of g) r old.funding.items was.funding gf;
+      ranked = ranked-less backs (backs_of g) r old.backing.items c.remove_funding_ticket.new.holders.items was.backing
+          gb
+          c.remove_funding_ticket.ensures.others out (numbers_of old.ranks.value) was.ranked;
       listed = was.listed;
       active_is = was.active_is;
       counted = counted-taken _ _ _ _ r true false _ _ gb gf _ _ was.counted (λ p lt.
           let shrank = c.shrink.ensures p lt in
-          let amount = c.counted-amount.ensures in
+          let amount = c.amount_if-amount.ensures in
           grind (arith, nat_tests));
       small = was.small;
     }

@@ -1,10 +1,10 @@
 use Rattle.std.proofs.Common.{arith}
-use Rattle.share_ledger.proofs.NetQuiet.{taken-base}
+use Rattle.share_ledger.proofs.NetQuiet.{amount_from-base}
 use Rattle.share_ledger.proofs.net.Net.turn.Goals as goal
 use Rattle.std.proofs.lemmas.Bool.Decides.{nat_tests}
 
 pub returns-then-active-clause-still : goal.returns-then-active-clause-still
-returns-then-active-clause-still c = grind (arith, nat_tests, taken-base)
+returns-then-active-clause-still c = grind (arith, nat_tests, amount_from-base)
 
 pub returns-clause-still : goal.returns-clause-still
-returns-clause-still c = grind (arith, nat_tests, taken-base)
+returns-clause-still c = grind (arith, nat_tests, amount_from-base)

@@ -4,7 +4,7 @@ use Rattle.share_model.specs.declared.funding.OpenFlow.{OpenFlow}
 use Rattle.share_model.specs.funding.Graph.{Graph}
 use Rattle.share_model.specs.funding.Changes.{add_flow_refusal, add_flow}
 use Rattle.share_model.specs.funding.Kept.{IsKept}
-use Rattle.share_model.specs.funding.FlowLaws.{kept-add_flow}
+use Rattle.share_model.proofs.lemmas.funding.FlowLaws.{kept-add_flow}
 use Rattle.share_ledger.proofs.Lays.{lay, fresh-flow}
 use Rattle.share_ledger.proofs.tables.Tables.add_flow.Goals as goal
 

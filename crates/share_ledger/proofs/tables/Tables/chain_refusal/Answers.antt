@@ -3,8 +3,8 @@ use Rattle.std.proofs.Common.{sym, ap, ◌∙◌, true≢false, arith}
 use Rattle.std.proofs.lemmas.Bool.Decides.{nat_tests}
 use Rattle.share_base.specs.declared.refusal.Refusal.{Refusal}
 use Rattle.share_base.specs.declared.refusal.Refusal.TheVariants.{Cycle, Deep}
-use Rattle.share_model.specs.funding.ChangeLaws.{stands}
-use Rattle.share_model.specs.lists.Laws.{each-find}
+use Rattle.share_model.proofs.lemmas.funding.ChangeLaws.{stands}
+use Rattle.share_model.proofs.lemmas.lists.Laws.{each-find}
 use Rattle.share_ledger.proofs.CyclePlaces.{cycle-backs, below-stands, tall-funded}
 use Rattle.share_ledger.proofs.Places.{IsPlaced, placed, place-base}
 use Rattle.share_ledger.proofs.tables.Tables.chain_refusal.Goals as goal
@@ -37,7 +37,8 @@ has_ranks-requires-clause-made c =
 pub returns-then-has_ranks : goal.returns-then-has_ranks
 returns-then-has_ranks c = λ found.
     let none =
-    below-stands _ c.is_kept.ensures _ c.requires.seated.seated _ c.requires.seated.ranked c.args.number c.args.currency
+    below-stands _ c.is_kept.ensures _ c.requires.ticketed.ticketed _ c.requires.ticketed.ranked c.args.number
+    c.args.currency
     _ c.requires.made (stands c.args.self.now c.args.currency c.requires.known)
     (sym c.ticket.ensures ∙ ap option_copied c.in-Some.is) _ _ c.place_of-from.ensures.value
     c.place_of-to.ensures.value (c.has_ranks.ensures.below c.if-has_ranks.true) in
@@ -46,13 +47,15 @@ returns-then-has_ranks c = λ found.
 pub returns-then-backs : goal.returns-then-backs
 returns-then-backs c = λ found.
     let cycle =
-    cycle-backs _ c.is_kept.ensures _ c.requires.seated.seated _ c.requires.seated.ranked c.args.number c.args.currency
+    cycle-backs _ c.is_kept.ensures _ c.requires.ticketed.ticketed _ c.requires.ticketed.ranked c.args.number
+    c.args.currency
     _ c.requires.made (stands c.args.self.now c.args.currency c.requires.known)
     (sym c.ticket.ensures ∙ ap option_copied c.in-Some.is) _ _ c.place_of-from.ensures.value
     c.place_of-to.ensures.value c.backs.ensures.0 c.backs.ensures.1.0 in
     let deep = c.has_ranks.ensures.deep c.if-has_ranks.false in
     refusal true true (cycle ∙ sym c.backs.ensures.1.1 ∙ c.if-backs.true)
-    (tall-funded _ c.is_kept.ensures _ c.requires.seated.seated _ c.requires.seated.ranked c.args.number c.args.currency
+    (tall-funded _ c.is_kept.ensures _ c.requires.ticketed.ticketed _ c.requires.ticketed.ranked c.args.number
+    c.args.currency
     _ c.requires.made (stands c.args.self.now c.args.currency c.requires.known)
     (sym c.ticket.ensures ∙ ap option_copied c.in-Some.is) _ _ c.place_of-from.ensures.value
     c.place_of-to.ensures.value c.requires.free deep.0 deep.1.1.0 deep.1.1.1)
@@ -60,13 +63,15 @@ returns-then-backs c = λ found.
 pub returns : goal.returns
 returns c = λ found.
     let cycle =
-    cycle-backs _ c.is_kept.ensures _ c.requires.seated.seated _ c.requires.seated.ranked c.args.number c.args.currency
+    cycle-backs _ c.is_kept.ensures _ c.requires.ticketed.ticketed _ c.requires.ticketed.ranked c.args.number
+    c.args.currency
     _ c.requires.made (stands c.args.self.now c.args.currency c.requires.known)
     (sym c.ticket.ensures ∙ ap option_copied c.in-Some.is) _ _ c.place_of-from.ensures.value
     c.place_of-to.ensures.value c.backs.ensures.0 c.backs.ensures.1.0 in
     let deep = c.has_ranks.ensures.deep c.if-has_ranks.false in
     refusal false true (cycle ∙ sym c.backs.ensures.1.1 ∙ c.if-backs.false)
-    (tall-funded _ c.is_kept.ensures _ c.requires.seated.seated _ c.requires.seated.ranked c.args.number c.args.currency
+    (tall-funded _ c.is_kept.ensures _ c.requires.ticketed.ticketed _ c.requires.ticketed.ranked c.args.number
+    c.args.currency
     _ c.requires.made (stands c.args.self.now c.args.currency c.requires.known)
     (sym c.ticket.ensures ∙ ap option_copied c.in-Some.is) _ _ c.place_of-from.ensures.value
     c.place_of-to.ensures.value c.requires.free deep.0 deep.1.1.0 deep.1.1.1)

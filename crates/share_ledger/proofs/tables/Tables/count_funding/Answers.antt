@@ -2,7 +2,7 @@ use Rattle.std.proofs.Common.{sym, ◌∙◌, arith}
 use Rattle.share_ledger.proofs.Positions.{position-first, position-none, flow-first, flow-none}
 use Rattle.share_ledger.proofs.RouteLists.{flow-place-first, unopened}
 use Rattle.share_ledger.proofs.RouteWorths.{flow-place-below}
-use Rattle.share_ledger.proofs.SeatCounts.{first-open, funding-count}
+use Rattle.share_ledger.proofs.FundingCounts.{first-open, funding-count}
 use Rattle.share_ledger.proofs.tables.Tables.count_funding.Goals as goal
 use Rattle.std.proofs.lemmas.Bool.Decides.{nat_tests}
 
@@ -14,8 +14,8 @@ unreachable-requires c =
     (position-none _ _ (sym c.place_of_flow.ensures ∙ c.in_default.is))) in
     omega (arith, none, c.requires.open)
 
-pub seats_at-requires-clause-place : goal.seats_at-requires-clause-place
-seats_at-requires-clause-place c =
+pub funding_tickets_at-requires-clause-place : goal.funding_tickets_at-requires-clause-place
+funding_tickets_at-requires-clause-place c =
     let g = c.args.self.now in
     let first = flow-first c.args.flow g.flows c.in-Some.place
     (position-first _ _ c.in-Some.place (sym c.place_of_flow.ensures ∙ c.in-Some.is)) in

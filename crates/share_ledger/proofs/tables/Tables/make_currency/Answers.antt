@@ -1,7 +1,7 @@
 use Rattle.std.proofs.Common.{◌≡◌, None, sym, subst, ◌∙◌}
 use Rattle.share_model.specs.funding.Changes.{make_currency_refusal}
 use Rattle.share_model.specs.funding.Kept.{IsKept}
-use Rattle.share_model.specs.funding.CurrencyLaws.{kept-make_currency}
+use Rattle.share_model.proofs.lemmas.funding.CurrencyLaws.{kept-make_currency}
 use Rattle.share_ledger.proofs.Lays.{lay, fresh-currency}
 use Rattle.share_ledger.proofs.Positions.{insert-new}
 use Rattle.share_ledger.proofs.tables.Tables.make_currency.Goals as goal

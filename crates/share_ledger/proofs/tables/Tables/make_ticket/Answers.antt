@@ -1,7 +1,7 @@
 use Rattle.std.proofs.Common.{◌≡◌, ◌+◌, None, sym, subst, ◌∙◌}
 use Rattle.share_model.specs.funding.Changes.{make_ticket_refusal}
 use Rattle.share_model.specs.funding.Kept.{IsKept}
-use Rattle.share_model.specs.funding.TicketLaws.{kept-make_ticket}
+use Rattle.share_model.proofs.lemmas.funding.TicketLaws.{kept-make_ticket}
 use Rattle.share_ledger.proofs.Lays.{lay}
 use Rattle.share_ledger.proofs.tables.Tables.make_ticket.Goals as goal
 

@@ -3,13 +3,13 @@ use Rattle.share_model.specs.declared.funding.Ticket.{Ticket}
 use Rattle.share_model.specs.declared.funding.OpenFlow.{OpenFlow}
 use Rattle.share_model.specs.funding.Graph.{NameBytes, Graph}
 use Rattle.share_model.specs.funding.Kept.{IsKept}
-use Rattle.share_model.specs.funding.CurrencyLaws.{kept-empty}
+use Rattle.share_model.proofs.lemmas.funding.CurrencyLaws.{kept-empty}
 use Rattle.share_ledger.proofs.tables.Tables.new.Goals as goal
 
 lay : List NameBytes → List Ticket → List (NameBytes × OpenFlow) → Graph
 lay cs ts es = record { currencies = cs; tickets = ts; next_ticket = 1; flows = es; next_flow = 1 }
 
--- three lists that are empty
+-- three empty lists
 kept-lay : (cs : List NameBytes) (ts : List Ticket) (es : List (NameBytes × OpenFlow)) → cs ≡ [] → ts ≡ [] → es ≡ []
     → IsKept (lay cs ts es)
 unfolding lay

@@ -1,7 +1,7 @@
 use Rattle.std.proofs.Common.{map, sym, ap, subst, ◌∙◌}
-use Rattle.share_model.specs.funding.Changes.{is_open_as, released, remove_flow}
+use Rattle.share_model.specs.funding.Changes.{is_open_as, release_from, remove_flow}
 use Rattle.share_model.specs.funding.Kept.{IsKept}
-use Rattle.share_model.specs.funding.FlowLaws.{kept-remove_flow}
+use Rattle.share_model.proofs.lemmas.funding.FlowLaws.{kept-remove_flow}
 use Rattle.share_ledger.proofs.Lays.{lay, written-whole}
 use Rattle.share_ledger.proofs.Positions.{found-flow, no-flow, remove-first}
 use Rattle.share_ledger.proofs.Positions.{remove-none}
@@ -19,13 +19,13 @@ invariant_of-self c =
     ∙ remove-first (is_open_as c.args.flow) c.self.inside.flows.entries c.in-Some.place first in
     let tickets =
     written-whole
-    (released c.args.flow) c.self.inside.tickets.items c.release.new.tickets c.deref_mut.result.now
+    (release_from c.args.flow) c.self.inside.tickets.items c.release.new.tickets c.deref_mut.result.now
     c.self.inside.tickets.len c.release.ensures c.deref_mut.ensures.value c.self.inside.tickets.ok.0 in
     subst (λ ts. IsKept (record tables { tickets = ts; flows = c.shift_remove_index.new.self.entries }))
     (sym tickets)
     (subst
     (λ es. IsKept
-    (record tables { tickets = map (released c.args.flow) c.self.inside.tickets.items; flows = es }))
+    (record tables { tickets = map (release_from c.args.flow) c.self.inside.tickets.items; flows = es }))
     (sym left)
     (kept-remove_flow _ c.self.invariant c.args.flow))
 
@@ -38,12 +38,12 @@ invariant_of-self-in_default c =
     let left = sym (remove-none (is_open_as c.args.flow) c.self.inside.flows.entries none) in
     let tickets =
     written-whole
-    (released c.args.flow) c.self.inside.tickets.items c.release.new.tickets c.deref_mut.result.now
+    (release_from c.args.flow) c.self.inside.tickets.items c.release.new.tickets c.deref_mut.result.now
     c.self.inside.tickets.len c.release.ensures c.deref_mut.ensures.value c.self.inside.tickets.ok.0 in
     subst (λ ts. IsKept (record tables { tickets = ts })) (sym tickets)
     (subst
     (λ es. IsKept
-    (record tables { tickets = map (released c.args.flow) c.self.inside.tickets.items; flows = es }))
+    (record tables { tickets = map (release_from c.args.flow) c.self.inside.tickets.items; flows = es }))
     (sym left)
     (kept-remove_flow _ c.self.invariant c.args.flow))
 
@@ -59,12 +59,12 @@ returns-in-Some c =
     ∙ remove-first (is_open_as c.args.flow) c.self.inside.flows.entries c.in-Some.place first in
     let tickets =
     written-whole
-    (released c.args.flow) c.self.inside.tickets.items c.release.new.tickets c.deref_mut.result.now
+    (release_from c.args.flow) c.self.inside.tickets.items c.release.new.tickets c.deref_mut.result.now
     c.self.inside.tickets.len c.release.ensures c.deref_mut.ensures.value c.self.inside.tickets.ok.0 in
     ap (λ ts. record tables { tickets = ts; flows = c.shift_remove_index.new.self.entries }) tickets
     ∙ ap
     (λ es. record
-    tables { tickets = map (released c.args.flow) c.self.inside.tickets.items; flows = es }) left
+    tables { tickets = map (release_from c.args.flow) c.self.inside.tickets.items; flows = es }) left
     ∙ ap (λ g. remove_flow g c.args.flow) c.self.view_is
 
 pub returns-in_default : goal.returns-in_default
@@ -76,10 +76,10 @@ returns-in_default c =
     let left = sym (remove-none (is_open_as c.args.flow) c.self.inside.flows.entries none) in
     let tickets =
     written-whole
-    (released c.args.flow) c.self.inside.tickets.items c.release.new.tickets c.deref_mut.result.now
+    (release_from c.args.flow) c.self.inside.tickets.items c.release.new.tickets c.deref_mut.result.now
     c.self.inside.tickets.len c.release.ensures c.deref_mut.ensures.value c.self.inside.tickets.ok.0 in
     ap (λ ts. record tables { tickets = ts }) tickets
     ∙ ap
     (λ es. record
-    tables { tickets = map (released c.args.flow) c.self.inside.tickets.items; flows = es }) left
+    tables { tickets = map (release_from c.args.flow) c.self.inside.tickets.items; flows = es }) left
     ∙ ap (λ g. remove_flow g c.args.flow) c.self.view_is

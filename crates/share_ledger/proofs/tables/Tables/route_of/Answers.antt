@@ -1,5 +1,5 @@
 use Rattle.std.proofs.Common.{◌≡◌, Some, true≢false, option_copied, sym, ap, subst, ◌∙◌}
-use Rattle.share_model.specs.lists.Laws.{each-find}
+use Rattle.share_model.proofs.lemmas.lists.Laws.{each-find}
 use Rattle.share_model.specs.funding.Changes.{ticket_of, is_numbered, is_found_held}
 use Rattle.share_ledger.specs.Routes.{IsRouteWithin}
 use Rattle.share_ledger.proofs.Places.{IsPlaced, placed}

@@ -5,7 +5,7 @@ use Rattle.std.proofs.lemmas.Option.{get_or_from_slice_get}
 use Rattle.share_model.specs.declared.funding.OpenFlow.{OpenFlow}
 use Rattle.share_model.specs.funding.Changes.{is_open_as, active_as, set_active}
 use Rattle.share_model.specs.funding.Kept.{IsKept}
-use Rattle.share_model.specs.funding.FlowLaws.{kept-set_active}
+use Rattle.share_model.proofs.lemmas.funding.FlowLaws.{kept-set_active}
 use Rattle.share_ledger.proofs.FlowShares.{stands-so, activity-left}
 use Rattle.share_ledger.proofs.Lays.{lay}
 use Rattle.share_ledger.proofs.Positions.{position-none, flow-none, found-flow, activity-first}
@@ -49,7 +49,7 @@ returns-in_default-clause-change c =
     ap (λ es. record c.args.self.now { flows = es })
     (sym (changed-none (is_open_as c.args.flow) (active_as c.args.active) c.args.self.now.flows none))
 
--- a place is given where the activity is news
+-- a place is returned if the activity changed
 still-so : (news : Bool) (place : ℕ) → then_some news place ≡ None → news ≡ false
 still-so true place e = cc
 still-so false place e = refl

@@ -1,5 +1,5 @@
 use Rattle.std.proofs.Common.{◌∙◌, ap, sym}
-use Rattle.share_model.specs.link.Did.{is_spent}
+use Rattle.share_model.specs.link.Calls.{is_spent}
 use Rattle.share_ingress.specs.Ends.{IntakeView}
 use Rattle.share_locked.proofs.Steps.{admitted_kept}
 use Rattle.share_locked.proofs.locked.Locked.admit.Goals as goal

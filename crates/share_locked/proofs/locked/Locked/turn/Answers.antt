@@ -1,5 +1,5 @@
 use Rattle.std.proofs.Common.{◌∙◌, ap}
-use Rattle.share_journal.specs.ArrivalLaws.{arrivals-turn}
+use Rattle.share_journal.proofs.ArrivalLaws.{arrivals-turn}
 use Rattle.share_journal.specs.Arrivals.{arrivals}
 use Rattle.share_locked.proofs.locked.Locked.turn.Goals as goal
 

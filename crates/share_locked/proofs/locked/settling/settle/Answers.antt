@@ -1,5 +1,5 @@
 use Rattle.std.proofs.Common.{◌≡◌, ◌∙◌, sym, refl, rules}
-use Rattle.share_ingress.specs.Gathers.{Refuses}
+use Rattle.share_ingress.specs.Gathers.{RefusesToGather}
 use Rattle.share_locked.proofs.Ending.{agreed_of, settled_of, unsettles_of}
 use Rattle.share_locked.specs.Settles.{IsJoined}
 use Rattle.share_locked.proofs.locked.settling.settle.Goals as goal
@@ -17,7 +17,7 @@ returns-in-Ok-clause-ok g c =
 pub returns-in-Err-clause-back : goal.returns-in-Err-clause-back
 returns-in-Err-clause-back g c =
     let back : (c.in-Err.locked ≡ c.args.locked) × (c.in-Err.ends.items ≡ c.args.ends.items)
-    × Refuses c.in-Err.why c.args.locked.intake c.args.ends.items =
+    × RefusesToGather c.in-Err.why c.args.locked.intake c.args.ends.items =
     first_of (assumption (c.in-Err.ensures.back), search (rules, c.in-Err.ensures.back), grind rules) in (
       back.0,
       back.1,

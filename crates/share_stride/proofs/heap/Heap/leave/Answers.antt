@@ -4,22 +4,22 @@ use Rattle.share_stride.proofs.HeapLaws.{seat_read, stands_within, leaving_few, 
 use Rattle.share_stride.proofs.HeapLaws.{IsHeap-left, standings-left}
 use Rattle.share_stride.proofs.heap.Heap.leave.Goals as goal
 
-pub resettle-requires-clause-few : goal.resettle-requires-clause-few
-resettle-requires-clause-few c =
+pub resift-requires-clause-few : goal.resift-requires-clause-few
+resift-requires-clause-few c =
     let seat = seat_read _ _ _ _ _ _ c.self.invariant.seated c.self.view_is
     (stands_within _ _ c.requires) c.index-seat.ensures in
     let there = subst (λ (s : Standings). IsSome (standing_under s c.args.key)) (sym c.self.view_is) c.requires in
     leaving_few _ _ _ _ c.args.key refl c.self.invariant there _ _ (rw seat.1 at c.swap.ensures)
 
-pub resettle-requires-clause-inside : goal.resettle-requires-clause-inside
-resettle-requires-clause-inside c =
+pub resift-requires-clause-inside : goal.resift-requires-clause-inside
+resift-requires-clause-inside c =
     let seat = seat_read _ _ _ _ _ _ c.self.invariant.seated c.self.view_is
     (stands_within _ _ c.requires) c.index-seat.ensures in
     let there = subst (λ (s : Standings). IsSome (standing_under s c.args.key)) (sym c.self.view_is) c.requires in
     rw seat.1 (leaving_open _ _ _ _ c.args.key refl c.self.invariant there _ _ (rw seat.1 at c.swap.ensures))
 
-pub resettle-requires-clause-behind : goal.resettle-requires-clause-behind
-resettle-requires-clause-behind c =
+pub resift-requires-clause-behind : goal.resift-requires-clause-behind
+resift-requires-clause-behind c =
     let seat = seat_read _ _ _ _ _ _ c.self.invariant.seated c.self.view_is
     (stands_within _ _ c.requires) c.index-seat.ensures in
     let there = subst (λ (s : Standings). IsSome (standing_under s c.args.key)) (sym c.self.view_is) c.requires in
@@ -31,7 +31,7 @@ invariant_of-self c =
     (stands_within _ _ c.requires) c.index-seat.ensures in
     let there = subst (λ (s : Standings). IsSome (standing_under s c.args.key)) (sym c.self.view_is) c.requires in
     IsHeap-left _ _ _ _ c.args.key refl c.self.invariant there _ _ (rw seat.1 at c.swap.ensures) _ _
-    c.resettle.ensures
+    c.resift.ensures
 
 pub returns : goal.returns
 returns c =
@@ -39,5 +39,5 @@ returns c =
     (stands_within _ _ c.requires) c.index-seat.ensures in
     let there = subst (λ (s : Standings). IsSome (standing_under s c.args.key)) (sym c.self.view_is) c.requires in
     standings-left _ _ _ _ c.args.key refl c.self.invariant there _ _ (rw seat.1 at c.swap.ensures) _ _
-    c.resettle.ensures
+    c.resift.ensures
     ∙ ap (λ (s : Standings). set s c.args.key None) c.self.view_is

@@ -6,7 +6,7 @@ use Rattle.std.proofs.lemmas.Bool.{cond-true}
 use Rattle.share_stride.proofs.IndexLaws.{get_at, key_map-insert, IsRising-insert, len-key_map}
 use Rattle.share_stride.proofs.index.Index.insert.Goals as goal
 
--- there is room for the pair
+-- there is room for one more pair
 items : (c : goal.After-insert)
     → c.insert.new.self.items ≡ insert c.self.inside.pairs.items c.in-Err.place (c.args.flow, c.args.key)
 items c =
@@ -23,15 +23,15 @@ invariant_of-self c =
       omega (arith, c.insert.ensures.capacity, c.self.invariant.1),
     )
 
-pub returns-in-Ok : goal.returns-in-Ok
-returns-in-Ok c =
+pub unreachable-requires : goal.unreachable-requires
+unreachable-requires c =
     let at = rw c.deref.ensures.value at c.in-Ok.ensures.found in
     let found = sym (get_at _ c.self.invariant.0 _ _ at) ∙ ap (λ m. get m c.args.flow) c.self.view_is in
     let absent = c.requires.absent in
-    absurd (cc)
+    cc
 
-pub returns-in-Err : goal.returns-in-Err
-returns-in-Err c =
+pub returns : goal.returns
+returns c =
     let gap = rw c.deref.ensures.value at c.in-Err.ensures.absent in
     rw (items c)
     (key_map-insert _ _ _ gap c.args.key ∙ ap (λ m. map.insert m c.args.flow c.args.key) c.self.view_is)

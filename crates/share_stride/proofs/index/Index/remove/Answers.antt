@@ -1,7 +1,7 @@
 use Rattle.std.proofs.Common.{sym, ap, ◌∙◌, Some}
 use Rattle.std.specs.FinMap.{get, remove}
 use Rattle.std.proofs.lemmas.List.{get_or_default}
-use Rattle.share_model.specs.stride.MapLaws.{remove_absent}
+use Rattle.share_model.proofs.lemmas.stride.MapLaws.{remove_absent}
 use Rattle.share_stride.proofs.IndexLaws.{get_at, get_in_gap, key_map-remove}
 use Rattle.share_stride.proofs.index.Index.remove.Goals as goal
 

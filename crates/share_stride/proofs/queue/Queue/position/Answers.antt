@@ -3,7 +3,7 @@ use Rattle.std.specs.FinMap.{get}
 use Rattle.share_stride.proofs.Soundness.{near_in_view}
 use Rattle.share_stride.proofs.queue.Queue.position.Goals as goal
 
-pub returns-in-Some-clause-near : goal.returns-in-Some-clause-near
-returns-in-Some-clause-near c =
+pub returns-clause-near : goal.returns-clause-near
+returns-clause-near c =
     near_in_view _ _ c.args.flow c.at.result c.self.view_is c.self.invariant.sound
     (c.at.ensures ∙ ap (get c.self.inside.clients.by_flow) c.in-Some.ensures.flow)

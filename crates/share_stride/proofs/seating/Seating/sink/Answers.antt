@@ -1,7 +1,7 @@
-use Rattle.share_stride.proofs.SeatingLaws.{Sinks-step}
+use Rattle.share_stride.proofs.SeatingLaws.{HoleSinks-step}
 use Rattle.share_stride.proofs.seating.Seating.sink.Goals as goal
 
 pub loop-from-preserved : goal.loop-from-preserved
 loop-from-preserved c =
     rw (c.fill.ensures.entries, c.fill.ensures.seats)
-    (Sinks-step _ _ _ _ _ _ _ _ c.requires.few c.loop-from.invariant c.in-Some.ensures.past)
+    (HoleSinks-step _ _ _ _ _ _ _ _ c.requires.few c.loop-from.invariant c.in-Some.ensures.past)

@@ -1,6 +1,6 @@
 use Rattle.std.proofs.Common.{Some, ap, sym, ◌∙◌, ◌+◌, arith}
 use Rattle.std.specs.FinMap.{get, insert, len}
-use Rattle.share_model.specs.stride.MapLaws.{len-insert_new}
+use Rattle.share_model.proofs.lemmas.stride.MapLaws.{len-insert_new}
 use Rattle.share_stride.specs.Table.{Clients, entry_in}
 use Rattle.share_stride.proofs.TableLaws.{len-client_map}
 use Rattle.share_stride.proofs.KeyLaws.{distinct, keyless_of_absent, IsIndexed-add, client_map-add}

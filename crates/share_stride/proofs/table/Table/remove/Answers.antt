@@ -1,24 +1,19 @@
 use Rattle.std.proofs.Common.{◌≡◌, Option, None, unwrap_or, refl, ap, sym, ◌∙◌, ◌-◌}
 use Rattle.std.specs.FinMap.{get, remove, len}
-use Rattle.share_model.specs.stride.MapLaws.{len-remove_found}
+use Rattle.share_model.proofs.lemmas.stride.MapLaws.{len-remove_found}
 use Rattle.share_model.specs.declared.stride.Client.{Client}
 use Rattle.share_model.specs.stride.Moves.{new_client}
 use Rattle.share_stride.specs.Table.{Clients, client_map, entry_in}
 use Rattle.share_stride.proofs.TableLaws.{client_map-removal, client_of_slot}
 use Rattle.share_stride.proofs.KeyLaws.{distinct, key_holds, IsIndexed-removal}
 use Rattle.share_stride.proofs.RankLaws.{IsRanked-idle, entry_of-idle, key_fits-removed}
-use Rattle.share_stride.proofs.PlaceLaws.{absent_in_view}
+use Rattle.share_stride.proofs.ClientKeyLaws.{absent_in_view}
 use Rattle.share_stride.proofs.table.Table.remove.Goals as goal
 
-pub invariant_of-self : goal.invariant_of-self
-invariant_of-self c =
-    absurd (absent_in_view _ _ _ c.args.flow c.self.invariant.indexed c.self.view_is c.in-None.ensures.key
-    c.requires.there)
-
-pub returns-in-None : goal.returns-in-None
-returns-in-None c =
-    absurd (absent_in_view _ _ _ c.args.flow c.self.invariant.indexed c.self.view_is c.in-None.ensures.key
-    c.requires.there)
+pub unreachable-requires : goal.unreachable-requires
+unreachable-requires c =
+    absent_in_view _ _ _ c.args.flow c.self.invariant.indexed c.self.view_is c.in-None.ensures.key
+    c.requires.there
 
 map_removed : (c : goal.After-try_remove)
     → client_map c.try_remove.new.self.slots ≡ remove (client_map c.self.inside.slots.slots) c.args.flow
@@ -29,8 +24,8 @@ map_removed c =
     (distinct _ _ indexed) (key_holds _ _ _ _ indexed (sym c.in-Some.ensures.key))
     (record { changed = u.changed; others = u.others })
 
-pub invariant_of-self-in-Some : goal.invariant_of-self-in-Some
-invariant_of-self-in-Some c =
+pub invariant_of-self : goal.invariant_of-self
+invariant_of-self c =
     let u = c.try_remove.ensures.updates in
     let indexed = c.self.invariant.indexed in
     let holds = key_holds _ _ _ _ indexed (sym c.in-Some.ensures.key) in
@@ -57,5 +52,5 @@ invariant_of-self-in-Some c =
           (record { changed = u.changed; others = u.others }) c.try_remove.ensures.capacity;
     })
 
-pub returns-in-Some : goal.returns-in-Some
-returns-in-Some c = map_removed c ∙ ap (λ (clients : Clients). remove clients.by_flow c.args.flow) c.self.view_is
+pub returns : goal.returns
+returns c = map_removed c ∙ ap (λ (clients : Clients). remove clients.by_flow c.args.flow) c.self.view_is

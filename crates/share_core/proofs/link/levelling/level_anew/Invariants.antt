@@ -1,6 +1,0 @@
-use Rattle.share_model.specs.link.Live.{wants}
-use Rattle.share_core.proofs.Levellings.{AreDone}
-use Rattle.share_core.proofs.link.levelling.level_anew.Given as goal
-
-abbrev pub invariant-loop-place : goal.invariant-loop-place
-invariant-loop-place l = AreDone l.initial.queue l.queue (wants l.ledger) l.levels l.place

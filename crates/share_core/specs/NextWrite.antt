@@ -1,0 +1,36 @@
+-- Where a write goes on, as the code sees it.
+use Rattle.std.specs.Prelude.{◌≡◌, ◌<◌, ◌≤◌, ℕ, length, Option, None, Some, MatchBool}
+use Rattle.share_base.specs.declared.command.Turn.{Turn}
+use Rattle.share_base.specs.declared.command.Turn.TheVariants.{Idle, Broken, Spent}
+use Rattle.share_model.specs.link.Calls.{is_spent}
+use Rattle.share_model.specs.link.Frame.{frame}
+use Rattle.share_model.specs.link.Turns.{Sending, sending, rest_of}
+use Rattle.share_model.specs.link.View.{LinkView}
+use Rattle.share_core.specs.declared.next_write.NextWrite.{NextWrite}
+
+-- the flow and the number of the packet, how many bytes of its frame are out, and the frame's length; the buffer of the
+-- flow stands at the given place
+abbrev pub next_write_of : ℕ → Sending → NextWrite
+next_write_of at s = record {
+  buffer = record { flow = s.head.flow; at = at };
+  seq = s.head.seq;
+  out = s.out;
+  length = length (frame s.head);
+}
+
+-- a frame is sent, and the place is its own, wherever the buffer of its flow stands
+abbrev pub IsNextWriteOf : Option Sending → NextWrite → Type 0
+IsNextWriteOf None place = ⊥
+IsNextWriteOf (Some s) place = place ≡ next_write_of place.buffer.at s
+
+-- k bytes, at least 1, are no more than what is left of the frame that is sent
+abbrev pub IsWithinRest : Option Sending → ℕ → Type 0
+IsWithinRest None k = ⊥
+IsWithinRest (Some s) k = (0 < k) × (k ≤ length (rest_of s))
+
+-- no write is due, and a turn answers so: the life is spent, the link is broken, or there is nothing to send, in this
+-- order
+abbrev pub WritesNothing : {W : Type 0} → LinkView W → Turn → Type 0
+WritesNothing k turn =
+    MatchBool (is_spent k) (turn ≡ Spent)
+    (MatchBool k.live.broken (turn ≡ Broken) ((sending k.live ≡ None) × (turn ≡ Idle)))

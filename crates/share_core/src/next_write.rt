@@ -1,0 +1,11 @@
+//! Where a write goes on.
+
+/// The frame that a write goes on with: the place of its flow's buffer, the sequence number of its packet, how many of
+/// its bytes are out, and its length.
+#[derive(Clone, Copy, Debug)]
+pub struct NextWrite {
+    pub buffer: share_flows::Place,
+    pub seq: u32,
+    pub out: u32,
+    pub length: u32,
+}

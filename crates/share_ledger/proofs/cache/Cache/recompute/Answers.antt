@@ -1,0 +1,5 @@
+use Rattle.share_ledger.proofs.Computed.{kept-ready}
+use Rattle.share_ledger.proofs.cache.Cache.recompute.Goals as goal
+
+pub returns : goal.returns
+returns c = kept-ready _ _ _ c.is_kept.ensures c.recompute.ensures.long c.recompute.ensures.ready

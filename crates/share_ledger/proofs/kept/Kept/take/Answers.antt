@@ -1,5 +1,0 @@
-use Rattle.share_ledger.proofs.StaleSteps.{lefts-was}
-use Rattle.share_ledger.proofs.kept.Kept.take.Goals as goal
-
-pub follow-requires-clause-was : goal.follow-requires-clause-was
-follow-requires-clause-was c = lefts-was _ _ _ _ _ c.requires.was c.take.ensures.left

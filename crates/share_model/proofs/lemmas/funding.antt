@@ -1,0 +1,12 @@
+pub mod Acyclic
+pub mod Cached
+pub mod ChainLaws
+pub mod ChangeLaws
+pub mod CurrencyLaws
+pub mod FlowLaws
+pub mod Held
+pub mod LawsHold
+pub mod Long
+pub mod SettleLaws
+pub mod Shares
+pub mod TicketLaws

@@ -1,0 +1,4 @@
+pub mod CallsLaws
+pub mod CountBytes
+pub mod Output
+pub mod PrintingLaws

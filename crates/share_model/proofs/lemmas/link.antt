@@ -1,0 +1,6 @@
+pub mod AnswerLaws
+pub mod BufferLaws
+pub mod CommandLaws
+pub mod FieldLaws
+pub mod FrameLaws
+pub mod TurnLaws

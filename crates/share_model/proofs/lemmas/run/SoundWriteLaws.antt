@@ -1,0 +1,193 @@
+-- Each write and each fault keeps what holds of every link.
+use Rattle.std.specs.Prelude.{◌≡◌, ◌<◌, ◌≤◌, ◌+◌, ℕ, Bool, true, false, List, length, map}
+use Rattle.std.specs.Prelude.{nat_eq, Option, None, Some, option_map}
+use Rattle.std.proofs.Common.{refl, ap, sym, ◌∙◌, subst, arith, length-drop}
+use Rattle.std.proofs.lemmas.Bool.{cond_both, eqb-false, both_ways}
+use Rattle.share_base.specs.declared.command.Turn.{Turn}
+use Rattle.share_base.specs.declared.command.Turn.TheVariants.{Wrote}
+use Rattle.share_model.specs.declared.link.Book.{Book}
+use Rattle.share_model.specs.declared.link.Counts.{Counts}
+use Rattle.share_model.specs.declared.rates.Rate.{Rate}
+use Rattle.share_model.specs.link.Fields.{IsBody}
+use Rattle.share_model.specs.link.Tariff.{AreInRange}
+use Rattle.share_model.specs.link.Frame.{frame}
+use Rattle.share_model.specs.link.Buffers.{Buffer, is_buffer_of, buffer_of, head_of, without_head, pop_in}
+use Rattle.share_model.specs.link.Buffers.{is_some_packet, holds_packet, is_busy}
+use Rattle.share_model.proofs.lemmas.link.BufferLaws.{flows-pop_in, numbers-with_activity}
+use Rattle.share_model.proofs.lemmas.funding.FlowLaws.{kept-set_active}
+use Rattle.share_model.specs.link.Live.{Live}
+use Rattle.share_model.specs.link.Turns.{Sending, sending, rest_of}
+use Rattle.share_model.specs.link.Books.{is_book_of, units_due, with_units}
+use Rattle.share_model.specs.link.Books.{books_with_units}
+use Rattle.share_model.specs.link.Turns.{is_whole, in_part, whole, torn_link, write_step, fault_step}
+use Rattle.share_model.specs.link.Live.{tickets_of_all}
+use Rattle.share_model.specs.stride.Moves.{charge}
+use Rattle.share_model.proofs.lemmas.lists.Laws.{each-drop_one, each-change_first, map-change_first}
+use Rattle.share_model.proofs.lemmas.lists.Laws.{find-change_first}
+use Rattle.share_model.specs.run.Sound.{torn_gone, QueueIsSound, IsSoundBuffer, IsOnShelf, BooksAreSound, TornIsNamed}
+use Rattle.share_model.specs.run.Sound.{Sound}
+use Rattle.share_model.proofs.lemmas.run.CountLaws.{packets_in-pop_in}
+use Rattle.share_model.proofs.lemmas.run.QueueLaws.{queue-later, queue-after_charge, level-after_charge}
+use Rattle.share_model.proofs.lemmas.run.SoundLaws.{units_due-few, books_with_units-few_more, rest-short, sending-few}
+use Rattle.share_model.proofs.lemmas.run.SoundLaws.{sending-head}
+use Rattle.share_model.proofs.lemmas.run.SoundLaws.{sending-short, head-stands}
+use Rattle.share_model.proofs.lemmas.run.SoundStepLaws.{sound-with_level_queue, funding-later, buffers-later}
+use Rattle.share_model.proofs.lemmas.run.SoundStepLaws.{buffers-changed}
+use Rattle.share_model.proofs.lemmas.run.SoundStepLaws.{flows-changed}
+
+-- Writes
+
+-- books of which one was posted for these units
+books_posted : {rates : List Rate} {c : Counts} {books : List Book} (f units : ℕ) (now : Counts) → AreInRange rates
+    → units ≤ 4026 → now.past ≡ c.past → now.events ≡ c.events + 1 → BooksAreSound rates c books
+    → BooksAreSound rates now (books_with_units rates books f units)
+books_posted {rates = rates} {books = books} f units now range few past events was = record {
+  known =
+      each-change_first (IsOnShelf rates) (IsOnShelf rates) (is_book_of f) (with_units rates units) (λ b k. k)
+      (λ b k. k) books was.known;
+  accounts = omega (arith, was.accounts, books_with_units-few_more rates f units books range few);
+}
+
+popped_sound : (n : ℕ) (b : Buffer) → IsSoundBuffer n b → IsSoundBuffer (n + 1) (without_head b)
+popped_sound n b was = record {
+  flow = was.flow;
+  given = omega (arith, length-drop 1 b.packets, was.given);
+  numbers = omega arith;
+  payloads = each-drop_one IsBody b.packets was.payloads;
+}
+
+booked_posted : (rates : List Rate) (bs : List Book) (f units : ℕ)
+    → map (λ (b : Book). b.flow) (books_with_units rates bs f units) ≡ map (λ (b : Book). b.flow) bs
+booked_posted rates bs f units =
+    map-change_first (λ (b : Book). b.flow) (is_book_of f) (with_units rates units) (λ b. refl) bs
+
+popped_busy : (bs : List Buffer) (f : ℕ) (b : Buffer) → buffer_of bs f ≡ Some b
+    → is_some_packet (without_head b).packets ≡ is_busy (pop_in bs f) f
+popped_busy bs f b found =
+    sym (ap holds_packet (find-change_first (is_buffer_of f) without_head (λ b holds. holds) bs
+    ∙ ap (option_map without_head) found))
+
+-- a link that is whole names no torn packet
+untorn : (bs bs' : List Buffer) (broken : Bool) (o : Option ℕ) → broken ≡ false → TornIsNamed bs broken o
+    → TornIsNamed bs' broken o
+untorn bs bs' broken None unbroken was = tt
+untorn bs bs' broken (Some f) unbroken was = absurd (both_ways broken unbroken was.broken_is)
+
+pub sound-whole : {life : ℕ} {rates : List Rate} {l : Live} {s : Sending} → AreInRange rates → Sound life rates l
+    → l.counts.events < life → l.broken ≡ false → sending l ≡ Some s → (k : ℕ) → k ≤ length (frame s.head)
+    → Sound life rates (whole rates l s k)
+sound-whole {life = life} {rates = rates} {l = l} {s = s} range was few unbroken is k fits =
+    let f = s.head.flow in
+    let head : head_of l.buffers f ≡ Some s.head = sending-head was is in
+    let units = units_due rates l.books f (length (frame s.head)) in
+    let cheap : units ≤ 4026 = units_due-few rates l.books f (length (frame s.head)) range (sending-short was is) in
+    let tied =
+    flows-changed f (is_busy (pop_in l.buffers f) f) without_head was.flows (flows-pop_in l.buffers f)
+    (popped_busy l.buffers f) in
+    sound-with_level_queue (record {
+      some = omega arith;
+      counts = record {
+        events = omega (arith, few);
+        accepted = omega (arith, was.counts.accepted);
+        sent = omega (arith, was.counts.sent, fits, sending-short was is);
+        balance = omega (arith, was.counts.balance, packets_in-pop_in l.buffers f s.head head);
+      };
+      funding = record {
+        kept = kept-set_active l.graph was.funding.kept f (is_busy (pop_in l.buffers f) f);
+        next_ticket = omega (arith, was.funding.next_ticket);
+        next_flow = omega (arith, was.funding.next_flow);
+      };
+      flows = record {
+        buffered = tied.buffered;
+        booked = booked_posted rates l.books f units ∙ tied.booked;
+        active = tied.active;
+      };
+      queue =
+          subst (λ ns. QueueIsSound life (l.counts.events + 1) ns (charge l.queue f units))
+          (sym (numbers-with_activity f (is_busy (pop_in l.buffers f) f) l.graph.flows))
+          (queue-after_charge f units (head-stands was f head) few cheap was.queue);
+      buffers =
+          buffers-changed l.counts.events f without_head l.buffers (popped_sound l.counts.events) was.buffers;
+      books = books_posted f units (whole rates l s k).counts range cheap refl refl was.books;
+      part = tt;
+      torn = record {
+        named = untorn l.buffers (pop_in l.buffers f) l.broken l.torn unbroken was.torn.named;
+        unparted = λ _. refl;
+      };
+    })
+
+pub sound-in_part : {life : ℕ} {rates : List Rate} {l : Live} {s : Sending} → Sound life rates l
+    → l.counts.events < life → l.broken ≡ false → sending l ≡ Some s → (k : ℕ) → 0 < k
+    → s.out + k < length (frame s.head) → Sound life rates (in_part l s k)
+sound-in_part {l = l} {s = s} was few unbroken is k some fits = record {
+  fresh = λ none. absurd (omega (arith, none));
+  counts = record {
+    events = omega (arith, few);
+    accepted = omega (arith, was.counts.accepted);
+    sent = omega (arith, was.counts.sent, fits, sending-short was is);
+    balance = was.counts.balance;
+  };
+  funding = funding-later was.funding;
+  flows = was.flows;
+  queue = queue-later was.queue;
+  level = was.level;
+  buffers = buffers-later l.counts.events l.buffers was.buffers;
+  books = record { known = was.books.known; accounts = omega (arith, was.books.accounts) };
+  part = record { head = s.head; found = sending-head was is; some = omega arith; few = fits };
+  torn = record {
+    named = was.torn.named;
+    unparted = λ broken. absurd (both_ways l.broken unbroken broken);
+  };
+}
+
+not_whole : (a b : ℕ) → nat_eq a b ≡ false → a ≤ b → a < b
+not_whole a b differ below = let h : ¬ (a ≡ b) = eqb-false a b differ in omega arith
+
+pub sound-written : {life : ℕ} {rates : List Rate} {l : Live} {s : Sending} → AreInRange rates → Sound life rates l
+    → l.counts.events < life → l.broken ≡ false → sending l ≡ Some s → (k : ℕ) → 0 < k → k ≤ length (rest_of s)
+    → Sound life rates (write_step rates l s k).0
+sound-written {life = life} {rates = rates} {l = l} {s = s} range was few unbroken is k some fits =
+    cond_both (is_whole s k) (whole rates l s k, Wrote s.head.flow s.head.seq k true)
+    (in_part l s k, Wrote s.head.flow s.head.seq k false) (λ (d : Live × Turn). Sound life rates d.0)
+    (λ _. sound-whole range was few unbroken is k (omega (arith, rest-short was is)))
+    (λ part. sound-in_part was few unbroken is k some
+    (not_whole (s.out + k) (length (frame s.head)) part (omega (arith, rest-short was is))))
+
+-- Faults
+
+gone_none : (o : Option ℕ) (broken : Bool) → broken ≡ false → torn_gone broken o ≡ 0
+gone_none o true unbroken = cc
+gone_none o false unbroken = refl
+
+pub sound-failed : {life : ℕ} {rates : List Rate} {l : Live} {s : Sending} → AreInRange rates → Sound life rates l
+    → l.counts.events < life → l.broken ≡ false → sending l ≡ Some s → Sound life rates (fault_step rates l s).0
+sound-failed {rates = rates} {l = l} {s = s} range was few unbroken is =
+    let f = s.head.flow in
+    let head : head_of l.buffers f ≡ Some s.head = sending-head was is in
+    let units = units_due rates l.books f s.out in
+    let cheap : units ≤ 4026 =
+    units_due-few rates l.books f s.out range (omega (arith, sending-few was is, sending-short was is)) in
+    record {
+      fresh = λ none. absurd (omega (arith, none));
+      counts = record {
+        events = omega (arith, few);
+        accepted = omega (arith, was.counts.accepted);
+        sent = omega (arith, was.counts.sent);
+        balance = omega (arith, was.counts.balance, gone_none l.torn l.broken unbroken);
+      };
+      funding = funding-later was.funding;
+      flows = record {
+        buffered = was.flows.buffered;
+        booked = booked_posted rates l.books f units ∙ was.flows.booked;
+        active = was.flows.active;
+      };
+      queue = queue-after_charge f units (head-stands was f head) few cheap was.queue;
+      level = level-after_charge l.queue f units (tickets_of_all l.graph) was.level;
+      buffers = buffers-later l.counts.events l.buffers was.buffers;
+      books = books_posted f units (torn_link rates l s).counts range cheap refl refl was.books;
+      part = tt;
+      torn = record {
+        named = record { broken_is = refl; head = s.head; found = head };
+        unparted = λ _. refl;
+      };
+    }

@@ -1,0 +1,10 @@
+pub mod AuditLaws
+pub mod EventsLaws
+pub mod FeedLaws
+pub mod LackLaws
+pub mod LinesLaws
+pub mod OfferLaws
+pub mod SpelledLaws
+pub mod TalkLaws
+pub mod TurnTalkLaws
+pub mod WordLaws

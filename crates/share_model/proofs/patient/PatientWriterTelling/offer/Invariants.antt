@@ -1,5 +1,0 @@
-use Rattle.share_model.specs.io.Patient.{Repeats}
-use Rattle.share_model.proofs.patient.PatientWriterTelling.offer.Given as goal
-
-abbrev pub invariant-loop-again : goal.invariant-loop-again
-invariant-loop-again g l = Repeats g.W.Telling.answers l.piece l.initial.self.0 l.again l.self.0

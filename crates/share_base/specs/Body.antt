@@ -1,5 +1,5 @@
--- The payloads of packets.
-use Rattle.std.specs.Prelude.{ℕ, Bool, not, ◌&&◌, List, [], ◌∷◌, length, nat_le, Option}
+-- The payloads of packets, and what is stamped before them.
+use Rattle.std.specs.Prelude.{◌≡◌, ℕ, Bool, not, ◌&&◌, List, [], ◌∷◌, ◌++◌, length, nat_le, Option}
 use Rattle.share_base.specs.declared.refusal.Refusal.{Refusal}
 use Rattle.share_base.specs.declared.refusal.Refusal.TheVariants.{Range}
 use Rattle.share_base.specs.Refusal.{first_refusal}
@@ -11,3 +11,20 @@ is_payload_length n = nat_le 1 n && nat_le n 1490
 -- why these bytes are no payload, memory aside
 abbrev pub payload_refusal : List ℕ → Option Refusal
 payload_refusal bytes = first_refusal ((not (is_payload_length (length bytes)), Range) ∷ [])
+
+-- what a contract sees of a body: the bytes last stamped before its payload, none before a stamp, and the payload
+pub record BodyView : Type 0 where
+  pub stamped : List ℕ
+  pub payload : List ℕ
+
+-- a body before a stamp
+abbrev pub unstamped : List ℕ → BodyView
+unstamped payload = record { stamped = []; payload = payload }
+
+-- nothing is stamped
+abbrev pub IsUnstamped : BodyView → Type 0
+IsUnstamped body = body.stamped ≡ []
+
+-- what is stamped, and the payload behind it
+abbrev pub framed_bytes : BodyView → List ℕ
+framed_bytes body = body.stamped ++ body.payload

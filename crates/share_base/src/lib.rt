@@ -13,5 +13,5 @@ mod tests;
 pub use command::{Command, Event, Outcome, Reply, Turn};
 pub use naming::{MAX_NAME, Name};
 pub use number::{FlowNo, TicketNo};
-pub use parcel::{Body, MAX_IN_PLACE, MAX_PAYLOAD, Parcel};
+pub use parcel::{Body, HEADER_ROOM, MAX_IN_PLACE, MAX_PAYLOAD, Parcel};
 pub use refusal::Refusal;

@@ -1,6 +1,6 @@
 //! The payloads of packets, and the two copies in which a payload is handed in.
-ghost use Rattle.std.specs.Prelude.{◌≡◌, ◌<◌, ◌≤◌, length, take, IsOk, IfOk, IfErr, None};
-ghost use Rattle.share_base.specs.Body.{payload_refusal};
+ghost use Rattle.std.specs.Prelude.{◌≡◌, ◌<◌, ◌≤◌, ◌+◌, ◌++◌, length, take, drop, IsOk, IfOk, IfErr, None};
+ghost use Rattle.share_base.specs.Body.{payload_refusal, unstamped, framed_bytes};
 ghost use Rattle.share_base.specs.Refusal.{IsRefused};
 
 use crate::refusal::Refusal;
@@ -14,69 +14,115 @@ pub const MAX_PAYLOAD: usize = 1490;
 /// The longest payload that is held in the value itself, in bytes.
 pub const MAX_IN_PLACE: usize = 16;
 
-/// The payload of a packet: 1 to 1490 bytes. Up to 16 are held in the value itself, more in memory of their own. A
-/// contract sees it as its bytes.
+/// How many bytes a body keeps before its payload, for a header.
+pub const HEADER_ROOM: usize = 12;
+
+/// How many bytes the value itself holds.
+const IN_PLACE: usize = HEADER_ROOM + MAX_IN_PLACE;
+
+/// The payload of a packet: 1 to 1490 bytes, with room for a header before them. Up to 16 are held in the value itself,
+/// more in memory of their own. A contract sees the bytes last stamped before the payload, and the payload.
 #[derive(Drop)]
 pub struct Body {
-    bytes: SmallVec<u8, MAX_IN_PLACE>,
+    // The room and the payload behind it.
+    bytes: SmallVec<u8, IN_PLACE>,
+    // How many bytes of the room are stamped, those next to the payload.
+    stamped: usize,
 }
 
 impl Model for Body {
-    ghost use Rattle.std.specs.Prelude.{ℕ, List, length, ◌≤◌};
-    ghost use Rattle.share_base.specs.declared.parcel.TheConstants.{MAX_PAYLOAD};
+    ghost use Rattle.std.specs.Prelude.{ℕ, List, length, take, drop, ◌≤◌, ◌+◌, ◌-◌};
+    ghost use Rattle.share_base.specs.Body.{BodyView};
+    ghost use Rattle.share_base.specs.declared.parcel.TheConstants.{MAX_PAYLOAD, HEADER_ROOM};
 
-    ghost Value = { List ℕ };
+    ghost Value = { BodyView };
 
-    ghost view = { λ body. body.bytes.items };
+    ghost view = { λ body. record {
+      stamped = take body.stamped (drop (HEADER_ROOM - body.stamped) body.bytes.items);
+      payload = drop HEADER_ROOM body.bytes.items;
+    } };
 
-    ghost invariant = { λ body. (1 ≤ length body.bytes.items) × (length body.bytes.items ≤ MAX_PAYLOAD) };
+    ghost invariant = { λ body.
+        (body.stamped ≤ HEADER_ROOM)
+        × (HEADER_ROOM + 1 ≤ length body.bytes.items)
+        × (length body.bytes.items ≤ HEADER_ROOM + MAX_PAYLOAD) };
 }
 
 impl Body {
     /// Copies these bytes. `Range` if there are not 1 to 1490 of them, `NoMemory` if memory was refused; up to 16 bytes
     /// take none.
     pub fn new(alloc: Global, bytes: &[u8]) -> Result<Body, Refusal>
-        ensures ok { IfOk result (λ body. (body ≡ bytes.now) × (payload_refusal bytes.now ≡ None)) }
+        ensures ok { IfOk result (λ body. (body ≡ unstamped bytes.now) × (payload_refusal bytes.now ≡ None)) }
         ensures refused { IfErr result (IsRefused (payload_refusal bytes.now)) }
-        ensures in_place { payload_refusal bytes.now ≡ None → length bytes.now ≤ MAX_IN_PLACE → IsOk result }
+        ensures in_place { payload_refusal bytes.now ≡ None → length bytes.now ≤ 16 → IsOk result }
     {
         if bytes.is_empty() || bytes.len() > MAX_PAYLOAD {
             return Err(Refusal::Range);
         }
-        let bytes = SmallVec::from_slice(alloc, bytes)?;
-        Ok(Body { bytes })
+        let mut whole = SmallVec::with_capacity(alloc, HEADER_ROOM + bytes.len())?;
+        whole.extend_from_slice(&[0; HEADER_ROOM])?;
+        whole.extend_from_slice(bytes)?;
+        Ok(Body {
+            bytes: whole,
+            stamped: 0,
+        })
     }
 
-    /// Makes a payload of these bytes, 1 to 1490 of them. It takes no memory.
+    /// Makes a payload, 1 to 1490 bytes, of the bytes behind the room for a header. It takes no memory.
     pub fn from_vec(bytes: Vec<u8>) -> Body
-        requires some { 1 ≤ length bytes.items }
-        requires few { length bytes.items ≤ MAX_PAYLOAD }
-        ensures { result ≡ bytes.items }
+        requires some { HEADER_ROOM + 1 ≤ length bytes.items }
+        requires few { length bytes.items ≤ HEADER_ROOM + MAX_PAYLOAD }
+        ensures { result ≡ unstamped (drop 12 bytes.items) }
     {
         Body {
             bytes: SmallVec::from_vec(bytes),
+            stamped: 0,
         }
     }
 
-    /// Makes a payload of the first bytes of an array, 1 to 16 of them. It takes no memory.
-    pub fn from_array(alloc: Global, bytes: [u8; MAX_IN_PLACE], count: usize) -> Body
+    /// Makes a payload of the first bytes, 1 to 16 of them, behind the room for a header. It takes no memory.
+    pub fn from_array(alloc: Global, bytes: [u8; HEADER_ROOM + MAX_IN_PLACE], count: usize) -> Body
         requires some { 1 ≤ count }
         requires few { count ≤ MAX_IN_PLACE }
-        ensures { result ≡ take count bytes }
+        ensures { result ≡ unstamped (take count (drop 12 bytes)) }
     {
         Body {
-            bytes: SmallVec::from_buf_and_len(alloc, bytes, count),
+            bytes: SmallVec::from_buf_and_len(alloc, bytes, HEADER_ROOM + count),
+            stamped: 0,
         }
     }
 
-    /// The bytes.
+    /// The payload.
     pub fn as_slice(&self) -> &[u8]
-        ensures value { result.now ≡ self.now }
-        ensures some { 1 ≤ length self.now }
-        ensures few { length self.now ≤ MAX_PAYLOAD }
+        ensures value { result.now ≡ self.now.payload }
+        ensures some { 1 ≤ length self.now.payload }
+        ensures few { length self.now.payload ≤ MAX_PAYLOAD }
     {
-        self.bytes.as_slice()
+        &self.bytes.as_slice()[HEADER_ROOM..]
     }
+
+    /// Writes a header before the payload, in place of the one before. It takes no memory.
+    pub fn stamp(&mut self, header: &[u8; HEADER_ROOM])
+        ensures { self.new ≡ record { stamped = header.now; payload = self.old.payload } }
+    {
+        write_header(self.bytes.as_mut_slice(), header);
+        self.stamped = HEADER_ROOM;
+    }
+
+    /// The bytes last stamped, none before a stamp, and the payload behind them.
+    pub fn framed(&self) -> &[u8]
+        ensures { result.now ≡ framed_bytes self.now }
+    {
+        &self.bytes.as_slice()[HEADER_ROOM - self.stamped..]
+    }
+}
+
+// Writes a header over the first bytes.
+fn write_header(bytes: &mut [u8], header: &[u8; HEADER_ROOM])
+    requires { HEADER_ROOM ≤ length bytes.old }
+    ensures { bytes.new ≡ header.now ++ drop HEADER_ROOM bytes.old }
+{
+    bytes[..HEADER_ROOM].copy_from_slice(header);
 }
 
 /// A payload held twice, so that it can be sent and recorded with no further memory. A contract sees it as
@@ -89,12 +135,14 @@ pub struct Parcel {
 
 impl Model for Parcel {
     ghost use Rattle.std.specs.Prelude.{ℕ, List, ◌≡◌};
+    ghost use Rattle.share_base.specs.Body.{unstamped};
 
     ghost Value = { List ℕ };
 
-    ghost view = { λ parcel. parcel.sending };
+    ghost view = { λ parcel. parcel.sending.payload };
 
-    ghost invariant = { λ parcel. parcel.audit ≡ parcel.sending };
+    ghost invariant = { λ parcel.
+        (parcel.sending ≡ unstamped parcel.sending.payload) × (parcel.audit ≡ parcel.sending) };
 }
 
 impl Parcel {
@@ -111,8 +159,8 @@ impl Parcel {
 
     /// Gives the copy to send and the copy to record. It takes no memory.
     pub fn split(self) -> (Body, Body)
-        ensures sending { result.0 ≡ self }
-        ensures audit { result.1 ≡ self }
+        ensures sending { result.0 ≡ unstamped self }
+        ensures audit { result.1 ≡ unstamped self }
     {
         let Parcel { sending, audit } = self;
         (sending, audit)

@@ -1,7 +1,9 @@
 //! Worked values: the spellings of names, the lengths of payloads, and the number, name and text of each refusal.
 ghost use Rattle.std.specs.Prelude.{◌≤◌};
 
-use crate::{Body, FlowNo, MAX_IN_PLACE, Name, Parcel, Refusal, Reply, TicketNo};
+use crate::{
+    Body, FlowNo, HEADER_ROOM, MAX_IN_PLACE, MAX_PAYLOAD, Name, Parcel, Refusal, Reply, TicketNo,
+};
 use std::alloc::Global;
 use std::cmp::Ordering;
 use std::hash::{DefaultHasher, Hash, Hasher};
@@ -122,29 +124,155 @@ fn parcel_is(alloc: Global, payload: &[u8], refusal: Option<Refusal>) -> bool {
     }
 }
 
+// Room for a header, and sixteen bytes behind it.
+const ROOM_AND_SIXTEEN: &[u8; HEADER_ROOM + MAX_IN_PLACE] = b"............0123456789abcdef";
+
 #[test]
 fn payloads_are_made_of_vectors_and_arrays(rt: HostRuntime) {
-    let bytes: [u8; MAX_IN_PLACE] = [1, 2, 3, 4, 5, 6, 7, 8, 9, 10, 11, 12, 13, 14, 15, 16];
+    let payload = b"0123456789abcdef";
     for count in 1..MAX_IN_PLACE + 1 {
-        let made = is_made(rt.alloc(), bytes, count);
+        let made = is_made(rt.alloc(), count, &payload[..count]);
         assert!(rt; made, "a body of {count} bytes");
     }
 }
 
-// Whether the first bytes make the payload, from an array and from a vector.
-fn is_made(alloc: Global, bytes: [u8; MAX_IN_PLACE], count: usize) -> bool
+// Whether the first bytes behind the room make this payload, from an array and from a vector.
+fn is_made(alloc: Global, count: usize, payload: &[u8]) -> bool
     requires some { 1 ≤ count }
     requires few { count ≤ MAX_IN_PLACE }
 {
-    let Ok(vector) = Vec::from_slice(alloc, &bytes[..count]) else {
+    let Ok(vector) = Vec::from_slice(alloc, &ROOM_AND_SIXTEEN[..HEADER_ROOM + count]) else {
         return false;
     };
     let of_vector = Body::from_vec(vector);
-    let of_array = Body::from_array(alloc, bytes, count);
-    let is_made = of_vector.as_slice() == &bytes[..count] && of_array.as_slice() == &bytes[..count];
+    let of_array = Body::from_array(alloc, *ROOM_AND_SIXTEEN, count);
+    let is_made = of_vector.as_slice() == payload && of_array.as_slice() == payload;
     drop(of_vector);
     drop(of_array);
     is_made
+}
+
+// Room for a header with a payload behind it, the payload alone, and what `framed` gives after a stamp of small letters
+// and then after one of capitals.
+#[derive(Clone, Copy)]
+struct Stamps<'a> {
+    whole: &'a [u8],
+    payload: &'a [u8],
+    small: &'a [u8],
+    capital: &'a [u8],
+}
+
+const STAMPS: [Stamps<'static>; 3] = [
+    Stamps {
+        whole: b"............0",
+        payload: b"0",
+        small: b"abcdefghijkl0",
+        capital: b"ABCDEFGHIJKL0",
+    },
+    Stamps {
+        whole: b"............0123456789abcdef",
+        payload: b"0123456789abcdef",
+        small: b"abcdefghijkl0123456789abcdef",
+        capital: b"ABCDEFGHIJKL0123456789abcdef",
+    },
+    Stamps {
+        whole: b"............0123456789abcdefg",
+        payload: b"0123456789abcdefg",
+        small: b"abcdefghijkl0123456789abcdefg",
+        capital: b"ABCDEFGHIJKL0123456789abcdefg",
+    },
+];
+
+#[test]
+fn payloads_are_stamped(rt: HostRuntime) {
+    for row in STAMPS {
+        are_stamped(&rt, rt.alloc(), row);
+    }
+    let whole = [b'7'; 1502];
+    let mut small = whole;
+    small[..12].copy_from_slice(b"abcdefghijkl");
+    let mut capital = whole;
+    capital[..12].copy_from_slice(b"ABCDEFGHIJKL");
+    let longest = Stamps {
+        whole: &whole,
+        payload: &[b'7'; 1490],
+        small: &small,
+        capital: &capital,
+    };
+    are_stamped(&rt, rt.alloc(), longest);
+}
+
+// The payload of a row, however it is made, is stamped as the row says.
+fn are_stamped(rt: &impl Abort, alloc: Global, row: Stamps) {
+    let count = row.payload.len();
+    assert!(rt; is_new_stamped(alloc, row), "a new body of {count} bytes");
+    assert!(rt; is_vector_stamped(alloc, row), "a vector of {count} bytes");
+    if count <= MAX_IN_PLACE {
+        assert!(rt; is_array_stamped(alloc, row), "an array of {count} bytes");
+    }
+}
+
+// Whether a body that `Body::new` makes of the payload is stamped as the row says.
+fn is_new_stamped(alloc: Global, row: Stamps) -> bool {
+    match Body::new(alloc, row.payload) {
+        Ok(body) => is_stamped(body, row),
+        Err(_) => false,
+    }
+}
+
+// Whether a body that `Body::from_vec` makes is stamped as the row says.
+fn is_vector_stamped(alloc: Global, row: Stamps) -> bool {
+    if row.whole.len() <= HEADER_ROOM || row.whole.len() > HEADER_ROOM + MAX_PAYLOAD {
+        return false;
+    }
+    match Vec::from_slice(alloc, row.whole) {
+        Ok(vector) => is_stamped(Body::from_vec(vector), row),
+        Err(_) => false,
+    }
+}
+
+// Whether a body that `Body::from_array` makes is stamped as the row says.
+fn is_array_stamped(alloc: Global, row: Stamps) -> bool {
+    let count = row.payload.len();
+    if count < 1 || count > MAX_IN_PLACE {
+        return false;
+    }
+    is_stamped(Body::from_array(alloc, *ROOM_AND_SIXTEEN, count), row)
+}
+
+// Whether `framed` is the payload before a stamp, and after each of two stamps what the row says.
+fn is_stamped(body: Body, row: Stamps) -> bool {
+    let mut body = body;
+    let before = is_framed(&body, row.payload, row.payload);
+    body.stamp(b"abcdefghijkl");
+    let small = is_framed(&body, row.small, row.payload);
+    body.stamp(b"ABCDEFGHIJKL");
+    let capital = is_framed(&body, row.capital, row.payload);
+    drop(body);
+    before && small && capital
+}
+
+// Whether `framed` gives these bytes, and `as_slice` the payload alone.
+fn is_framed(body: &Body, framed: &[u8], payload: &[u8]) -> bool {
+    body.framed() == framed && body.as_slice() == payload
+}
+
+#[test]
+fn halves_are_stamped_apart(rt: HostRuntime) {
+    let (mut sending, mut audit) = Parcel::new(rt.alloc(), b"pay")
+        .expect(&rt, "a parcel")
+        .split();
+    let none = is_framed(&sending, b"pay", b"pay") && is_framed(&audit, b"pay", b"pay");
+    sending.stamp(b"abcdefghijkl");
+    let one = is_framed(&sending, b"abcdefghijklpay", b"pay") && is_framed(&audit, b"pay", b"pay");
+    audit.stamp(b"ABCDEFGHIJKL");
+    let first = is_framed(&sending, b"abcdefghijklpay", b"pay");
+    let second = is_framed(&audit, b"ABCDEFGHIJKLpay", b"pay");
+    drop(sending);
+    drop(audit);
+    assert!(rt; none, "no half is stamped");
+    assert!(rt; one, "the half to send is stamped");
+    assert!(rt; first && second, "both halves are stamped");
 }
 
 // Each refusal, its number, its name and its text.

@@ -1,12 +1,12 @@
 pub mod Activities
 pub mod Arrivals
 pub mod Closings
-pub mod Frames
 pub mod Fundings
 pub mod Idles
 pub mod Levellings
 pub mod Living
 pub mod Openings
+pub mod Payloads
 pub mod Sendings
 pub mod Standing
 pub mod Tallies

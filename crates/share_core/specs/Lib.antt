@@ -1,4 +1,3 @@
-pub mod Framed
 pub mod Held
 pub mod Levels
 pub mod Life

@@ -7,8 +7,7 @@ ghost use Rattle.share_model.specs.link.Books.{is_book_of, new_book, account_of,
 ghost use Rattle.share_model.specs.link.Books.{books_with_units};
 ghost use Rattle.share_core.specs.Held.{IfFound};
 
-use crate::MAX_FLOWS;
-use crate::frame::MAX_FRAME;
+use crate::{MAX_FLOWS, MAX_FRAME};
 use share_base::FlowNo;
 use share_model::{Book, Rates};
 use std::alloc::{AllocError, Global};

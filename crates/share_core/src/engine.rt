@@ -1,5 +1,5 @@
 //! The engine of a link: a link and the writer of its frames.
-ghost use Rattle.std.specs.Prelude.{◌≡◌, ◌<◌, ◌≤◌, ◌^◌, find, length, take, drop, vec_capacity, IfOk, IfErr, IfSome};
+ghost use Rattle.std.specs.Prelude.{◌≡◌, ◌<◌, ◌≤◌, ◌^◌, find, IfOk, IfErr, IfSome};
 ghost use Rattle.std.specs.Prelude.{None, option_map, is_some, false};
 ghost use Rattle.share_base.specs.Refusal.{IsRefused};
 ghost use Rattle.std.specs.FinMap.{get};
@@ -17,15 +17,11 @@ ghost use Rattle.share_model.specs.link.View.{LinkView};
 ghost use Rattle.share_model.specs.link.Fields.{IsName, IsBody, HasCommandFields};
 ghost use Rattle.share_model.specs.run.Sound.{Sound};
 ghost use Rattle.share_model.specs.link.Tariff.{AreInRange};
-ghost use Rattle.share_model.specs.link.Frame.{frame};
-ghost use Rattle.share_model.specs.io.Told.{Fits};
-ghost use Rattle.share_core.specs.Framed.{IsFrameOf};
 ghost use Rattle.share_core.specs.NextWrite.{IsNextWriteOf};
 ghost use Rattle.share_flows.specs.Places.{Stands};
 ghost use Rattle.share_core.specs.Life.{life_refusal};
 
 use crate::fields;
-use crate::frame::MAX_FRAME;
 use crate::link::Link;
 use crate::next_write::NextWrite;
 use share_base::{Body, Command, FlowNo, Name, Refusal, Reply, Turn};
@@ -40,16 +36,11 @@ use std::marker::Model;
 #[derive(Drop)]
 pub struct Engine<W, S: Rates> {
     link: Link<S>,
-    // The bytes of the frame in part, where there is one.
-    frame: Vec<u8>,
     writer: W,
 }
 
 impl<W, S: Rates> Model for Engine<W, S> {
-    ghost use Rattle.std.specs.Prelude.{◌≤◌, vec_capacity};
     ghost use Rattle.share_model.specs.link.View.{LinkView};
-    ghost use Rattle.share_core.specs.Framed.{IsFrameOf};
-    ghost use Rattle.share_core.specs.declared.frame.TheConstants.{MAX_FRAME};
     ghost use Rattle.std.specs.Coded.{codes};
     ghost use Rattle.share_model.specs.stride.Moves.{coded_stride};
 
@@ -59,10 +50,6 @@ impl<W, S: Rates> Model for Engine<W, S> {
 
     ghost view = { λ e.
         record { life = e.link.life; rates = e.link.rates; live = e.link.live; writer = e.writer } };
-
-    ghost invariant = { λ e.
-        (MAX_FRAME ≤ vec_capacity e.frame)
-        × IsFrameOf e.link.live.buffers e.link.live.part e.frame.items };
 }
 
 impl<W: Drop, S: Rates + Drop> Engine<W, S> {
@@ -75,15 +62,7 @@ impl<W: Drop, S: Rates + Drop> Engine<W, S> {
         ensures refused { IfErr result (IsRefused (life_refusal life)) }
     {
         let link = Link::new(alloc, shelf, life)?;
-        let Ok(frame) = Vec::with_capacity(alloc, MAX_FRAME) else {
-            drop(link);
-            return Err(Refusal::NoMemory);
-        };
-        Ok(Engine {
-            link,
-            frame,
-            writer,
-        })
+        Ok(Engine { link, writer })
     }
 }
 
@@ -223,8 +202,8 @@ impl<W, S: Rates> Engine<W, S> {
     /// unless the life is spent. Refusals, in order: `Spent`, `NoFlow`, `BufferFull`. A refused payload is dropped,
     /// and takes no number. It takes no memory.
     pub fn arrive(&mut self, flow: Name, body: Body) -> Reply
-        ensures did { Steps (λ _ l. arrive_step l flow body) self.old result self.new }
-        ensures fields { IsName flow × IsBody body }
+        ensures did { Steps (λ _ l. arrive_step l flow body.payload) self.old result self.new }
+        ensures fields { IsName flow × IsBody body.payload }
     {
         fields::of_arrival(&flow, &body);
         if self.link.spent() {
@@ -262,9 +241,7 @@ impl<W, S: Rates> Engine<W, S> {
         ensures { IfSome (sending self.old.live)
             (λ s. OfferDecided W.answers self.old most s result self.new) }
     {
-        let out = place.out;
-        load(&self.link, &place, &mut self.frame);
-        match offer(&mut self.writer, self.frame.as_slice(), out, most) {
+        match self.link.offer(&place, most, &mut self.writer) {
             Answer::Accepted(0) => self.link.fail(place),
             Answer::Accepted(count) => self.link.write(place, count as u32),
             Answer::Interrupted => Turn::Again,
@@ -289,40 +266,8 @@ impl<W, S: Rates + Drop> Engine<W, S> {
     pub fn into_writer(self) -> W
         ensures { result ≡ self.writer }
     {
-        let Engine {
-            link,
-            frame,
-            writer,
-        } = self;
+        let Engine { link, writer } = self;
         drop(link);
-        drop(frame);
         writer
     }
-}
-
-// Builds the frame that is sent in the buffer. A frame in part is there already.
-fn load<S: Rates>(link: &Link<S>, place: &NextWrite, buffer: &mut Vec<u8>)
-    requires sends { IsNextWriteOf (sending link.now.live) place.now }
-    requires stands { Stands link.now.live.buffers place.now.buffer }
-    requires kept { IsFrameOf link.now.live.buffers link.now.live.part buffer.old.items }
-    requires room { MAX_FRAME ≤ vec_capacity buffer.old }
-    ensures sound { Sound link.now.life link.now.rates link.now.live }
-    ensures frame { IfSome (sending link.now.live) (λ s. buffer.new.items ≡ frame s.head) }
-    ensures room { MAX_FRAME ≤ vec_capacity buffer.new }
-{
-    let _ = link.spent();
-    if place.out == 0 {
-        link.fill(&place.buffer, buffer);
-    }
-}
-
-// Offers a writer the next bytes of a frame of which `out` are out, at most `most` of them, in one call.
-fn offer<W: TellingWriter>(writer: &mut W, frame: &[u8], out: u32, most: u32) -> Answer
-    requires { out ≤ length frame.now }
-    ensures answered { W.answers writer.old (take most (drop out frame.now)) result writer.new }
-    ensures fits { Fits (take most (drop out frame.now)) result }
-{
-    let rest = &frame[out as usize..];
-    let count = rest.len().min(most as usize);
-    writer.offer(&rest[..count])
 }

@@ -49,7 +49,7 @@ fn of_both(number: u64, name: &Name)
 
 /// The fields of an arrival.
 pub fn of_arrival(flow: &Name, body: &Body)
-    ensures { IsName flow.now × IsBody body.now }
+    ensures { IsName flow.now × IsBody body.now.payload }
 {
     let _ = flow.as_bytes();
     of_bytes(body.as_slice());

@@ -15,9 +15,9 @@ mod readers;
 mod sending;
 
 use crate::books::Books;
+use crate::payload_buffers::PayloadBuffers;
 use crate::{MAX_FLOWS, MAX_LIFE};
 use share_base::{FlowNo, Refusal, Reply};
-use share_flows::Buffers;
 use share_ledger::Ledger;
 use share_model::{Counts, Part, Rates};
 use share_stride::Queue;
@@ -33,7 +33,7 @@ pub struct Link<S: Rates> {
     ledger: Ledger,
     queue: Queue,
     levelled_with: [u32; MAX_FLOWS],
-    buffers: Buffers,
+    buffers: PayloadBuffers,
     books: Books,
     part: Option<Part>,
     torn: Option<FlowNo>,
@@ -96,7 +96,7 @@ impl<S: Rates + Drop> Link<S> {
             return Err(Refusal::Range);
         }
         let books = Books::new(alloc)?;
-        let buffers = Buffers::new(alloc)?;
+        let buffers = PayloadBuffers::new(alloc)?;
         let queue = Queue::new(alloc)?;
         let ledger = Ledger::new(alloc)?;
         Ok(Link {

@@ -3,6 +3,7 @@
 mod currencies;
 mod cuts;
 mod memory;
+mod pieces;
 mod plain;
 mod random;
 mod refusals;
@@ -215,6 +216,7 @@ enum Case<'a> {
     Refused(refusals::Case<'a>),
     Funded(currencies::Case),
     Cut(cuts::Case),
+    Pieces(pieces::Case<'a>),
 }
 
 fn plays<S: Rates>(
@@ -229,6 +231,7 @@ fn plays<S: Rates>(
         Case::Refused(case) => refusals::plays(rt, alloc, engine, case),
         Case::Funded(case) => currencies::plays(rt, alloc, engine, case),
         Case::Cut(case) => cuts::plays(rt, alloc, engine, case),
+        Case::Pieces(case) => pieces::plays(rt, alloc, engine, case),
     }
 }
 
@@ -342,6 +345,7 @@ fn answer_as_worked_and_as_a_plain_link<S: Rates + Copy>(
     refusals::all(rt, alloc, shelf);
     currencies::all(rt, alloc, shelf);
     cuts::all(rt, alloc, shelf);
+    pieces::all(rt, alloc, shelf);
     random::worlds::all(rt, alloc, shelf)
 }
 

@@ -1,3 +1,4 @@
 pub mod Apart
 pub mod PlaceLaws
 pub mod Standing
+pub mod Stamping

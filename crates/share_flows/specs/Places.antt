@@ -1,13 +1,13 @@
 -- Where the buffer of a flow is.
 use Rattle.std.specs.Prelude.{◌≡◌, List, map, position, nat_eq, Some}
 use Rattle.std.specs.List.{IsDistinct}
-use Rattle.share_model.specs.link.Buffers.{Buffer, is_buffer_of}
+use Rattle.share_model.specs.link.Buffers.{BufferOf, is_buffer_of}
 use Rattle.share_flows.specs.declared.buffers.Place.{Place}
 
 -- the first buffer of the flow is at this place
-abbrev pub Stands : List Buffer → Place → Type 0
+abbrev pub Stands : {A : Type 0} → List (BufferOf A) → Place → Type 0
 Stands bs place = position (is_buffer_of place.flow) bs ≡ Some place.at
 
 -- no two buffers are of the same flow
-abbrev pub AreApart : List Buffer → Type 0
-AreApart bs = IsDistinct nat_eq (map (λ (b : Buffer). b.flow) bs)
+abbrev pub AreApart : {A : Type 0} → List (BufferOf A) → Type 0
+AreApart {A} bs = IsDistinct nat_eq (map (λ (b : BufferOf A). b.flow) bs)

@@ -4,12 +4,13 @@ ghost use Rattle.std.specs.Prelude.{length, slice_get, MatchOption, None, Some, 
 ghost use Rattle.share_base.specs.Refusal.{IsRefused};
 ghost use Rattle.share_base.specs.declared.refusal.Refusal.TheVariants.{NoMemory};
 ghost use Rattle.share_model.specs.link.Buffers.{buffer_of, is_buffer_of, open_in, close_in, count_in, push_in, pop_in};
-ghost use Rattle.share_model.specs.link.Buffers.{is_full, head_of, is_busy};
+ghost use Rattle.share_model.specs.link.Buffers.{is_full, head_of, is_busy, payloads_in};
 ghost use Rattle.share_flows.specs.Places.{Stands, AreApart};
+ghost use Rattle.share_flows.specs.Stamps.{stamp_in};
 ghost use Rattle.share_flows.specs.Limit.{limit_refusal};
 
 use crate::ring::{MAX_LIMIT, Ring};
-use share_base::{Body, FlowNo, Refusal};
+use share_base::{Body, FlowNo, HEADER_ROOM, Refusal};
 use std::alloc::Global;
 use std::marker::Model;
 
@@ -24,7 +25,7 @@ pub struct Place {
 }
 
 /// A buffer for each open flow. A contract sees them as a list in order of opening: each with its flow, its limit, the
-/// payloads that it holds and the next sequence number.
+/// next sequence number and, of each packet that it holds, the payload and the bytes stamped before it.
 #[derive(Drop)]
 pub struct Buffers {
     alloc: Global,
@@ -33,10 +34,10 @@ pub struct Buffers {
 
 impl Model for Buffers {
     ghost use Rattle.std.specs.Prelude.{List};
-    ghost use Rattle.share_model.specs.link.Buffers.{Buffer};
+    ghost use Rattle.share_flows.specs.Stamps.{BufferView};
     ghost use Rattle.share_flows.specs.Places.{AreApart};
 
-    ghost Value = { List Buffer };
+    ghost Value = { List BufferView };
 
     ghost view = { λ b. b.rings.items };
 
@@ -187,6 +188,31 @@ impl Buffers {
     {
         let ring = &mut self.rings[place.at];
         ring.pop()
+    }
+
+    /// Stamps a header before the payload of the head packet of a flow's buffer, which holds one. It changes no
+    /// payload, and takes no memory.
+    pub fn stamp(&mut self, flow: FlowNo, header: &[u8; HEADER_ROOM])
+        requires { IsTrue (is_busy self.old flow) }
+        ensures after { self.new ≡ stamp_in self.old flow header.now }
+        ensures payloads { payloads_in self.new ≡ payloads_in self.old }
+    {
+        match self.find(flow) {
+            None => unreachable!(),
+            Some(place) => self.stamp_at(&place, header),
+        }
+    }
+
+    /// The same, at a place, which stays good.
+    pub fn stamp_at(&mut self, place: &Place, header: &[u8; HEADER_ROOM])
+        requires there { Stands self.old place.now }
+        requires busy { IsTrue (is_busy self.old place.now.flow) }
+        ensures after { self.new ≡ stamp_in self.old place.now.flow header.now }
+        ensures payloads { payloads_in self.new ≡ payloads_in self.old }
+        ensures stands { Stands self.new place.now }
+    {
+        let ring = &mut self.rings[place.at];
+        ring.stamp(header);
     }
 
     /// How many packets a flow's buffer holds, at most its limit; 0 if the flow is not open. It takes no memory.

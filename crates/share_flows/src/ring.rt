@@ -1,11 +1,12 @@
 //! The buffer of one flow.
-ghost use Rattle.std.specs.Prelude.{◌≡◌, ◌<◌, ◌≤◌, ◌^◌, ◌-◌, ◌∷◌, true, false, not, length, nat_lt, IfOk, IfErr};
+ghost use Rattle.std.specs.Prelude.{◌≡◌, ◌<◌, ◌≤◌, ◌^◌, ◌-◌, ◌∷◌, true, false, length, nat_lt, IfOk, IfErr};
 ghost use Rattle.std.specs.Prelude.{MatchOption, None, Some};
-ghost use Rattle.share_model.specs.link.Buffers.{Buffer, is_buffer_of, new_buffer, is_full, with_packet, without_head};
+ghost use Rattle.share_model.specs.link.Buffers.{is_buffer_of, new_buffer, is_full, with_packet, without_head};
 ghost use Rattle.share_model.specs.link.Buffers.{head_of_buffer, is_some_packet};
+ghost use Rattle.share_flows.specs.Stamps.{with_stamp};
 
 use circular_buffer::HeapCircularBuffer;
-use share_base::{Body, FlowNo};
+use share_base::{Body, FlowNo, HEADER_ROOM};
 use std::alloc::{AllocError, Global};
 use std::marker::Model;
 
@@ -24,10 +25,10 @@ pub struct Ring {
 
 impl Model for Ring {
     ghost use Rattle.std.specs.Prelude.{◌≤◌, ◌<◌, ◌^◌, length};
-    ghost use Rattle.share_model.specs.link.Buffers.{Buffer};
+    ghost use Rattle.share_flows.specs.Stamps.{BufferView};
     ghost use Rattle.share_flows.specs.declared.ring.TheConstants.{MAX_LIMIT};
 
-    ghost Value = { Buffer };
+    ghost Value = { BufferView };
 
     ghost view = { λ r.
         record { flow = r.flow; limit = r.packets.capacity; next = r.next; packets = r.packets.items } };
@@ -128,6 +129,17 @@ impl Ring {
         match self.packets.pop_front() {
             None => unreachable!(),
             Some(body) => body,
+        }
+    }
+
+    /// Stamps a header before the payload of the head packet, which there is.
+    pub fn stamp(&mut self, header: &[u8; HEADER_ROOM])
+        requires { is_some_packet self.old.packets ≡ true }
+        ensures { self.new ≡ with_stamp header.now self.old }
+    {
+        match self.packets.get_mut(0) {
+            None => unreachable!(),
+            Some(body) => body.stamp(header),
         }
     }
 

@@ -2,8 +2,8 @@
 mod guarded;
 
 use crate::Buffers;
-use guarded::{close, head, is_open, open, pop, push, through};
-use share_base::{Body, FlowNo, Refusal};
+use guarded::{close, head, is_framed, is_open, open, pop, push, stamp, stamp_by_place, through};
+use share_base::{Body, FlowNo, HEADER_ROOM, Refusal};
 use std::alloc::Global;
 use std::process::Abort;
 
@@ -21,6 +21,12 @@ enum Row {
     Pop(u32, Option<u8>),
     /// A packet is put in at the flow's place, and the head packet and its number are taken out.
     Through(u32, u8, Option<(u32, u8)>),
+    /// A header is stamped before the head packet; false if there is no packet.
+    Stamp(u32, &'static [u8; HEADER_ROOM], bool),
+    /// The same, at the flow's place.
+    StampAt(u32, &'static [u8; HEADER_ROOM], bool),
+    /// The bytes stamped before the head packet, and its payload; no bytes if there is no packet.
+    Framed(u32, &'static [u8]),
     /// The buffer is closed: how many packets it held.
     Close(u32, Option<u32>),
     /// Whether a buffer is open, whether it holds a packet, and how many.
@@ -44,6 +50,11 @@ fn holds(rt: &impl Abort, alloc: Global, buffers: &mut Buffers, row: Row) -> boo
         Row::Through(flow, byte, packet) => {
             through(buffers, FlowNo(flow), body(rt, alloc, byte)) == packet
         }
+        Row::Stamp(flow, header, stamped) => stamp(buffers, FlowNo(flow), header) == stamped,
+        Row::StampAt(flow, header, stamped) => {
+            stamp_by_place(buffers, FlowNo(flow), header) == stamped
+        }
+        Row::Framed(flow, framed) => is_framed(buffers, FlowNo(flow), framed),
         Row::Close(flow, dropped) => close(buffers, FlowNo(flow)) == dropped,
         Row::Shows(flow, open, busy, packets) => {
             is_open(buffers, FlowNo(flow)) == open
@@ -114,6 +125,54 @@ fn a_place_is_of_its_flow(rt: HostRuntime) {
         Row::Through(2, 9, None),
         Row::Shows(1, true, true, 1),
         Row::Shows(7, true, false, 0),
+    ];
+    plays(&rt, rt.alloc(), &rows);
+}
+
+#[test]
+fn the_head_packet_is_stamped(rt: HostRuntime) {
+    let rows = [
+        Row::Stamp(1, b"abcdefghijkl", false),
+        Row::Open(1, 3, Some(Ok(()))),
+        Row::Stamp(1, b"abcdefghijkl", false),
+        Row::Push(1, b'1', Some(Ok(1))),
+        Row::Framed(1, b"1"),
+        Row::Stamp(1, b"abcdefghijkl", true),
+        Row::Framed(1, b"abcdefghijkl1"),
+        Row::Head(1, Some((1, b'1'))),
+        Row::Push(1, b'2', Some(Ok(2))),
+        Row::Push(1, b'3', Some(Ok(3))),
+        Row::Framed(1, b"abcdefghijkl1"),
+        // a second header takes the place of the first
+        Row::Stamp(1, b"ABCDEFGHIJKL", true),
+        Row::Framed(1, b"ABCDEFGHIJKL1"),
+        Row::Shows(1, true, true, 3),
+        Row::Pop(1, Some(b'1')),
+        Row::Framed(1, b"2"),
+        Row::Stamp(1, b"abcdefghijkl", true),
+        Row::Framed(1, b"abcdefghijkl2"),
+        Row::Pop(1, Some(b'2')),
+        Row::Framed(1, b"3"),
+    ];
+    plays(&rt, rt.alloc(), &rows);
+}
+
+#[test]
+fn a_stamp_by_a_place_is_of_its_flow(rt: HostRuntime) {
+    let rows = [
+        Row::StampAt(1, b"abcdefghijkl", false),
+        Row::Open(1, 2, Some(Ok(()))),
+        Row::Open(7, 2, Some(Ok(()))),
+        Row::StampAt(7, b"abcdefghijkl", false),
+        Row::Push(1, b'1', Some(Ok(1))),
+        Row::Push(7, b'7', Some(Ok(1))),
+        Row::StampAt(7, b"abcdefghijkl", true),
+        Row::Framed(7, b"abcdefghijkl7"),
+        Row::Framed(1, b"1"),
+        Row::StampAt(1, b"ABCDEFGHIJKL", true),
+        Row::Framed(1, b"ABCDEFGHIJKL1"),
+        Row::Framed(7, b"abcdefghijkl7"),
+        Row::Head(7, Some((1, b'7'))),
     ];
     plays(&rt, rt.alloc(), &rows);
 }

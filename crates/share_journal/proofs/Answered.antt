@@ -3,6 +3,7 @@ use Rattle.std.specs.Prelude.{◌≡◌, ◌<◌, ℕ, Bool, true, false, Option
 use Rattle.std.specs.Prelude.{List, ◌∷◌, []}
 use Rattle.std.proofs.Common.{refl, sym, ap, ◌∙◌, arith, inl, inr}
 use Rattle.std.proofs.lemmas.Bool.Decides.{nat_tests}
+use Rattle.share_base.specs.Body.{BodyView}
 use Rattle.share_base.specs.declared.refusal.Refusal.TheVariants.{Spent}
 use Rattle.share_base.specs.declared.command.Command.{Command}
 use Rattle.share_base.specs.declared.command.Event.{Event}
@@ -71,10 +72,10 @@ module _ {W : Type 0} (told : W → Option Told) (old new : LinkView W) (reply :
           step_own told old new (Commanded c) reply (is_spent old) (command_step old.rates old.live c) refl living
           (step-answers old.rates old.live c) stepped
 
-  pub arrival-answers : (name body : List ℕ) → AskedOutcome told old (Arrived name body) reply new
-      → Steps (λ rates l. arrive_step l name body) old reply new → made_event old new ≡ answers_event reply
+  pub arrival-answers : (name : List ℕ) (body : BodyView) → AskedOutcome told old (Arrived name body) reply new
+      → Steps (λ rates l. arrive_step l name body.payload) old reply new → made_event old new ≡ answers_event reply
   arrival-answers name body asked did =
       asked_answers told old new (Arrived name body) reply asked
       (made_more told old new journal (Arrived name body) reply (Worker 0) was)
       (λ living ran. step_own told old new (Arrived name body) reply (is_spent old)
-      (arrive_step old.live name body) refl living (came-answers old.live name body) did)
+      (arrive_step old.live name body.payload) refl living (came-answers old.live name body.payload) did)

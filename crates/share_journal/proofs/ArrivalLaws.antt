@@ -88,7 +88,7 @@ packet_numbered before Link name body were = were
 event_numbered : (before : List Offer) (source : Source) (e : Event) → AreNumbered before
     → AreNumbered (with_event before source e)
 event_numbered before source (Commanded c) were = were
-event_numbered before source (Arrived name body) were = packet_numbered before source name body were
+event_numbered before source (Arrived name body) were = packet_numbered before source name body.payload were
 event_numbered before source (Written k) were = were
 event_numbered before source Faulted were = were
 

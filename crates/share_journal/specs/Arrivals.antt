@@ -20,7 +20,7 @@ with_arrival before Link name body = before
 
 abbrev pub with_event : List Offer → Source → Event → List Offer
 with_event before source (Commanded c) = before
-with_event before source (Arrived name body) = with_arrival before source name body
+with_event before source (Arrived name body) = with_arrival before source name body.payload
 with_event before source (Written k) = before
 with_event before source Faulted = before
 

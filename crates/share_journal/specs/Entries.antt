@@ -1,5 +1,6 @@
 -- What a contract sees of a journal, and what is read of its entries.
 use Rattle.std.specs.Prelude.{ℕ, zero, suc, List, [], ◌∷◌, ◌++◌, map, slice_get, Option, None}
+use Rattle.share_base.specs.Body.{unstamped}
 use Rattle.share_base.specs.declared.command.Command.{Command}
 use Rattle.share_base.specs.declared.command.Event.{Event}
 use Rattle.share_base.specs.declared.command.Event.TheVariants.{Commanded, Arrived, Written, Faulted}
@@ -42,7 +43,7 @@ command_entry clerk c reply = record { event = Commanded c; reply = Replied repl
 
 abbrev pub arrival_entry : ℕ → List ℕ → List ℕ → Reply → Entry
 arrival_entry worker flow body reply =
-    record { event = Arrived flow body; reply = Replied reply; source = Worker worker }
+    record { event = Arrived flow (unstamped body); reply = Replied reply; source = Worker worker }
 
 -- a turn, or a declared fault, is an event where bytes were accepted or the frame was torn
 abbrev pub turn_entries : Turn → List Entry

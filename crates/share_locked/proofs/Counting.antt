@@ -23,7 +23,7 @@ packet_count before Link name body = omega arith
 event_count : (before : List Offer) (source : Source) (e : Event)
     → length (with_event before source e) ≡ length before + (if is_arrived e && is_worker source then 1 else 0)
 event_count before source (Commanded c) = omega arith
-event_count before source (Arrived name body) = packet_count before source name body
+event_count before source (Arrived name body) = packet_count before source name body.payload
 event_count before source (Written k) = omega arith
 event_count before source Faulted = omega arith
 

@@ -8,7 +8,7 @@ use Rattle.std.proofs.lemmas.List.Splits.{slice_split_none, join_with_byte-slice
 use Rattle.std.proofs.lemmas.List.Elements.{All-from_recursion}
 use Rattle.std.proofs.lemmas.Bool.Decides.{nat_tests}
 use Rattle.std.proofs.lemmas.Bool.{and_parts}
-use Rattle.share_base.specs.Body.{is_payload_length}
+use Rattle.share_base.specs.Body.{is_payload_length, unstamped}
 use Rattle.share_base.specs.declared.refusal.Refusal.{Refusal}
 use Rattle.share_base.specs.declared.refusal.Refusal.TheVariants.{NoMemory, Syntax, Range}
 use Rattle.share_model.specs.declared.line.Line.{Line}
@@ -51,7 +51,7 @@ unheld_sent flow digits few good =
     let half : 2 * length (from_pairs digits) ≡ length digits = (hex-from_pairs digits (and_parts _ _ good).1).2 in
     let short : length (from_pairs digits) ≤ 1490 = omega arith in
     let r = in_range (length (from_pairs digits)) only.0.0 short in
-    inr (refl, (Send flow (from_pairs digits), ap (line_sent_by flow) is, r.1, refl))
+    inr (refl, (Send flow (unstamped (from_pairs digits)), ap (line_sent_by flow) is, r.1, refl))
 
 -- why digits were not read: they are too many
 pub unread_long : (flow digits : List ℕ) (r : Refusal) → 2980 < length digits

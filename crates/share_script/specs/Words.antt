@@ -3,6 +3,7 @@ use Rattle.std.specs.Prelude.{◌≡◌, ◌⊎◌, ℕ, ◌==◌, Bool, ◌&&�
 use Rattle.std.specs.Prelude.{Option}
 use Rattle.std.specs.Prelude.{None, Some, Result, Err, codes, true, if◌then◌else◌}
 use Rattle.std.specs.Str.{bytes_eq}
+use Rattle.share_base.specs.Body.{unstamped}
 use Rattle.share_base.specs.declared.refusal.Refusal.{Refusal}
 use Rattle.share_base.specs.declared.refusal.Refusal.TheVariants.{NoMemory}
 use Rattle.share_model.specs.declared.line.Line.{Line}
@@ -46,7 +47,7 @@ short_line_by w ws =
 -- the packet for a flow, where there is a payload
 abbrev pub line_sent_by : List ℕ → Option (List ℕ) → Option Line
 line_sent_by flow None = None
-line_sent_by flow (Some payload) = Some (Send flow payload)
+line_sent_by flow (Some payload) = Some (Send flow (unstamped payload))
 
 -- the line, if it is in range; or memory was refused for a packet that is
 abbrev pub ReadsRanged : Option Line → Result Line Refusal → Type 0

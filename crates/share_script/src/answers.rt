@@ -5,7 +5,7 @@ ghost use Rattle.share_base.specs.declared.refusal.Refusal.TheVariants.{Spent, S
 ghost use Rattle.share_model.specs.declared.line.Line.TheVariants.{Change, Turn as TurnLine};
 ghost use Rattle.share_model.specs.io.Calls.{Offers, OfferRefused, Called, CallFailed};
 ghost use Rattle.share_model.specs.io.Printing.{bytes_told};
-ghost use Rattle.share_model.specs.text.Lines.{is_in_range};
+ghost use Rattle.share_model.specs.text.Lines.{HasFields, is_in_range};
 ghost use Rattle.share_model.specs.text.Report.{report};
 ghost use Rattle.share_model.specs.text.Answering.{AnswersBytes, AnswersLine, TakesAll};
 ghost use Rattle.share_model.specs.text.Talk.{is_syntax};
@@ -155,6 +155,7 @@ fn answer_line<W: TellingWriter + Drop, S: Rates + Drop>(
     first: bool,
 ) -> Result<LineAnswer, ScriptFault>
     requires whole { TakesAll W.answers }
+    requires fields { HasFields line }
     requires in_range { is_in_range line ≡ true }
     ensures says { IfOk result (λ line_answer. AnswersLine W.told engine.old first line
         (answer_text engine.new.live line_answer) engine.new) }

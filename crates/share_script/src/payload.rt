@@ -1,10 +1,12 @@
 //! Payloads in hexadecimal, read sixteen bytes at a time.
-ghost use Rattle.std.specs.Prelude.{◌≡◌, ◌<◌, ◌≤◌, ◌+◌, ◌*◌, ◌/◌, ◌%◌, ◌==◌, ◌&&◌, ℕ, None, Some, length, take, nat_le};
+ghost use Rattle.std.specs.Prelude.{◌≡◌, ◌<◌, ◌≤◌, ◌+◌, ◌*◌, ◌/◌, ◌%◌, ◌==◌, ◌&&◌, ℕ, None, Some, length, take, drop};
+ghost use Rattle.std.specs.Prelude.{nat_le};
 ghost use Rattle.std.specs.Prelude.{MatchOption, IfSome, slice_index};
 ghost use Rattle.std.specs.List.{list_all};
 ghost use Rattle.share_model.specs.text.Lines.{is_hex_digit, is_pairs, payload_of};
 ghost use Rattle.share_script.specs.Digits.{value_or_255, DecodesUpTo};
 
+use share_base::HEADER_ROOM;
 use std::simd::prelude::*;
 
 /// How many bytes are decoded at a time.
@@ -26,9 +28,9 @@ fn digit(byte: u8) -> u8
     }
 }
 
-/// Writes the bytes that a word spells in hexadecimal to the front of a buffer, and answers how many they are.
-/// `None` where the word spells none.
-pub fn decode(word: &[u8], bytes: &mut [u8]) -> Option<usize>
+// Writes the bytes that a word spells in hexadecimal to the front of a buffer, and answers how many they are.
+// `None` where the word spells none.
+fn decode(word: &[u8], bytes: &mut [u8]) -> Option<usize>
     requires { length word.now ≤ 2 * length bytes.old }
     ensures payload { MatchOption result (payload_of word.now ≡ None)
         (λ count. payload_of word.now ≡ Some (take count bytes.new)) }
@@ -45,6 +47,19 @@ pub fn decode(word: &[u8], bytes: &mut [u8]) -> Option<usize>
     }
     let greatest = decode_rest(word, bytes, BLOCK * (count / BLOCK), greatest);
     if greatest > 15 { None } else { Some(count) }
+}
+
+/// Decodes a word as `decode` does, behind the room for a header.
+#[inline(always)]
+pub fn decode_behind(word: &[u8], bytes: &mut [u8]) -> Option<usize>
+    requires { 2 * HEADER_ROOM + length word.now ≤ 2 * length bytes.old }
+    ensures payload { MatchOption result (payload_of word.now ≡ None)
+        (λ count. payload_of word.now ≡ Some (take count (drop HEADER_ROOM bytes.new))) }
+    ensures half { IfSome result (λ count. 2 * count ≡ length word.now) }
+    ensures some { IfSome result (λ count. 1 ≤ count) }
+    ensures long { length bytes.new ≡ length bytes.old }
+{
+    decode(word, &mut bytes[HEADER_ROOM..])
 }
 
 // Decodes the sixteen bytes from a place on, and answers the greatest value of a digit up to their end.

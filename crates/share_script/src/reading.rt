@@ -14,9 +14,9 @@ ghost use Rattle.share_model.specs.text.Lines.{words_of};
 ghost use Rattle.std.specs.Str.{bytes_eq};
 ghost use Rattle.share_script.specs.Words.{ReadsRanged, short_line_by, line_sent_by};
 
-use crate::payload::{decode, is_payload};
+use crate::payload::{decode_behind, is_payload};
 use crate::words::Words;
-use share_base::{Body, Command, MAX_IN_PLACE, MAX_PAYLOAD, Name, Refusal};
+use share_base::{Body, Command, HEADER_ROOM, MAX_IN_PLACE, MAX_PAYLOAD, Name, Refusal};
 use share_model::{HolderKind, Line};
 use std::alloc::{AllocError, Global};
 
@@ -339,10 +339,10 @@ fn send_line(alloc: Global, flow: Name, digits: &[u8]) -> Result<Line, Refusal>
     if digits.len() <= 2 * MAX_IN_PLACE {
         return sent_in_place(alloc, flow, digits);
     }
-    let Ok(mut bytes) = zeros(alloc, digits.len().div_ceil(2)) else {
+    let Ok(mut bytes) = zeros(alloc, HEADER_ROOM + digits.len().div_ceil(2)) else {
         return Err(unread(digits, Refusal::NoMemory));
     };
-    match decode(digits, bytes.as_mut_slice()) {
+    match decode_behind(digits, bytes.as_mut_slice()) {
         None => Err(Refusal::Syntax),
         Some(_) => Ok(Line::Send {
             flow,
@@ -357,8 +357,8 @@ fn sent_in_place(alloc: Global, flow: Name, digits: &[u8]) -> Result<Line, Refus
     requires { length digits.now ≤ 2 * MAX_IN_PLACE }
     ensures { result ≡ line_or_refusal (line_sent_by flow (payload_of digits.now)) }
 {
-    let mut bytes = [0; MAX_IN_PLACE];
-    match decode(digits, &mut bytes) {
+    let mut bytes = [0; HEADER_ROOM + MAX_IN_PLACE];
+    match decode_behind(digits, &mut bytes) {
         None => Err(Refusal::Syntax),
         Some(count) => Ok(Line::Send {
             flow,

@@ -2,7 +2,7 @@
 ghost use Rattle.std.specs.Prelude.{◌≡◌, ◌≤◌, ◌+◌, ◌*◌, ◌++◌, ◌∷◌, [], true, length, decimal, codes};
 ghost use Rattle.std.specs.List.{join_with_byte, list_all};
 ghost use Rattle.share_model.specs.text.Audit.{event_line};
-ghost use Rattle.share_model.specs.text.Lines.{IsName, IsNumber, IsPayload, HasCommandFields, IsLine};
+ghost use Rattle.share_model.specs.text.Lines.{IsName, IsNumber, IsPayload, HasCommandFields, IsLine, before_stamp};
 ghost use Rattle.share_model.specs.text.Lines.{hex, is_byte, command_words, spelling_of};
 
 use crate::hex::spell;
@@ -21,7 +21,7 @@ pub fn push_spelled(text: &mut ShortText, line: &Line)
     requires { text.old ≡ [] }
     ensures bytes { text.new ≡ spelling_of line.now }
     ensures few { length text.new ≤ MAX_SPELLED }
-    ensures line { IsLine line.now }
+    ensures line { IsLine (before_stamp line.now) }
 {
     match line {
         Line::Change(command) => push_command(text, command),
@@ -38,7 +38,7 @@ pub fn push_event(text: &mut ShortText, event: &Event)
     requires { text.old ≡ [] }
     ensures bytes { text.new ≡ spelling_of (event_line event.now) }
     ensures few { length text.new ≤ MAX_SPELLED }
-    ensures line { IsLine (event_line event.now) }
+    ensures line { IsLine (before_stamp (event_line event.now)) }
 {
     match event {
         Event::Commanded(command) => push_command(text, command),
@@ -96,10 +96,10 @@ fn push_fund(text: &mut ShortText, ticket: u64, kind: &str, name: &Name)
 // The packet of a payload.
 fn push_send(text: &mut ShortText, flow: &Name, body: &Body)
     requires { text.old ≡ [] }
-    ensures bytes { text.new ≡ join_with_byte 32 (codes "send" ∷ flow.now ∷ hex body.now ∷ []) }
+    ensures bytes { text.new ≡ join_with_byte 32 (codes "send" ∷ flow.now ∷ hex body.now.payload ∷ []) }
     ensures few { length text.new ≤ MAX_SPELLED }
     ensures flow { IsName flow.now }
-    ensures payload { IsPayload body.now }
+    ensures payload { IsPayload body.now.payload }
 {
     push_named(text, "send", flow);
     text.push_str(" ");

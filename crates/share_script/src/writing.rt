@@ -3,7 +3,7 @@ ghost use Rattle.std.specs.Prelude.{◌≤◌, ◌++◌, length, codes};
 ghost use Rattle.share_base.specs.declared.command.Outcome.TheVariants.{Replied, Turned};
 ghost use Rattle.share_model.specs.io.Printing.{WritesText};
 ghost use Rattle.share_model.specs.text.Audit.{event_line, written_line};
-ghost use Rattle.share_model.specs.text.Lines.{IsLine, spelling_of};
+ghost use Rattle.share_model.specs.text.Lines.{IsLine, before_stamp, spelling_of};
 ghost use Rattle.share_model.specs.text.Texts.{line_text};
 
 use crate::replies::push_line;
@@ -17,7 +17,7 @@ use share_model::{Fault, Line, TellingWriter, put};
 /// its fields are, the line can be read: these bytes are read as this line, or refused as `Range` if it is a turn of no
 /// bytes or of more than 65535.
 pub fn write_line<V: TellingWriter>(line: &Line, output: &mut V) -> Result<(), Fault>
-    ensures line { IsLine line.now }
+    ensures line { IsLine (before_stamp line.now) }
     ensures written { WritesText V.told V.answers output.old output.new (spelling_of line.now ++ codes "\n") result }
 {
     let mut text = ShortText::new();
@@ -28,7 +28,7 @@ pub fn write_line<V: TellingWriter>(line: &Line, output: &mut V) -> Result<(), F
 /// Writes the line that makes an event, as `write_line` does: a command as its line, a packet as `send`, a write as a
 /// turn that offers as many bytes as were written, and a fault as `torn`. No payload is copied.
 pub fn write_event<V: TellingWriter>(event: &Event, output: &mut V) -> Result<(), Fault>
-    ensures line { IsLine (event_line event.now) }
+    ensures line { IsLine (before_stamp (event_line event.now)) }
     ensures written { WritesText V.told V.answers output.old output.new (written_line (event_line event.now)) result }
 {
     let mut text = ShortText::new();

@@ -1,20 +1,20 @@
 //! The frame that is sent, and what the writer's answers make of it.
-ghost use Rattle.std.specs.Prelude.{◌≡◌, ◌<◌, ◌≤◌, ◌+◌, true, false, option_map, IsSome, IfSome, MatchOption, None};
-ghost use Rattle.std.specs.Prelude.{IfOk, IfErr, vec_capacity};
+ghost use Rattle.std.specs.Prelude.{◌≡◌, ◌<◌, ◌+◌, true, false, option_map, IfSome, MatchOption, None};
+ghost use Rattle.std.specs.Prelude.{IfOk, IfErr, take};
 ghost use Rattle.share_model.specs.link.Buffers.{head_of};
 ghost use Rattle.share_model.specs.link.Calls.{is_spent, Stepped};
-ghost use Rattle.share_model.specs.link.Frame.{frame};
-ghost use Rattle.share_model.specs.link.Turns.{sending_at, sending, whole, in_part, wrote_turn, write_step, fault_step};
+ghost use Rattle.share_model.specs.link.Turns.{sending_at, sending, rest_of, whole, in_part, wrote_turn, write_step};
+ghost use Rattle.share_model.specs.link.Turns.{fault_step};
+ghost use Rattle.share_model.specs.io.Told.{Fits};
 ghost use Rattle.share_core.specs.NextWrite.{IsNextWriteOf, IsWithinRest, WritesNothing};
 ghost use Rattle.share_flows.specs.Places.{Stands};
 
 use super::Link;
 use super::levelling::rest;
-use crate::frame::{self, MAX_FRAME};
 use crate::next_write::NextWrite;
 use share_base::{FlowNo, Turn};
 use share_frame::HEADER;
-use share_model::{Part, Rates};
+use share_model::{Answer, Part, Rates, TellingWriter};
 
 impl<S: Rates> Link<S> {
     // The place at the head packet of a flow.
@@ -176,19 +176,21 @@ impl<S: Rates> Link<S> {
         }
     }
 
-    /// Puts the frame of a flow's head packet into a buffer that has room for it. `place` is that of the flow's own
-    /// buffer. It takes no memory.
-    pub fn fill(&self, place: &share_flows::Place, buffer: &mut Vec<u8>)
-        requires stands { Stands self.now.live.buffers place.now }
-        requires there { IsSome (head_of self.now.live.buffers place.now.flow) }
-        requires room { MAX_FRAME ≤ vec_capacity buffer.old }
-        ensures frame { IfSome (head_of self.now.live.buffers place.now.flow)
-            (λ h. buffer.new.items ≡ frame h) }
-        ensures room { MAX_FRAME ≤ vec_capacity buffer.new }
+    /// Offers a writer the next bytes of the frame that is sent, at most `most`, in one call. It takes no memory.
+    pub fn offer<W: TellingWriter>(
+        &mut self,
+        place: &NextWrite,
+        most: u32,
+        writer: &mut W,
+    ) -> Answer
+        requires place { IsNextWriteOf (sending self.old.live) place.now }
+        requires stands { Stands self.old.live.buffers place.now.buffer }
+        ensures answered { IfSome (sending self.old.live)
+            (λ s. W.answers writer.old (take most (rest_of s)) result writer.new
+            × Fits (take most (rest_of s)) result) }
+        ensures same { self.new ≡ self.old }
     {
-        match self.buffers.head_at(place) {
-            None => unreachable!(),
-            Some((seq, body)) => frame::fill(buffer, place.flow, seq, body.as_slice()),
-        }
+        self.buffers
+            .offer_at(&place.buffer, place.out, most, writer)
     }
 }

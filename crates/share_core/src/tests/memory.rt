@@ -1,10 +1,10 @@
 //! What a link drops, and that its calls take no memory: no contract sees either. Bodies like these meet every clause,
 //! and the test here sees each of them. `std::mem::forget` in place of a drop: of a shelf by `Link::new` and of a
 //! writer by `Engine::new`, where the life is out of range or a request for memory is refused; of the link by
-//! `Engine::new`, where the memory for its frames is refused, and by `into_writer`; of a payload by `arrive`, where the
-//! packet is refused, and by `finish`, where it is sent; of a buffer and its packets, where a flow is closed. A
-//! `reserve` in `turn`, or in another call that is to take no memory. Tokens count the drops of shelves and writers;
-//! the rest is seen over the allocator of `.ci/allocator.c` alone, as `.ci/memory` runs it.
+//! `into_writer`; of a payload by `arrive`, where the packet is refused, and by `finish`, where it is sent; of a buffer
+//! and its packets, where a flow is closed. A `reserve` in `turn`, or in another call that is to take no memory. Tokens
+//! count the drops of shelves and writers; the rest is seen over the allocator of `.ci/allocator.c` alone, as
+//! `.ci/memory` runs it.
 
 use super::{Call, FLOW, Row, TURN, Wanted, play};
 use crate::Engine;
@@ -157,7 +157,7 @@ fn gives_its_writer<S: Rates + Copy>(rt: &impl Abort, alloc: Global, shelf: S, t
     );
     drop(writer);
     assert!(rt; tokens.are_held(false, false), "the writer");
-    assert!(rt; !asks!(alloc, IS_HELD_OTHER), "the link and its frame");
+    assert!(rt; !asks!(alloc, IS_HELD_OTHER), "the link");
 }
 
 /// Too long to stand in the place of a payload.

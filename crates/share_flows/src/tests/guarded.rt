@@ -4,7 +4,7 @@ ghost use Rattle.share_model.specs.link.Buffers.{buffer_of, is_full};
 ghost use Rattle.share_flows.specs.Places.{Stands};
 
 use crate::{Buffers, Place};
-use share_base::{Body, FlowNo, Refusal};
+use share_base::{Body, FlowNo, HEADER_ROOM, Refusal};
 
 // The first byte of a payload.
 fn byte_of(body: &Body) -> u8 {
@@ -46,6 +46,41 @@ pub(crate) fn pop(buffers: &mut Buffers, flow: FlowNo) -> Option<u8> {
         return None;
     }
     Some(byte_of(&buffers.pop(flow)))
+}
+
+// Whether the head packet has these framed bytes; with no packet, whether these are none.
+pub(crate) fn is_framed(buffers: &Buffers, flow: FlowNo, framed: &[u8]) -> bool {
+    if !buffers.is_busy(flow) {
+        return framed.is_empty();
+    }
+    let (_, body) = buffers.head(flow);
+    body.framed() == framed
+}
+
+pub(crate) fn stamp(buffers: &mut Buffers, flow: FlowNo, header: &[u8; HEADER_ROOM]) -> bool {
+    if !buffers.is_busy(flow) {
+        return false;
+    }
+    buffers.stamp(flow, header);
+    true
+}
+
+// Stamps the head packet at the flow's place, which stays good.
+pub(crate) fn stamp_by_place(
+    buffers: &mut Buffers,
+    flow: FlowNo,
+    header: &[u8; HEADER_ROOM],
+) -> bool {
+    match buffers.find(flow) {
+        None => false,
+        Some(place) => {
+            if !buffers.is_busy_at(&place) {
+                return false;
+            }
+            buffers.stamp_at(&place, header);
+            buffers.is_busy_at(&place)
+        }
+    }
 }
 
 pub(crate) fn close(buffers: &mut Buffers, flow: FlowNo) -> Option<u32> {

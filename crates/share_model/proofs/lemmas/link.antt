@@ -3,4 +3,5 @@ pub mod BufferLaws
 pub mod CommandLaws
 pub mod FieldLaws
 pub mod FrameLaws
+pub mod PayloadLaws
 pub mod TurnLaws

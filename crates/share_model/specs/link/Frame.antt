@@ -4,10 +4,17 @@ use Rattle.std.specs.Prelude.{◌<◌, ◌≤◌, ◌^◌, ℕ, List, [], ◌∷
 use Rattle.std.specs.Int.{to_be_bytes, w16, w32}
 use Rattle.share_model.specs.link.Fields.{IsBody}
 
-pub record Packet : Type 0 where
+pub record PacketOf (A : Type 0) : Type 0 where
   pub flow : ℕ
   pub seq : ℕ
-  pub payload : List ℕ
+  pub payload : A
+
+abbrev pub Packet : Type 0
+Packet = PacketOf (List ℕ)
+
+-- the same packet, seen as its image
+abbrev pub map_packet : {A B : Type 0} → (A → B) → PacketOf A → PacketOf B
+map_packet f h = record { flow = h.flow; seq = h.seq; payload = f h.payload }
 
 -- a packet that a frame carries: its numbers are 1 to 2^32 - 1, and its payload is 1 to 1490 bytes
 pub record FitsFrame (h : Packet) : Type 0 where

@@ -1,6 +1,7 @@
 -- The fold of a link, checked against worked examples: each equation holds by computation alone. The entries of a
 -- finite map do not compute, so no row asks for the next flow: a frame is in part where a row begins with a write.
 use Rattle.std.specs.Prelude.{◌≡◌, ℕ, true, false, List, [], ◌∷◌, ◌++◌, map, take, codes, Option, None, Some, refl}
+use Rattle.share_base.specs.Body.{unstamped}
 use Rattle.share_base.specs.declared.refusal.Refusal.TheVariants.{Range, NoTicket, NoFlow, NoTariff, Taken, Sending}
 use Rattle.share_base.specs.declared.refusal.Refusal.TheVariants.{BufferFull}
 use Rattle.share_base.specs.declared.command.Command.TheVariants.{MakeTicket, FundFlow, OpenFlow, CloseFlow}
@@ -44,7 +45,9 @@ funded_replies = Replied (Flow 1) ∷ Replied (Ticket 1) ∷ Replied Done ∷ []
 -- a refused packet takes no number, and goes to no buffer
 
 full : List Event
-full = funded 1 1 ++ Arrived a hi ∷ Arrived a hi ∷ Commanded (CloseFlow a) ∷ Arrived a hi ∷ []
+full =
+    funded 1 1 ++ Arrived a (unstamped hi) ∷ Arrived a (unstamped hi) ∷ Commanded (CloseFlow a)
+    ∷ Arrived a (unstamped hi) ∷ []
 
 full_says : outcomes shelf empty_state full
     ≡ funded_replies ++ Replied (Packet 1 1) ∷ Replied (Refused BufferFull) ∷ Replied (Closed 1 1 0)

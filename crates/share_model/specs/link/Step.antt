@@ -33,6 +33,6 @@ fault_by rates l (Some s) = fault_step rates l s
 -- to send
 abbrev pub live_step : List Rate → Live → Event → Live × Outcome
 live_step rates l (Commanded c) = reply_outcome (command_step rates l c)
-live_step rates l (Arrived flow body) = reply_outcome (arrive_step l flow body)
+live_step rates l (Arrived flow body) = reply_outcome (arrive_step l flow body.payload)
 live_step rates l (Written k) = turn_outcome (write_by rates l k (sending l))
 live_step rates l Faulted = turn_outcome (fault_by rates l (sending l))

@@ -1,6 +1,7 @@
 -- Which events a link makes: none after its life; commands and arrivals whose fields a line can spell; a write or a
 -- fault only while the link is not broken and has a frame to send; and a write of at least one byte.
 use Rattle.std.specs.Prelude.{◌≡◌, ◌<◌, ◌≤◌, ℕ, false, List, [], ◌∷◌, length, take, flat_map, Option, None, Some}
+use Rattle.share_base.specs.Body.{IsUnstamped}
 use Rattle.share_base.specs.declared.command.Event.{Event}
 use Rattle.share_base.specs.declared.command.Event.TheVariants.{Commanded, Arrived, Written, Faulted}
 use Rattle.share_model.specs.declared.rates.Rate.{Rate}
@@ -47,10 +48,10 @@ write_of Faulted = []
 abbrev pub writes_in : List Event → List ℕ
 writes_in events = flat_map write_of events
 
--- an event that a link may make
+-- an event that a link may make; nothing is stamped before a payload that comes
 abbrev pub MayCome : Live → Event → Type 0
 MayCome l (Commanded c) = HasCommandFields c
-MayCome l (Arrived flow body) = IsName flow × IsBody body
+MayCome l (Arrived flow body) = IsName flow × IsBody body.payload × IsUnstamped body
 MayCome l (Written k) = IsWrite l k
 MayCome l Faulted = IsFault l
 

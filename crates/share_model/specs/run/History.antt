@@ -19,7 +19,7 @@ use Rattle.share_model.specs.funding.Graph.{flow_numbers}
 -- the packet that an event accepted: the payload that arrived, under the numbers of the answer
 abbrev pub accepted_by : Event → Outcome → List Packet
 accepted_by (Arrived name body) (Replied (PacketReply flow seq)) =
-    record { flow = flow; seq = seq; payload = body } ∷ []
+    record { flow = flow; seq = seq; payload = body.payload } ∷ []
 accepted_by _ _ = []
 
 -- the packets that a list of events accepted

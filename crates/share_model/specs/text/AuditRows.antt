@@ -1,6 +1,7 @@
 -- An audit, checked against the worked example: the equation holds by computation alone.
 use Rattle.std.specs.Prelude.{◌≡◌, List, [], ◌∷◌, codes, refl}
 use Rattle.std.specs.Fmt.{digits}
+use Rattle.share_base.specs.Body.{unstamped}
 use Rattle.share_base.specs.declared.command.Command.TheVariants.{MakeCurrency, MakeTicket, FundFlow, OpenFlow}
 use Rattle.share_base.specs.declared.command.Event.{Event}
 use Rattle.share_base.specs.declared.command.Event.TheVariants.{Commanded, Arrived, Written, Faulted}
@@ -9,7 +10,7 @@ use Rattle.share_model.specs.text.Audit.{audit}
 torn_packet : List Event
 torn_packet =
     Commanded (OpenFlow (codes "a") 4 2) ∷ Commanded (MakeTicket 1 (codes "base")) ∷ Commanded (FundFlow 1 (codes "a"))
-    ∷ Arrived (codes "a") (codes "hi") ∷ Written 7 ∷ Faulted ∷ Commanded (MakeCurrency (codes "x")) ∷ []
+    ∷ Arrived (codes "a") (unstamped (codes "hi")) ∷ Written 7 ∷ Faulted ∷ Commanded (MakeCurrency (codes "x")) ∷ []
 
 torn_packet_audit : audit torn_packet
     ≡ codes "audit 1\nopen a 4 2\nmktkt 1 base\nfund 1 flow a\nsend a 6869\nturn 7\ntorn\nmkcur x\n"

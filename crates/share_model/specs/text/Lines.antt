@@ -6,6 +6,7 @@ use Rattle.std.specs.Prelude.{Ok, Err, if◌then◌else◌}
 use Rattle.std.specs.List.{slice_split, join_with_byte, list_all}
 use Rattle.std.specs.Str.{bytes_eq}
 use Rattle.std.specs.Str.Parse.{digits_value}
+use Rattle.share_base.specs.Body.{unstamped, IsUnstamped}
 use Rattle.share_base.specs.Name.{is_name}
 use Rattle.share_base.specs.declared.refusal.Refusal.{Refusal}
 use Rattle.share_base.specs.declared.refusal.Refusal.TheVariants.{NoMemory, Spent, Syntax, Range, NoCurrency, NoTicket}
@@ -65,7 +66,7 @@ command_words (CloseFlow name) = codes "close" ∷ name ∷ []
 
 abbrev pub words : Line → List (List ℕ)
 words (Change c) = command_words c
-words (Send flow payload) = codes "send" ∷ flow ∷ hex payload ∷ []
+words (Send flow body) = codes "send" ∷ flow ∷ hex body.payload ∷ []
 words (Turn most) = codes "turn" ∷ decimal most ∷ []
 words Torn = codes "torn" ∷ []
 words Report = codes "report" ∷ []
@@ -83,11 +84,20 @@ IsPayload bs = (1 ≤ length bs) × (list_all is_byte bs ≡ true)
 
 abbrev pub HasFields : Line → Type 0
 HasFields (Change c) = HasCommandFields c
-HasFields (Send flow payload) = IsName flow × IsPayload payload
+HasFields (Send flow body) = IsName flow × IsPayload body.payload × IsUnstamped body
 HasFields (Turn most) = IsNumber most
 HasFields Torn = Unit {0}
 HasFields Report = Unit {0}
 HasFields Audit = Unit {0}
+
+-- the same line before a stamp: what is stamped is not spelled
+abbrev pub before_stamp : Line → Line
+before_stamp (Change c) = Change c
+before_stamp (Send flow body) = Send flow (unstamped body.payload)
+before_stamp (Turn most) = Turn most
+before_stamp Torn = Torn
+before_stamp Report = Report
+before_stamp Audit = Audit
 
 -- a line has at most 20480 bytes
 pub record IsLine (l : Line) : Type 0 where
@@ -97,7 +107,7 @@ pub record IsLine (l : Line) : Type 0 where
 -- a payload has at most 1490 bytes, and a turn offers 1 to 65535
 abbrev pub is_in_range : Line → Bool
 is_in_range (Change c) = true
-is_in_range (Send flow payload) = nat_le (length payload) max_payload
+is_in_range (Send flow body) = nat_le (length body.payload) max_payload
 is_in_range (Turn most) = nat_le 1 most && nat_le most 65535
 is_in_range Torn = true
 is_in_range Report = true
@@ -191,7 +201,7 @@ abbrev pub send_of : List (List ℕ) → Option Line
 send_of ws = do
   flow ← field name_of ws
   payload ← field payload_of flow.1
-  line_at_end payload.1 (Send flow.0 payload.0)
+  line_at_end payload.1 (Send flow.0 (unstamped payload.0))
 
 abbrev pub turn_of : List (List ℕ) → Option Line
 turn_of ws = do
@@ -248,7 +258,7 @@ pub record IsReading (bs : List ℕ) (l : Line) : Type 0 where
 
 abbrev pub is_send : Line → Bool
 is_send (Change c) = false
-is_send (Send flow payload) = true
+is_send (Send flow body) = true
 is_send (Turn most) = false
 is_send Torn = false
 is_send Report = false

@@ -1,6 +1,7 @@
 -- Lines, checked against worked examples: each equation holds by computation alone.
 use Rattle.std.specs.Prelude.{◌≡◌, ℕ, List, [], ◌∷◌, ◌++◌, map, replicate, Result, Ok, Err, codes, refl}
 use Rattle.std.specs.Fmt.{digits}
+use Rattle.share_base.specs.Body.{unstamped}
 use Rattle.share_base.specs.declared.refusal.Refusal.{Refusal}
 use Rattle.share_base.specs.declared.refusal.Refusal.TheVariants.{Syntax, Range}
 use Rattle.share_base.specs.declared.command.Command.TheVariants.{MakeCurrency, RemoveCurrency, MakeTicket}
@@ -17,7 +18,8 @@ lines_are_read : read (
     codes "open a 4 1" ∷ codes "mktkt 10 base" ∷ codes "fund 1 flow a"
     ∷ codes "send a 6869" ∷ codes "turn 65535" ∷ codes "torn" ∷ codes "close a" ∷ [])
     ≡ Ok (Change (OpenFlow (codes "a") 4 1)) ∷ Ok (Change (MakeTicket 10 (codes "base")))
-    ∷ Ok (Change (FundFlow 1 (codes "a"))) ∷ Ok (Send (codes "a") (104 ∷ 105 ∷ [])) ∷ Ok (Turn 65535) ∷ Ok Torn
+    ∷ Ok (Change (FundFlow 1 (codes "a")))
+    ∷ Ok (Send (codes "a") (unstamped (104 ∷ 105 ∷ []))) ∷ Ok (Turn 65535) ∷ Ok Torn
     ∷ Ok (Change (CloseFlow (codes "a"))) ∷ []
 unfolding read reading line_by number_of digits
 lines_are_read = refl
@@ -42,7 +44,8 @@ unfolding read reading line_by
 other_audits_are_syntax = refl
 
 limits_are_read : read (codes "open a-1_z 0 18446744073709551615" ∷ codes "send z 00ff" ∷ [])
-    ≡ Ok (Change (OpenFlow (codes "a-1_z") 0 18446744073709551615)) ∷ Ok (Send (codes "z") (0 ∷ 255 ∷ [])) ∷ []
+    ≡ Ok (Change (OpenFlow (codes "a-1_z") 0 18446744073709551615))
+    ∷ Ok (Send (codes "z") (unstamped (0 ∷ 255 ∷ []))) ∷ []
 unfolding read reading line_by number_of digits
 limits_are_read = refl
 
@@ -66,7 +69,7 @@ turns_out_of_range = refl
 lines_are_spelled : map spelling_of (
     Change (OpenFlow (codes "a") 4 1) ∷ Change (FundFlow 1 (codes "a")) ∷ Change (FundCurrency 1 (codes "x"))
     ∷ Change (MakeCurrency (codes "x")) ∷ Change (RemoveCurrency (codes "x")) ∷ Change (RemoveTicket 1)
-    ∷ Change (Unfund 1) ∷ Change (CloseFlow (codes "a")) ∷ Send (codes "a") (104 ∷ 255 ∷ []) ∷ Torn
+    ∷ Change (Unfund 1) ∷ Change (CloseFlow (codes "a")) ∷ Send (codes "a") (unstamped (104 ∷ 255 ∷ [])) ∷ Torn
     ∷ Report ∷ Audit ∷ [])
     ≡ codes "open a 4 1" ∷ codes "fund 1 flow a" ∷ codes "fund 1 cur x" ∷ codes "mkcur x" ∷ codes "rmcur x"
     ∷ codes "rmtkt 1" ∷ codes "unfund 1" ∷ codes "close a" ∷ codes "send a 68ff" ∷ codes "torn"

@@ -3,6 +3,7 @@
 use Rattle.std.specs.Prelude.{◌≢◌, ℕ, ◌+◌, ◌==◌, Bool, true, false, ◌&&◌, List, [], ◌∷◌, ◌++◌, codes, drop, length, min}
 use Rattle.std.specs.Prelude.{Option, None, Some, Result, Ok, Err, is_none, if◌then◌else◌}
 use Rattle.std.specs.List.{slice_split}
+use Rattle.share_base.specs.Body.{BodyView}
 use Rattle.share_base.specs.declared.refusal.Refusal.{Refusal}
 use Rattle.share_base.specs.declared.refusal.Refusal.TheVariants.{NoMemory, Spent as SpentRefusal, Syntax}
 use Rattle.share_base.specs.declared.command.Command.{Command}
@@ -73,7 +74,7 @@ change_event life rates s lack c =
     else if finds_none lack rates s c then refusal_line NoMemory
     else Ok (Commanded c)
 
-abbrev pub send_event : ℕ → State → Bool → List ℕ → List ℕ → Result Event (List ℕ)
+abbrev pub send_event : ℕ → State → Bool → List ℕ → BodyView → Result Event (List ℕ)
 send_event life s lack flow body =
     if life_is_spent life s.live then refusal_line SpentRefusal
     else if lack then refusal_line NoMemory

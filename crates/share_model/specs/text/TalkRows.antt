@@ -4,6 +4,7 @@
 use Rattle.std.specs.Prelude.{◌≡◌, ℕ, true, Bool, List, [], ◌∷◌, ◌++◌, codes, refl}
 use Rattle.std.specs.Fmt.{digits}
 use Rattle.std.proofs.Common.{ap}
+use Rattle.share_base.specs.Body.{unstamped}
 use Rattle.share_base.specs.declared.command.Command.TheVariants.{MakeCurrency, MakeTicket, FundFlow, OpenFlow}
 use Rattle.share_base.specs.declared.command.Command.TheVariants.{CloseFlow}
 use Rattle.share_base.specs.declared.command.Event.TheVariants.{Commanded, Arrived}
@@ -34,7 +35,7 @@ one_packet_prints = refl
 
 one_packet_runs : events_of 65536 shelf start_of_script [] (lines_of one_packet)
     ≡ Commanded (OpenFlow (codes "a") 4 1) ∷ Commanded (MakeTicket 10 (codes "base"))
-    ∷ Commanded (FundFlow 1 (codes "a")) ∷ Arrived (codes "a") (104 ∷ 105 ∷ [])
+    ∷ Commanded (FundFlow 1 (codes "a")) ∷ Arrived (codes "a") (unstamped (104 ∷ 105 ∷ []))
     ∷ Commanded (CloseFlow (codes "a")) ∷ []
 unfolding one_packet shelf made_of answer reading line_by number_of digits change_first funding
 one_packet_runs = refl

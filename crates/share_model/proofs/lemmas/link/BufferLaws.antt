@@ -10,8 +10,8 @@ use Rattle.std.proofs.lemmas.Bool.{eqb-true, eqb-false, eq-eqb, ne_eqb, cond-tru
 use Rattle.std.proofs.lemmas.Bool.{or_right, and_left}
 use Rattle.std.proofs.lemmas.Option.{same_Some, option_and_then_some}
 use Rattle.share_model.specs.declared.funding.OpenFlow.{OpenFlow}
-use Rattle.share_model.specs.link.Frame.{Packet}
-use Rattle.share_model.specs.link.Buffers.{Buffer, is_buffer_of, buffer_of, new_buffer, open_in}
+use Rattle.share_model.specs.link.Frame.{Packet, PacketOf}
+use Rattle.share_model.specs.link.Buffers.{Buffer, is_buffer_of, buffer_of, new_buffer, open_in, BufferOf}
 use Rattle.share_model.specs.lists.Change.{change_first}
 use Rattle.share_model.specs.link.Buffers.{with_packet, push_in, head_in, head_of_buffer, head_of, is_some_packet}
 use Rattle.share_model.specs.link.Buffers.{holds_packet, is_busy, close_in, without_head, pop_in}
@@ -28,17 +28,18 @@ use Rattle.share_model.proofs.lemmas.lists.RemoveLaws.{map-remove_key, find-remo
 
 -- The head packet of a flow
 
-pub head_in_flow : (b : Buffer) (ps : List (List ℕ)) (h : Packet) → head_in b ps ≡ Some h → h.flow ≡ b.flow
+pub head_in_flow : {A : Type 0} (b : BufferOf A) (ps : List A) (h : PacketOf A) → head_in b ps ≡ Some h
+    → h.flow ≡ b.flow
 head_in_flow b [] h is = cc
-head_in_flow b (p ∷ ps) h is = ap (λ (o : Packet). o.flow) (sym (same_Some _ h is))
+head_in_flow {A} b (p ∷ ps) h is = ap (λ (o : PacketOf A). o.flow) (sym (same_Some _ h is))
 
-head_of_by : (f : ℕ) (o : Option Buffer) (h : Packet) → ((b : Buffer) → o ≡ Some b → nat_eq f b.flow ≡ true)
-    → option_and_then head_of_buffer o ≡ Some h → h.flow ≡ f
+head_of_by : {A : Type 0} (f : ℕ) (o : Option (BufferOf A)) (h : PacketOf A)
+    → ((b : BufferOf A) → o ≡ Some b → nat_eq f b.flow ≡ true) → option_and_then head_of_buffer o ≡ Some h → h.flow ≡ f
 head_of_by f None h holds is = cc
 head_of_by f (Some b) h holds is = head_in_flow b b.packets h is ∙ sym (eqb-true f b.flow (holds b refl))
 
 -- the head packet of a flow is of this flow
-pub head_of-flow : (bs : List Buffer) (f : ℕ) (h : Packet) → head_of bs f ≡ Some h → h.flow ≡ f
+pub head_of-flow : {A : Type 0} (bs : List (BufferOf A)) (f : ℕ) (h : PacketOf A) → head_of bs f ≡ Some h → h.flow ≡ f
 head_of-flow bs f h is = head_of_by f (buffer_of bs f) h (find-holds (is_buffer_of f) bs) is
 
 pushed_number : (next : ℕ) (ps : List (List ℕ)) (body p : List ℕ)

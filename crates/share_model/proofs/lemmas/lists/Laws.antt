@@ -2,7 +2,9 @@
 use Rattle.std.specs.Prelude.{◌≡◌, ◌<◌, ◌+◌, ℕ, suc, Bool, true, false, ◌||◌, List, [], ◌∷◌, ◌++◌, drop, length, map}
 use Rattle.std.specs.Prelude.{find, nat_eq, Option, Some, option_map, is_some, if◌then◌else◌}
 use Rattle.std.specs.Option.{option_or}
-use Rattle.std.proofs.Common.{refl, ap, sym, ◌∙◌, arith, inl, inr}
+use Rattle.std.specs.List.{position_or_len}
+use Rattle.std.proofs.Common.{position, cond, not, None, nat_lt, refl, ap, sym, ◌∙◌, arith, inl, inr}
+use Rattle.std.proofs.lemmas.List.{length-map}
 use Rattle.std.proofs.lemmas.Bool.{cond_both, cond-true, cond-false, eqb-true, ne_eqb, eq-eqb, or_cases, or_from}
 use Rattle.std.proofs.lemmas.Bool.{or_right}
 use Rattle.std.proofs.lemmas.Option.{same_Some}
@@ -57,6 +59,24 @@ find_holds_by p x xs y false test rest found = rest found
 pub find-holds : {A : Type 0} (p : A → Bool) (xs : List A) (y : A) → find p xs ≡ Some y → p y ≡ true
 find-holds p [] y found = cc
 find-holds p (x ∷ xs) y found = find_holds_by p x xs y (p x) refl (find-holds p xs y) found
+
+-- The first item of a number
+
+abbrev place_within : ℕ → ℕ → Option ℕ
+place_within n len = cond (nat_lt n len) (Some n) None
+
+position_or_len-map : {A : Type 0} (key : A → ℕ) (f : ℕ) (xs : List A)
+    → position_or_len (λ x. nat_eq f (key x)) xs ≡ position_or_len (nat_eq f) (map key xs)
+position_or_len-map key f [] = refl
+position_or_len-map key f (x ∷ xs) =
+    ap (λ n. cond (not (nat_eq f (key x))) (1 + n) 0) (position_or_len-map key f xs)
+
+-- it stands where the number stands first
+pub position-map : {A : Type 0} (key : A → ℕ) (f : ℕ) (xs : List A)
+    → position (λ x. nat_eq f (key x)) xs ≡ position (nat_eq f) (map key xs)
+position-map key f xs =
+    ap (λ n. place_within n (length xs)) (position_or_len-map key f xs)
+    ∙ ap (place_within (position_or_len (nat_eq f) (map key xs))) (sym (length-map xs key))
 
 -- A change of the first item that passes a test
 

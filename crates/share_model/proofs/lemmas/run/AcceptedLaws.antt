@@ -7,6 +7,7 @@ use Rattle.std.proofs.Common.{refl, ap, sym, ◌∙◌, subst, arith, append_ass
 use Rattle.std.proofs.lemmas.Bool.{cond_both, eqb-true}
 use Rattle.std.proofs.lemmas.List.{append-nil, map-append}
 use Rattle.std.proofs.lemmas.List.Elements.{filter-append}
+use Rattle.share_base.specs.Body.{BodyView}
 use Rattle.share_base.specs.declared.refusal.Refusal.TheVariants.{BufferFull}
 use Rattle.share_base.specs.declared.command.Command.{Command}
 use Rattle.share_base.specs.declared.command.Reply.{Reply}
@@ -162,22 +163,22 @@ accepted_pushed {l = l} sound f hs done n body b found was =
     by_flow above false test = refl
 
 accepted_in : {life : ℕ} {rates : List Rate} {l : Live} → Sound life rates l → (f : ℕ) (hs : List Packet)
-    (done : List Sent) (name : NameBytes) (n : ℕ) (body : List ℕ) (o : Option Buffer) → buffer_of l.buffers n ≡ o
+    (done : List Sent) (name : NameBytes) (n : ℕ) (body : BodyView) (o : Option Buffer) → buffer_of l.buffers n ≡ o
     → AreAccepted f hs l done
-    → AreAccepted f (hs ++ packets_of f (accepted_by (Arrived name body) (Replied (arrive_in l n body o).1)))
-    (arrive_in l n body o).0 done
+    → AreAccepted f (hs ++ packets_of f (accepted_by (Arrived name body) (Replied (arrive_in l n body.payload o).1)))
+    (arrive_in l n body.payload o).0 done
 accepted_in {l = l} sound f hs done name n body None found was =
     accepted_none f hs (with_one_event l) done (accepted_same f hs l (with_one_event l) done refl refl refl was)
 accepted_in {l = l} sound f hs done name n body (Some b) found was =
-    cond_both (is_full b) (with_one_event l, Refused BufferFull) (accept l n body, PacketReply n b.next)
+    cond_both (is_full b) (with_one_event l, Refused BufferFull) (accept l n body.payload, PacketReply n b.next)
     (λ (d : Live × Reply). AreAccepted f (hs ++ packets_of f (accepted_by (Arrived name body) (Replied d.1))) d.0 done)
     (λ _. accepted_none f hs (with_one_event l) done (accepted_same f hs l (with_one_event l) done refl refl refl was))
-    (λ _. accepted_pushed sound f hs done n body b found was)
+    (λ _. accepted_pushed sound f hs done n body.payload b found was)
 
 accepted_arrived : {life : ℕ} {rates : List Rate} {l : Live} → Sound life rates l → (f : ℕ) (hs : List Packet)
-    (done : List Sent) (name : NameBytes) (body : List ℕ) (o : Option FlowEntry) → AreAccepted f hs l done
-    → AreAccepted f (hs ++ packets_of f (accepted_by (Arrived name body) (Replied (arrive_by l body o).1)))
-    (arrive_by l body o).0 done
+    (done : List Sent) (name : NameBytes) (body : BodyView) (o : Option FlowEntry) → AreAccepted f hs l done
+    → AreAccepted f (hs ++ packets_of f (accepted_by (Arrived name body) (Replied (arrive_by l body.payload o).1)))
+    (arrive_by l body.payload o).0 done
 accepted_arrived {l = l} sound f hs done name body None was =
     accepted_none f hs (with_one_event l) done (accepted_same f hs l (with_one_event l) done refl refl refl was)
 accepted_arrived {l = l} sound f hs done name body (Some e) was =
@@ -248,8 +249,8 @@ accepted_step {rates = rates} {s = s} sound (Commanded c) may f hs was =
     (accepted_none f hs (command_step rates s.live c).0 s.done (accepted_commanded sound.live f hs s.done c was))
 accepted_step {s = s} sound (Arrived name body) may f hs was =
     subst (λ ds. AreAccepted f
-    (hs ++ packets_of f (accepted_by (Arrived name body) (Replied (arrive_step s.live name body).1)))
-    (arrive_step s.live name body).0 ds) (sym (append-nil s.done))
+    (hs ++ packets_of f (accepted_by (Arrived name body) (Replied (arrive_step s.live name body.payload).1)))
+    (arrive_step s.live name body.payload).0 ds) (sym (append-nil s.done))
     (accepted_arrived sound.live f hs s.done name body (flow_named s.live.graph name) was)
 accepted_step {rates = rates} {s = s} sound (Written k) may f hs was =
     subst (λ (n : State). AreAccepted f (hs ++ []) n.live n.done) (sym (step-written rates s k may.frame may.sends.is))

@@ -7,6 +7,7 @@ use Rattle.std.proofs.lemmas.Option.{same_Some}
 use Rattle.std.proofs.lemmas.List.{append-nil, take-append-drop, take_all}
 use Rattle.std.proofs.lemmas.List.Concat.{flat_map-append}
 use Rattle.std.proofs.Math.Seq.{take-add}
+use Rattle.share_base.specs.Body.{BodyView}
 use Rattle.share_base.specs.declared.refusal.Refusal.TheVariants.{BufferFull}
 use Rattle.share_base.specs.declared.command.Command.{Command}
 use Rattle.share_base.specs.declared.command.Reply.{Reply}
@@ -147,9 +148,9 @@ out-commanded {rates = rates} {s = s} was c =
 
 -- nor does an arrival
 pub out-arrived : {life : ℕ} {rates : List Rate} {s : State} → SoundState life rates s
-    → (name : NameBytes) (body : List ℕ) → out (step rates s (Arrived name body)) ≡ out s
+    → (name : NameBytes) (body : BodyView) → out (step rates s (Arrived name body)) ≡ out s
 out-arrived {s = s} was name body =
-    kept_bytes s.done s.torn s.live (arrive_step s.live name body).0 (keeps-arrived was.live name body)
+    kept_bytes s.done s.torn s.live (arrive_step s.live name body.payload).0 (keeps-arrived was.live name body.payload)
 
 -- the state after k bytes of a frame were written
 abbrev pub written_state : List Rate → State → ℕ → Option Sending → State

@@ -105,8 +105,8 @@ step-cases P rates s (Commanded c) may cases =
     at_done P (command_step rates s.live c).0 s.done s.torn
     (command_case P rates s cases c)
 step-cases P rates s (Arrived name body) may cases =
-    at_done P (arrive_step s.live name body).0 s.done s.torn
-    (arrive_case P rates s cases body may.1 (flow_named s.live.graph name))
+    at_done P (arrive_step s.live name body.payload).0 s.done s.torn
+    (arrive_case P rates s cases body.payload may.1 (flow_named s.live.graph name))
 step-cases P rates s (Written k) may cases =
     subst P (sym (step-written rates s k may.frame may.sends.is))
     (write_case P rates s cases may.frame k may.sends (is_whole may.frame k) refl)

@@ -4,6 +4,7 @@ use Rattle.std.specs.Prelude.{None, Some}
 use Rattle.std.proofs.Common.{inl, refl, ap, sym, ◌∙◌, arith, length-append}
 use Rattle.std.proofs.lemmas.Bool.{cond_both}
 use Rattle.std.proofs.lemmas.List.{append-nil, length-take-le}
+use Rattle.share_base.specs.Body.{BodyView}
 use Rattle.share_base.specs.declared.refusal.Refusal.TheVariants.{BufferFull}
 use Rattle.share_base.specs.declared.command.Command.{Command}
 use Rattle.share_base.specs.declared.command.Reply.{Reply}
@@ -66,10 +67,11 @@ state-commanded {life = life} {rates = rates} {s = s} was few c =
     (sound-commanded was.live few c) (torn-commanded was.live c s.torn was.torn)
 
 pub state-arrived : {life : ℕ} {rates : List Rate} {s : State} → SoundState life rates s → s.live.counts.events < life
-    → (name : NameBytes) (body : List ℕ) → IsBody body → SoundState life rates (step rates s (Arrived name body))
+    → (name : NameBytes) (body : BodyView) → IsBody body.payload
+    → SoundState life rates (step rates s (Arrived name body))
 state-arrived {life = life} {rates = rates} {s = s} was few name body short =
-    state_kept life rates s (arrive_step s.live name body).0 was (keeps-arrived was.live name body)
-    (sound-arrived was.live few name body short) (torn-arrived s.live name body s.torn was.torn)
+    state_kept life rates s (arrive_step s.live name body.payload).0 was (keeps-arrived was.live name body.payload)
+    (sound-arrived was.live few name body.payload short) (torn-arrived s.live name body.payload s.torn was.torn)
 
 sent_count : (rates : List Rate) (l : Live) (s : Sending) (k : ℕ)
     → (write_step rates l s k).0.counts.sent ≡ l.counts.sent + k
@@ -219,7 +221,7 @@ events-written rates l s k =
 pub events-step : (rates : List Rate) (s : State) (e : Event) → MayCome s.live e
     → (step rates s e).live.counts.events ≡ s.live.counts.events + 1
 events-step rates s (Commanded c) may = events-commanded rates s.live c
-events-step rates s (Arrived name body) may = events-arrived s.live name body
+events-step rates s (Arrived name body) may = events-arrived s.live name body.payload
 events-step rates s (Written k) may =
     ap (λ (s : State). s.live.counts.events) (step-written rates s k may.frame may.sends.is)
     ∙ events-written rates s.live may.frame k

@@ -139,7 +139,7 @@ broken_bytes life rates s (Commanded c ∷ es) range was broken may =
 broken_bytes life rates s (Arrived name body ∷ es) range was broken may =
     broken_bytes life rates (step rates s (Arrived name body)) es range
     (state-step range was may.0 (Arrived name body) may.1)
-    ((keeps-arrived was.live name body).broken ∙ broken) may.2
+    ((keeps-arrived was.live name body.payload).broken ∙ broken) may.2
     ∙ out-arrived was name body
 broken_bytes life rates s (Written k ∷ es) range was broken may =
     let both : true ≡ false = sym broken ∙ may.1.sends.unbroken in cc

@@ -234,10 +234,11 @@ step_went {life = life} {rates = rates} s (Commanded c) one other a b range soun
     (client-commanded sound.live one a was.first c after now.first)
     (client-commanded sound.live other b was.second c after now.second) (keeps-commanded sound.live c).part
 step_went {life = life} {rates = rates} s (Arrived name body) one other a b range sound few may apart was now ahead =
-    let after = sound-arrived sound.live few name body may.1 in
-    stays_went life rates one other a b s.live apart sound.live was ahead (arrive_step s.live name body).0
-    (client-arrived sound.live one a was.first name body after now.first)
-    (client-arrived sound.live other b was.second name body after now.second) (keeps-arrived sound.live name body).part
+    let after = sound-arrived sound.live few name body.payload may.1 in
+    stays_went life rates one other a b s.live apart sound.live was ahead (arrive_step s.live name body.payload).0
+    (client-arrived sound.live one a was.first name body.payload after now.first)
+    (client-arrived sound.live other b was.second name body.payload after now.second) (keeps-arrived sound.live name
+    body.payload).part
 step_went {life = life} {rates = rates} s (Written k) one other a b range sound few may apart was now ahead =
     let snd = may.frame in
     let is = may.sends.is in

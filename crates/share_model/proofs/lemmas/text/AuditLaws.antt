@@ -68,9 +68,9 @@ line-short (Change (OpenFlow name limit tariff)) h r =
     let all = length-append name (32 ∷ (decimal limit ++ 32 ∷ decimal tariff)) in
     omega (arith, all, numbers, short_name name h.0, short_number limit h.1, short_number tariff h.2)
 line-short (Change (CloseFlow name)) h r = omega (arith, short_name name h)
-line-short (Send flow payload) h r =
-    let all = length-append flow (32 ∷ hex payload) in
-    omega (arith, all, length-hex payload, leb-true (length payload) max_payload r, short_name flow h.0)
+line-short (Send flow body) h r =
+    let all = length-append flow (32 ∷ hex body.payload) in
+    omega (arith, all, length-hex body.payload, leb-true (length body.payload) max_payload r, short_name flow h.0)
 line-short (Turn most) h r = omega (arith, short_number most h)
 line-short Torn h r = omega arith
 line-short Report h r = omega arith
@@ -95,7 +95,7 @@ event_fields : {life : ℕ} {rates : List Rate} {s : State} → SoundState life 
     → HasFields (event_line e) × (is_in_range (event_line e) ≡ true)
 event_fields sound (Commanded c) may = (may, refl)
 event_fields sound (Arrived flow body) may =
-    ((may.0, (may.1.some, may.1.bytes)), payload_in_range (length body) may.1.few)
+    ((may.0, (may.1.some, may.1.bytes), may.2), payload_in_range (length body.payload) may.1.few)
 event_fields sound (Written k) may =
     let few = written_few sound k may in (omega (arith, few), turn_in_range k may.some few)
 event_fields sound Faulted may = (tt, refl)

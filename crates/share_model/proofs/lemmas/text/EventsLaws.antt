@@ -152,9 +152,9 @@ module _ (life : ℕ) (rates : List Rate) (p : Progress) (sound : SoundState lif
       read.line.fields
   may_line bytes lack (Send flow body) read =
       let fields = read.line.fields in
-      let few = leb-true (length body) max_payload read.in_range in
+      let few = leb-true (length body.payload) max_payload read.in_range in
       may_call (life_is_spent life p.state.live) lack refl (Arrived flow body) _ _
-      (fields.0, record { some = fields.1.0; few = few; bytes = fields.1.1 })
+      (fields.0, record { some = fields.1.0; few = few; bytes = fields.1.1 }, fields.2)
   may_line bytes lack (Turn most) read =
       may_turn (life_is_spent life p.state.live) p.state.live.broken refl refl
       (write_event most (sending p.state.live)) _ _

@@ -83,7 +83,8 @@ seen-spelling_of (Change (OpenFlow name limit tariff)) h =
     seen-more name (32 ∷ (decimal limit ++ 32 ∷ decimal tariff)) (seen-name name h.0)
     (seen-more (decimal limit) (32 ∷ decimal tariff) (seen-decimal limit h.1) (seen-decimal tariff h.2))
 seen-spelling_of (Change (CloseFlow name)) h = seen-name name h
-seen-spelling_of (Send flow payload) h = seen-more flow (32 ∷ hex payload) (seen-name flow h.0) (seen-hex payload)
+seen-spelling_of (Send flow body) h =
+    seen-more flow (32 ∷ hex body.payload) (seen-name flow h.0) (seen-hex body.payload)
 seen-spelling_of (Turn most) h = seen-decimal most h
 seen-spelling_of Torn h = refl
 seen-spelling_of Report h = refl

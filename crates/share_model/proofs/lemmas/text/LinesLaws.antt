@@ -6,6 +6,7 @@ use Rattle.std.proofs.Common.{arith, sym, ◌∙◌, ap, cond, subst}
 use Rattle.std.proofs.lemmas.List.Splits.{slice_split_at, slice_split_none, join_with_byte-slice_split}
 use Rattle.std.proofs.lemmas.List.Elements.{All-from_recursion}
 use Rattle.std.proofs.lemmas.Bool.Decides.{nat_tests}
+use Rattle.share_base.specs.Body.{BodyView, IsUnstamped}
 use Rattle.share_base.specs.declared.refusal.Refusal.{Refusal}
 use Rattle.share_base.specs.declared.refusal.Refusal.TheVariants.{Syntax, Range}
 use Rattle.share_base.specs.declared.command.Command.{Command}
@@ -64,9 +65,11 @@ fund_of-flow : (ticket : ℕ) (flow : List ℕ) → IsNumber ticket → IsName f
     → fund_of (decimal ticket ∷ codes "flow" ∷ flow ∷ []) ≡ Some (Change (FundFlow ticket flow))
 fund_of-flow ticket flow t f = rw (number_of-decimal ticket t, name_of-name flow f) refl
 
-send_of-words : (flow payload : List ℕ) → IsName flow → IsPayload payload
-    → send_of (flow ∷ hex payload ∷ []) ≡ Some (Send flow payload)
-send_of-words flow payload f p = rw (name_of-name flow f, payload_of-hex payload p) refl
+send_of-words : (flow : List ℕ) (body : BodyView) → IsName flow → IsPayload body.payload → IsUnstamped body
+    → send_of (flow ∷ hex body.payload ∷ []) ≡ Some (Send flow body)
+send_of-words flow body f p none =
+    rw (name_of-name flow f, payload_of-hex body.payload p)
+    (ap (λ (stamped : List ℕ). Some (Send flow (record { stamped = stamped; payload = body.payload }))) (sym none))
 
 turn_of-words : (most : ℕ) → IsNumber most → turn_of (decimal most ∷ []) ≡ Some (Turn most)
 turn_of-words most m = rw (number_of-decimal most m) refl
@@ -82,7 +85,7 @@ line_of-words (Change (FundFlow ticket flow)) h = fund_of-flow ticket flow h.0 h
 line_of-words (Change (Unfund ticket)) h = numbered_of-words Unfund ticket h
 line_of-words (Change (OpenFlow name limit tariff)) h = open_of-words name limit tariff h.0 h.1 h.2
 line_of-words (Change (CloseFlow name)) h = named_of-words CloseFlow name h
-line_of-words (Send flow payload) h = send_of-words flow payload h.0 h.1
+line_of-words (Send flow body) h = send_of-words flow body h.0 h.1 h.2
 line_of-words (Turn most) h = turn_of-words most h
 line_of-words Torn h = refl
 line_of-words Report h = refl
@@ -110,8 +113,8 @@ words_of-spelling_of (Change (FundFlow ticket flow)) h =
     (no_space-decimal _ h.0, (no_space-name_bytes (codes "flow") refl, (no_space-name _ h.1, tt)))
 words_of-spelling_of (Change (CloseFlow name)) h =
     words_of-join _ _ (no_space-name_bytes (codes "close") refl) (no_space-name _ h, tt)
-words_of-spelling_of (Send flow payload) h =
-    words_of-join _ _ (no_space-name_bytes (codes "send") refl) (no_space-name _ h.0, (no_space-hex payload, tt))
+words_of-spelling_of (Send flow body) h =
+    words_of-join _ _ (no_space-name_bytes (codes "send") refl) (no_space-name _ h.0, (no_space-hex body.payload, tt))
 words_of-spelling_of (Turn most) h = words_of-join _ _ (no_space-name_bytes (codes "turn") refl)
     (no_space-decimal _ h, tt)
 words_of-spelling_of Torn h = words_of-join _ _ (no_space-name_bytes (codes "torn") refl) tt

@@ -180,7 +180,7 @@ send_of-only ws l e =
     let z = line_at_end-only _ _ _ m.then in
     let a = took_name ws n.value n.first in
     let b = took_payload n.value.1 m.value m.first in
-    are_words _ ws _ l _ refl (a.0, b.0) (before _ _ _ _ a.1 (before _ _ _ _ b.1 z.0)) z.1
+    are_words _ ws _ l _ refl (a.0, b.0, refl) (before _ _ _ _ a.1 (before _ _ _ _ b.1 z.0)) z.1
 
 turn_of-only : (ws : List (List ℕ)) (l : Line) → turn_of ws ≡ Some l → AreWords (codes "turn" ∷ ws) l
 turn_of-only ws l e =

@@ -2,6 +2,7 @@
 use Rattle.std.specs.Prelude.{◌≡◌, ◌+◌, ℕ, Bool, true, false, List, [], ◌∷◌, ◌++◌, Option, Some}
 use Rattle.std.specs.Prelude.{IfSome, Result, Ok, Err, MatchBool, if◌then◌else◌, refl}
 use Rattle.std.proofs.Common.{ap, sym, ◌∙◌, subst, arith, inl, inr, cond}
+use Rattle.share_base.specs.Body.{BodyView, IsUnstamped}
 use Rattle.share_base.specs.declared.refusal.Refusal.{Refusal}
 use Rattle.share_base.specs.declared.refusal.Refusal.TheVariants.{NoMemory, Spent as SpentRefusal, Syntax}
 use Rattle.share_base.specs.declared.command.Command.{Command}
@@ -147,9 +148,10 @@ module _ {W : Type 0} (told : W → Option Told) where
 
   -- Packets
 
-  send_by : (old new : LinkView W) (flow body : List ℕ) (reply : Reply) (p : Progress)
+  send_by : (old new : LinkView W) (flow : List ℕ) (body : BodyView) (reply : Reply) (p : Progress)
       → Holds told old p
-      → Steps (λ rates l. arrive_step l flow body) old reply new → AskedOutcome told old (Arrived flow body) reply new
+      → Steps (λ rates l. arrive_step l flow body.payload) old reply new
+      → AskedOutcome told old (Arrived flow body) reply new
       → IsAnswerBy told (λ lack. progress_and_text old.rates p (send_event old.life p.state lack flow body)) old
       (line_text (Replied reply)) new
   send_by old new flow body reply p h did (asked_spent spent is same) =
@@ -157,14 +159,15 @@ module _ {W : Type 0} (told : W → Option Told) where
       stayed (λ lack. send_event old.life p.state lack flow body) old new p (line_text (Replied reply)) false h
       same (rw (over, is) refl)
   send_by old new flow body reply p h did (asked_no_memory living is same) =
-      absurd (no_step old new _ reply (events-arrived old.live flow body) living same (is_spent old) refl did)
+      absurd (no_step old new _ reply (events-arrived old.live flow body.payload) living same (is_spent old) refl did)
   send_by old new flow body reply p h did (asked_made living ran) =
       let over : life_is_spent old.life p.state.live ≡ false = spent_is old p false h living in
       went_on (λ lack. send_event old.life p.state lack flow body) old new p (Arrived flow body) (Replied reply)
       false h ran (rw over refl)
 
-  pub send-says : (old new : LinkView W) (first : Bool) (flow body : List ℕ) (reply : Reply) → IsName flow × IsBody body
-      → Steps (λ rates l. arrive_step l flow body) old reply new
+  pub send-says : (old new : LinkView W) (first : Bool) (flow : List ℕ) (body : BodyView) (reply : Reply)
+      → IsName flow × IsBody body.payload × IsUnstamped body
+      → Steps (λ rates l. arrive_step l flow body.payload) old reply new
       → AnswersLine told old first (Send flow body) (line_text (Replied reply)) new
   send-says old new first flow body reply fields did p h place =
       send_by old new flow body reply p h did
@@ -222,7 +225,7 @@ module _ {W : Type 0} (told : W → Option Told) where
       unread_by false false over g = rw over (ap refusal_line (sym g))
 
   -- a packet that found no memory changes nothing
-  pub no_memory-says : (old : LinkView W) (first : Bool) (bytes flow body : List ℕ) (r : Refusal)
+  pub no_memory-says : (old : LinkView W) (first : Bool) (bytes flow : List ℕ) (body : BodyView) (r : Refusal)
       → reading bytes ≡ Ok (Send flow body) → r ≡ (if is_spent old then SpentRefusal else NoMemory)
       → AnswersBytes told old first bytes (line_text (Replied (Refused r))) old
   no_memory-says old first bytes flow body r is given p h place =

@@ -1,4 +1,6 @@
+use Rattle.std.proofs.Common.{subst}
 use Rattle.share_model.specs.io.Calls.{no_call}
+use Rattle.share_model.specs.text.Lines.{HasFields}
 use Rattle.share_model.proofs.lemmas.text.TalkLaws.{send-says, report-says, audit-says}
 use Rattle.share_model.proofs.lemmas.text.TurnTalkLaws.{torn-says}
 use Rattle.share_script.proofs.AnswerLemmas.{as_said, audit_answer}
@@ -9,11 +11,12 @@ pub returns-in-Send-clause-says : goal.returns-in-Send-clause-says
 returns-in-Send-clause-says g c =
     as_said _ c.args.engine.now c.arrive.new.self c.args.first c.args.line _ _ c.in-Send.is
     (send-says _ c.args.engine.now c.arrive.new.self c.args.first c.in-Send.flow c.in-Send.body c.arrive.result
-    c.arrive.ensures.fields c.arrive.ensures.did)
+    (c.arrive.ensures.fields.0, c.arrive.ensures.fields.1, (subst HasFields c.in-Send.is c.requires.fields).2)
+    c.arrive.ensures.did)
 
 pub returns-in-Send-clause-called : goal.returns-in-Send-clause-called
 returns-in-Send-clause-called g c =
-    arrive-called _ c.args.engine.now c.arrive.new.self c.in-Send.flow c.in-Send.body c.arrive.result
+    arrive-called _ c.args.engine.now c.arrive.new.self c.in-Send.flow c.in-Send.body.payload c.arrive.result
     c.arrive.ensures.did
 
 pub returns-in-Torn-clause-says : goal.returns-in-Torn-clause-says

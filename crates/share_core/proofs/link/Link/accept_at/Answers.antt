@@ -25,7 +25,8 @@ invariant_of-self-then-not-busy g c =
     (stands_in _ _ c.args.place.now c.self.view_is c.requires.stands) in (
       (c.self.invariant.0.0, c.wake.ensures.levelled_with),
       rw (c.wake.ensures.queue, c.wake.ensures.ledger, c.in-Ok.ensures.ok.1)
-          (sound-came sound (living _ _ c.self.view_is c.requires.living sound) c.args.place.now.flow c.args.body
+          (sound-came sound (living _ _ c.self.view_is c.requires.living sound) c.args.place.now.flow
+          c.args.body.payload
           c.requires.body there),
     )
 
@@ -39,7 +40,8 @@ invariant_of-self-else-not-busy g c =
       rw (c.in-Ok.ensures.ok.1) (rw (
         stays-level sound c.args.place.now.flow busy c.self.inside.queue sound.level,
         stays-active sound c.args.place.now.flow busy,
-      ) at (sound-came sound (living _ _ c.self.view_is c.requires.living sound) c.args.place.now.flow c.args.body
+      ) at (sound-came sound (living _ _ c.self.view_is c.requires.living sound) c.args.place.now.flow
+          c.args.body.payload
           c.requires.body there)),
     )
 
@@ -48,7 +50,7 @@ returns-in_default g c =
     let there = buffered_at c.self.inside.buffers c.args.place.now
     (stands_in _ _ c.args.place.now c.self.view_is c.requires.stands) in
     let full = c.in_default.ensures.full in
-    refused_full _ _ c.refuse.new.self c.args.place.now.flow c.args.body c.refuse.result c.push_at.new.self
+    refused_full _ _ c.refuse.new.self c.args.place.now.flow c.args.body.payload c.refuse.result c.push_at.new.self
     c.self.view_is full.2 there full.1 c.refuse.ensures
 
 pub returns : goal.returns
@@ -56,7 +58,7 @@ returns g c =
     let there = buffered_at c.self.inside.buffers c.args.place.now
     (stands_in _ _ c.args.place.now c.self.view_is c.requires.stands) in
     let ok = c.in-Ok.ensures.ok in
-    took_number _ _ _ c.args.place.now.flow c.args.body c.in-Ok.seq c.self.view_is there ok.0
+    took_number _ _ _ c.args.place.now.flow c.args.body.payload c.in-Ok.seq c.self.view_is there ok.0
     (elim c.if-not-busy.branch [
       | then-not-busy w ↦ w.self-is ∙ rw (w.wake.ensures.queue, w.wake.ensures.ledger, ok.1) refl
       | else-not-busy w ↦ let busy = sym c.is_busy_at-busy.ensures ∙ w.if-not-busy.false in w.self-is ∙ rw (

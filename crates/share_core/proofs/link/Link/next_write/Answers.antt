@@ -19,7 +19,7 @@ returns g c =
     let same = ap (λ (k : LinkView (Unit {0})). k.live.buffers) c.self.view_is in
     let head = ap (λ bs. head_of bs buffer.flow) (sym same) ∙ c.in_ok-seq.ensures in (
       subst (λ f. IsNextWriteOf (option_map (sending_at c.args.out) (head_of buffers f)) place) c.in_ok-buffer.ensures.0
-          (head_placed buffers place c.in_ok-seq.body.now head
+          (head_placed buffers place c.in_ok-seq.body.now.payload head
           (ap (λ bytes. 12 + length bytes) c.as_slice.ensures.value)),
       subst (λ bs. Stands bs buffer) same c.in_ok-buffer.ensures.2,
     )

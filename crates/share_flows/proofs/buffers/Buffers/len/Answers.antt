@@ -1,5 +1,6 @@
 use Rattle.std.proofs.Common.{◌≤◌, ◌∙◌, Option, IfSome, ap, subst, sym}
-use Rattle.share_model.specs.link.Buffers.{Buffer, count_by}
+use Rattle.share_flows.specs.Stamps.{BufferView}
+use Rattle.share_model.specs.link.Buffers.{count_by}
 use Rattle.share_flows.proofs.Standing.{standing_of}
 use Rattle.share_flows.proofs.buffers.Buffers.len.Goals as goal
 
@@ -13,4 +14,4 @@ pub returns-in-Some-clause-limit : goal.returns-in-Some-clause-limit
 returns-in-Some-clause-limit c =
     let is = standing_of _ _ c.in-Some.place c.index.result.now c.self.view_is c.in-Some.ensures.2
     c.index.ensures _ c.in-Some.ensures.0 in
-    subst (λ (o : Option Buffer). IfSome o (λ b. c.count.result ≤ b.limit)) (sym is) c.count.ensures.limit
+    subst (λ (o : Option BufferView). IfSome o (λ b. c.count.result ≤ b.limit)) (sym is) c.count.ensures.limit

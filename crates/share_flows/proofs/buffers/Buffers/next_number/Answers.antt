@@ -1,5 +1,5 @@
 use Rattle.std.proofs.Common.{◌≡◌, Option, IfSome, subst, sym}
-use Rattle.share_model.specs.link.Buffers.{Buffer}
+use Rattle.share_flows.specs.Stamps.{BufferView}
 use Rattle.share_flows.proofs.Standing.{standing_of}
 use Rattle.share_flows.proofs.buffers.Buffers.next_number.Goals as goal
 
@@ -7,4 +7,4 @@ pub returns : goal.returns
 returns c =
     let is = standing_of _ _ c.place-place.result c.index.result.now c.self.view_is c.place-place.ensures.stands
     c.index.ensures _ c.place-place.ensures.flow in
-    subst (λ (o : Option Buffer). IfSome o (λ b. c.next_number.result ≡ b.next)) (sym is) c.next_number.ensures
+    subst (λ (o : Option BufferView). IfSome o (λ b. c.next_number.result ≡ b.next)) (sym is) c.next_number.ensures

@@ -1,6 +1,6 @@
 use Rattle.share_flows.proofs.Standing.{some_packet, head_popped, after_pop}
 use Rattle.std.proofs.Common.{◌∙◌, ap}
-use Rattle.share_model.specs.link.Buffers.{Buffer}
+use Rattle.share_flows.specs.Stamps.{BufferView}
 use Rattle.share_flows.proofs.Apart.{apart-set}
 use Rattle.share_flows.proofs.buffers.Buffers.pop_at.Goals as goal
 
@@ -22,5 +22,6 @@ returns-clause-after c =
 pub invariant_of-self : goal.invariant_of-self
 invariant_of-self c =
     apart-set c.self.inside.rings.items c.args.place.now.at c.pop.new.self c.index_mut-ring.result.now
-    (ap (λ (b : Buffer). b.flow) c.pop.ensures.after ∙ ap (λ (b : Buffer). b.flow) c.index_mut-ring.ensures.value)
+    (ap (λ (b : BufferView). b.flow) c.pop.ensures.after ∙ ap (λ (b : BufferView). b.flow)
+    c.index_mut-ring.ensures.value)
     c.self.invariant

@@ -1,6 +1,6 @@
 use Rattle.share_flows.proofs.Standing.{may_push, after_push, after_full}
 use Rattle.std.proofs.Common.{◌∙◌, ap}
-use Rattle.share_model.specs.link.Buffers.{Buffer}
+use Rattle.share_flows.specs.Stamps.{BufferView}
 use Rattle.share_flows.proofs.Apart.{apart-set, flow-pushed}
 use Rattle.share_flows.proofs.buffers.Buffers.push_at.Goals as goal
 
@@ -23,4 +23,4 @@ pub invariant_of-self : goal.invariant_of-self
 invariant_of-self c =
     apart-set c.self.inside.rings.items c.args.place.now.at c.push.new.self c.index_mut-ring.result.now
     (flow-pushed c.push.result c.index_mut-ring.result.now c.push.new.self c.args.body c.push.ensures.ok
-    c.push.ensures.full ∙ ap (λ (b : Buffer). b.flow) c.index_mut-ring.ensures.value) c.self.invariant
+    c.push.ensures.full ∙ ap (λ (b : BufferView). b.flow) c.index_mut-ring.ensures.value) c.self.invariant

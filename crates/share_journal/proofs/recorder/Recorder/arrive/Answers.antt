@@ -1,4 +1,5 @@
 use Rattle.std.proofs.Common.{◌∙◌, ap, sym}
+use Rattle.share_base.specs.Body.{BodyView}
 use Rattle.share_base.specs.declared.command.Event.{Event}
 use Rattle.share_base.specs.declared.command.Event.TheVariants.{Arrived}
 use Rattle.share_model.proofs.lemmas.run.Laws.{arrive-asked}
@@ -13,8 +14,12 @@ note_if-requires g c =
     (Arrived c.args.flow c.split-sending.result.0)
     c.arrive-reply.result (Worker c.args.worker) c.self.invariant
     (arrive-asked g.W.TellingWriter.told c.self.inside.engine c.arrive-reply.result c.arrive-reply.new.self
-    c.self.invariant.1.range (run-sound c.self.invariant.1) c.args.flow c.split-sending.result.0
-    c.arrive-reply.ensures.fields c.arrive-reply.ensures.did)
+    c.self.invariant.1.range (run-sound c.self.invariant.1) c.args.flow c.split-sending.result.0 (
+      c.arrive-reply.ensures.fields.0,
+      c.arrive-reply.ensures.fields.1,
+      ap (λ (b : BodyView). b.stamped) c.split-sending.ensures.sending,
+    )
+    c.arrive-reply.ensures.did)
     _ c.entry_of_reply.result (same_test c.events-before.ensures.events c.events.ensures.events)
     (c.entry_of_reply.ensures ∙ ap (λ (e : Event). replied_entry e c.arrive-reply.result (Worker c.args.worker))
     (c.event_of_arrival-event.ensures
@@ -26,8 +31,12 @@ invariant_of-self g c =
     (Arrived c.args.flow c.split-sending.result.0)
     c.arrive-reply.result (Worker c.args.worker) c.self.invariant
     (arrive-asked g.W.TellingWriter.told c.self.inside.engine c.arrive-reply.result c.arrive-reply.new.self
-    c.self.invariant.1.range (run-sound c.self.invariant.1) c.args.flow c.split-sending.result.0
-    c.arrive-reply.ensures.fields c.arrive-reply.ensures.did)
+    c.self.invariant.1.range (run-sound c.self.invariant.1) c.args.flow c.split-sending.result.0 (
+      c.arrive-reply.ensures.fields.0,
+      c.arrive-reply.ensures.fields.1,
+      ap (λ (b : BodyView). b.stamped) c.split-sending.ensures.sending,
+    )
+    c.arrive-reply.ensures.did)
     _ c.entry_of_reply.result (same_test c.events-before.ensures.events c.events.ensures.events)
     (c.entry_of_reply.ensures ∙ ap (λ (e : Event). replied_entry e c.arrive-reply.result (Worker c.args.worker))
     (c.event_of_arrival-event.ensures
@@ -41,6 +50,10 @@ returns-clause-event g c =
     (arrival-answers g.W.TellingWriter.told c.self.inside.engine c.arrive-reply.new.self c.arrive-reply.result
     c.self.inside.journal c.self.invariant c.args.flow c.split-sending.result.0
     (arrive-asked g.W.TellingWriter.told c.self.inside.engine c.arrive-reply.result c.arrive-reply.new.self
-    c.self.invariant.1.range (run-sound c.self.invariant.1) c.args.flow c.split-sending.result.0
-    c.arrive-reply.ensures.fields c.arrive-reply.ensures.did)
+    c.self.invariant.1.range (run-sound c.self.invariant.1) c.args.flow c.split-sending.result.0 (
+      c.arrive-reply.ensures.fields.0,
+      c.arrive-reply.ensures.fields.1,
+      ap (λ (b : BodyView). b.stamped) c.split-sending.ensures.sending,
+    )
+    c.arrive-reply.ensures.did)
     c.arrive-reply.ensures.did)

@@ -1,0 +1,20 @@
+use Rattle.std.proofs.Common.{◌≡◌, ◌≤◌, ◌+◌, ◌-◌, ◌++◌, ◌∙◌, ℕ, List, length, take, drop, sym, ap, arith}
+use Rattle.std.proofs.lemmas.List.{take_all, length-drop, take-append-drop, drop-drop}
+use Rattle.share_base.specs.Body.{framed_bytes}
+use Rattle.share_base.proofs.parcel.Body.framed.Goals as goal
+
+-- the bytes from the first stamped one on are those that are stamped and the payload
+stamped_and_payload : (s : ℕ) (bytes : List ℕ) → s ≤ 12
+    → take (length bytes - (12 - s)) (drop (12 - s) bytes) ≡ take s (drop (12 - s) bytes) ++ drop 12 bytes
+stamped_and_payload s bytes few =
+    let room : 12 - s + s ≡ 12 = omega (arith, few) in
+    take_all (length bytes - (12 - s)) (drop (12 - s) bytes) (rw (length-drop (12 - s) bytes) (omega arith))
+    ∙ sym (take-append-drop s (drop (12 - s) bytes))
+    ∙ ap (λ rest. take s (drop (12 - s) bytes) ++ rest)
+    (drop-drop s (12 - s) bytes ∙ ap (λ n. drop n bytes) room)
+
+pub returns : goal.returns
+returns c =
+    rw (c.as_slice.ensures)
+    (stamped_and_payload c.self.inside.stamped c.self.inside.bytes.items c.self.invariant.0
+    ∙ ap framed_bytes c.self.view_is)

@@ -1,0 +1,182 @@
+//! The buffers of a link, and the frames that are made in them.
+ghost use Rattle.std.specs.Prelude.{◌≡◌, ◌<◌, ◌≤◌, ◌^◌, [], true, false, take, drop, length, IfOk, IfErr, OnOk, None};
+ghost use Rattle.std.specs.Prelude.{Some};
+ghost use Rattle.std.specs.Prelude.{IsSome, IfSome, IsTrue, MatchOption, option_map};
+ghost use Rattle.share_base.specs.Refusal.{IsRefused};
+ghost use Rattle.share_base.specs.declared.refusal.Refusal.TheVariants.{NoMemory};
+ghost use Rattle.share_model.specs.link.Buffers.{buffer_of, open_in, close_in, count_in, push_in, pop_in, is_full};
+ghost use Rattle.share_model.specs.link.Buffers.{head_of, is_busy, payloads_in};
+ghost use Rattle.share_model.specs.link.Frame.{frame, header};
+ghost use Rattle.share_model.specs.io.Told.{Fits};
+ghost use Rattle.share_flows.specs.Limit.{limit_refusal};
+ghost use Rattle.share_flows.specs.Places.{Stands};
+ghost use Rattle.share_flows.specs.Stamps.{stamp_in};
+
+use share_base::{Body, FlowNo, Refusal};
+use share_flows::{Buffers, Place};
+use share_frame::header;
+use share_model::{Answer, TellingWriter};
+use std::alloc::Global;
+use std::marker::Model;
+
+/// The buffers of the open flows. A contract sees their payloads alone: a header is stamped before one whenever its
+/// frame is offered, and nothing else reads it.
+#[derive(Drop)]
+pub struct PayloadBuffers {
+    buffers: Buffers,
+}
+
+impl Model for PayloadBuffers {
+    ghost use Rattle.std.specs.Prelude.{List};
+    ghost use Rattle.share_model.specs.link.Buffers.{Buffer, payloads_in};
+
+    ghost Value = { List Buffer };
+
+    ghost view = { λ b. payloads_in b.buffers };
+}
+
+impl PayloadBuffers {
+    /// No buffers. `NoMemory` if the memory for their places is refused.
+    pub fn new(alloc: Global) -> Result<PayloadBuffers, Refusal>
+        ensures ok { IfOk result (λ b. b ≡ []) }
+        ensures refused { IfErr result (λ e. e ≡ NoMemory) }
+    {
+        let buffers = Buffers::new(alloc)?;
+        Ok(PayloadBuffers { buffers })
+    }
+
+    /// Opens the buffer of a flow that has none, with all its room.
+    pub fn open(&mut self, flow: FlowNo, limit: u64) -> Result<(), Refusal>
+        requires { buffer_of self.old flow ≡ None }
+        ensures ok { OnOk result
+            ((self.new ≡ open_in self.old flow limit) × (limit_refusal limit ≡ None)) }
+        ensures refused { IfErr result
+            (λ e. (self.new ≡ self.old) × IsRefused (limit_refusal limit) e) }
+    {
+        self.buffers.open(flow, limit)
+    }
+
+    /// Where the buffer of a flow is. `None` if the flow is not open.
+    pub fn find(&self, flow: FlowNo) -> Option<Place>
+        ensures { MatchOption result (buffer_of self.now flow ≡ None)
+            (λ place. (place.flow ≡ flow) × IsSome (buffer_of self.now flow) × Stands self.now place) }
+    {
+        self.buffers.find(flow)
+    }
+
+    /// Puts a packet at the back of the buffer at a place, and gives its sequence number. If the buffer is full, it
+    /// gives the packet back and changes nothing.
+    pub fn push_at(&mut self, place: &Place, body: Body) -> Result<u32, Body>
+        requires there { Stands self.old place.now }
+        requires numbers { IfSome (buffer_of self.old place.now.flow)
+            (λ b. is_full b ≡ false → b.next < 2 ^ 32) }
+        ensures ok { IfOk result (λ number.
+            IfSome (buffer_of self.old place.now.flow) (λ b. (number ≡ b.next) × (is_full b ≡ false))
+            × (self.new ≡ push_in self.old place.now.flow body.payload)) }
+        ensures full { IfErr result (λ back.
+            (back ≡ body)
+            × IfSome (buffer_of self.old place.now.flow) (λ b. is_full b ≡ true)
+            × (self.new ≡ self.old)) }
+    {
+        self.buffers.push_at(place, body)
+    }
+
+    /// The sequence number and the body of the head packet at a place. `None` if the buffer is empty.
+    pub fn head_at(&self, place: &Place) -> Option<(u32, &Body)>
+        requires { Stands self.now place.now }
+        ensures { MatchOption result (head_of self.now place.now.flow ≡ None) (λ h.
+            head_of self.now place.now.flow
+            ≡ Some (record { flow = place.now.flow; seq = h.0; payload = h.1.now.payload })) }
+    {
+        self.buffers.head_at(place)
+    }
+
+    /// Takes the head packet out of the buffer at a place, which holds one. The place stays good.
+    pub fn pop_at(&mut self, place: &Place) -> Body
+        requires there { Stands self.old place.now }
+        requires busy { IsTrue (is_busy self.old place.now.flow) }
+        ensures head { option_map (λ h. h.payload) (head_of self.old place.now.flow) ≡ Some result.payload }
+        ensures after { self.new ≡ pop_in self.old place.now.flow }
+        ensures stands { Stands self.new place.now }
+    {
+        self.buffers.pop_at(place)
+    }
+
+    /// How many packets a flow's buffer holds; 0 if the flow is not open.
+    pub fn len(&self, flow: FlowNo) -> u32
+        ensures { result ≡ count_in self.now flow }
+    {
+        self.buffers.len(flow)
+    }
+
+    /// Whether the buffer at a place holds a packet.
+    pub fn is_busy_at(&self, place: &Place) -> bool
+        requires { Stands self.now place.now }
+        ensures { result ≡ is_busy self.now place.now.flow }
+    {
+        self.buffers.is_busy_at(place)
+    }
+
+    /// Closes the buffer of a flow, and says how many packets it held.
+    pub fn close(&mut self, flow: FlowNo) -> u32
+        requires { IsSome (buffer_of self.old flow) }
+        ensures held { result ≡ count_in self.old flow }
+        ensures after { self.new ≡ close_in self.old flow }
+    {
+        self.buffers.close(flow)
+    }
+
+    /// Offers a writer the next bytes of the frame of the head packet at a place, of which `out` bytes are out: at most
+    /// `most` bytes, in one call. They are one slice of the buffer's own memory, header and payload, and nothing is
+    /// copied but the header.
+    pub fn offer_at<W: TellingWriter>(
+        &mut self,
+        place: &Place,
+        out: u32,
+        most: u32,
+        writer: &mut W,
+    ) -> Answer
+        requires there { Stands self.old place.now }
+        requires head { IsSome (head_of self.old place.now.flow) }
+        requires within { IfSome (head_of self.old place.now.flow) (λ h. out ≤ length (frame h)) }
+        ensures answered { IfSome (head_of self.old place.now.flow)
+            (λ h. W.answers writer.old (take most (drop out (frame h))) result writer.new
+            × Fits (take most (drop out (frame h))) result) }
+        ensures same { self.new ≡ self.old }
+    {
+        stamp_at(&mut self.buffers, place);
+        match self.buffers.head_at(place) {
+            None => unreachable!(),
+            Some((_, body)) => offer(writer, body.framed(), out, most),
+        }
+    }
+}
+
+// Stamps the header of its frame before the head packet at a place.
+fn stamp_at(buffers: &mut Buffers, place: &Place)
+    requires there { Stands buffers.old place.now }
+    requires head { IsSome (head_of buffers.old place.now.flow) }
+    ensures after { IfSome (head_of buffers.old place.now.flow) (λ h. buffers.new
+        ≡ stamp_in buffers.old place.now.flow (header place.now.flow h.seq (length h.payload.payload))) }
+    ensures payloads { payloads_in buffers.new ≡ payloads_in buffers.old }
+    ensures stands { Stands buffers.new place.now }
+{
+    match buffers.head_at(place) {
+        None => unreachable!(),
+        Some((seq, body)) => {
+            let header = header(place.flow, seq, body.as_slice().len() as u16);
+            buffers.stamp_at(place, &header);
+        }
+    }
+}
+
+// Offers a writer the bytes of a frame of which `out` are out, at most `most` of them, in one call.
+fn offer<W: TellingWriter>(writer: &mut W, frame: &[u8], out: u32, most: u32) -> Answer
+    requires { out ≤ length frame.now }
+    ensures answered { W.answers writer.old (take most (drop out frame.now)) result writer.new }
+    ensures fits { Fits (take most (drop out frame.now)) result }
+{
+    let rest = &frame[out as usize..];
+    let count = rest.len().min(most as usize);
+    writer.offer(&rest[..count])
+}

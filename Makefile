@@ -1,12 +1,13 @@
 # stridelink: 'make try' runs an example unproved, 'make run' proves and builds the program and runs it, 'make serve'
 # plays a session over sockets with it, 'make check' proves what changed and runs tests and examples, and 'make test'
-# passes the gate. The toolchain's command rt has to be on the PATH. 'make tools' installs what the tools around a server
-# use, and 'make tools-test' tries these with the program, or with that of the variable STRIDELINK. 'make deb' builds a
-# Debian package of all this in bin/.
+# passes the gate. 'make soak' puts a server under a long load and beside a hostile client, and 'make fuzz' compares
+# the program with plain models for MINUTES minutes (10) of drawn scripts and servers. The toolchain's command rt has
+# to be on the PATH. 'make tools' installs what the tools around a server use, and 'make tools-test' tries these with
+# the program, or with that of the variable STRIDELINK. 'make deb' builds a Debian package of all this in bin/.
 
 SOURCES := crates.txt $(shell find crates -name '*.rt' -o -name '*.antt' | grep -v /out/)
 
-.PHONY: run serve try build check test edits bench tools tools-test deb
+.PHONY: run serve try build check test edits bench soak fuzz tools tools-test deb
 
 TOOL_PACKAGES := mandoc man-db tshark gnuplot-nox python3 python3-prometheus-client postgresql systemd bash-completion \
     binutils dpkg-dev lintian
@@ -24,6 +25,7 @@ examples/terminal.py
 examples/session.py
 examples/serve.py
 examples/hostile.py
+examples/fuzz.py
 endef
 
 run: bin/stridelink
@@ -65,6 +67,12 @@ bench: bin/stridelink
 	python3 bench/ingress.py
 	python3 bench/locked.py
 	python3 bench/serve.py
+
+soak: bin/stridelink
+	python3 bench/soak.py
+
+fuzz: bin/stridelink
+	examples/fuzz.py --minutes $(or $(MINUTES),10)
 
 tools:
 	DEBIAN_FRONTEND=noninteractive apt-get install -y --no-install-recommends $(TOOL_PACKAGES)

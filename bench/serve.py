@@ -1,11 +1,12 @@
 #!/usr/bin/env python3
 """Measures the server of bin/stridelink beside that of the plain Rust program (bench/plain), over loopback.
 
-`serve.py speed`, `serve.py replies` and `serve.py memory` are the parts; without a word all are run. In each of ROUNDS
+`serve.py speed`, with two connections, `serve.py eight`, with eight, `serve.py replies` and `serve.py memory` are the
+parts; without a word all are run. In each of ROUNDS
 rounds (7 unless set) the programs take turns, and what is printed are medians; machines are noisy, so the ratios of one
 run are what to read, which are medians of the rounds' ratios. Processor time is that of the server's threads while the
-load lasts, without its start and its audit. PACKETS is how many packets of 700 bytes a run of `speed` has (60000), of
-64 bytes three times as many; MEMORY_PACKETS those of `memory` (1000000). Where bin/stridelink has no `serve`, the plain
+load lasts, without its start and its audit. PACKETS is how many packets a run of these two has (60000), of 64 bytes
+three times as many; MEMORY_PACKETS those of `memory` (1000000). Where bin/stridelink has no `serve`, the plain
 program is measured alone. Nothing is written but a folder in the system's temporary folder, which is removed.
 """
 import multiprocessing
@@ -30,7 +31,9 @@ ROUNDS = int(os.environ.get("ROUNDS", "7"))
 PACKETS = int(os.environ.get("PACKETS", "60000"))
 MEMORY_PACKETS = int(os.environ.get("MEMORY_PACKETS", "1000000"))
 SIZES = (700, 64)
+SIZES_OF_EIGHT = (1490, 700, 64)
 HEADER = 12
+FLOWS = "abcdefgh"
 
 # A client sends so many records at once. Of all that were sent in a paced load, so many frames at most are not yet
 # there: fewer than a buffer holds, so none is refused.
@@ -59,21 +62,22 @@ class Speed:
 
 
 class Link:
-    """A server with two funded flows of LIMIT packets, a control and two ingress connections, and the uplink's peer."""
+    """A server with some funded flows of LIMIT packets, a control connection, an ingress connection for each flow, and
+    the uplink's peer."""
 
-    def __init__(self, program, size, life=LIFE):
+    def __init__(self, program, size, flows=FLOWS[:2], life=LIFE):
         self.size = HEADER + size
         self.folder = tempfile.TemporaryDirectory()
         self.listener = listen()
-        self.server = Server(self.folder.name, "%s:%d" % self.listener.getsockname(), workers=2, life=life,
+        self.server = Server(self.folder.name, "%s:%d" % self.listener.getsockname(), workers=len(flows), life=life,
                              audit="/dev/null", program=program).listens()
         self.peer = self.listener.accept()[0]
         self.control = connected((LOOPBACK, int(self.server.ports["control"])))
-        for line in ("open a %d 1" % LIMIT, "open b %d 1" % LIMIT, "mktkt 1 base", "mktkt 1 base", "fund 1 flow a",
-                     "fund 2 flow b"):
-            self.ask(line)
-        self.clients = [self.server.ingress(), self.server.ingress()]
-        self.steps = [record(name, b"x" * size) * STEP for name in ("a", "b")]
+        for number, name in enumerate(flows, 1):
+            for line in ("open %s %d 1" % (name, LIMIT), "mktkt 1 base", "fund %d flow %s" % (number, name)):
+                self.ask(line)
+        self.clients = [self.server.ingress() for _ in flows]
+        self.steps = [record(name, b"x" * size) * STEP for name in flows]
 
     def ask(self, line):
         """Asks one line, and waits for its reply."""
@@ -88,14 +92,16 @@ class Link:
         sent, got, end = 0, 0, -(-count // STEP) * STEP
         while got < end * self.size:
             while sent < end and sent + STEP - got // self.size <= WINDOW:
-                self.clients[sent // STEP % 2].sendall(self.steps[sent // STEP % 2])
+                turn = sent // STEP % len(self.clients)
+                self.clients[turn].sendall(self.steps[turn])
                 sent += STEP
             got += self.peer.recv_into(buffer)
         return end
 
     def flood(self, count):
         """Sends so many packets as fast as they are taken: how many frames came, and when the last did."""
-        threads = [threading.Thread(target=self.send, args=(client, step, count // 2 // STEP), daemon=True)
+        threads = [threading.Thread(target=self.send, args=(client, step, count // len(self.clients) // STEP),
+                                    daemon=True)
                    for client, step in zip(self.clients, self.steps)]
         for thread in threads:
             thread.start()
@@ -142,9 +148,9 @@ def listen():
     return listener
 
 
-def paced(program, size, count):
+def paced(program, size, count, flows):
     """A run of a load of which nothing is refused."""
-    link = Link(program, size)
+    link = Link(program, size, flows)
     used, start = link.server.processor_seconds(), time.perf_counter()
     frames = link.pace(count)
     speed = Speed(frames, time.perf_counter() - start, link.server.processor_seconds() - used)
@@ -152,9 +158,9 @@ def paced(program, size, count):
     return speed
 
 
-def flooded(program, size, count):
-    """A run of two floods, most of which is refused."""
-    link = Link(program, size)
+def flooded(program, size, count, flows):
+    """A run of a flood on each connection, most of which is refused."""
+    link = Link(program, size, flows)
     used, start = link.server.processor_seconds(), time.perf_counter()
     frames, last = link.flood(count)
     speed = Speed(frames, last - start, link.server.processor_seconds() - used)
@@ -184,17 +190,26 @@ HEADINGS = ("load", "program", "frames/s", "MB/s", "us a frame", "frames beside 
 
 
 def measure_speed(programs, folder):
-    """Prints frames and bytes a second, and processor time a frame."""
+    """Prints frames and bytes a second, and processor time a frame, with two connections."""
+    measure_load(programs, folder, SIZES, FLOWS[:2])
+
+
+def measure_eight(programs, folder):
+    """The same with eight connections, each for a flow of its own."""
+    measure_load(programs, folder, SIZES_OF_EIGHT, FLOWS)
+
+
+def measure_load(programs, folder, sizes, flows):
     limit = build_bare(folder)
     print_row(HEADINGS)
     print_row(["---"] * len(HEADINGS))
     for name, load in (("paced", paced), ("floods", flooded)):
-        for size in SIZES:
-            count = PACKETS if size == max(SIZES) else 3 * PACKETS
+        for size in sizes:
+            count = 3 * PACKETS if size == min(sizes) else PACKETS
             found = {program: [] for program in [*programs, "bare"]}
             for _ in range(ROUNDS):
                 for program, path in programs.items():
-                    found[program].append(load(path, size, count))
+                    found[program].append(load(path, size, count, flows))
                 found["bare"].append(bare(limit, size, count))
             for program, rounds in found.items():
                 print_row(speed_row("%s of %d bytes" % (name, size), program, size, count, rounds, found))
@@ -300,7 +315,7 @@ def has_serve(program):
 
 
 def main():
-    parts = {"speed": measure_speed, "replies": measure_replies, "memory": measure_memory}
+    parts = {"speed": measure_speed, "eight": measure_eight, "replies": measure_replies, "memory": measure_memory}
     words = sys.argv[1:] or list(parts)
     if not set(words) <= set(parts):
         sys.exit("the words are " + ", ".join(parts))

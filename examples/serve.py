@@ -150,7 +150,7 @@ def full_queue(run):
     sent = [packets(flow, number, 5000, 1490) for number, flow in enumerate(flows)]
     connections = [server.ingress() for _ in range(MOST_ENDS)]
     senders = [run.thread(send_all, connection, some) for connection, some in zip(connections, sent)]
-    wait_for(lambda: is_blocked(server, senders, WAITING_SHARE), "clients that wait for a full queue")
+    wait_for(lambda: is_blocked(server, senders, WAITING_SHARE), "clients that wait for a full queue", 2 * PATIENCE)
     commanders = [run.thread(command_much, control, name) for control, name in zip(controls, currencies)]
     used = server.processor_seconds()
     time.sleep(QUIET_SECONDS)

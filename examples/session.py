@@ -10,7 +10,8 @@ from serving import PROGRAM, Failure, Run, expect_equal, frame, frames, limit_ti
 
 LIFE = 1000
 
-FUNDING = ("open acme 16 1", "mktkt 300 base", "fund 1 flow acme", "open zeta 16 1", "mktkt 100 base", "fund 2 flow zeta")
+FUNDING = ("open acme 16 1", "mktkt 300 base", "fund 1 flow acme",
+           "open zeta 16 1", "mktkt 100 base", "fund 2 flow zeta")
 PACKETS = (("acme", b"hello"), ("zeta", b"bye"), ("acme", b"again"))
 
 

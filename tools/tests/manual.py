@@ -70,7 +70,7 @@ def options(run):
 
 
 def tool_options(run):
-    """Each option and argument that a tool's help tells stands in the tool's part of the synopsis, and each option has a
+    """Each option and argument that a tool's help tells stands in its part of the synopsis, and each option has a
     paragraph."""
     text = page(TOOL_PAGE)
     synopsis, paragraphs = section(text, "SYNOPSIS"), section(text, "DESCRIPTION")

@@ -6,10 +6,9 @@ use Rattle.std.proofs.lemmas.Option.{same_Some}
 use Rattle.share_base.specs.Body.{BodyView, framed_bytes}
 use Rattle.share_model.specs.link.Frame.{Packet, PacketOf, map_packet, header, frame}
 use Rattle.share_model.specs.link.Buffers.{Buffer, is_buffer_of, buffer_of, open_in, close_in, count_in, push_in}
-use Rattle.share_model.specs.link.Buffers.{head_in as head_in_buffer, head_of_buffer}
+use Rattle.share_model.specs.link.Buffers.{head_in as head_in_buffer, head_of_buffer, holds_packet, is_some_packet}
 use Rattle.share_model.specs.link.Buffers.{is_full, pop_in, head_of, is_busy, map_buffer, payload_of, payloads_in}
 use Rattle.share_model.proofs.lemmas.lists.Laws.{find-change_first}
-use Rattle.share_model.proofs.lemmas.link.BufferLaws.{head_of-flow}
 use Rattle.share_model.proofs.lemmas.link.PayloadLaws.{buffer_of-image, count_in-image, is_full-image, is_busy-image}
 use Rattle.share_model.proofs.lemmas.link.PayloadLaws.{head_of-image, place-image, open_in-image, close_in-image}
 use Rattle.share_model.proofs.lemmas.link.PayloadLaws.{push_in-image, pop_in-image}
@@ -60,9 +59,6 @@ module _ (bs : List BufferView) (seen : List Buffer) (is : payloads_in bs ≡ se
 
   some_out : (f : ℕ) → IsSome (buffer_of bs f) → IsSome (buffer_of seen f)
   some_out f some = subst IsSome (sym (found_as f)) (some_after (map_buffer payload_of) (buffer_of bs f) some)
-
-  pub head_in : (f : ℕ) → IsSome (head_of seen f) → IsSome (head_of bs f)
-  head_in f some = some_before (map_packet payload_of) (head_of bs f) (subst IsSome (head_as f) some)
 
   place_as : (f : ℕ) → position (is_buffer_of f) seen ≡ position (is_buffer_of f) bs
   place_as f = ap (position (is_buffer_of f)) (sym is) ∙ place-image payload_of bs f
@@ -192,29 +188,30 @@ head_of_stamped bs f header =
     ∙ head_by_stamped header (buffer_of bs f)
 
 -- the stamped bytes and the payload are the frame
-framed_as : (bs new : List BufferView) (f seq : ℕ) (body : BodyView) (o : Option (PacketOf BodyView))
-    → head_of bs f ≡ o
-    → IfSome o (λ h. new ≡ stamp_in bs f (header f h.seq (length h.payload.payload)))
+framed_as : (bs new : List BufferView) (f seq : ℕ) (body : BodyView) (own : List ℕ) (o : Option (PacketOf BodyView))
+    → head_of bs f ≡ o → new ≡ stamp_in bs f own
+    → IfSome (option_map (map_packet payload_of) o) (λ h. own ≡ header h.flow h.seq (length h.payload))
     → head_of new f ≡ Some (record { flow = f; seq = seq; payload = body })
     → IfSome (option_map (map_packet payload_of) o) (λ h. framed_bytes body ≡ frame h)
 unfolding frame
-framed_as bs new f seq body None is stamped head = tt
-framed_as bs new f seq body (Some h) is stamped head =
-    let own : List ℕ = header f h.seq (length h.payload.payload) in
+framed_as bs new f seq body own None is stamped its head = tt
+framed_as bs new f seq body own (Some h) is stamped its head =
     let there : Some (stamped_packet own h) ≡ Some (record { flow = f; seq = seq; payload = body }) =
     ap (option_map (stamped_packet own)) (sym is) ∙ sym (head_of_stamped bs f own)
-    ∙ ap (λ xs. head_of xs f) (sym stamped)
-    ∙ head in
+    ∙ ap (λ xs. head_of xs f) (sym stamped) ∙ head in
     ap (λ (p : PacketOf BodyView). framed_bytes p.payload) (sym (same_Some _ _ there))
-    ∙ ap (λ n. header n h.seq (length h.payload.payload) ++ h.payload.payload) (sym (head_of-flow bs f h is))
+    ∙ ap (λ (bytes : List ℕ). bytes ++ h.payload.payload) its
 
 pub framed_seen : (bs new : List BufferView) (seen : List Buffer) → payloads_in bs ≡ seen → (f seq : ℕ)
-    (body : BodyView) → IfSome (head_of bs f) (λ h. new ≡ stamp_in bs f (header f h.seq (length h.payload.payload)))
+    (body : BodyView) (own : List ℕ) → new ≡ stamp_in bs f own
+    → IfSome (head_of seen f) (λ h. own ≡ header h.flow h.seq (length h.payload))
     → head_of new f ≡ Some (record { flow = f; seq = seq; payload = body })
     → IfSome (head_of seen f) (λ h. framed_bytes body ≡ frame h)
-framed_seen bs new seen is f seq body stamped head =
+framed_seen bs new seen is f seq body own stamped its head =
     subst (λ (o : Option Packet). IfSome o (λ h. framed_bytes body ≡ frame h)) (sym (head_as bs seen is f))
-    (framed_as bs new f seq body (head_of bs f) refl stamped head)
+    (framed_as bs new f seq body own (head_of bs f) refl stamped
+    (subst (λ (o : Option Packet). IfSome o (λ h. own ≡ header h.flow h.seq (length h.payload)))
+    (head_as bs seen is f) its) head)
 
 -- there still is a head packet
 pub none_stamped : (new : List BufferView) (seen : List Buffer) (f : ℕ) → payloads_in new ≡ seen
@@ -224,6 +221,18 @@ none_stamped new seen f is some none =
   where
     no_packet : IsSome {T = Packet} None → ⊥
     no_packet h = cc
+
+-- a flow that has a head packet is busy
+head_busy : (o : Option Buffer) → IsSome (option_and_then head_of_buffer o) → holds_packet o ≡ true
+head_busy None some = absurd (cc)
+head_busy (Some b) some = by_packets b.packets some
+  where
+    by_packets : (ps : List (List ℕ)) → IsSome (head_in_buffer b ps) → is_some_packet ps ≡ true
+    by_packets [] some = absurd (cc)
+    by_packets (p ∷ ps) some = refl
+
+pub busy_headed : (seen : List Buffer) (f : ℕ) → IsSome (head_of seen f) → is_busy seen f ≡ true
+busy_headed seen f some = head_busy (buffer_of seen f) some
 
 -- bytes that are the frame, of which no more are out
 pub out_within : (o : Option Packet) (bytes : List ℕ) (out : ℕ) → IsSome o → IfSome o (λ h. bytes ≡ frame h)

@@ -1,20 +1,18 @@
 //! The buffers of a link, and the frames that are made in them.
 ghost use Rattle.std.specs.Prelude.{◌≡◌, ◌<◌, ◌≤◌, ◌^◌, [], true, false, take, drop, length, IfOk, IfErr, OnOk, None};
-ghost use Rattle.std.specs.Prelude.{Some};
-ghost use Rattle.std.specs.Prelude.{IsSome, IfSome, IsTrue, MatchOption, option_map};
+ghost use Rattle.std.specs.Prelude.{Some, IsSome, IfSome, IsTrue, MatchOption, option_map};
 ghost use Rattle.share_base.specs.Refusal.{IsRefused};
 ghost use Rattle.share_base.specs.declared.refusal.Refusal.TheVariants.{NoMemory};
 ghost use Rattle.share_model.specs.link.Buffers.{buffer_of, open_in, close_in, count_in, push_in, pop_in, is_full};
-ghost use Rattle.share_model.specs.link.Buffers.{head_of, is_busy, payloads_in};
+ghost use Rattle.share_model.specs.link.Buffers.{head_of, is_busy};
 ghost use Rattle.share_model.specs.link.Frame.{frame, header};
 ghost use Rattle.share_model.specs.io.Told.{Fits};
 ghost use Rattle.share_flows.specs.Limit.{limit_refusal};
 ghost use Rattle.share_flows.specs.Places.{Stands};
-ghost use Rattle.share_flows.specs.Stamps.{stamp_in};
 
 use share_base::{Body, FlowNo, Refusal};
 use share_flows::{Buffers, Place};
-use share_frame::header;
+use share_frame::HEADER;
 use share_model::{Answer, TellingWriter};
 use std::alloc::Global;
 use std::marker::Model;
@@ -126,46 +124,31 @@ impl PayloadBuffers {
         self.buffers.close(flow)
     }
 
-    /// Offers a writer the next bytes of the frame of the head packet at a place, of which `out` bytes are out: at most
-    /// `most` bytes, in one call. They are one slice of the buffer's own memory, header and payload, and nothing is
-    /// copied but the header.
+    /// Offers a writer the next bytes of the frame of the head packet at a place, whose header is `stamp` and of which
+    /// `out` bytes are out: at most `most` bytes, in one call. They are one slice of the buffer's own memory, header
+    /// and payload, and nothing is copied but the header.
     pub fn offer_at<W: TellingWriter>(
         &mut self,
         place: &Place,
+        stamp: &[u8; HEADER],
         out: u32,
         most: u32,
         writer: &mut W,
     ) -> Answer
         requires there { Stands self.old place.now }
         requires head { IsSome (head_of self.old place.now.flow) }
+        requires header { IfSome (head_of self.old place.now.flow)
+            (λ h. stamp.now ≡ header h.flow h.seq (length h.payload)) }
         requires within { IfSome (head_of self.old place.now.flow) (λ h. out ≤ length (frame h)) }
         ensures answered { IfSome (head_of self.old place.now.flow)
             (λ h. W.answers writer.old (take most (drop out (frame h))) result writer.new
             × Fits (take most (drop out (frame h))) result) }
         ensures same { self.new ≡ self.old }
     {
-        stamp_at(&mut self.buffers, place);
+        self.buffers.stamp_at(place, stamp);
         match self.buffers.head_at(place) {
             None => unreachable!(),
             Some((_, body)) => offer(writer, body.framed(), out, most),
-        }
-    }
-}
-
-// Stamps the header of its frame before the head packet at a place.
-fn stamp_at(buffers: &mut Buffers, place: &Place)
-    requires there { Stands buffers.old place.now }
-    requires head { IsSome (head_of buffers.old place.now.flow) }
-    ensures after { IfSome (head_of buffers.old place.now.flow) (λ h. buffers.new
-        ≡ stamp_in buffers.old place.now.flow (header place.now.flow h.seq (length h.payload.payload))) }
-    ensures payloads { payloads_in buffers.new ≡ payloads_in buffers.old }
-    ensures stands { Stands buffers.new place.now }
-{
-    match buffers.head_at(place) {
-        None => unreachable!(),
-        Some((seq, body)) => {
-            let header = header(place.flow, seq, body.as_slice().len() as u16);
-            buffers.stamp_at(place, &header);
         }
     }
 }

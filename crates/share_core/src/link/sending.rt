@@ -13,7 +13,7 @@ use super::Link;
 use super::levelling::rest;
 use crate::next_write::NextWrite;
 use share_base::{FlowNo, Turn};
-use share_frame::HEADER;
+use share_frame::{HEADER, header};
 use share_model::{Answer, Part, Rates, TellingWriter};
 
 impl<S: Rates> Link<S> {
@@ -190,7 +190,10 @@ impl<S: Rates> Link<S> {
             × Fits (take most (rest_of s)) result) }
         ensures same { self.new ≡ self.old }
     {
+        let _ = self.spent();
+        let payload = (place.length - HEADER as u32) as u16;
+        let header = header(place.buffer.flow, place.seq, payload);
         self.buffers
-            .offer_at(&place.buffer, place.out, most, writer)
+            .offer_at(&place.buffer, &header, place.out, most, writer)
     }
 }

@@ -2,20 +2,21 @@ use Rattle.std.proofs.Common.{◌∙◌, ◌≡◌, List, ℕ, IfSome, take, dro
 use Rattle.share_model.specs.io.Told.{Fits}
 use Rattle.share_model.specs.link.Buffers.{head_of}
 use Rattle.share_model.specs.link.Frame.{frame}
-use Rattle.share_core.proofs.Payloads.{stands_in, head_in, framed_seen, none_stamped, out_within, of_frame}
+use Rattle.share_core.proofs.Payloads.{stands_in, busy_in, busy_headed, framed_seen, none_stamped, out_within, of_frame}
 use Rattle.share_core.proofs.payload_buffers.PayloadBuffers.offer_at.Goals as goal
 
 pub stamp_at-requires-clause-there : goal.stamp_at-requires-clause-there
 stamp_at-requires-clause-there g c =
     stands_in c.self.inside.buffers c.args.self.now c.self.view_is c.args.place.now c.requires.there
 
-pub stamp_at-requires-clause-head : goal.stamp_at-requires-clause-head
-stamp_at-requires-clause-head g c =
-    head_in c.self.inside.buffers c.args.self.now c.self.view_is c.args.place.now.flow c.requires.head
+pub stamp_at-requires-clause-busy : goal.stamp_at-requires-clause-busy
+stamp_at-requires-clause-busy g c =
+    sym (busy_in c.self.inside.buffers c.args.self.now c.self.view_is c.args.place.now.flow)
+    ∙ busy_headed c.args.self.now c.args.place.now.flow c.requires.head
 
 pub unreachable-requires : goal.unreachable-requires
 unreachable-requires g c =
-    none_stamped c.stamp_at.new.buffers c.args.self.now c.args.place.now.flow
+    none_stamped c.stamp_at.new.self c.args.self.now c.args.place.now.flow
     (c.stamp_at.ensures.payloads ∙ c.self.view_is) c.requires.head c.in-None.ensures
 
 pub offer-requires : goal.offer-requires
@@ -23,8 +24,8 @@ offer-requires g c =
     let flow = c.args.place.now.flow in
     let framed : IfSome (head_of c.args.self.now flow) (λ h. c.framed.result.now ≡ frame h) =
     subst (λ (bytes : List ℕ). IfSome (head_of c.args.self.now flow) (λ h. bytes ≡ frame h)) (sym c.framed.ensures)
-    (framed_seen c.self.inside.buffers c.stamp_at.new.buffers c.args.self.now c.self.view_is flow _
-    c.in-Some.body.now c.stamp_at.ensures.after c.in-Some.ensures) in
+    (framed_seen c.self.inside.buffers c.stamp_at.new.self c.args.self.now c.self.view_is flow _
+    c.in-Some.body.now c.args.stamp.now c.stamp_at.ensures.after c.requires.header c.in-Some.ensures) in
     out_within (head_of c.args.self.now flow) c.framed.result.now c.args.out c.requires.head framed c.requires.within
 
 pub returns-clause-answered : goal.returns-clause-answered
@@ -32,8 +33,8 @@ returns-clause-answered g c =
     let flow = c.args.place.now.flow in
     let framed : IfSome (head_of c.args.self.now flow) (λ h. c.framed.result.now ≡ frame h) =
     subst (λ (bytes : List ℕ). IfSome (head_of c.args.self.now flow) (λ h. bytes ≡ frame h)) (sym c.framed.ensures)
-    (framed_seen c.self.inside.buffers c.stamp_at.new.buffers c.args.self.now c.self.view_is flow _
-    c.in-Some.body.now c.stamp_at.ensures.after c.in-Some.ensures) in
+    (framed_seen c.self.inside.buffers c.stamp_at.new.self c.args.self.now c.self.view_is flow _
+    c.in-Some.body.now c.args.stamp.now c.stamp_at.ensures.after c.requires.header c.in-Some.ensures) in
     of_frame (head_of c.args.self.now flow) c.framed.result.now
     (λ (bytes : List ℕ). g.W.TellingWriter.answers c.args.writer.now (take c.args.most (drop c.args.out bytes))
     c.offer.result c.offer.new.writer × Fits (take c.args.most (drop c.args.out bytes)) c.offer.result)

@@ -456,7 +456,8 @@ def check(server, peer, sent=None, torn=False):
 
 
 def packets_until_torn(run, peer):
-    """Sends packets one by one until the uplink is torn; what follows is admitted still, and a flow can be closed."""
+    """Sends packets one by one until the uplink is torn; what follows is admitted still, and a flow can be closed. On a
+    machine that has other work the peer is given time to leave."""
     server = run.server(peer)
     control = server.control()
     control.fund()
@@ -465,6 +466,7 @@ def packets_until_torn(run, peer):
 
     def is_torn(count):
         connection.sendall(record(*some[count]))
+        time.sleep(0.005 if count > 100 else 0)
         return control.ask("report")[0].split("\n")[10].split() == ["link", "2"]
 
     sent = next((count for count in range(len(some) - 1) if is_torn(count)), None)

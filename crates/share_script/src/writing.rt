@@ -14,8 +14,8 @@ use share_model::{Fault, Line, TellingWriter, put};
 
 /// Writes the spelling of a line and a line feed. It takes no memory: the text is put together on the stack, so a
 /// writer that accepts it whole is called once. If an offer is refused, a beginning of the text was written. Whatever
-/// its fields are, the line can be read: these bytes are read as this line, or refused as `Range` if it is a turn of no
-/// bytes or of more than 65535.
+/// its fields are, the line can be read: these bytes are read as this line, without what is stamped before a payload,
+/// or refused as `Range` if it is a turn of no bytes or of more than 65535.
 pub fn write_line<V: TellingWriter>(line: &Line, output: &mut V) -> Result<(), Fault>
     ensures line { IsLine (before_stamp line.now) }
     ensures written { WritesText V.told V.answers output.old output.new (spelling_of line.now ++ codes "\n") result }

@@ -302,6 +302,7 @@ fn finish<W: TellingWriter + Drop, S: Rates + Drop, O: TellingWriter>(
 }
 
 // Answers a line. The answer waits to be written, but a report is written at once, after all that waits.
+#[inline(always)]
 fn answer_and_print<W: TellingWriter + Drop, S: Rates + Drop, O: TellingWriter>(
     session: &mut Session<W, S>,
     spool: &mut Spool,

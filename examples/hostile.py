@@ -217,11 +217,11 @@ def limited(what, limit):
 
 
 def no_descriptor_to_begin(run):
-    """Both listeners and the uplink need a descriptor each, behind that of the audit's file, and take them in this
-    order. With fewer than four descriptors the system does not start a program."""
+    """Both listeners, the uplink and another handle of each listener need a descriptor each, behind that of the audit's
+    file, and take them in this order. With fewer than four descriptors the system does not start a program."""
     peer = run.peer()
     faults = ["cannot listen on " + ELSEWHERE["ingress"], "cannot listen on " + ELSEWHERE["control"],
-              "cannot connect to " + peer.address]
+              "cannot connect to " + peer.address, *["cannot accept a connection"] * 2]
     for limit, fault in enumerate(faults, 4):
         server = run.start(peer.address, before=limited(resource.RLIMIT_NOFILE, limit), **ELSEWHERE)
         server.ends(1, fault)
@@ -379,16 +379,22 @@ def expect_no_audit(server, peer, count, size):
 
 
 def audit_cannot_take_its_name(run):
-    """The folder of the audit has gone since, or a folder has come to its place."""
-    for change in (lambda folder: os.rename(folder, folder + " away"), shutil.rmtree,
-                   lambda folder: os.mkdir(os.path.join(folder, "audit"))):
+    """The folder of the audit has gone since, or a folder has come to its place. The audit that was written stays in its
+    new file, if that is somewhere, and this is told."""
+    for change, left in ((lambda folder: os.rename(folder, folder + " away"), "folder away"), (shutil.rmtree, None),
+                         (lambda folder: os.mkdir(os.path.join(folder, "audit")), "folder")):
         peer = run.peer()
-        folder = os.path.join(run.folder(), "folder")
+        place = run.folder()
+        folder = os.path.join(place, "folder")
         os.mkdir(folder)
         server = run.server(peer, audit=os.path.join(folder, "audit"))
         change(folder)
         one_packet(server)
         expect_no_audit(server, peer, 1, 15)
+        expect("\nthe whole audit is in %s.1\n" % server.audit_path in server.text("stderr"), "where the audit is")
+        if left:
+            with open(os.path.join(place, left, "audit.1"), encoding="ascii") as source:
+                expect_equal(source.read(), ONE_PACKET, "the audit")
 
 
 def audit_reader_goes(run):
@@ -407,6 +413,10 @@ def full(number):
     os.dup2(os.open("/dev/full", os.O_WRONLY), number)
 
 
+def closed(number):
+    os.close(number)
+
+
 def unread(number):
     reader, writer = os.pipe()
     os.dup2(writer, number)
@@ -415,9 +425,9 @@ def unread(number):
 
 
 def outputs_are_gone(run):
-    """Standard output or error is full, or a pipe that nobody reads: the status is as it would be, the audit is
+    """Standard output or error is full, closed, or a pipe that nobody reads: the status is as it would be, the audit is
     written, and so is the report where it can be."""
-    for out, errors in itertools.product((None, full, unread), repeat=2):
+    for out, errors in itertools.product((None, full, closed, unread), repeat=2):
         def before():
             for number, change in ((1, out), (2, errors)):
                 if change:

@@ -103,7 +103,8 @@ and the status is 1.
 FILE is a script: 'stridelink run --life L < FILE' prints the very bytes that C got.
 Where FILE is a regular file or not there, a file beside it is written, FILE.1 or
 the next number that is free, and takes the name FILE at the end; until then an old
-FILE stays as it was. Anything else is written in place.
+FILE stays as it was. An audit that cannot take that name stays where it is, which
+standard error tells. Anything else is written in place.
 With --until-eof the end of standard input ends the run: no more connections are
 accepted, of those that are there only what had come is taken, and what was queued
 is sent. A reply that can't be written for some seconds then ends its connection,

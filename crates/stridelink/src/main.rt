@@ -32,7 +32,7 @@ mod tests;
 mod words;
 
 use crate::lines::LineReader;
-use crate::serve::{PlainTariffs, Unserved, serve};
+use crate::serve::{PlainTariffs, StandIns, Unserved, serve};
 use crate::strict::StrictWriter;
 use crate::words::{Asked, Orders, ServeOrders, parse};
 use clap::error::ErrorKind;
@@ -226,8 +226,11 @@ where
     I: Read + Send + Drop + 'static,
     requires { CanBeServed orders.life orders.workers orders.clerks }
 {
+    let stand_ins = StandIns::open(rt);
     let served = serve(rt, alloc, PlainTariffs, orders, input);
-    Ok(tell_served(rt, served))
+    let status = tell_served(rt, served);
+    drop(stand_ins);
+    Ok(status)
 }
 
 // Tells what went wrong in a service, if something did.

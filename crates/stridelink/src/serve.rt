@@ -12,6 +12,7 @@ mod given;
 mod keep;
 mod slot;
 mod start;
+mod streams;
 mod tariffs;
 mod threads;
 mod uplink;
@@ -24,6 +25,7 @@ pub use crate::serve::fault::ServeFault;
 pub use crate::serve::keep::Keep;
 use crate::serve::slot::Slot;
 pub use crate::serve::start::{Unserved, serve};
+pub use crate::serve::streams::StandIns;
 pub use crate::serve::tariffs::PlainTariffs;
 use crate::serve::threads::{Server, run};
 use crate::serve::uplink::{Uplink, Wire};
@@ -34,7 +36,7 @@ use share_journal::{Journal, Recorder};
 use share_locked::{Clerk, LinkBrand, Locked, Stop};
 use share_model::{PlainWriter, Rates, TellingWriter};
 use std::alloc::{AllocError, Global};
-use std::io::{Eprint, Read};
+use std::io::{Eprint, ErrorKind, Read};
 use std::marker::Brand;
 use std::net::{TcpListener, TcpStream};
 use std::sync::{Arc, Mutex, Wait};
@@ -158,9 +160,19 @@ fn open_doors(alloc: Global, sockets: Sockets, plan: Plan) -> Result<(Doors, Upl
     let wire = Arc::new(alloc, Wire::new(uplink)).map_err(|_| ServeFault::NoMemory)?;
     let uplink = Uplink::new(&wire)?;
     let room = plan.workers.saturating_add(plan.clerks);
-    let Ok(connections) = Connections::new(alloc, &control, &ingress, wire, room, plan.is_verbose)
-    else {
-        return Err(ServeFault::NoMemory);
+    let connections = match Connections::new(
+        alloc,
+        &control,
+        &ingress,
+        wire,
+        room,
+        plan.is_verbose,
+    ) {
+        Ok(connections) => connections,
+        Err(fault) if fault.kind() == ErrorKind::OutOfMemory => {
+            return Err(ServeFault::NoMemory);
+        }
+        Err(_) => return Err(ServeFault::Accept),
     };
     let Ok(connections) = Arc::new(alloc, connections) else {
         return Err(ServeFault::NoMemory);

@@ -5,7 +5,7 @@ use share_journal::Journal;
 use share_model::{PatientWriter, PlainWriter};
 use std::alloc::{AllocError, Global};
 use std::fs::{Files, Metadata, OpenFile, OpenOptions};
-use std::io::{BufWriter, ErrorKind, Write};
+use std::io::{BufWriter, Eprint, ErrorKind, Write};
 use std::{fs, io};
 
 /// How many bytes of an audit are written together.
@@ -15,7 +15,7 @@ const ROOM: usize = 65536;
 const MOST_NAMES: u32 = 1000;
 
 /// Where an audit goes. If the path names a regular file or nothing, the audit goes into a new file beside it, which
-/// takes its name at the end; if it never does, it is removed. Otherwise the audit goes into what the path names.
+/// takes its name at the end; if no audit is written, it is removed. Otherwise the audit goes into what the path names.
 pub struct AuditFile<'a, R: Files> {
     files: &'a R,
     path: &'a str,
@@ -39,8 +39,8 @@ impl<'a, R: Files> Drop for AuditFile<'a, R> {
     }
 }
 
-// What is at a path. `None` if nothing is.
-fn found_at<R: Files>(files: &R, path: &str) -> io::Result<Option<Metadata>> {
+/// What is at a path. `None` if nothing is.
+pub fn found_at<R: Files>(files: &R, path: &str) -> io::Result<Option<Metadata>> {
     match fs::symlink_metadata(files, path) {
         Ok(found) => Ok(Some(found)),
         Err(fault) if fault.kind() == ErrorKind::NotFound => Ok(None),
@@ -127,8 +127,11 @@ impl<'a, R: Files> AuditFile<'a, R> {
     }
 
     /// Writes the audit of a journal, and gives it its name. If that fails, a regular file that was there before stays
-    /// as it was.
-    pub fn write(self, journal: &Journal) -> io::Result<()> {
+    /// as it was. An audit that is written and cannot take its name stays in the new file, which standard error tells.
+    pub fn write(self, journal: &Journal) -> io::Result<()>
+    where
+        R: Eprint,
+    {
         let mut audit = self;
         if audit.beside.is_none() {
             // A device or a pipe has no length.
@@ -137,7 +140,8 @@ impl<'a, R: Files> AuditFile<'a, R> {
         audit.write_out(journal)?;
         if let Some(beside) = audit.beside.take() {
             if let Err(fault) = fs::rename(audit.files, beside.as_str(), audit.path) {
-                audit.beside = Some(beside);
+                let name = beside.as_str();
+                let _ = eprintln!(audit.files; "the whole audit is in {name}");
                 return Err(fault);
             }
         }
@@ -145,7 +149,7 @@ impl<'a, R: Files> AuditFile<'a, R> {
     }
 }
 
-impl<'a, R: Files> Keep for AuditFile<'a, R> {
+impl<'a, R: Files + Eprint> Keep for AuditFile<'a, R> {
     ghost kept = { λ _ _ _. Unit {0} };
 
     fn keep(self, journal: &Journal) -> bool {

@@ -5,7 +5,7 @@ use share_journal::Journal;
 use std::alloc::Global;
 use std::fs;
 use std::fs::Files;
-use std::io::Read;
+use std::io::{Eprint, Read};
 use std::process::Abort;
 use std::test::Fail;
 
@@ -48,7 +48,7 @@ fn holds<R: Files>(rt: &R, path: &str, text: Option<&str>) -> bool {
 }
 
 // Checks that the new file takes the name at the end, and the old file stays until then.
-fn takes_the_name<R: Files + Abort>(
+fn takes_the_name<R: Files + Eprint + Abort>(
     rt: &R,
     alloc: Global,
     folder: &str,
@@ -69,7 +69,7 @@ fn takes_the_name<R: Files + Abort>(
 }
 
 // Checks that nothing changes if nothing is written, or what was written cannot take the name.
-fn leaves_the_old<R: Files + Abort>(rt: &R, alloc: Global, folder: &str) -> Result<(), Fail> {
+fn leaves_the_old<R: Files + Eprint + Abort>(rt: &R, alloc: Global, folder: &str) -> Result<(), Fail> {
     let (path, beside) = (
         in_folder(alloc, folder, "b")?,
         in_folder(alloc, folder, "b.1")?,
@@ -87,7 +87,7 @@ fn leaves_the_old<R: Files + Abort>(rt: &R, alloc: Global, folder: &str) -> Resu
 }
 
 // Checks that a file whose name is taken stays as it was, and the next name is used.
-fn leaves_other_files<R: Files + Abort>(rt: &R, alloc: Global, folder: &str) -> Result<(), Fail> {
+fn leaves_other_files<R: Files + Eprint + Abort>(rt: &R, alloc: Global, folder: &str) -> Result<(), Fail> {
     let (path, taken) = (
         in_folder(alloc, folder, "c")?,
         in_folder(alloc, folder, "c.1")?,
@@ -105,7 +105,7 @@ fn leaves_other_files<R: Files + Abort>(rt: &R, alloc: Global, folder: &str) -> 
 }
 
 // Checks that a file behind a symbolic link is written in place, and a folder is refused.
-fn writes_in_place<R: Files + Abort>(rt: &R, alloc: Global, folder: &str) -> Result<(), Fail> {
+fn writes_in_place<R: Files + Eprint + Abort>(rt: &R, alloc: Global, folder: &str) -> Result<(), Fail> {
     let (path, link) = (
         in_folder(alloc, folder, "d")?,
         in_folder(alloc, folder, "e")?,

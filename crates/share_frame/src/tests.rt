@@ -1,4 +1,6 @@
 //! Worked frames: their headers, and what bytes are read as.
+mod memory;
+
 use crate::{Field, FrameRead, HEADER, header, no_frame_begins_another, read_frame};
 use share_base::FlowNo;
 
@@ -90,19 +92,22 @@ fn frames_are_cut_anywhere(rt: HostRuntime) {
     }
 }
 
+/// The flow number and the sequence number of packets, and how many bytes of payload they have.
+const PACKETS: [(u32, u32, u16); 5] = [
+    (1, 1, 1),
+    (1, 1, 1490),
+    (256, 65536, 1281),
+    (0x80000000, 0x01000000, 256),
+    (4294967295, 4294967295, 1490),
+];
+
 #[test]
 fn headers_are_read_again(rt: HostRuntime) {
     no_frame_begins_another();
     assert!(rt; header(FlowNo(1), 1, 2).as_slice() == &HI[..HEADER]);
     let numbers = header(FlowNo(0x01020304), 0x05060708, 0x090a);
     assert!(rt; numbers == *b"\x4c\x01\x01\x02\x03\x04\x05\x06\x07\x08\x09\x0a");
-    for (flow, seq, len) in [
-        (1, 1, 1),
-        (1, 1, 1490),
-        (256, 65536, 1281),
-        (0x80000000, 0x01000000, 256),
-        (4294967295, 4294967295, 1490),
-    ] {
+    for (flow, seq, len) in PACKETS {
         let again = is_read_again(header(FlowNo(flow), seq, len), flow, seq, len);
         assert!(rt; again, "packet {seq} of flow {flow}, {len} bytes");
     }

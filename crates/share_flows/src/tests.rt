@@ -1,5 +1,6 @@
 //! Worked rows of the buffers.
 mod guarded;
+mod memory;
 
 use crate::Buffers;
 use guarded::{close, head, is_framed, is_open, open, pop, push, stamp, stamp_by_place, through};

@@ -1,6 +1,7 @@
 //! Worked figures on a queue.
 
 mod guarded;
+mod memory;
 mod plain;
 mod random;
 

@@ -4,6 +4,7 @@
 mod chains;
 mod limits;
 mod many;
+mod memory;
 mod model;
 mod random;
 mod refusals;

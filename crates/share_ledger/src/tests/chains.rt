@@ -45,11 +45,11 @@ const NO_CYCLE: [Row; 7] = [
     (Call::Back(2, "y"), Err(Refusal::Cycle)),
 ];
 
-const NO_LONG_CHAIN: [Row; 1] = [(Call::Back(8, "c9"), Err(Refusal::Deep))];
+pub(super) const NO_LONG_CHAIN: [Row; 1] = [(Call::Back(8, "c9"), Err(Refusal::Deep))];
 
 /// Eight currencies, each backed by the one before it through sixteen tickets: 16^8 paths. 64 flows are funded by
 /// fourteen tickets each of the last currency: 1024 tickets in all.
-const DEEP_GRAPH: [Row; 17] = [
+pub(super) const DEEP_GRAPH: [Row; 17] = [
     (Call::MakeCurrency("c1"), DONE),
     (Call::MakeCurrency("c2"), DONE),
     (Call::MakeCurrency("c3"), DONE),
@@ -70,7 +70,7 @@ const DEEP_GRAPH: [Row; 17] = [
 ];
 
 /// Each call answers at once, whatever the number of paths.
-const ANSWERS_AT_ONCE: [Row; 7] = [
+pub(super) const ANSWERS_AT_ONCE: [Row; 7] = [
     (Call::MakeTicket(1, "base"), Err(Refusal::TableFull)),
     (Call::Back(1, "c8"), Err(Refusal::Funding)),
     (Call::Many(Many::Activate), DONE),

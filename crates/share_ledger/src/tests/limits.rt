@@ -22,9 +22,9 @@ const CROWDED_AT_SIXTEEN: [Row; 12] = [
     (Call::Tickets(1), Ok(Some(16))),
 ];
 
-const FULL: [Row; 1] = [(Call::Many(Many::Full), DONE)];
+pub(super) const FULL: [Row; 1] = [(Call::Many(Many::Full), DONE)];
 
-const TABLES_ARE_FULL: [Row; 10] = [
+pub(super) const TABLES_ARE_FULL: [Row; 10] = [
     (Call::WhyNot("fresh"), Err(Refusal::TableFull)),
     (Call::WhyNot("c07"), Err(Refusal::Taken)),
     (Call::MakeCurrency("fresh"), Err(Refusal::TableFull)),
@@ -37,7 +37,7 @@ const TABLES_ARE_FULL: [Row; 10] = [
     (Call::MakeTicket(1, "fresh"), Err(Refusal::NoCurrency)),
 ];
 
-const ROOM_AFTER_REMOVALS: [Row; 8] = [
+pub(super) const ROOM_AFTER_REMOVALS: [Row; 8] = [
     (Call::Close(8), DONE),
     (Call::Flow("c07"), NONE),
     (Call::Open("c07"), Ok(Some(65))),

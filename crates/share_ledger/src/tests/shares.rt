@@ -4,7 +4,7 @@ use super::{Call, DONE, NONE, Row, Table, plays};
 use std::alloc::Global;
 use std::process::Abort;
 
-const THREE_CURRENCIES_DEEP: [Row; 15] = [
+pub(super) const THREE_CURRENCIES_DEEP: [Row; 15] = [
     (Call::MakeCurrency("x"), DONE),
     (Call::MakeCurrency("y"), DONE),
     (Call::Open("a"), Ok(Some(1))),
@@ -23,7 +23,7 @@ const THREE_CURRENCIES_DEEP: [Row; 15] = [
 ];
 
 /// The three flows active, then two, then one.
-const FEWER_AND_FEWER: [Row; 20] = [
+pub(super) const FEWER_AND_FEWER: [Row; 20] = [
     (Call::SetActive(1, true), DONE),
     (Call::SetActive(2, true), DONE),
     (Call::SetActive(3, true), DONE),

@@ -1,6 +1,8 @@
 //! Worked values: the spellings of names, the lengths of payloads, and the number, name and text of each refusal.
 ghost use Rattle.std.specs.Prelude.{◌≤◌};
 
+mod memory;
+
 use crate::{
     Body, FlowNo, HEADER_ROOM, MAX_IN_PLACE, MAX_PAYLOAD, Name, Parcel, Refusal, Reply, TicketNo,
 };
@@ -222,13 +224,18 @@ fn is_new_stamped(alloc: Global, row: Stamps) -> bool {
 
 // Whether a body that `Body::from_vec` makes is stamped as the row says.
 fn is_vector_stamped(alloc: Global, row: Stamps) -> bool {
-    if row.whole.len() <= HEADER_ROOM || row.whole.len() > HEADER_ROOM + MAX_PAYLOAD {
-        return false;
-    }
     match Vec::from_slice(alloc, row.whole) {
-        Ok(vector) => is_stamped(Body::from_vec(vector), row),
+        Ok(vector) => is_vector_of(vector, row),
         Err(_) => false,
     }
+}
+
+// Whether a body that `Body::from_vec` makes of this vector is stamped as the row says.
+fn is_vector_of(vector: Vec<u8>, row: Stamps) -> bool {
+    if vector.len() <= HEADER_ROOM || vector.len() > HEADER_ROOM + MAX_PAYLOAD {
+        return false;
+    }
+    is_stamped(Body::from_vec(vector), row)
 }
 
 // Whether a body that `Body::from_array` makes is stamped as the row says.

@@ -1,5 +1,6 @@
 //! Worked units, and the ranges of tariffs and shelves. The boxes of a tariff are made in the test that uses them.
 mod closures;
+mod memory;
 
 use crate::{BookFn, ChargeFn, Shelf, Tariff, account_after, shelf, units_by_division};
 use closures::units_by_steps;

@@ -6,5 +6,6 @@ pub mod Patient
 pub mod PatientLaws
 pub mod Printing
 pub mod Scripted
+pub mod ScriptedReader
 pub mod Told
 pub mod ToldLaws

@@ -15,6 +15,7 @@ mod patient;
 mod rates;
 mod reader;
 mod scripted;
+mod scripted_reader;
 mod stride;
 mod tape;
 #[cfg(test)]
@@ -36,6 +37,7 @@ pub use patient::PatientWriter;
 pub use rates::{Rate, Rates};
 pub use reader::{Got, PlainReader, TellingReader};
 pub use scripted::Scripted;
+pub use scripted_reader::ScriptedReader;
 pub use stride::{Client, GlobalPart, Position};
 pub use tape::Tape;
 pub use writer::{Answer, PlainWriter, TellingWriter};

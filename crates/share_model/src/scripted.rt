@@ -67,8 +67,8 @@ fn next_answer(script: &[Answer], at: usize, piece: &[u8]) -> Answer
     }
 }
 
-// The place of the answer after this one.
-fn place_after(script: &[Answer], at: usize) -> usize
+/// The place of the answer after this one.
+pub(crate) fn place_after<T>(script: &[T], at: usize) -> usize
     ensures { drop result script.now ≡ drop 1 (drop at script.now) }
 {
     if at < script.len() { at + 1 } else { at }

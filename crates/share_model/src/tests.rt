@@ -2,6 +2,7 @@
 
 mod patient;
 mod plain;
+mod scripted_reader;
 
 use crate::{Answer, Got, PlainReader, PlainWriter, Scripted, Tape, TellingReader, TellingWriter};
 use std::alloc::{AllocError, Global};

@@ -8,18 +8,21 @@ macro_rules! shelf {
     };
 }
 
+mod cuts;
 mod faults;
 mod lines;
+mod memory;
 mod reports;
 mod standing;
 mod writing;
 
 use crate::{ScriptFault, print_bytes, run_script};
+use cuts::cut_scripts;
 use faults::{input_that_fails, output_that_fails};
 use share_base::FlowNo;
 use share_core::Engine;
-use share_model::{Got, PlainReader, Rates, Tape, TellingReader, TellingWriter};
-use std::alloc::Global;
+use share_model::{Got, PlainReader, Rates, ScriptedReader, Tape, TellingReader, TellingWriter};
+use std::alloc::{AllocError, Global};
 use std::process::Abort;
 use std::test::Fail;
 
@@ -29,57 +32,28 @@ const LIFE: u64 = 65536;
 /// One flow, funded.
 const FUNDED: &[u8] = b"open a 4 2\nmktkt 1 base\nfund 1 flow a\n";
 
-/// Gives a script one byte a call, and fails in place of the byte at a place. Where it interrupts, each byte comes
-/// only after an interrupted call.
-#[derive(Drop)]
-struct Trickle<'a> {
-    script: &'a [u8],
-    given: usize,
-    failing: usize,
-    interrupts: bool,
-    ready: bool,
-}
+/// The script of one packet.
+const ONE_PACKET: &[u8] = b"open a 4 1\nmktkt 10 base\nfund 1 flow a\nsend a 6869\nturn 65535\n";
 
-impl<'a> Trickle<'a> {
-    fn new(script: &'a [u8], failing: usize, interrupts: bool) -> Trickle<'a> {
-        Trickle {
-            script,
-            given: 0,
-            failing,
-            interrupts,
-            ready: false,
+/// What it prints.
+const ITS_OUTPUT: &[u8] = b"flow 1\nticket 1\nok\npacket 1 1\nwrote 1 1 14 whole\n\
+    out 4c01000000010000000100026869\n";
+
+/// Reads of one byte: at once, and each after an interrupted read.
+const BYTEWISE: [&[Got]; 2] = [&[Got::Bytes(1)], &[Got::Interrupted, Got::Bytes(1)]];
+
+// A reader that gives a script by the line.
+fn linewise<'a>(alloc: Global, script: &'a [u8]) -> Result<ScriptedReader<'a>, AllocError> {
+    let mut reads = Vec::new(alloc);
+    let mut count: usize = 0;
+    for byte in script {
+        count = count.saturating_add(1);
+        if *byte == b'\n' {
+            reads.push(Got::Bytes(count))?;
+            count = 0;
         }
     }
-}
-
-impl<'a> TellingReader for Trickle<'a> {
-    ghost use Rattle.std.specs.Prelude.{None};
-    ghost use Rattle.share_model.specs.io.Given.{Gives};
-
-    ghost left = { λ _. None };
-
-    ghost gives = { λ _ buffer got _. Gives None buffer got None };
-
-    ghost tells = { λ before buffer got after given. given };
-
-    fn take_bytes(&mut self, buffer: &mut [u8]) -> Got {
-        if self.given == self.failing {
-            return Got::Failed;
-        }
-        if self.interrupts && !self.ready {
-            self.ready = true;
-            return Got::Interrupted;
-        }
-        self.ready = false;
-        match self.script.get(self.given) {
-            None => Got::End,
-            Some(byte) => {
-                buffer[0] = *byte;
-                self.given += 1;
-                Got::Bytes(1)
-            }
-        }
-    }
+    Ok(ScriptedReader::new(reads, script))
 }
 
 // Runs a script on a new link.
@@ -228,8 +202,8 @@ fn is_answered<S: Rates + Copy>(
     want: &[u8],
 ) -> Result<(), Fail> {
     prints(rt, alloc, shelf, life, &mut PlainReader(script), want)?;
-    for interrupts in [false, true] {
-        let mut bytewise = Trickle::new(script, usize::MAX, interrupts);
+    for reads in BYTEWISE {
+        let mut bytewise = ScriptedReader::new(reads.repeat(alloc, script.len())?, script);
         prints(rt, alloc, shelf, life, &mut bytewise, want)?;
     }
     Ok(())
@@ -268,7 +242,7 @@ const CHARGED: [(&[u8], &[u8], u64); 2] = [
     ),
     // The first charges 1 for each byte that is sent.
     (
-        b"open a 4 1\nmktkt 10 base\nfund 1 flow a\nsend a 6869\nturn 65535\n",
+        ONE_PACKET,
         b"flow 1\nticket 1\nok\npacket 1 1\nwrote 1 1 14 whole\n",
         14,
     ),
@@ -376,8 +350,9 @@ fn scripts_are_as_worked<S: Rates + Copy>(
     flows_are_charged(rt, alloc, shelf);
     largest_payload(rt, alloc, shelf)?;
     long_lines(rt, alloc, shelf)?;
-    input_that_fails(rt, alloc, shelf);
-    output_that_fails(rt, alloc, shelf)
+    input_that_fails(rt, alloc, shelf)?;
+    output_that_fails(rt, alloc, shelf)?;
+    cut_scripts(rt, alloc, shelf)
 }
 
 // A body that makes a shelf is dear to prove, so it makes one call.

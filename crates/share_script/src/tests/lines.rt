@@ -1,60 +1,10 @@
 //! The lines of a connection, from the parts in which its reads give it.
-ghost use Rattle.std.specs.Prelude.{None};
-ghost use Rattle.share_model.specs.io.Given.{Gives};
 
 use crate::{Incoming, IncomingLines};
-use share_model::{Got, TellingReader};
-use std::alloc::Global;
+use share_model::{Got, ScriptedReader};
+use std::alloc::{AllocError, Global};
 use std::process::Abort;
 use std::test::Fail;
-
-/// What one read call gives.
-#[derive(Drop)]
-enum Part<'a> {
-    Bytes(&'a [u8]),
-    Interrupted,
-    Failed,
-}
-
-/// Gives one part a call, and then the end.
-#[derive(Drop)]
-struct Parts<'a> {
-    parts: &'a [Part<'a>],
-    given: usize,
-}
-
-impl<'a> TellingReader for Parts<'a> {
-    ghost use Rattle.std.specs.Prelude.{None};
-    ghost use Rattle.share_model.specs.io.Given.{Gives};
-
-    ghost left = { λ _. None };
-
-    ghost gives = { λ _ buffer got _. Gives None buffer got None };
-
-    ghost tells = { λ before buffer got after given. given };
-
-    fn take_bytes(&mut self, buffer: &mut [u8]) -> Got {
-        let Some(part) = self.parts.get(self.given) else {
-            return Got::End;
-        };
-        self.given += 1;
-        match part {
-            Part::Bytes(bytes) => put(bytes, buffer),
-            Part::Interrupted => Got::Interrupted,
-            Part::Failed => Got::Failed,
-        }
-    }
-}
-
-fn put(bytes: &[u8], buffer: &mut [u8]) -> Got
-    ensures { Gives None buffer.new result None }
-{
-    if bytes.is_empty() || buffer.len() < bytes.len() {
-        return Got::Failed;
-    }
-    buffer[..bytes.len()].copy_from_slice(bytes);
-    Got::Bytes(bytes.len())
-}
 
 /// What comes next of a connection.
 #[derive(Drop)]
@@ -65,7 +15,7 @@ enum Want<'a> {
     Read(Got),
 }
 
-fn comes(rt: &impl Abort, lines: &mut IncomingLines<Parts<'_>>, want: &Want<'_>) {
+fn comes(rt: &impl Abort, lines: &mut IncomingLines<ScriptedReader<'_>>, want: &Want<'_>) {
     match want {
         Want::Line(line) => {
             assert_eq!(rt; lines.next(), Incoming::Line);
@@ -82,22 +32,41 @@ fn comes(rt: &impl Abort, lines: &mut IncomingLines<Parts<'_>>, want: &Want<'_>)
     }
 }
 
-// A line of 20480 bytes comes, and longer ones are passed over.
-fn come<'x>(rt: &impl Abort, alloc: Global, line: &'x [u8], long: &'x [u8]) -> Result<(), Fail> {
-    let parts = [
-        Part::Bytes(b"one\ntwo\nthr"),
-        Part::Interrupted,
-        Part::Bytes(b"ee\n\n"),
-        Part::Bytes(line),
-        Part::Bytes(b"\n"),
-        Part::Bytes(long),
-        Part::Bytes(b"\nfour\n"),
-        Part::Bytes(line),
-        Part::Bytes(long),
-        Part::Bytes(b"a\nfive"),
-        Part::Bytes(b"\nlast"),
-        Part::Failed,
+/// What the reads give.
+const READS: [Got; 12] = [
+    Got::Bytes(11),
+    Got::Interrupted,
+    Got::Bytes(4),
+    Got::Bytes(20480),
+    Got::Bytes(1),
+    Got::Bytes(20481),
+    Got::Bytes(6),
+    Got::Bytes(20480),
+    Got::Bytes(20481),
+    Got::Bytes(6),
+    Got::Bytes(5),
+    Got::Failed,
+];
+
+// The bytes of these reads.
+fn bytes(alloc: Global, line: &[u8], long: &[u8]) -> Result<Vec<u8>, AllocError> {
+    let parts: [&[u8]; 10] = [
+        b"one\ntwo\nthr",
+        b"ee\n\n",
+        line,
+        b"\n",
+        long,
+        b"\nfour\n",
+        line,
+        long,
+        b"a\nfive",
+        b"\nlast",
     ];
+    parts.concat(alloc)
+}
+
+// A line of 20480 bytes comes, and longer ones are passed over.
+fn come(rt: &impl Abort, alloc: Global, line: &[u8], long: &[u8]) -> Result<(), Fail> {
     let wants = [
         Want::Read(Got::Bytes(11)),
         Want::Line(b"one"),
@@ -123,11 +92,9 @@ fn come<'x>(rt: &impl Abort, alloc: Global, line: &'x [u8], long: &'x [u8]) -> R
         Want::Read(Got::End),
         Want::Read(Got::End),
     ];
-    let parts = Parts {
-        parts: &parts,
-        given: 0,
-    };
-    let mut lines = IncomingLines::new(alloc, parts)?;
+    let bytes = bytes(alloc, line, long)?;
+    let reader = ScriptedReader::new(READS.to_vec(alloc)?, bytes.as_slice());
+    let mut lines = IncomingLines::new(alloc, reader)?;
     for want in &wants {
         comes(rt, &mut lines, want);
     }

@@ -2,13 +2,13 @@
 
 use super::faults::output_fails;
 use super::{LIFE, is_answered};
-use share_model::{Answer, Rates};
+use share_model::{Answer, PlainReader, Rates};
 use std::alloc::Global;
 use std::process::Abort;
 use std::test::Fail;
 
 /// Lives, scripts, and what they print.
-const SCRIPTS: [(u64, &[u8], &[u8]); 5] = [
+const SCRIPTS: [(u64, &[u8], &[u8]); 6] = [
     (
         LIFE,
         b"report\naudit 1\n",
@@ -58,6 +58,27 @@ const SCRIPTS: [(u64, &[u8], &[u8]); 5] = [
         flow        1 a                      1    0               128 in               1168231104512\n\
         end\n\
         no 3 Syntax\nno 2 Spent\nout 4c010000000100\n",
+    ),
+    // A life of four events, whose only packet waits.
+    (
+        4,
+        b"open a 4 1\nmktkt 10 base\nfund 1 flow a\nsend a 6869\nturn 65535\nturn 0\nsend zz 61\n\
+        rmcur X\nreport\n",
+        b"flow 1\nticket 1\nok\npacket 1 1\nno 2 Spent\nno 2 Spent\nno 2 Spent\nno 3 Syntax\n\
+        clock                            0\n\
+        accepted                         1\n\
+        written                          0\n\
+        torn                             0\n\
+        waiting                          1\n\
+        dropped                          0\n\
+        bytes                            0\n\
+        past                             0\n\
+        tickets                         10\n\
+        pass                             0\n\
+        link                             0\n\
+        flow        1 a                     10    1                 0 in                109951162777\n\
+        end\n\
+        out -\n",
     ),
 ];
 
@@ -111,7 +132,8 @@ fn output_that_fails_at_each_byte<S: Rates + Copy>(
     for length in 0..406 {
         let answers = accepting(alloc, length)?;
         let want = BETWEEN_ANSWERS.get(..length);
-        output_fails(rt, alloc, shelf, b"torn\nreport\nnone\n", answers, want);
+        let mut input = PlainReader(b"torn\nreport\nnone\n".as_slice());
+        output_fails(rt, alloc, shelf, &mut input, answers, want);
     }
     Ok(())
 }

@@ -121,16 +121,18 @@ fn are_done(rt: &impl Abort, all: &[Done<Setting>]) {
     }
 }
 
-// Checks that the queue holds four offers, those of each worker in their order.
-fn come_in_order<T: Wait + Abort>(rt: &T, intake: &mut Intake) {
+// Checks that the queue holds so many offers, those of each worker in their order. Gives how many are of the first
+// worker, and how many of the second.
+pub(super) fn come_in_order<T: Wait + Abort>(rt: &T, intake: &mut Intake, offers: u64) -> [u64; 2] {
     let mut numbers: [u64; 2] = [0, 0];
-    for _ in 0..4 {
+    for _ in 0..offers {
         let (worker, n, _payload) = taken(rt, intake).expect(rt, "an offer");
         let place = if worker == 1 { 0 } else { 1 };
         assert_eq!(rt; n, numbers[place].saturating_add(1));
         numbers[place] = n;
     }
     assert_eq!(rt; taken(rt, intake), None);
+    numbers
 }
 
 #[test]
@@ -143,6 +145,6 @@ fn workers_beside(rt: HostRuntime) {
         .expect(&rt, "workers");
     are_done(&rt, all.as_slice());
     drop(all);
-    come_in_order(&rt, &mut intake);
+    assert_eq!(rt; come_in_order(&rt, &mut intake, 4), [2, 2]);
     drop(intake);
 }

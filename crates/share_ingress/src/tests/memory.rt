@@ -4,14 +4,13 @@
 ghost use Rattle.std.specs.Prelude.{◌≡◌};
 ghost use Rattle.share_model.specs.lists.Each.{Each};
 
-use crate::tests::reading::Dripping;
 use crate::{
     Done, Ended, Gate, IngressEnd, IngressReader, Intake, Job, Next, Why, WhyNot, queue,
     run_workers,
 };
 use share_base::Refusal;
 use share_model::allocator::WAS_REFUSED;
-use share_model::{Got, TellingReader, asks};
+use share_model::{Got, ScriptedReader, TellingReader, asks};
 use std::alloc::Global;
 use std::process::Abort;
 
@@ -20,6 +19,11 @@ const REQUESTS: u16 = 64;
 
 /// A record for the flow a, whose payload is kept on the heap.
 const LONG: &[u8] = b"\x01a\x00\x14abcdefghijklmnopqrst";
+
+// A reader of the record, which takes no memory.
+fn unscripted(alloc: Global) -> ScriptedReader<'static> {
+    ScriptedReader::new(Vec::new(alloc), LONG)
+}
 
 #[test]
 fn a_queue_is_made_once_its_memory_is_found(rt: HostRuntime) {
@@ -70,7 +74,7 @@ fn ends_are_joined_once_memory_for_their_tallies_is_found(rt: HostRuntime) {
 fn a_reader_is_made_once_its_memory_is_found(rt: HostRuntime) {
     for request in 1..REQUESTS {
         let _no = asks!(rt.alloc(), request);
-        let made = IngressReader::new(rt.alloc(), Dripping::new(LONG, 100, false), 100);
+        let made = IngressReader::new(rt.alloc(), unscripted(rt.alloc()), 100);
         let was_refused = asks!(rt.alloc(), WAS_REFUSED);
         assert_eq!(rt; made.is_err(), was_refused);
         match made {
@@ -84,7 +88,7 @@ fn a_reader_is_made_once_its_memory_is_found(rt: HostRuntime) {
 #[test]
 fn an_item_is_given_once_memory_for_its_payload_is_found(rt: HostRuntime) {
     for request in 1..REQUESTS {
-        let mut reader = IngressReader::new(rt.alloc(), Dripping::new(LONG, 100, false), 100)
+        let mut reader = IngressReader::new(rt.alloc(), unscripted(rt.alloc()), 100)
             .ok()
             .expect(&rt, "a reader");
         let _no = asks!(rt.alloc(), request);

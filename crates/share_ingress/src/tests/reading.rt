@@ -2,7 +2,7 @@
 
 use crate::{Ended, IngressReader, Next};
 use share_base::Parcel;
-use share_model::{Got, PlainReader, TellingReader};
+use share_model::{Got, PlainReader, ScriptedReader, TellingReader};
 use std::alloc::{AllocError, Global};
 use std::process::Abort;
 use std::test::Fail;
@@ -13,56 +13,23 @@ const TWO: &[u8] = &[1, 97, 0, 1, 98, 1, 97, 0, 2, 99, 100];
 /// More items than any stream here has.
 const MANY: usize = 1000000;
 
-/// Gives its bytes one a read, fails in place of the byte at a place, and if told so interrupts every second read.
-#[derive(Drop)]
-pub struct Dripping<'a> {
+/// Gives bytes one a read, fails in place of the byte at a place, and if told so is interrupted before each.
+pub fn bytewise<'a>(
+    alloc: Global,
     bytes: &'a [u8],
-    given: usize,
     failing: usize,
     interrupts: bool,
-    ready: bool,
-}
-
-impl<'a> Dripping<'a> {
-    pub fn new(bytes: &'a [u8], failing: usize, interrupts: bool) -> Dripping<'a> {
-        Dripping {
-            bytes,
-            given: 0,
-            failing,
-            interrupts,
-            ready: false,
-        }
+) -> Result<ScriptedReader<'a>, AllocError> {
+    let read: &[Got] = if interrupts {
+        &[Got::Interrupted, Got::Bytes(1)]
+    } else {
+        &[Got::Bytes(1)]
+    };
+    let mut reads = read.repeat(alloc, failing.min(bytes.len()))?;
+    if failing <= bytes.len() {
+        reads.push(Got::Failed)?;
     }
-}
-
-impl<'a> TellingReader for Dripping<'a> {
-    ghost use Rattle.std.specs.Prelude.{None};
-    ghost use Rattle.share_model.specs.io.Given.{Gives};
-
-    ghost left = { λ _. None };
-
-    ghost gives = { λ _ buffer got _. Gives None buffer got None };
-
-    ghost tells = { λ before buffer got after given. given };
-
-    fn take_bytes(&mut self, buffer: &mut [u8]) -> Got {
-        if self.given == self.failing {
-            return Got::Failed;
-        }
-        if self.interrupts && !self.ready {
-            self.ready = true;
-            return Got::Interrupted;
-        }
-        self.ready = false;
-        match self.bytes.get(self.given) {
-            None => Got::End,
-            Some(byte) => {
-                buffer[0] = *byte;
-                self.given += 1;
-                Got::Bytes(1)
-            }
-        }
-    }
+    Ok(ScriptedReader::new(reads, bytes))
 }
 
 /// How many items a reader gives, and how it ends.
@@ -81,10 +48,11 @@ fn counts_of(alloc: Global, bytes: &[u8]) -> Option<[(usize, Ended); 2]> {
     let mut whole = IngressReader::new(alloc, PlainReader(bytes), 2).ok()?;
     let at_once = count(&mut whole);
     drop(whole);
-    let mut drops = IngressReader::new(alloc, Dripping::new(bytes, MANY, false), 2000).ok()?;
-    let bytewise = count(&mut drops);
+    let one_by_one = bytewise(alloc, bytes, MANY, false).ok()?;
+    let mut drops = IngressReader::new(alloc, one_by_one, 2000).ok()?;
+    let by_the_byte = count(&mut drops);
     drop(drops);
-    Some([at_once, bytewise])
+    Some([at_once, by_the_byte])
 }
 
 #[test]
@@ -172,11 +140,13 @@ fn an_item_is_the_name_and_the_payload(rt: HostRuntime) {
 fn ends_again(
     rt: &impl Abort,
     alloc: Global,
-    dripping: Dripping<'_>,
+    failing: usize,
+    interrupts: bool,
     bound: u64,
     expected: (usize, Ended),
 ) {
-    let mut reader = IngressReader::new(alloc, dripping, bound)
+    let records = bytewise(alloc, TWO, failing, interrupts).expect(rt, "memory");
+    let mut reader = IngressReader::new(alloc, records, bound)
         .ok()
         .expect(rt, "a reader");
     assert_eq!(rt; count(&mut reader), expected);
@@ -185,11 +155,17 @@ fn ends_again(
 }
 
 #[test]
-fn a_read_fails_at_each_byte(rt: HostRuntime) {
-    for failing in 0..TWO.len() {
-        let dripping = Dripping::new(TWO, failing, true);
-        let items = if failing < 5 { 0 } else { 1 };
-        ends_again(&rt, rt.alloc(), dripping, 1000, (items, Ended::Fault));
+fn a_read_fails_at_each_byte_and_in_place_of_the_end(rt: HostRuntime) {
+    for failing in 0..=11 {
+        let items = match failing {
+            0..=4 => 0,
+            5..=10 => 1,
+            _ => 2,
+        };
+        for interrupts in [false, true] {
+            let expected = (items, Ended::Fault);
+            ends_again(&rt, rt.alloc(), failing, interrupts, 1000, expected);
+        }
     }
 }
 
@@ -202,15 +178,13 @@ fn each_read_is_counted(rt: HostRuntime) {
             11 => (2, Ended::Bound),
             _ => (2, Ended::End),
         };
-        let dripping = Dripping::new(TWO, MANY, false);
-        ends_again(&rt, rt.alloc(), dripping, bound, expected);
+        ends_again(&rt, rt.alloc(), MANY, false, bound, expected);
     }
 }
 
 #[test]
 fn an_interrupted_read_is_made_again(rt: HostRuntime) {
-    let dripping = Dripping::new(TWO, MANY, true);
-    ends_again(&rt, rt.alloc(), dripping, 1000, (2, Ended::End));
+    ends_again(&rt, rt.alloc(), MANY, true, 1000, (2, Ended::End));
 }
 
 /// How many bytes a read asks for.

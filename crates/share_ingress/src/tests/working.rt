@@ -1,9 +1,12 @@
 //! Workers: which calls their gate gets, and what stops them.
 
+use crate::tests::beside::come_in_order;
 use crate::tests::queueing::taken;
-use crate::tests::reading::Dripping;
-use crate::{Done, Ended, Gate, IngressEnd, IngressReader, Intake, Why, queue, run_worker};
-use share_model::{Got, TellingReader};
+use crate::tests::reading::bytewise;
+use crate::{
+    Done, Ended, Gate, IngressEnd, IngressReader, Intake, Job, Why, queue, run_worker, run_workers,
+};
+use share_model::{Got, ScriptedReader, TellingReader};
 use std::alloc::Global;
 use std::process::Abort;
 use std::sync::atomic::{AtomicU64, Ordering};
@@ -58,15 +61,10 @@ fn one_end(rt: &impl Abort, alloc: Global, capacity: usize) -> (Intake, IngressE
     (intake, end)
 }
 
-// A reader of these bytes, one a read, that fails in place of the byte at a place.
-fn dripping<'a>(
-    rt: &impl Abort,
-    alloc: Global,
-    bytes: &'a [u8],
-    failing: usize,
-    bound: u64,
-) -> IngressReader<Dripping<'a>> {
-    IngressReader::new(alloc, Dripping::new(bytes, failing, false), bound)
+// A reader of the three records, one byte a read.
+fn three(rt: &impl Abort, alloc: Global, bound: u64) -> IngressReader<ScriptedReader<'static>> {
+    let records = bytewise(alloc, THREE, 100, false).expect(rt, "memory");
+    IngressReader::new(alloc, records, bound)
         .ok()
         .expect(rt, "a reader")
 }
@@ -81,12 +79,7 @@ fn noting(alloc: Global, again: u64) -> Notes {
 /// What a worker leaves that reads the three records within a bound, into a queue of two places.
 fn worked<T: Wait + Abort>(rt: &T, alloc: Global, again: u64, bound: u64) -> Done<Notes> {
     let (intake, end) = one_end(rt, alloc, 2);
-    let done = run_worker(
-        rt,
-        dripping(rt, alloc, THREE, 100, bound),
-        end,
-        noting(alloc, again),
-    );
+    let done = run_worker(rt, three(rt, alloc, bound), end, noting(alloc, again));
     drop(intake);
     done
 }
@@ -131,12 +124,7 @@ fn one_more_round<T: Wait + Abort>(
     end: IngressEnd,
     last: u64,
 ) -> IngressEnd {
-    let done = run_worker(
-        rt,
-        dripping(rt, alloc, THREE, 100, 100),
-        end,
-        noting(alloc, 0),
-    );
+    let done = run_worker(rt, three(rt, alloc, 100), end, noting(alloc, 0));
     left(rt, &done, Why::Ended(Ended::End), 3, b"b1o1b2o2b3o3");
     three_are_taken(rt, intake, last);
     let Done { end, gate, .. } = done;
@@ -204,7 +192,7 @@ fn watched<T: Wait + Abort + Copy + Drop>(rt: &T, alloc: Global, at_once: bool, 
         calls: Vec::new(alloc),
         at_once,
     };
-    let done = run_worker(rt, dripping(rt, alloc, THREE, 100, 100), end, gate);
+    let done = run_worker(rt, three(rt, alloc, 100), end, gate);
     assert_eq!(rt; done.gate.calls.as_slice(), calls);
     drop(done);
 }
@@ -219,7 +207,8 @@ fn an_item_is_offered_between_the_calls_of_its_gate(rt: HostRuntime) {
 fn worker_ends<T: Wait + Abort>(rt: &T, alloc: Global, row: (&[u8], usize, Ended, u64)) {
     let (bytes, failing, ended, tally) = row;
     let (intake, end) = one_end(rt, alloc, 4);
-    let reader = IngressReader::new(alloc, Dripping::new(bytes, failing, true), 100)
+    let bytes = bytewise(alloc, bytes, failing, true).expect(rt, "memory");
+    let reader = IngressReader::new(alloc, bytes, 100)
         .ok()
         .expect(rt, "a reader");
     let done = run_worker(rt, reader, end, noting(alloc, 0));
@@ -287,4 +276,45 @@ fn a_stopped_worker_reads_no_more(rt: HostRuntime) {
     drop(done);
     assert_eq!(rt; reads.load(Ordering::SeqCst), 2);
     drop(reads);
+}
+
+// Two jobs of the three records each, whose gates stop them as soon as the queue is full.
+fn two_jobs(
+    rt: &impl Abort,
+    alloc: Global,
+    ends: &mut Vec<IngressEnd>,
+) -> Vec<Job<ScriptedReader<'static>, Notes>> {
+    let mut jobs = Vec::with_capacity(alloc, 2).expect(rt, "memory");
+    for _ in 0..2 {
+        let job = Job {
+            reader: three(rt, alloc, 100),
+            end: ends.pop().expect(rt, "an end"),
+            gate: noting(alloc, 0),
+        };
+        assert!(rt; jobs.push(job).is_ok());
+    }
+    jobs
+}
+
+// Checks that both workers were stopped, and that their tallies count the two offers that the queue holds.
+fn were_stopped<T: Wait + Abort>(rt: &T, intake: &mut Intake, all: &[Done<Notes>]) {
+    let [first, second] = come_in_order(rt, intake, 2);
+    assert_eq!(rt; all.len(), 2);
+    // The last end was given to the first job.
+    for (done, queued) in all.iter().zip([second, first]) {
+        assert_eq!(rt; (done.why, done.tally), (Why::Stopped, queued));
+    }
+}
+
+#[test]
+fn workers_on_a_queue_that_stays_full_are_stopped(rt: HostRuntime) {
+    let (mut intake, mut ends) = queue(rt.alloc(), 2, 2).expect(&rt, "a queue");
+    let jobs = two_jobs(&rt, rt.alloc(), &mut ends);
+    drop(ends);
+    let all = run_workers(&rt, rt.alloc(), jobs)
+        .ok()
+        .expect(&rt, "workers");
+    were_stopped(&rt, &mut intake, all.as_slice());
+    drop(all);
+    drop(intake);
 }

@@ -2,6 +2,7 @@
 
 mod currencies;
 mod cuts;
+mod faults;
 mod memory;
 mod pieces;
 mod plain;
@@ -217,6 +218,7 @@ enum Case<'a> {
     Funded(currencies::Case),
     Cut(cuts::Case),
     Pieces(pieces::Case<'a>),
+    Fault(faults::Case),
 }
 
 fn plays<S: Rates>(
@@ -232,6 +234,7 @@ fn plays<S: Rates>(
         Case::Funded(case) => currencies::plays(rt, alloc, engine, case),
         Case::Cut(case) => cuts::plays(rt, alloc, engine, case),
         Case::Pieces(case) => pieces::plays(rt, alloc, engine, case),
+        Case::Fault(case) => faults::plays(rt, alloc, engine, case),
     }
 }
 
@@ -346,6 +349,7 @@ fn answer_as_worked_and_as_a_plain_link<S: Rates + Copy>(
     currencies::all(rt, alloc, shelf);
     cuts::all(rt, alloc, shelf);
     pieces::all(rt, alloc, shelf);
+    faults::all(rt, alloc, shelf);
     random::worlds::all(rt, alloc, shelf)
 }
 

@@ -4,21 +4,63 @@
 ghost use Rattle.std.specs.Prelude.{◌≡◌};
 ghost use Rattle.share_model.specs.lists.Each.{Each};
 
+use crate::tests::queueing::{taken, takes_one};
 use crate::{
-    Done, Ended, Gate, IngressEnd, IngressReader, Intake, Job, Next, Why, WhyNot, queue,
+    Done, Ended, Gate, IngressEnd, IngressReader, Intake, Job, Next, Offered, Why, WhyNot, queue,
     run_workers,
 };
-use share_base::Refusal;
-use share_model::allocator::WAS_REFUSED;
+use share_base::{Name, Parcel, Refusal};
+use share_model::allocator::{IS_HELD_OTHER, MARK_HELD, REFUSE_EACH, WAS_REFUSED};
 use share_model::{Got, ScriptedReader, TellingReader, asks};
 use std::alloc::Global;
 use std::process::Abort;
+use std::sync::Wait;
 
 /// More requests than any call here makes.
 const REQUESTS: u16 = 64;
 
 /// A record for the flow a, whose payload is kept on the heap.
 const LONG: &[u8] = b"\x01a\x00\x14abcdefghijklmnopqrst";
+
+// Offers and takes as many items as the queue of one place lets it, and one too many of each.
+fn take_no_memory<T: Wait + Abort>(
+    rt: &T,
+    alloc: Global,
+    intake: &mut Intake,
+    end: &mut IngressEnd,
+) {
+    let _no = asks!(alloc, REFUSE_EACH);
+    takes_one(rt, alloc, intake, end);
+    let last = taken(rt, intake);
+    let none = taken(rt, intake);
+    let was_refused = asks!(alloc, WAS_REFUSED);
+    assert!(rt; !was_refused);
+    assert!(rt; last == Some((1, 2, 9)) && none.is_none());
+}
+
+// Offers a payload that is kept on the heap, which stays in the queue, and one that comes back.
+fn leaves_one<T: Wait + Abort>(rt: &T, alloc: Global, end: &mut IngressEnd) {
+    for queued in [true, false] {
+        let name = Name::read(b"a").expect(rt, "a name");
+        let parcel = Parcel::new(alloc, &[7; 20]).expect(rt, "a payload");
+        let offered = end.offer(rt, name, parcel);
+        assert_eq!(rt; matches!(offered, Offered::Queued(3)), queued);
+        drop(offered);
+    }
+}
+
+// Offers and takes. What is left in the queue is given back with it.
+fn hands_over<T: Wait + Abort>(rt: &T, alloc: Global) {
+    let _no = asks!(alloc, MARK_HELD);
+    let (mut intake, mut ends) = queue(alloc, 1, 1).expect(rt, "a queue");
+    let mut end = ends.pop().expect(rt, "an end");
+    take_no_memory(rt, alloc, &mut intake, &mut end);
+    leaves_one(rt, alloc, &mut end);
+    drop(end);
+    drop(ends);
+    drop(intake);
+    assert!(rt; !asks!(alloc, IS_HELD_OTHER));
+}
 
 // A reader of the record, which takes no memory.
 fn unscripted(alloc: Global) -> ScriptedReader<'static> {
@@ -27,6 +69,7 @@ fn unscripted(alloc: Global) -> ScriptedReader<'static> {
 
 #[test]
 fn a_queue_is_made_once_its_memory_is_found(rt: HostRuntime) {
+    hands_over(&rt, rt.alloc());
     for request in 1..REQUESTS {
         let _no = asks!(rt.alloc(), request);
         let made = queue(rt.alloc(), 4, 2);

@@ -36,7 +36,13 @@ pub fn taken<T: Wait>(rt: &T, intake: &mut Intake) -> Option<(u64, u64, u8)>
     Some((offer.worker, offer.n, first))
 }
 
-fn takes_one<T: Wait + Abort>(rt: &T, alloc: Global, intake: &mut Intake, end: &mut IngressEnd) {
+/// Offers three items to a queue of one place, and takes the first before the last.
+pub fn takes_one<T: Wait + Abort>(
+    rt: &T,
+    alloc: Global,
+    intake: &mut Intake,
+    end: &mut IngressEnd,
+) {
     assert_eq!(rt; offered(rt, alloc, end, 7), Some(1));
     assert_eq!(rt; offered(rt, alloc, end, 8), Some(0));
     assert_eq!(rt; taken(rt, intake), Some((1, 1, 7)));

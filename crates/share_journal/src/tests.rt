@@ -1,9 +1,11 @@
 //! Worked runs of a recorder: calls and what comes of them as rows of a table, and what the other tests share.
-ghost use Rattle.std.specs.Prelude.{◌≡◌, ◌<◌, IfSome};
+ghost use Rattle.std.specs.Prelude.{◌≡◌, ◌≤◌, ◌+◌, length, IfSome};
 ghost use Rattle.share_model.specs.link.Live.{empty_link};
 ghost use Rattle.share_journal.specs.Records.{AcceptedNothing};
 
 mod audits;
+mod faults;
+mod memory;
 mod pairing;
 mod random;
 mod runs;
@@ -87,14 +89,10 @@ fn source_of(number: u64, call: &Call) -> Source {
     }
 }
 
-// Whether an event is that of a call with this outcome.
-fn is_of(rt: &impl Abort, alloc: Global, event: &Event, call: &Call, outcome: &Outcome) -> bool {
+// Whether an event is that of a call with this outcome. It takes no memory.
+fn is_of(rt: &impl Abort, event: &Event, call: &Call, outcome: &Outcome) -> bool {
     match event {
-        Event::Commanded(command) => {
-            let wanted = command_of(rt, call).expect(rt, "a command");
-            let text = format!(in alloc; "{command:?}").expect(rt, "memory");
-            text == format!(in alloc; "{wanted:?}").expect(rt, "memory")
-        }
+        Event::Commanded(command) => command_of(rt, call) == Some(*command),
         Event::Arrived { flow, body } => match *call {
             Call::Send(name, payload) => {
                 flow.as_bytes() == name.as_bytes() && body.as_slice() == payload
@@ -115,7 +113,6 @@ fn is_of(rt: &impl Abort, alloc: Global, event: &Event, call: &Call, outcome: &O
 // Compares the last entry with the call that made it.
 fn compare_last<W: TellingWriter, S: Rates>(
     rt: &impl Abort,
-    alloc: Global,
     recorder: &Recorder<W, S>,
     number: u64,
     call: &Call,
@@ -123,7 +120,7 @@ fn compare_last<W: TellingWriter, S: Rates>(
 ) {
     let journal = recorder.journal();
     let entry = journal.entry(journal.len()).expect(rt, "an entry");
-    assert!(rt; is_of(rt, alloc, &entry.event, call, wanted), "at {call:?}");
+    assert!(rt; is_of(rt, &entry.event, call, wanted), "at {call:?}");
     assert_eq!(rt; entry.reply, *wanted);
     assert_eq!(rt; entry.source, source_of(number, call));
 }
@@ -150,7 +147,7 @@ fn play<W: TellingWriter, S: Rates>(
         let more = entries(recorder).saturating_sub(before);
         assert_eq!(rt; more, u64::from(*is_event), "at {call:?}");
         if *is_event {
-            compare_last(rt, alloc, recorder, *number, call, &outcome);
+            compare_last(rt, recorder, *number, call, &outcome);
         }
         assert_eq!(rt; events(recorder), entries(recorder));
     }
@@ -179,7 +176,17 @@ fn recording<W: TellingWriter + Drop, S: Rates + Copy>(
     requires { IfSome (W.told writer) AcceptedNothing }
 {
     let journal = Journal::new(alloc, life).expect(rt, "a journal");
-    Recorder::new(linked(rt, alloc, shelf, life, writer), journal)
+    paired(rt, linked(rt, alloc, shelf, life, writer), journal)
+}
+
+fn paired<W: TellingWriter + Drop, S: Rates + Drop>(
+    rt: &impl Abort,
+    engine: Engine<W, S>,
+    journal: Journal,
+) -> Recorder<W, S>
+    requires { IfSome (W.told engine.writer) AcceptedNothing }
+{
+    Recorder::new(engine, journal)
         .ok()
         .expect(rt, "a new link and a new journal of the same life")
 }
@@ -248,6 +255,7 @@ fn play_as_worked_and_their_audits_again<S: Rates + Copy>(
         plays(rt, alloc, shelf, run);
     }
     pairing::all(rt, alloc, shelf);
+    faults::all(rt, alloc, shelf);
     random::all(rt, alloc, shelf);
 }
 
@@ -277,15 +285,14 @@ fn has_two(rt: &impl Abort, journal: &Journal) {
     assert_eq!(rt; second.reply, Wanted::Part(3).outcome());
 }
 
-#[test]
-fn numbers_entries_from_one(rt: HostRuntime) {
-    let alloc = rt.alloc();
-    lives_have_limits(&rt, alloc);
-    let mut journal = Journal::new(alloc, 2).expect(&rt, "a journal");
-    let body = Body::new(alloc, b"hi").expect(&rt, "a payload");
+// Puts a packet of the second worker, and a write of the link, into a journal.
+fn push_two(rt: &impl Abort, alloc: Global, journal: &mut Journal)
+    requires { length journal.old.entries + 2 ≤ journal.old.life }
+{
+    let body = Body::new(alloc, b"hi").expect(rt, "a payload");
     journal.push(Entry {
         event: Event::Arrived {
-            flow: name(&rt, "a"),
+            flow: name(rt, "a"),
             body,
         },
         reply: Outcome::Replied(Reply::Refused(Refusal::NoFlow)),
@@ -296,6 +303,14 @@ fn numbers_entries_from_one(rt: HostRuntime) {
         reply: Wanted::Part(3).outcome(),
         source: Source::Link,
     });
+}
+
+#[test]
+fn numbers_entries_from_one(rt: HostRuntime) {
+    let alloc = rt.alloc();
+    lives_have_limits(&rt, alloc);
+    let mut journal = Journal::new(alloc, 2).expect(&rt, "a journal");
+    push_two(&rt, alloc, &mut journal);
     has_two(&rt, &journal);
     drop(journal);
 }

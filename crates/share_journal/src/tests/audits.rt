@@ -75,10 +75,25 @@ fn is_cut(
     drop(output);
 }
 
-// The audit is this text, in one piece and byte by byte.
+// A writer that accepts each line whole is called once for it.
+fn is_one_call_a_line(rt: &impl Abort, alloc: Global, audit: &Tape, want: &[u8]) {
+    let counts = audit.counts(alloc).expect(rt, "memory");
+    let mut rest = want;
+    for count in &counts {
+        let line = rest.get(..*count).expect(rt, "a line");
+        let ends = line.iter().filter(|byte| **byte == b'\n').count();
+        assert!(rt; ends == 1 && line.ends_with(b"\n"));
+        rest = rest.get(*count..).expect(rt, "the lines after it");
+    }
+    assert!(rt; rest.is_empty());
+    drop(counts);
+}
+
+// The audit is this text, line by line and byte by byte.
 fn is_written(rt: &impl Abort, alloc: Global, journal: &Journal, want: &[u8]) {
     let audit = audit_of(rt, alloc, journal);
     is_text(rt, audit.bytes(), want);
+    is_one_call_a_line(rt, alloc, &audit, want);
     drop(audit);
     let mut output = bytewise(rt, alloc, want.len(), Answer::Failed);
     assert_eq!(rt; journal.audit(&mut output), Ok(()));

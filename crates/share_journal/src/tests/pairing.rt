@@ -14,7 +14,7 @@ use std::process::Abort;
 const MAKES_A_CURRENCY: [Row; 1] = [(1, Call::MakeCurrency("x"), Wanted::Done, true)];
 
 // Both parts, which make no recorder.
-fn parts_back<W: TellingWriter + Drop, S: Rates + Drop>(
+pub(super) fn parts_back<W: TellingWriter + Drop, S: Rates + Drop>(
     rt: &impl Abort,
     engine: Engine<W, S>,
     journal: Journal,

@@ -6,7 +6,7 @@ use share_model::Answer;
 const FLOW: FlowNo = FlowNo(1);
 
 /// A turn that offers a whole frame.
-const TURN: Call = Call::Turn(65535);
+pub(super) const TURN: Call = Call::Turn(65535);
 
 /// A call of a recorder. A turn offers at least one byte.
 #[derive(Clone, Copy, Debug)]
@@ -25,18 +25,23 @@ pub(super) enum Call {
     Tear,
 }
 
-/// What a call answers, in few words: a packet and a frame are of the first flow, and a frame of its first packet.
+/// What a call answers, in few words: a packet and a frame are of the first flow, and a frame of its first packet,
+/// unless a flow and a number are named.
 #[derive(Clone, Copy)]
 pub(super) enum Wanted {
     Done,
     Opened,
+    Flow(u32),
     Ticket(u32),
     Closed(u32, u64),
     Packet(u32),
+    PacketOf(u32, u32),
     Refused(Refusal),
     Part(u32),
     Whole(u32),
+    Wrote(u32, u32, u32, bool),
     Torn(u32),
+    TornOf(u32, u32, u32),
     Idle,
     Again,
     Broken,
@@ -64,21 +69,21 @@ impl Wanted {
         match self {
             Wanted::Done => Outcome::Replied(Reply::Done),
             Wanted::Opened => Outcome::Replied(Reply::Flow(FLOW)),
+            Wanted::Flow(number) => Outcome::Replied(Reply::Flow(FlowNo(number))),
             Wanted::Ticket(number) => Outcome::Replied(Reply::Ticket(TicketNo(number))),
             Wanted::Closed(dropped, account) => Outcome::Replied(Reply::Closed {
                 flow: FLOW,
                 dropped,
                 account,
             }),
-            Wanted::Packet(seq) => Outcome::Replied(Reply::Packet { flow: FLOW, seq }),
+            Wanted::Packet(seq) => packet(1, seq),
+            Wanted::PacketOf(flow, seq) => packet(flow, seq),
             Wanted::Refused(refusal) => Outcome::Replied(Reply::Refused(refusal)),
-            Wanted::Part(k) => wrote(k, false),
-            Wanted::Whole(k) => wrote(k, true),
-            Wanted::Torn(j) => Outcome::Turned(Turn::Torn {
-                flow: FLOW,
-                seq: 1,
-                j,
-            }),
+            Wanted::Part(k) => wrote(1, 1, k, false),
+            Wanted::Whole(k) => wrote(1, 1, k, true),
+            Wanted::Wrote(flow, seq, k, whole) => wrote(flow, seq, k, whole),
+            Wanted::Torn(j) => torn(1, 1, j),
+            Wanted::TornOf(flow, seq, j) => torn(flow, seq, j),
             Wanted::Idle => Outcome::Turned(Turn::Idle),
             Wanted::Again => Outcome::Turned(Turn::Again),
             Wanted::Broken => Outcome::Turned(Turn::Broken),
@@ -87,12 +92,27 @@ impl Wanted {
     }
 }
 
-fn wrote(k: u32, whole: bool) -> Outcome {
+fn packet(flow: u32, seq: u32) -> Outcome {
+    Outcome::Replied(Reply::Packet {
+        flow: FlowNo(flow),
+        seq,
+    })
+}
+
+fn wrote(flow: u32, seq: u32, k: u32, whole: bool) -> Outcome {
     Outcome::Turned(Turn::Wrote {
-        flow: FLOW,
-        seq: 1,
+        flow: FlowNo(flow),
+        seq,
         k,
         whole,
+    })
+}
+
+fn torn(flow: u32, seq: u32, j: u32) -> Outcome {
+    Outcome::Turned(Turn::Torn {
+        flow: FlowNo(flow),
+        seq,
+        j,
     })
 }
 

@@ -2,7 +2,9 @@
 
 mod asking;
 mod eight;
+mod faults;
 mod made;
+mod memory;
 mod running;
 mod settling;
 mod spending;
@@ -20,6 +22,16 @@ fn links_settle_as_worked(rt: HostRuntime) {
     settling::all(&rt, alloc, ByByte);
     spending::all(&rt, alloc, ByByte);
     stopping::all(&rt, alloc, ByByte);
+}
+
+#[test]
+fn links_end_as_their_writers_answer(rt: HostRuntime) {
+    faults::all(&rt, rt.alloc(), ByByte);
+}
+
+#[test]
+fn links_refuse_what_finds_no_memory_and_keep_nothing(rt: HostRuntime) {
+    memory::all(&rt, rt.alloc(), ByByte);
 }
 
 #[test]

@@ -13,7 +13,7 @@ use std::process::Abort;
 use std::str::from_utf8;
 
 /// The report of a link that made no event.
-const ZERO: &str = "clock                            0
+pub(super) const ZERO: &str = "clock                            0
 accepted                         0
 written                          0
 torn                             0
@@ -36,7 +36,8 @@ fn reports<S: Rates, L: LinkBrand>(rt: &impl Abort, alloc: Global, locked: &Lock
     drop(text);
 }
 
-fn make_x(rt: &impl Abort) -> Command {
+/// A command that makes the currency x.
+pub(super) fn make_x(rt: &impl Abort) -> Command {
     Command::MakeCurrency(name(rt, "x"))
 }
 

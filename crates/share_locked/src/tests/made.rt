@@ -4,7 +4,7 @@ ghost use Rattle.share_model.specs.lists.Each.{Each};
 ghost use Rattle.share_journal.specs.Records.{AcceptedNothing};
 
 use crate::{Clerk, LinkBrand, Locked, Port, Settled, WhyUnsettled, settle};
-use share_base::{Command, FlowNo, Name, Parcel, Reply, TicketNo};
+use share_base::{Command, FlowNo, Name, Parcel, Reply, TicketNo, Turn};
 use share_core::Engine;
 use share_ingress::{IngressEnd, Intake, Offered, queue};
 use share_journal::{Journal, Recorder};
@@ -228,4 +228,12 @@ pub(super) fn entries_of<T: Wait, W: TellingWriter, S: Rates, L: LinkBrand>(
     port: &Port<W, S, L>,
 ) -> u64 {
     port.lock(rt).recorder().journal().len()
+}
+
+/// A turn that offers a whole frame.
+pub(super) fn turns<T: Wait, W: TellingWriter, S: Rates, L: LinkBrand>(
+    rt: &T,
+    port: &Port<W, S, L>,
+) -> Turn {
+    port.lock(rt).turn(65535)
 }

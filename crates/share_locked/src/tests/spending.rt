@@ -3,7 +3,7 @@ ghost use Rattle.std.specs.Prelude.{◌≡◌, []};
 ghost use Rattle.share_model.specs.lists.Each.{Each};
 
 use crate::tests::made::{
-    entries_of, not_settled, offering, one, open_and_fund, queued, recording,
+    entries_of, not_settled, offering, one, open_and_fund, queued, recording, turns,
 };
 use crate::{Admit, LinkBrand, LinkEnd, Locked, Port, Stop, WhyUnsettled, run_link};
 use share_base::Turn;
@@ -26,10 +26,6 @@ fn does_nothing<T: Abort + Wait, S: Rates, L: LinkBrand>(rt: &T, port: &Port<Tap
 
 fn admits<T: Wait, S: Rates, L: LinkBrand>(rt: &T, port: &Port<Tape, S, L>) -> Admit {
     port.lock(rt).admit(rt)
-}
-
-fn turns<T: Wait, S: Rates, L: LinkBrand>(rt: &T, port: &Port<Tape, S, L>) -> Turn {
-    port.lock(rt).turn(65535)
 }
 
 // Three commands spend the life, and one offer is queued.

@@ -1,10 +1,11 @@
 //! Reports of links, byte for byte, and what writers do with them.
+mod faults;
 mod texts;
 
-use crate::{Fault, report};
+use crate::report;
 use share_base::{Body, Command, Name, Reply};
 use share_core::Engine;
-use share_model::{Answer, Rates, Scripted, Tape};
+use share_model::{Rates, Tape};
 use share_tariff::shelf;
 use std::alloc::Global;
 use std::process::Abort;
@@ -133,6 +134,8 @@ fn shows_the_end<S: Rates>(rt: &impl Abort, alloc: Global, engine: &Engine<Tape,
 fn shows_a_spent_life<S: Rates + Copy>(rt: &impl Abort, alloc: Global, shelf: S) {
     let engine = link(rt, alloc, shelf, 7, texts::TORN);
     shows_the_end(rt, alloc, &engine);
+    faults::have_their_answers(rt, alloc, &engine);
+    faults::end_at_a_beginning(rt, alloc, &engine, texts::TORN_SHOWS);
     drop(engine);
 }
 
@@ -174,87 +177,10 @@ fn shows_the_most_flows<S: Rates + Copy>(rt: &impl Abort, alloc: Global, shelf: 
     drop(engine);
 }
 
-// Compares what a writer with these answers holds after a report, a beginning of the text of this length, and the
-// counts that it accepted.
-fn writes<S: Rates>(
-    rt: &impl Abort,
-    alloc: Global,
-    engine: &Engine<Tape, S>,
-    answers: &[Answer],
-    wanted: (Result<(), Fault>, usize, &[usize]),
-) {
-    let (outcome, length, counts) = wanted;
-    let text = texts::TORN_SHOWS.as_bytes();
-    assert!(rt; length <= text.len());
-    let script = Vec::from_slice(alloc, answers).expect(rt, "memory");
-    let mut writer = Scripted::new(alloc, script);
-    assert_eq!(rt; report(engine, &mut writer), outcome, "after {answers:?}");
-    assert_eq!(rt; writer.bytes(), &text[..length], "after {answers:?}");
-    let accepted = writer.counts(alloc).expect(rt, "memory");
-    assert_eq!(rt; accepted.as_slice(), counts, "after {answers:?}");
-    drop(accepted);
-    drop(writer);
-}
-
-/// What a writer answers to an offer that it refuses, and whether its tape counts that as a call of no bytes.
-const REFUSALS: [(Answer, usize); 3] = [
-    (Answer::Failed, 0),
-    (Answer::Interrupted, 0),
-    (Answer::Accepted(0), 1),
-];
-
-// An offer is refused, after this many bytes.
-fn is_refused<S: Rates>(
-    rt: &impl Abort,
-    alloc: Global,
-    engine: &Engine<Tape, S>,
-    count: usize,
-    row: (Answer, usize),
-) {
-    let (refusal, told) = row;
-    let told = told.min(1);
-    if count == 0 {
-        let none = [0];
-        let wanted = (Err(Fault), 0, &none[..told]);
-        writes(rt, alloc, engine, &[refusal], wanted);
-        return;
-    }
-    let answers = [Answer::Accepted(count), refusal];
-    let some = [count, 0];
-    let wanted = (Err(Fault), count, &some[..1 + told]);
-    writes(rt, alloc, engine, &answers, wanted);
-}
-
-/// Three pieces, of which the last one is cut to the rest.
-const PIECES: [Answer; 3] = [
-    Answer::Accepted(1),
-    Answer::Accepted(35),
-    Answer::Accepted(1000),
-];
-
-fn is_written<S: Rates>(rt: &impl Abort, alloc: Global, engine: &Engine<Tape, S>) {
-    let length = texts::TORN_SHOWS.len();
-    for row in REFUSALS {
-        for count in 0..length {
-            is_refused(rt, alloc, engine, count, row);
-        }
-    }
-    writes(rt, alloc, engine, &[], (Ok(()), length, &[length]));
-    let counts = [1, 35, 446];
-    writes(rt, alloc, engine, &PIECES, (Ok(()), length, &counts));
-}
-
-fn ends_at_the_first_refused_offer<S: Rates + Copy>(rt: &impl Abort, alloc: Global, shelf: S) {
-    let engine = link(rt, alloc, shelf, 65536, texts::TORN);
-    is_written(rt, alloc, &engine);
-    drop(engine);
-}
-
 fn shows_links<S: Rates + Copy>(rt: &impl Abort, alloc: Global, shelf: S) {
     shows_what_a_link_holds(rt, alloc, shelf);
     shows_a_spent_life(rt, alloc, shelf);
     shows_the_most_flows(rt, alloc, shelf);
-    ends_at_the_first_refused_offer(rt, alloc, shelf);
 }
 
 // A body that makes a shelf is dear to prove, so it makes one call.

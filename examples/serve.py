@@ -301,6 +301,7 @@ def cut(run):
         server.ingress(records(some) + whole[:place]).close()
         control.close()
         server.ends()
+        expect(ENDED % ("ingress", 1) + ", Cut, 2 packets" in server.text("stderr").splitlines(), "the end is not told")
         replay = check(server, peer, [("whole", some)])
         expect_equal([reply for _, _, reply in replay.arrivals()], ["packet 1 1", "no 7 NoFlow"], "arrivals")
 

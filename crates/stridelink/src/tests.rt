@@ -2,6 +2,7 @@
 
 mod audit;
 mod control;
+mod failing;
 mod faults;
 mod serving;
 

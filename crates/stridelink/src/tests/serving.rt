@@ -1,9 +1,10 @@
-//! A server with both ends of its connections in one process.
+//! Servers with both ends of their connections in one process.
 
-use crate::serve::{Keep, PlainTariffs, Plan, Sockets, serve_on};
+use crate::serve::{Keep, PlainTariffs, Plan, ServeFault, Sockets, serve_on};
 use share_core::Engine;
 use share_journal::Journal;
 use share_model::{PlainReader, Rates, Tape};
+use share_report::report;
 use share_script::run_script;
 use std::alloc::Global;
 use std::io::{Eprint, Read, Write};
@@ -15,8 +16,8 @@ use std::thread::{JoinHandle, Parker, Threads};
 use std::time::{Clock, Duration};
 use std::{io, thread};
 
-/// The life of the link.
-const LIFE: u64 = 100;
+/// The life of the links, which none of them spends.
+const LIFE: u64 = 1 << 16;
 
 /// The lines of the control connection, and their answers.
 const ASKED: &[u8] = b"open a 4 1\nmktkt 1 base\nfund 1 flow a\n";
@@ -28,8 +29,37 @@ const RECORD: &[u8] = &[1, 0x61, 0, 1, 0x61];
 
 const FRAME: &[u8] = &[0x4c, 1, 0, 0, 0, 1, 0, 0, 0, 1, 0, 1, 0x61];
 
+/// A line and a record that are cut.
+const CUT_LINE: &[u8] = b"mkcur x";
+
+const CUT_RECORD: &[u8] = &[1, 0x61, 0, 2, 0x62];
+
+/// The audit of those lines and that record.
+const AUDIT: &str = "audit 1\nopen a 4 1\nmktkt 1 base\nfund 1 flow a\nsend a 61\nturn 13\n";
+
+/// How many bytes the report of a link with one flow has, and at which of them it tells the state of the link.
+const REPORT: usize = 482;
+
+const LINK: usize = 383;
+
+/// How many packets are sent at most until the uplink is torn, and after how many milliseconds each.
+const PACKETS: u64 = 2000;
+
+const REST: u64 = 5;
+
 /// How long a client waits for an answer, in seconds.
 const PATIENCE: u64 = 20;
+
+/// How the clients and the peer of the uplink end.
+#[derive(Clone, Copy, Debug, PartialEq, Eq)]
+enum Play {
+    /// As they should.
+    Whole,
+    /// The control connection ends in a line, and the ingress connection in a record.
+    Cut,
+    /// The peer closes the uplink before any packet.
+    Torn,
+}
 
 /// Keeps the audit in memory.
 #[derive(Drop)]
@@ -88,9 +118,47 @@ fn patient(stream: &TcpStream) {
     let _ = stream.set_read_timeout(Some(Duration::from_secs(PATIENCE)));
 }
 
+// Asks for the report, and says whether the uplink is torn.
+fn is_torn(asking: &TcpStream) -> bool {
+    let mut asking = asking;
+    let mut report = [0u8; REPORT];
+    let is_asked = asking.write_all(b"report\n").is_ok();
+    is_asked && asking.read_exact(&mut report).is_ok() && report[LINK] == b'2'
+}
+
+// Sends packets until the uplink, whose peer is gone, is torn.
+fn send_until_torn<T: Wait>(rt: &T, asking: &TcpStream, sending: &TcpStream) -> bool {
+    let parker = Parker::new();
+    let mut sending = sending;
+    for _ in 0..PACKETS {
+        if sending.write_all(RECORD).is_err() {
+            return false;
+        }
+        if is_torn(asking) {
+            return true;
+        }
+        parker.park_timeout(rt, Duration::from_millis(REST));
+    }
+    false
+}
+
+// Sends one packet, and says whether the peer got its frame, and nothing else.
+fn send_one(play: Play, asking: &TcpStream, sending: TcpStream, peer: &TcpStream) -> bool {
+    let mut sending = sending;
+    let mut asking = asking;
+    let mut is_sent = sending.write_all(RECORD).is_ok();
+    if play == Play::Cut {
+        is_sent &= sending.write_all(CUT_RECORD).is_ok() && asking.write_all(CUT_LINE).is_ok();
+    }
+    drop(sending);
+    let _ = asking.shutdown(Shutdown::Write);
+    is_sent && gives(peer, FRAME) && read_bytes(peer, 1) == [0; 64]
+}
+
 // Plays the clients, and says whether they got what is wanted.
-fn play<T: Net<Listener = TcpListener, Stream = TcpStream>>(
+fn play_clients<T: Net<Listener = TcpListener, Stream = TcpStream> + Wait>(
     rt: &T,
+    play: Play,
     control: SocketAddr,
     ingress: SocketAddr,
     peer: TcpStream,
@@ -100,29 +168,74 @@ fn play<T: Net<Listener = TcpListener, Stream = TcpStream>>(
     };
     patient(&asking);
     patient(&peer);
-    let is_asked = asking.write_all(ASKED).is_ok();
-    let is_answered = gives(&asking, ANSWERED);
-    let Ok(mut sending) = TcpStream::connect(rt, ingress) else {
+    let is_asked = asking.write_all(ASKED).is_ok() && gives(&asking, ANSWERED);
+    let Ok(sending) = TcpStream::connect(rt, ingress) else {
         return false;
     };
-    let is_sent = sending.write_all(RECORD).is_ok();
-    drop(sending);
-    let _ = asking.shutdown(Shutdown::Write);
-    let is_framed = gives(&peer, FRAME);
-    drop(asking);
-    drop(peer);
-    is_asked && is_answered && is_sent && is_framed
+    if play == Play::Torn {
+        drop(peer);
+        return is_asked && send_until_torn(rt, &asking, &sending);
+    }
+    is_asked && send_one(play, &asking, sending, &peer)
 }
 
-// Checks that the audit, run as a script, gives the frame.
-fn audit_gives_the_frame<S: Rates + Copy>(rt: &impl Abort, alloc: Global, shelf: S, audit: &Tape) {
+// The link that an audit gives as a script.
+fn link_of<S: Rates + Copy>(
+    rt: &impl Abort,
+    alloc: Global,
+    shelf: S,
+    audit: &[u8],
+) -> Engine<Tape, S> {
     let engine = Engine::new(alloc, shelf, LIFE, Tape::new(alloc)).expect(rt, "a link");
-    let mut input = PlainReader(audit.bytes());
+    let mut input = PlainReader(audit);
     let mut output = Tape::new(alloc);
     let Ok(engine) = run_script(alloc, engine, &mut input, &mut output) else {
         panic!(rt; "the audit is no script");
     };
-    assert_eq!(rt; engine.writer().bytes(), FRAME);
+    drop(output);
+    engine
+}
+
+// Whether these are a beginning of the frames of packets that are all alike.
+fn begin_frames(bytes: &[u8]) -> bool {
+    let mut frame = [0x4c, 1, 0, 0, 0, 1, 0, 0, 0, 0, 0, 1, 0x61];
+    for (number, piece) in bytes.chunks(13).enumerate() {
+        let Ok(before) = u8::try_from(number) else {
+            return false;
+        };
+        frame[9] = before.saturating_add(1);
+        if !frame.starts_with(piece) {
+            return false;
+        }
+    }
+    true
+}
+
+// Checks that a report is that of the link which its audit gives as a script, with these bytes; or, if the uplink was
+// torn, with a beginning of the frames.
+fn audit_gives_the_link<S: Rates + Copy>(
+    rt: &impl Abort,
+    alloc: Global,
+    shelf: S,
+    play: Play,
+    audit: &[u8],
+    reported: &[u8],
+) {
+    let engine = link_of(rt, alloc, shelf, audit);
+    let mut shown = Tape::new(alloc);
+    assert!(rt; report(&engine, &mut shown).is_ok());
+    assert!(rt;
+        shown.bytes() == reported,
+        "another report than the audit's"
+    );
+    assert!(rt; engine.broken() == (play == Play::Torn), "after {play:?}");
+    if play == Play::Torn {
+        assert!(rt; begin_frames(engine.writer().bytes()), "other frames");
+    } else {
+        assert!(rt; engine.writer().bytes() == FRAME, "another frame");
+        assert!(rt; audit == AUDIT.as_bytes(), "another audit");
+    }
+    drop(shown);
     drop(engine);
 }
 
@@ -137,10 +250,11 @@ fn address(rt: &impl Abort, listener: &TcpListener) -> SocketAddr {
 }
 
 // The sockets of a server, and a thread that plays its clients and the peer of its uplink.
-fn sockets<T>(rt: &T) -> (Sockets, JoinHandle<bool>)
+fn sockets<T>(rt: &T, play: Play) -> (Sockets, JoinHandle<bool>)
 where
     T: Net<Listener = TcpListener, Stream = TcpStream>
         + Threads
+        + Wait
         + Abort
         + Copy
         + Send
@@ -157,7 +271,7 @@ where
     let own = *rt;
     let clients = thread::spawn(rt, move || {
         let peer = peer;
-        play(&own, asked, given, peer)
+        play_clients(&own, play, asked, given, peer)
     })
     .ok()
     .expect(rt, "a thread");
@@ -169,7 +283,16 @@ where
     (sockets, clients)
 }
 
-fn is_served<T, S, A>(rt: &T, alloc: Global, shelf: S, again: A)
+// What is told at the end.
+fn wanted(play: Play) -> Result<(), ServeFault> {
+    if play == Play::Torn {
+        Err(ServeFault::Uplink)
+    } else {
+        Ok(())
+    }
+}
+
+fn is_served<T, S, A>(rt: &T, alloc: Global, shelf: S, again: A, play: Play)
 where
     T: Net<Listener = TcpListener, Stream = TcpStream>
         + Threads
@@ -190,7 +313,7 @@ where
         clerks: 1,
         is_verbose: false,
     };
-    let (sockets, clients) = sockets(rt);
+    let (sockets, clients) = sockets(rt, play);
     let journal = Journal::new(alloc, LIFE).expect(rt, "a journal");
     let mut audit = Tape::new(alloc);
     let mut report = Tape::new(alloc);
@@ -210,12 +333,12 @@ where
         keep,
         &mut report,
     );
-    assert_eq!(rt; served, Ok(()));
+    assert!(rt; served == wanted(play), "after {play:?}");
     assert!(rt;
         clients.join(rt),
         "the clients and the peer got what they should"
     );
-    audit_gives_the_frame(rt, alloc, again, &audit);
+    audit_gives_the_link(rt, alloc, again, play, audit.bytes(), report.bytes());
     drop(audit);
     drop(report);
 }
@@ -223,6 +346,8 @@ where
 #[test]
 fn served(rt: HostRuntime) -> Result<(), Fail> {
     let alloc = rt.alloc();
-    is_served(&rt, alloc, PlainTariffs, PlainTariffs);
+    for play in [Play::Whole, Play::Cut, Play::Torn] {
+        is_served(&rt, alloc, PlainTariffs, PlainTariffs, play);
+    }
     Ok(())
 }

@@ -4,7 +4,7 @@ use Rattle.share_base.specs.declared.refusal.Refusal.{Refusal}
 use Rattle.share_base.specs.declared.refusal.Refusal.TheVariants.{NoMemory, Spent, Syntax, Range}
 use Rattle.share_base.specs.declared.refusal.Refusal.TheVariants.{NoCurrency, NoTicket, NoFlow, NoTariff, Taken, Base}
 use Rattle.share_base.specs.declared.refusal.Refusal.TheVariants.{InUse, Funding, Unfunded, Crowded, Cycle, Deep}
-use Rattle.share_base.specs.declared.refusal.Refusal.TheVariants.{TableFull, Sending, BufferFull, Broken}
+use Rattle.share_base.specs.declared.refusal.Refusal.TheVariants.{TableFull, Sending, BufferFull, Broken, Held, NotHeld}
 
 abbrev pub refusal_number : Refusal → ℕ
 refusal_number NoMemory = 1
@@ -27,6 +27,8 @@ refusal_number TableFull = 17
 refusal_number Sending = 18
 refusal_number BufferFull = 19
 refusal_number Broken = 20
+refusal_number Held = 21
+refusal_number NotHeld = 22
 
 abbrev pub refusal_name : Refusal → List ℕ
 refusal_name NoMemory = codes "NoMemory"
@@ -49,6 +51,8 @@ refusal_name TableFull = codes "TableFull"
 refusal_name Sending = codes "Sending"
 refusal_name BufferFull = codes "BufferFull"
 refusal_name Broken = codes "Broken"
+refusal_name Held = codes "Held"
+refusal_name NotHeld = codes "NotHeld"
 
 -- the refusal of the first test that holds, in the order of the table
 abbrev pub first_refusal : List (Bool × Refusal) → Option Refusal

@@ -27,6 +27,12 @@ pub enum Command {
     OpenFlow { name: Name, limit: u64, tariff: u64 },
     /// Closes an open flow and drops the packets that wait in its buffer.
     CloseFlow(Name),
+    /// Holds an open flow: it takes packets, and sends none but the rest of its frame in part.
+    Hold(Name),
+    /// Ends the hold of a flow.
+    Resume(Name),
+    /// Changes the amount of a ticket to 1 to 2^20, whatever it funds.
+    Amend { ticket: u64, amount: u64 },
 }
 
 /// The answer to a command or an arrival.

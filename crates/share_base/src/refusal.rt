@@ -49,10 +49,14 @@ pub enum Refusal {
     BufferFull,
     #[error("the link is broken")]
     Broken,
+    #[error("the flow is held")]
+    Held,
+    #[error("the flow is not held")]
+    NotHeld,
 }
 
 impl Refusal {
-    /// The number under which replies name the refusal, from 1 to 20.
+    /// The number under which replies name the refusal, from 1 to 22.
     pub fn number(&self) -> u32
         ensures { result ≡ refusal_number self.now }
     {
@@ -77,6 +81,8 @@ impl Refusal {
             Refusal::Sending => 18,
             Refusal::BufferFull => 19,
             Refusal::Broken => 20,
+            Refusal::Held => 21,
+            Refusal::NotHeld => 22,
         }
     }
 
@@ -105,6 +111,8 @@ impl Refusal {
             Refusal::Sending => "Sending",
             Refusal::BufferFull => "BufferFull",
             Refusal::Broken => "Broken",
+            Refusal::Held => "Held",
+            Refusal::NotHeld => "NotHeld",
         }
     }
 

@@ -283,7 +283,7 @@ fn halves_are_stamped_apart(rt: HostRuntime) {
 }
 
 // Each refusal, its number, its name and its text.
-const REFUSALS: [(Refusal, u32, &str, &str); 20] = [
+const REFUSALS: [(Refusal, u32, &str, &str); 22] = [
     (Refusal::NoMemory, 1, "NoMemory", "memory was refused"),
     (
         Refusal::Spent,
@@ -374,6 +374,8 @@ const REFUSALS: [(Refusal, u32, &str, &str); 20] = [
         "the buffer of the flow is full",
     ),
     (Refusal::Broken, 20, "Broken", "the link is broken"),
+    (Refusal::Held, 21, "Held", "the flow is held"),
+    (Refusal::NotHeld, 22, "NotHeld", "the flow is not held"),
 ];
 
 #[test]

@@ -1,12 +1,13 @@
 -- A link with nothing to send has no frame in part, and no flow of it competes.
-use Rattle.std.proofs.Common.{◌≡◌, ℕ, ◌<◌, Bool, true, false, List, [], ◌∷◌, Option, None, Some, option_map}
-use Rattle.std.proofs.Common.{option_and_then, unwrap_or, refl, sym, ap, ◌∙◌, subst, arith}
+use Rattle.std.proofs.Common.{◌≡◌, ℕ, ◌<◌, Bool, true, false, not, ◌&&◌, List, [], ◌∷◌, Option, None, Some}
+use Rattle.std.proofs.Common.{option_map, option_and_then, unwrap_or, refl, sym, ap, ◌∙◌, subst, arith}
 use Rattle.share_model.specs.declared.link.Part.{Part}
 use Rattle.share_model.specs.declared.rates.Rate.{Rate}
 use Rattle.share_model.specs.declared.stride.Client.{Client}
 use Rattle.share_model.specs.funding.Graph.{tickets, is_active_flow}
 use Rattle.share_model.proofs.lemmas.funding.Held.{idle-none}
 use Rattle.share_model.specs.link.Buffers.{Buffer, head_in, head_of_buffer, head_of, buffer_of, is_some_packet}
+use Rattle.share_model.specs.link.Books.{is_held}
 use Rattle.share_model.specs.link.Buffers.{holds_packet}
 use Rattle.share_model.specs.link.Frame.{Packet}
 use Rattle.share_model.specs.link.Live.{Live}
@@ -36,6 +37,10 @@ busy_or_none : (t : Bool) (n : ℕ) → (t ≡ false → n ≡ 0) → 0 < n → 
 busy_or_none true n idle some = refl
 busy_or_none false n idle some = absurd (omega (arith, idle refl))
 
+busy_of : (busy free : Bool) → (busy && free) ≡ true → busy ≡ true
+busy_of true free both = refl
+busy_of false free both = both
+
 -- the next flow has a head packet
 next_headed : {life : ℕ} {rates : List Rate} {l : Live} → Sound life rates l → (f : ℕ)
     → IsNextFlow l.queue.clients f → head_of l.buffers f ≡ None → ⊥
@@ -45,7 +50,8 @@ next_headed {l = l} sound f first none =
     let has = level-flow l.queue l.graph f sound.level (competes-stands sound f competes) in
     let active : is_active_flow l.graph f ≡ true =
     busy_or_none (is_active_flow l.graph f) (tickets l.graph f) (idle-none l.graph f) (has.competes.0 competes) in
-    headed (buffer_of l.buffers f) (sym (flow-active sound f) ∙ active) none
+    headed (buffer_of l.buffers f)
+    (busy_of (holds_packet (buffer_of l.buffers f)) (not (is_held l.books f)) (sym (flow-active sound f) ∙ active)) none
 
 no_part : {life : ℕ} {rates : List Rate} {l : Live} → Sound life rates l → (o : Option Part) → l.part ≡ o
     → sending l ≡ None → o ≡ None

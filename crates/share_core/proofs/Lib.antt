@@ -2,6 +2,7 @@ pub mod Activities
 pub mod Arrivals
 pub mod Closings
 pub mod Fundings
+pub mod Holds
 pub mod Idles
 pub mod Levellings
 pub mod Living

@@ -1,6 +1,6 @@
 -- What is known of the frame that is sent, by its place.
-use Rattle.std.proofs.Common.{◌≡◌, ℕ, ◌+◌, ◌<◌, ◌≤◌, ◌^◌, Bool, true, false, List, [], ◌∷◌, length, find, Option}
-use Rattle.std.proofs.Common.{None, Some}
+use Rattle.std.proofs.Common.{◌≡◌, ℕ, ◌+◌, ◌<◌, ◌≤◌, ◌^◌, Bool, true, false, not, ◌&&◌, List, [], ◌∷◌, length, find}
+use Rattle.std.proofs.Common.{Option, None, Some}
 use Rattle.std.proofs.Common.{option_and_then, IsSome, IfSome, IsTrue, is_some, refl, sym, ◌∙◌, ap, subst, arith}
 use Rattle.share_model.specs.declared.rates.Rate.{Rate}
 use Rattle.share_model.specs.link.Buffers.{Buffer, buffer_of, pop_in, head_in, head_of_buffer, head_of}
@@ -9,7 +9,7 @@ use Rattle.share_model.specs.link.Frame.{Packet}
 use Rattle.share_model.specs.funding.Changes.{set_active}
 use Rattle.share_model.specs.link.Live.{Live}
 use Rattle.share_model.specs.link.Turns.{Sending, sending, rest_of}
-use Rattle.share_model.specs.link.Books.{is_book_of, units_due, books_with_units}
+use Rattle.share_model.specs.link.Books.{is_book_of, units_due, books_with_units, is_held}
 use Rattle.share_model.specs.link.Live.{with_level_queue, tickets_of_all}
 use Rattle.share_model.specs.link.Turns.{whole, wrote_turn}
 use Rattle.share_model.specs.link.Calls.{Stepped}
@@ -53,7 +53,9 @@ whole_at rates l place k =
     let units = units_due rates l.books place.buffer.flow place.length in
     let left = pop_in l.buffers place.buffer.flow in
     with_level_queue (record l {
-      graph = set_active l.graph place.buffer.flow (is_busy left place.buffer.flow);
+      graph =
+          set_active l.graph place.buffer.flow
+          (is_busy left place.buffer.flow && not (is_held l.books place.buffer.flow));
       queue = charge l.queue place.buffer.flow units;
       buffers = left;
       books = books_with_units rates l.books place.buffer.flow units;
@@ -182,16 +184,24 @@ module _ (life : ℕ) (rates : List Rate) (l : Live) (place : NextWrite) (sound 
         can-set_active sound (charge l.queue place.buffer.flow units)
         (queue-after_charge place.buffer.flow units stands living few sound.queue) place.buffer.flow active
 
-  -- where the flow is active still, the levelling after the whole frame was charged changes nothing
+  awake :
+      (is_busy l.buffers place.buffer.flow && not (is_held l.books place.buffer.flow))
+      ≡ not (is_held l.books place.buffer.flow)
+  awake = ap (λ busy. busy && not (is_held l.books place.buffer.flow)) busy
+
+  -- where the flow holds a packet still, the levelling after the whole frame was charged changes nothing
   pub due-stays : let units = units_due rates l.books place.buffer.flow place.length in
-      level_all (charge l.queue place.buffer.flow units) (tickets_of_all (set_active l.graph place.buffer.flow true))
+      level_all (charge l.queue place.buffer.flow units)
+      (tickets_of_all (set_active l.graph place.buffer.flow (not (is_held l.books place.buffer.flow))))
       ≡ charge l.queue place.buffer.flow units
   due-stays =
       let units = units_due rates l.books place.buffer.flow place.length in
-      stays-level sound place.buffer.flow busy (charge l.queue place.buffer.flow units) (charged-level units)
+      stays-level sound place.buffer.flow (not (is_held l.books place.buffer.flow)) awake
+      (charge l.queue place.buffer.flow units) (charged-level units)
 
-  pub activity-stays : set_active l.graph place.buffer.flow true ≡ l.graph
-  activity-stays = stays-active sound place.buffer.flow busy
+  pub activity-stays :
+      set_active l.graph place.buffer.flow (not (is_held l.books place.buffer.flow)) ≡ l.graph
+  activity-stays = stays-active sound place.buffer.flow (not (is_held l.books place.buffer.flow)) awake
 
 -- whether a flow holds a packet after one was taken out
 pub left : (before after : List Buffer) (f : ℕ) (a b : Bool) → after ≡ pop_in before f → a ≡ is_busy after f → a ≡ b

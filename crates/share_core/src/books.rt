@@ -1,10 +1,10 @@
-//! The books of the open flows: their tariffs and accounts.
+//! The books of the open flows: their tariffs, their accounts, and which of them are held.
 ghost use Rattle.std.specs.Prelude.{◌≡◌, ◌<◌, ◌≤◌, ◌^◌, ◌+◌, [], ◌∷◌, ◌++◌, length, position, find, IfOk, None};
 ghost use Rattle.std.specs.Prelude.{Some, IsSome, IsTrue, is_some, option_copied};
 ghost use Rattle.std.specs.Set.{remove_key};
 ghost use Rattle.share_model.specs.link.Tariff.{rate_at, rate_of, units_of};
 ghost use Rattle.share_model.specs.link.Books.{is_book_of, new_book, account_of, units_due, with_units};
-ghost use Rattle.share_model.specs.link.Books.{books_with_units};
+ghost use Rattle.share_model.specs.link.Books.{books_with_units, is_held, with_hold, books_with_hold};
 ghost use Rattle.share_core.specs.Held.{IfFound};
 
 use crate::{MAX_FLOWS, MAX_FRAME};
@@ -56,6 +56,7 @@ impl Books {
             flow,
             tariff,
             account: 0,
+            held: false,
         });
     }
 
@@ -94,6 +95,35 @@ impl Books {
         post(book, shelf, count)
     }
 
+    /// Whether the flow whose book is at a place is held.
+    pub fn is_held_at(&self, place: usize, flow: FlowNo) -> bool
+        requires { position (is_book_of flow) self.now ≡ Some place }
+        ensures { result ≡ is_held self.now flow }
+    {
+        let book = &self.books[place];
+        book.held
+    }
+
+    /// Whether a flow is held. No flow is that is not open.
+    pub fn is_held(&self, flow: FlowNo) -> bool
+        ensures { result ≡ is_held self.now flow }
+    {
+        match self.book(flow) {
+            None => false,
+            Some(book) => book.held,
+        }
+    }
+
+    /// Holds a flow, or ends its hold.
+    pub fn hold(&mut self, flow: FlowNo, held: bool)
+        requires { IsSome (find (is_book_of flow) self.old) }
+        ensures { self.new ≡ books_with_hold self.old flow held }
+    {
+        let place = self.place(flow);
+        let book = &mut self.books[place];
+        mark(book, held);
+    }
+
     /// Closes the book of a flow.
     pub fn close(&mut self, flow: FlowNo)
         requires { IsSome (find (is_book_of flow) self.old) }
@@ -115,6 +145,13 @@ fn post<S: Rates>(book: &mut Book, shelf: &S, count: u32) -> u64
     let units = shelf.units(book.tariff, count);
     book.account = shelf.post(book.tariff, book.account, units);
     units
+}
+
+// Marks a book as that of a flow that is held, or not.
+fn mark(book: &mut Book, held: bool)
+    ensures { book.new ≡ with_hold held book.old }
+{
+    book.held = held;
 }
 
 fn is_of(book: &Book, flow: FlowNo) -> bool

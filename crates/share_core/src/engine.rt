@@ -115,6 +115,13 @@ impl<W, S: Rates> Engine<W, S> {
         self.link.account(flow)
     }
 
+    /// Whether an open flow is held. `None` where no open flow has this number.
+    pub fn held(&self, flow: FlowNo) -> Option<bool>
+        ensures { result ≡ option_map (λ b. b.held) (find (is_book_of flow) self.now.live.books) }
+    {
+        self.link.held(flow)
+    }
+
     /// The number of the open flow of a name, if there is one.
     pub fn flow(&self, name: Name) -> Option<FlowNo>
         ensures { result ≡ option_map (λ f. f.number) (flow_named self.now.live.graph name) }
@@ -122,8 +129,8 @@ impl<W, S: Rates> Engine<W, S> {
         self.link.flow(&name)
     }
 
-    /// The tickets of an open flow: what funds it while it is active, at most 2^20, and 0 while it is idle. `None`
-    /// where no open flow has this number.
+    /// The tickets of an open flow: what funds it while it is active, at most 2^20, and 0 while it is idle or held.
+    /// `None` where no open flow has this number.
     pub fn tickets(&self, flow: FlowNo) -> Option<u32>
         ensures { result
             ≡ option_map (λ _. tickets self.now.live.graph flow)
@@ -183,10 +190,13 @@ impl<W, S: Rates> Engine<W, S> {
     /// - `FundFlow`: `NoTicket`, `NoFlow`, `Funding`, `Crowded` (16 tickets fund the flow);
     /// - `Unfund`: `NoTicket`, `Unfunded`;
     /// - `OpenFlow`: `Range` (a limit of 1 to 1024 packets), `NoTariff`, `Taken`, `TableFull` (64 flows), `NoMemory`;
-    /// - `CloseFlow`: `NoFlow`, `Sending` (its frame is in part).
+    /// - `CloseFlow`: `NoFlow`, `Sending` (its frame is in part);
+    /// - `Hold`: `NoFlow`, `Held`;
+    /// - `Resume`: `NoFlow`, `NotHeld`;
+    /// - `Amend`: `Range` (an amount of 1 to 2^20), `NoTicket`.
     ///
-    /// The three that make something may find no memory; the other six take none. After a command that is done, each
-    /// open flow competes with as many tickets as it has.
+    /// The three that make something may find no memory; the other nine take none. After a command that is done, each
+    /// open flow competes with as many tickets as it has: none while it is held.
     pub fn command(&mut self, command: Command) -> Reply
         ensures did { CommandCall self.old command result self.new }
         ensures fields { HasCommandFields command }

@@ -26,6 +26,12 @@ pub fn of_command(command: &Command)
             of_both(*tariff, name);
         }
         Command::CloseFlow(name) => of_name(name),
+        Command::Hold(name) => of_name(name),
+        Command::Resume(name) => of_name(name),
+        Command::Amend { ticket, amount } => {
+            of_number(*ticket);
+            of_number(*amount);
+        }
     }
 }
 

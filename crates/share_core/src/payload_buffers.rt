@@ -107,6 +107,13 @@ impl PayloadBuffers {
         self.buffers.len(flow)
     }
 
+    /// Whether a flow is open and its buffer holds a packet.
+    pub fn is_busy(&self, flow: FlowNo) -> bool
+        ensures { result ≡ is_busy self.now flow }
+    {
+        self.buffers.is_busy(flow)
+    }
+
     /// Whether the buffer at a place holds a packet.
     pub fn is_busy_at(&self, place: &Place) -> bool
         requires { Stands self.now place.now }

@@ -3,6 +3,7 @@
 mod currencies;
 mod cuts;
 mod faults;
+mod holds;
 mod memory;
 mod pieces;
 mod plain;
@@ -11,7 +12,7 @@ mod refusals;
 
 use crate::Engine;
 use share_base::{Body, Command, FlowNo, Name, Outcome, Refusal, Reply, TicketNo, Turn};
-use share_model::{Answer, Rates, Scripted, Tape, TellingWriter};
+use share_model::{Answer, GlobalPart, Position, Rates, Scripted, Tape, TellingWriter};
 use std::alloc::Global;
 use std::process::Abort;
 use std::test::Fail;
@@ -20,6 +21,9 @@ use std::test::Fail;
 const FRAME: [u8; 14] = [0x4c, 0x01, 0, 0, 0, 1, 0, 0, 0, 1, 0, 2, 0x68, 0x69];
 
 const FLOW: FlowNo = FlowNo(1);
+
+/// The flow that is opened second.
+const OTHER: FlowNo = FlowNo(2);
 
 /// A turn that offers a whole frame.
 const TURN: Call = Call::Turn(65535);
@@ -36,12 +40,18 @@ enum Call {
     Back(u64, &'static str),
     Fund(u64, &'static str),
     Unfund(u64),
+    Hold(&'static str),
+    Resume(&'static str),
+    Amend(u64, u64),
     Send(&'static str, &'static [u8]),
     Turn(u32),
     Tear,
     Events,
     Account(u32),
     Tickets(u32),
+    Held(u32),
+    Place(u32),
+    Shared,
     Flow(&'static str),
 }
 
@@ -59,6 +69,13 @@ enum Wanted {
     Is(Turn),
     Replied(Reply),
     Number(u64),
+    Held(bool),
+    /// The tickets, the stride and the pass of a flow that competes.
+    Competing(u32, u64, i128),
+    /// The last tickets and stride of a flow that does not, and its remain.
+    Resting(u32, u64, i128),
+    /// The tickets of all, the global pass, the clock at its last update, and the clock.
+    Shared(u64, u128, u64, u64),
     Nothing,
 }
 
@@ -67,6 +84,8 @@ enum Wanted {
 enum Seen {
     Told(Outcome),
     Read(Option<u64>),
+    Stands(Option<Position>),
+    Shares(GlobalPart),
 }
 
 /// A call with what it answers.
@@ -90,6 +109,15 @@ impl Wanted {
             Wanted::Is(turn) => turned(turn),
             Wanted::Replied(reply) => replied(reply),
             Wanted::Number(number) => Seen::Read(Some(number)),
+            Wanted::Held(held) => Seen::Read(Some(u64::from(held))),
+            Wanted::Competing(tickets, stride, pass) => stands(true, tickets, stride, pass),
+            Wanted::Resting(tickets, stride, remain) => stands(false, tickets, stride, remain),
+            Wanted::Shared(tickets, pass, last, clock) => Seen::Shares(GlobalPart {
+                tickets,
+                pass,
+                last,
+                clock,
+            }),
             Wanted::Nothing => Seen::Read(None),
         }
     }
@@ -110,6 +138,15 @@ fn wrote(k: u32, whole: bool) -> Seen {
         k,
         whole,
     })
+}
+
+fn stands(competing: bool, tickets: u32, stride: u64, place: i128) -> Seen {
+    Seen::Stands(Some(Position {
+        competing,
+        tickets,
+        stride,
+        place,
+    }))
 }
 
 fn name(rt: &impl Abort, text: &str) -> Name {
@@ -141,6 +178,9 @@ fn command_of(rt: &impl Abort, call: Call) -> Option<Command> {
             flow: name(rt, flow),
         },
         Call::Unfund(ticket) => Command::Unfund(ticket),
+        Call::Hold(flow) => Command::Hold(name(rt, flow)),
+        Call::Resume(flow) => Command::Resume(name(rt, flow)),
+        Call::Amend(ticket, amount) => Command::Amend { ticket, amount },
         _ => return None,
     };
     Some(command)
@@ -162,6 +202,8 @@ fn ask<W: TellingWriter, S: Rates>(
         }
         Call::Turn(most) => turned(engine.turn(most.max(1))),
         Call::Tear => turned(engine.tear()),
+        Call::Place(flow) => Seen::Stands(engine.position(FlowNo(flow))),
+        Call::Shared => Seen::Shares(engine.global()),
         _ => Seen::Read(read(rt, engine, call)),
     }
 }
@@ -172,6 +214,7 @@ fn read<W, S: Rates>(rt: &impl Abort, engine: &Engine<W, S>, call: Call) -> Opti
         Call::Events => Some(engine.events()),
         Call::Account(flow) => engine.account(FlowNo(flow)),
         Call::Tickets(flow) => engine.tickets(FlowNo(flow)).map(u64::from),
+        Call::Held(flow) => engine.held(FlowNo(flow)).map(u64::from),
         Call::Flow(flow) => engine
             .flow(name(rt, flow))
             .map(|found| u64::from(found.number())),
@@ -219,6 +262,7 @@ enum Case<'a> {
     Cut(cuts::Case),
     Pieces(pieces::Case<'a>),
     Fault(faults::Case),
+    TwoShares(&'a [Row]),
 }
 
 fn plays<S: Rates>(
@@ -235,6 +279,7 @@ fn plays<S: Rates>(
         Case::Cut(case) => cuts::plays(rt, alloc, engine, case),
         Case::Pieces(case) => pieces::plays(rt, alloc, engine, case),
         Case::Fault(case) => faults::plays(rt, alloc, engine, case),
+        Case::TwoShares(rows) => holds::plays(rt, alloc, engine, rows),
     }
 }
 
@@ -350,6 +395,7 @@ fn answer_as_worked_and_as_a_plain_link<S: Rates + Copy>(
     cuts::all(rt, alloc, shelf);
     pieces::all(rt, alloc, shelf);
     faults::all(rt, alloc, shelf);
+    holds::all(rt, alloc, shelf);
     random::worlds::all(rt, alloc, shelf)
 }
 

@@ -42,6 +42,7 @@ fn funding_of(rt: &impl Abort, call: &Call) -> Option<Command> {
             flow: name(rt, flow),
         },
         Call::Unfund(ticket) => Command::Unfund(ticket),
+        Call::Amend(ticket, amount) => Command::Amend { ticket, amount },
         _ => return None,
     };
     Some(command)
@@ -56,6 +57,8 @@ fn command_of(rt: &impl Abort, call: &Call) -> Option<Command> {
             tariff,
         }),
         Call::Close(flow) => Some(Command::CloseFlow(name(rt, flow))),
+        Call::Hold(flow) => Some(Command::Hold(name(rt, flow))),
+        Call::Resume(flow) => Some(Command::Resume(name(rt, flow))),
         _ => funding_of(rt, call),
     }
 }

@@ -13,12 +13,13 @@ use Rattle.share_model.proofs.lemmas.funding.ChangeLaws.{not-refused}
 use Rattle.share_model.specs.funding.Changes.{fund_currency_refusal, fund_flow_refusal}
 use Rattle.share_model.specs.funding.Changes.{unfund_refusal}
 use Rattle.share_model.specs.funding.Changes.{ticket_of, is_numbered, is_held, held_by, with_holder, is_found_held}
+use Rattle.share_model.specs.funding.Changes.{with_amount, amend}
 use Rattle.share_model.proofs.lemmas.lists.Laws.{find-change_first}
 use Rattle.share_model.specs.lists.Change.{change_first}
 use Rattle.share_ledger.specs.declared.net.Net.{Net}
 use Rattle.share_ledger.specs.declared.routes.Route.{Route}
-use Rattle.share_ledger.specs.Nets.{activity_of, GrowsBy, ComesToFund, CeasesToFund, HasInputs}
-use Rattle.share_ledger.specs.Routes.{is_kind, route_of, routes_of, IsRouted}
+use Rattle.share_ledger.specs.Nets.{activity_of, GrowsBy, ComesToFund, CeasesToFund, GetsAmount, HasInputs}
+use Rattle.share_ledger.specs.Routes.{amended, is_kind, route_of, routes_of, IsRouted}
 use Rattle.share_ledger.specs.FundingTickets.{backs_of}
 use Rattle.share_ledger.specs.FundingTickets.{funds_of}
 use Rattle.share_ledger.proofs.RouteWorths.{sum-routes}
@@ -76,6 +77,21 @@ module _ (g : Graph) (n : ℕ) where
       → GrowsBy k (routes_of (record g { tickets = with_holder n Nobody g.tickets }) b
       (with_holder n Nobody g.tickets)) (routes_of g b g.tickets) (route_of g t)
   unfunded-grows t b k found kind F = grind (arith, nat_tests, routes-changed)
+
+  -- and one that gets another amount comes to those that are left without it
+  pub amended-grows : (amount : ℕ) (t : Ticket) (b k : Bool) → ticket_of g n ≡ Some t → is_kind b t.holder ≡ k
+      → GrowsBy k (routes_of (record g { tickets = with_holder n Nobody g.tickets }) b
+      (with_holder n Nobody g.tickets)) (routes_of (amend g n amount) b (amend g n amount).tickets)
+      (amended amount (route_of g t))
+  unfolding part
+  amended-grows amount t b k found kind F =
+      let after = sum-routes (amend g n amount) F b in
+      let before = sum-routes g F b in
+      let changed = sum-changed (part g b F) (is_numbered n) (with_amount amount) g.tickets t found in
+      let fewer = unfunded-grows t b k found kind F in
+      let old = ap {B = ℕ} (λ x. cond x (F (route_of g t)) 0) kind in
+      let new = ap {B = ℕ} (λ x. cond x (F (amended amount (route_of g t))) 0) kind in
+      omega (arith, after, before, changed, fewer, old, new)
 
 -- a route is either of the backing or of what funds flows
 other-kind : (h : Holder) (b : Bool) → is_held h ≡ true → b ≡ is_kind true h → is_kind false h ≡ not b
@@ -136,6 +152,35 @@ ceases-to-fund g h n net r b e begun found =
           subst (λ q. GrowsBy (not b) (funds_of (record g { tickets = with_holder n Nobody g.tickets })) (funds_of g) q)
               (sym found.1.1) (unfunded-grows g n t false (not b) found.1.0
               (other-kind t.holder b found.1.2 found.1.3)),
+        ),
+      ),
+    ))
+
+pub gets-amount : (g h : Graph) (n amount : ℕ) (net : Net) (r : Route) (b : Bool) → h ≡ amend g n amount
+    → HasInputs net (backs_of g) (funds_of g) (activity_of g) → IsRouted g n r b → GetsAmount net h r amount b
+gets-amount g h n amount net r b e begun found =
+    let t = found.0 in
+    let u = record g { tickets = with_holder n Nobody g.tickets } in
+    let after = amend g n amount in
+    let kind = sym found.1.3 in
+    let other = other-kind t.holder b found.1.2 found.1.3 in
+    subst (λ h. GetsAmount net h r amount b) (sym e)
+    (subst (λ q. GetsAmount net after q amount b) (sym found.1.1) (
+      backs_of g,
+      (
+        funds_of g,
+        (
+          backs_of u,
+          (
+            funds_of u,
+            (
+              begun,
+              unfunded-grows g n t true b found.1.0 kind,
+              unfunded-grows g n t false (not b) found.1.0 other,
+              amended-grows g n amount t true b found.1.0 kind,
+              amended-grows g n amount t false (not b) found.1.0 other,
+            ),
+          ),
         ),
       ),
     ))

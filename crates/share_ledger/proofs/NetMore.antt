@@ -12,7 +12,7 @@ use Rattle.share_model.proofs.lemmas.lists.Laws.{each_map}
 use Rattle.share_ledger.specs.declared.routes.Route.{Route}
 use Rattle.share_ledger.specs.declared.funding_tickets.FundingTicket.{FundingTicket}
 use Rattle.share_ledger.specs.Nets.{GrowsBy}
-use Rattle.share_ledger.specs.Routes.{IsRouteWithin, weight_from}
+use Rattle.share_ledger.specs.Routes.{IsRouteWithin, amended, weight_from}
 use Rattle.share_ledger.specs.FundingTickets.{AreTicketed, IsFundingTicketWithin, funding_ticket_of, funding_tickets_at}
 use Rattle.share_ledger.specs.FundingTickets.{AreCounted, backs_of}
 use Rattle.share_ledger.specs.Ranks.{AreRanks}
@@ -133,6 +133,64 @@ module _ (rs less : List Route) (r : Route) (ss next : List (List FundingTicket)
         (λ q (o : FundingTicket). nat_lt (rank o.from) (rank q)) p
         (λ o l. lt-ltb (rank o.from) (rank p) l) (λ o e. ltb-true (rank o.from) (rank p) e) (ranked.above p up lt);
   }
+
+-- A funding ticket that goes and comes back with another amount
+module _ (rs left more : List Route) (r : Route) (amount : ℕ) (ss mid next : List (List FundingTicket))
+    (s : AreTicketed rs ss) (fewer : GrowsBy true left rs r)
+    (others : (k : ℕ) → nat_eq r.to k ≡ false → funding_tickets_at mid k ≡ funding_tickets_at ss k)
+    (out : (F : FundingTicket → ℕ) → sum_by F (funding_tickets_at mid r.to) + F (funding_ticket_of r)
+    ≡ sum_by F (funding_tickets_at ss r.to))
+    (joined : (k : ℕ) → funding_tickets_at next k
+    ≡ cond (nat_eq r.to k) (funding_tickets_at mid k ++ funding_ticket_of (amended amount r) ∷ [])
+    (funding_tickets_at mid k)) where
+  pub ticketed-amended : IsRouteWithin r → amount ≤ 2 ^ 20 → GrowsBy true left more (amended amount r)
+      → length mid ≡ 65 → length next ≡ 65 → AreTicketed more next
+  ticketed-amended within small grows long after =
+      ticketed-more left more (amended amount r) mid next (ticketed-less rs left r ss mid s fewer others out long)
+      (record { from_place = within.from_place; to_place = within.to_place; small = small }) grows joined after
+
+  -- it comes from the same place, so the ranks stay
+  pub ranked-amended : (rank : ℕ → ℕ) → AreRanks ss rank → AreRanks next rank
+  ranked-amended rank ranked = record {
+    low = ranked.low;
+    high = ranked.high;
+    above = λ p up lt. by p (nat_eq r.to p) refl (ranked.above p up lt);
+  }
+    where
+      below : ℕ → FundingTicket → Bool
+      below p o = nat_lt (rank o.from) (rank p)
+
+      here : (p : ℕ) → nat_eq r.to p ≡ true
+          → Each (λ (o : FundingTicket). rank o.from < rank p) (funding_tickets_at ss p)
+          → Each (λ (o : FundingTicket). rank o.from < rank p) (funding_tickets_at next p)
+      here p e each =
+          let w : FundingTicket → ℕ = λ o. cond (below p o) 0 1 in
+          let at = eqb-true r.to p e in
+          let none =
+          fails-zero (below p) (funding_tickets_at ss p)
+          (each_map (λ (o : FundingTicket). rank o.from < rank p) (λ o. below p o ≡ true)
+          (λ o l. lt-ltb (rank o.from) (rank p) l) (funding_tickets_at ss p) each) in
+          let gone = subst (λ k. sum_by w (funding_tickets_at mid k) + w (funding_ticket_of r)
+          ≡ sum_by w (funding_tickets_at ss k)) at (out w) in
+          let come = sum-joined mid next (amended amount r) joined w p in
+          let one = ap {B = ℕ} (λ b. cond b (w (funding_ticket_of (amended amount r))) 0) (same_to p r.to at) in
+          each_map (λ o. below p o ≡ true) (λ (o : FundingTicket). rank o.from < rank p)
+          (λ o l. ltb-true (rank o.from) (rank p) l) (funding_tickets_at next p)
+          (zero-fails (below p) (funding_tickets_at next p) (omega (arith, none, gone, come, one)))
+        where
+          same_to : (a b : ℕ) → b ≡ a → nat_eq a b ≡ true
+          same_to a b same = grind (arith, nat_tests)
+
+      by : (p : ℕ) (b : Bool) → nat_eq r.to p ≡ b
+          → Each (λ (o : FundingTicket). rank o.from < rank p) (funding_tickets_at ss p)
+          → Each (λ (o : FundingTicket). rank o.from < rank p) (funding_tickets_at next p)
+      by p true e each = here p e each
+      by p false e each =
+          subst (Each (λ (o : FundingTicket). rank o.from < rank p))
+          (sym (joined p
+          ∙ ap (λ b. cond b (funding_tickets_at mid p ++ funding_ticket_of (amended amount r) ∷ [])
+          (funding_tickets_at mid p)) e
+          ∙ others p e)) each
 
 -- the same funding tickets for other routes of the same sums
 pub ticketed-same : (rs more : List Route) (r : Route) (ss : List (List FundingTicket)) → AreTicketed rs ss

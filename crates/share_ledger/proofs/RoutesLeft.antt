@@ -1,7 +1,8 @@
 -- What leaves the routes of the tickets.
 use Rattle.std.proofs.Common.{◌≡◌, ◌≤◌, ◌+◌, ℕ, suc, Bool, true, false, not, cond, List, [], ◌∷◌, ◌++◌, take, find}
 use Rattle.std.proofs.Common.{None, Some, length, nat_eq, is_some, refl, sym, ap, ◌∙◌, arith, subst, map}
-use Rattle.std.proofs.Common.{◌<◌, zero, get_or, position}
+use Rattle.std.proofs.Common.{◌<◌, ◌||◌, zero, get_or, position, sum_by}
+use Rattle.std.specs.List.{list_any}
 use Rattle.std.specs.Set.{remove_key}
 use Rattle.std.proofs.lemmas.List.{append-nil}
 use Rattle.std.proofs.lemmas.List.Sums.{sum_by-cons}
@@ -16,11 +17,13 @@ use Rattle.share_model.specs.funding.Graph.{NameBytes, Graph, tickets}
 use Rattle.share_model.specs.funding.Changes.{is_numbered, ticket_of, is_held, is_found_held, is_open_as}
 use Rattle.share_model.specs.funding.Changes.{with_activity, make_currency, make_ticket, made_ticket}
 use Rattle.share_model.specs.funding.Changes.{remove_ticket_refusal, remove_ticket, add_flow, set_active}
+use Rattle.share_model.specs.funding.Changes.{with_amount, amend}
 use Rattle.share_model.specs.lists.Change.{change_first}
 use Rattle.share_model.specs.lists.Each.{Each}
 use Rattle.share_model.specs.funding.Kept.{names_of, times, times_open, IsHolderKnown, IsKept}
 use Rattle.share_model.proofs.lemmas.lists.SumLaws.{name_sym}
 use Rattle.share_model.proofs.lemmas.funding.ChangeLaws.{not-refused}
+use Rattle.share_model.proofs.lemmas.funding.Held.{IsHeldAlike, alike-same, tickets-alike}
 use Rattle.share_ledger.specs.Places.{place}
 use Rattle.share_ledger.specs.Routes.{flow_place, holder_place, route_of, is_kind, routes_of}
 use Rattle.share_ledger.specs.declared.net.Net.{Net}
@@ -125,6 +128,65 @@ routes-remove_ticket g n none b =
         by false e rest =
             routes-cons g b t ts ∙ ap (λ rs. cond (is_kind b t.holder) (route_of g t ∷ []) [] ++ rs) (rest e)
             ∙ sym (routes-cons g b t (remove_key p ts))
+
+-- A ticket without a holder that gets another amount
+pub routes-amend : (g : Graph) (n amount : ℕ) → is_found_held (ticket_of g n) ≡ false → (b : Bool)
+    → routes_of g b g.tickets ≡ routes_of (amend g n amount) b (amend g n amount).tickets
+unfolding routes_of change_first
+routes-amend g n amount unheld b = amended (is_numbered n) g.tickets unheld
+  where
+    none : (h : Holder) → is_held h ≡ false → is_kind b h ≡ false
+    none Nobody e = refl
+    none (Currency d) e = absurd cc
+    none (Flow f) e = absurd cc
+
+    amended : (p : Ticket → Bool) (ts : List Ticket) → is_found_held (find p ts) ≡ false
+        → routes_of g b ts ≡ routes_of g b (change_first p (with_amount amount) ts)
+    amended p [] e = refl
+    amended p (t ∷ ts) e = by (p t) e (amended p ts)
+      where
+        by : (k : Bool) → is_found_held (cond k (Some t) (find p ts)) ≡ false
+            → (is_found_held (find p ts) ≡ false
+            → routes_of g b ts ≡ routes_of g b (change_first p (with_amount amount) ts))
+            → routes_of g b (t ∷ ts)
+            ≡ routes_of g b (cond k (with_amount amount t ∷ ts) (t ∷ change_first p (with_amount amount) ts))
+        by true e rest =
+            let off = none t.holder e in
+            routes-cons g b t ts ∙ ap (λ k. cond k (route_of g t ∷ []) [] ++ routes_of g b ts) off
+            ∙ sym (ap (λ k. cond k (route_of g (with_amount amount t) ∷ []) [] ++ routes_of g b ts) off)
+            ∙ sym (routes-cons g b (with_amount amount t) ts)
+        by false e rest =
+            routes-cons g b t ts ∙ ap (λ rs. cond (is_kind b t.holder) (route_of g t ∷ []) [] ++ rs) (rest e)
+            ∙ sym (routes-cons g b t (change_first p (with_amount amount) ts))
+
+alike-amended : (p : Ticket → Bool) (amount : ℕ) (ts : List Ticket) → is_found_held (find p ts) ≡ false
+    → IsHeldAlike ts (change_first p (with_amount amount) ts)
+unfolding change_first
+alike-amended p amount [] e = alike-same []
+alike-amended p amount (t ∷ ts) e = by (p t) e (alike-amended p amount ts)
+  where
+    by : (k : Bool) → is_found_held (cond k (Some t) (find p ts)) ≡ false
+        → (is_found_held (find p ts) ≡ false → IsHeldAlike ts (change_first p (with_amount amount) ts))
+        → IsHeldAlike (t ∷ ts) (cond k (with_amount amount t ∷ ts) (t ∷ change_first p (with_amount amount) ts))
+    by true e rest = record {
+      any = λ q none. ap (λ b. b || list_any q ts) (none t e ∙ sym (none (with_amount amount t) e));
+      sum = λ w none.
+          sum_by-cons w t ts ∙ ap (λ m. m + sum_by w ts) (none t e ∙ sym (none (with_amount amount t) e))
+          ∙ sym (sum_by-cons w (with_amount amount t) ts);
+    }
+    by false e rest = record {
+      any = λ q none. ap (λ b. q t || b) ((rest e).any q none);
+      sum = λ w none.
+          sum_by-cons w t ts ∙ ap (λ m. w t + m) ((rest e).sum w none)
+          ∙ sym (sum_by-cons w t (change_first p (with_amount amount) ts));
+    }
+
+pub kept-amended : (net : Net) (tickets_of_all : List ℕ) (g h : Graph) (n amount : ℕ) → h ≡ amend g n amount
+    → is_found_held (ticket_of g n) ≡ false → IsCurrent net tickets_of_all g → IsCurrent net tickets_of_all h
+kept-amended net tickets_of_all g h n amount e unheld kept =
+    subst (IsCurrent net tickets_of_all) (sym e)
+    (kept-left net tickets_of_all g (amend g n amount) (routes-amend g n amount unheld) refl
+    (tickets-alike g (amend g n amount) (alike-amended (is_numbered n) amount g.tickets unheld) (λ f. refl)) kept)
 
 -- one more flow is open, and not active
 activity-opened : (es : List (NameBytes × OpenFlow)) (name : NameBytes) (f : ℕ) (k : ℕ)

@@ -5,6 +5,7 @@ use Rattle.share_model.specs.funding.Graph.{NameBytes, Graph}
 use Rattle.share_ledger.specs.declared.net.Net.{Net}
 use Rattle.share_ledger.specs.declared.routes.Route.{Route}
 use Rattle.share_ledger.specs.Arrays.{flags_of, numbers_of}
+use Rattle.share_ledger.specs.Routes.{amended}
 use Rattle.share_ledger.specs.Ranks.{AreRanks, AreListed}
 use Rattle.share_ledger.specs.FundingTickets.{backs_of, funds_of, AreTicketed, AreCounted, AreAwake, AreValued}
 use Rattle.share_ledger.specs.FundingTickets.{AreShared, AreSmall}
@@ -48,3 +49,12 @@ abbrev pub CeasesToFund : Net → Graph → Route → Bool → Type 0
 CeasesToFund n g r backing = (backs : List Route) × ((funds : List Route)
     × (HasInputs n backs funds (activity_of g) × GrowsBy backing (backs_of g) backs r
     × GrowsBy (not backing) (funds_of g) funds r))
+
+-- The graph has a route of the net with another amount. Without that route both have the same routes left.
+abbrev pub GetsAmount : Net → Graph → Route → ℕ → Bool → Type 0
+GetsAmount n g r amount backing = (backs : List Route) × ((funds : List Route)
+    × ((left_backs : List Route) × ((left_funds : List Route)
+    × (HasInputs n backs funds (activity_of g) × GrowsBy backing left_backs backs r
+    × GrowsBy (not backing) left_funds funds r
+    × GrowsBy backing left_backs (backs_of g) (amended amount r)
+    × GrowsBy (not backing) left_funds (funds_of g) (amended amount r)))))

@@ -30,6 +30,10 @@ route_of g t = record {
   amount = t.amount;
 }
 
+-- the route with another amount
+abbrev pub amended : ℕ → Route → Route
+amended amount r = record r { amount = amount }
+
 -- whether a holder is a currency, or whether it is a flow
 abbrev pub is_kind : Bool → Holder → Bool
 is_kind backing Nobody = false

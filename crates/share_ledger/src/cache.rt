@@ -1,10 +1,10 @@
 //! What is kept beside the tables: the net of funding tickets, weights and values by place, and the tickets of each
 //! open flow.
-ghost use Rattle.std.specs.Prelude.{◌≡◌, ℕ, ◌<◌, ◌+◌, ◌++◌, ◌∷◌, [], take, length, true, false, nat_eq};
+ghost use Rattle.std.specs.Prelude.{◌≡◌, ℕ, ◌<◌, ◌≤◌, ◌+◌, ◌^◌, ◌++◌, ◌∷◌, [], take, length, true, false, nat_eq};
 ghost use Rattle.std.specs.Prelude.{slice_index_or, IfOk};
 ghost use Rattle.std.specs.Prelude.{if◌then◌else◌};
 ghost use Rattle.share_ledger.specs.Bounds.{AreBefore, AreIdle};
-ghost use Rattle.share_ledger.specs.Nets.{activity_of, ComesToFund, CeasesToFund, HasInputs, IsReady};
+ghost use Rattle.share_ledger.specs.Nets.{activity_of, ComesToFund, CeasesToFund, GetsAmount, HasInputs, IsReady};
 ghost use Rattle.share_ledger.specs.Arrays.{flags_of};
 ghost use Rattle.share_ledger.specs.Routes.{IsRouteWithin, routes_of};
 ghost use Rattle.share_ledger.specs.FundingTickets.{backs_of, funds_of};
@@ -202,6 +202,18 @@ impl Cache {
         ensures { IsCurrent self.new.net self.new.tickets_of_all.value tables.now }
     {
         self.net.take(tables, route, backing);
+        self.follow(tables, route, backing);
+    }
+
+    /// Follows a ticket that backs a currency or funds a flow and got another amount.
+    pub(crate) fn amend(&mut self, tables: &Tables, route: &Route, amount: u32, backing: bool)
+        requires within { IsRouteWithin route.now }
+        requires small { amount ≤ 2 ^ 20 }
+        requires begun { GetsAmount self.old.net tables.now route.now amount backing }
+        requires was { WasCurrent self.old.net self.old.tickets_of_all.value 0 64 }
+        ensures { IsCurrent self.new.net self.new.tickets_of_all.value tables.now }
+    {
+        self.net.amend(tables, route, amount, backing);
         self.follow(tables, route, backing);
     }
 

@@ -1,5 +1,5 @@
-//! What commands do to the net: a ticket begins or ceases to fund.
-ghost use Rattle.std.specs.Prelude.{◌≡◌, ◌<◌, ℕ, Bool, length, true, false};
+//! What commands do to the net: a ticket begins or ceases to fund, or gets another amount.
+ghost use Rattle.std.specs.Prelude.{◌≡◌, ◌<◌, ◌≤◌, ◌^◌, ℕ, Bool, length, true, false};
 ghost use Rattle.std.specs.Prelude.{take, if◌then◌else◌};
 ghost use Rattle.share_model.specs.lists.Each.{Each};
 ghost use Rattle.share_ledger.specs.Chains.{AreBacked};
@@ -7,7 +7,7 @@ ghost use Rattle.share_ledger.specs.Ranks.{AreRanks, AreListed, IsRankedBelow, i
 ghost use Rattle.share_ledger.specs.Arrays.{numbers_of};
 ghost use Rattle.share_ledger.specs.Routes.{IsRouteWithin};
 ghost use Rattle.share_ledger.specs.FundingTickets.{IsFundingTicketWithin, funding_tickets_at, backs_of, funds_of};
-ghost use Rattle.share_ledger.specs.Nets.{activity_of, ComesToFund, CeasesToFund, HasInputs};
+ghost use Rattle.share_ledger.specs.Nets.{activity_of, ComesToFund, CeasesToFund, GetsAmount, HasInputs};
 ghost use Rattle.share_ledger.specs.Stale.{IsLeft};
 
 use crate::net::{self, Net};
@@ -140,5 +140,56 @@ impl Net {
             return;
         }
         self.take_funding(tables, route);
+    }
+    // Changes the amount of a ticket that backs a currency.
+    fn amend_backing(&mut self, tables: &Tables, route: &Route, amount: u32)
+        requires within { IsRouteWithin route.now }
+        requires small { amount ≤ 2 ^ 20 }
+        requires begun { GetsAmount self.old tables.now route.now amount true }
+        ensures begun { HasInputs self.new (backs_of tables.now) (funds_of tables.now) (activity_of tables.now) }
+        ensures left { IsLeft self.old self.new route.now.to 64 }
+    {
+        tables.is_kept();
+        let amended = Route { amount, ..*route };
+        remove_funding_ticket(route, &mut self.backing);
+        add_funding_ticket(&amended, &mut self.backing);
+        let before = amount_if(self.awake[route.to], route.amount);
+        let after = amount_if(self.awake[route.to], amount);
+        net::shrink(&mut self.weights, route.from, before);
+        net::grow(&mut self.weights, route.from, after);
+    }
+
+    // Changes the amount of a ticket that funds a flow.
+    fn amend_funding(&mut self, tables: &Tables, route: &Route, amount: u32)
+        requires within { IsRouteWithin route.now }
+        requires small { amount ≤ 2 ^ 20 }
+        requires begun { GetsAmount self.old tables.now route.now amount false }
+        ensures begun { HasInputs self.new (backs_of tables.now) (funds_of tables.now) (activity_of tables.now) }
+        ensures left { IsLeft self.old self.new 0 route.now.to }
+    {
+        tables.is_kept();
+        let amended = Route { amount, ..*route };
+        remove_funding_ticket(route, &mut self.funding);
+        add_funding_ticket(&amended, &mut self.funding);
+        let before = amount_if(self.active[route.to], route.amount);
+        let after = amount_if(self.active[route.to], amount);
+        net::shrink(&mut self.weights, route.from, before);
+        net::grow(&mut self.weights, route.from, after);
+    }
+
+    /// Changes the amount of a ticket that backs a currency or funds a flow. No rank changes.
+    pub(crate) fn amend(&mut self, tables: &Tables, route: &Route, amount: u32, backing: bool)
+        requires within { IsRouteWithin route.now }
+        requires small { amount ≤ 2 ^ 20 }
+        requires begun { GetsAmount self.old tables.now route.now amount backing }
+        ensures begun { HasInputs self.new (backs_of tables.now) (funds_of tables.now) (activity_of tables.now) }
+        ensures left { IsLeft self.old self.new
+            (if backing then route.now.to else 0) (if backing then 64 else route.now.to) }
+    {
+        if backing {
+            self.amend_backing(tables, route, amount);
+            return;
+        }
+        self.amend_funding(tables, route, amount);
     }
 }

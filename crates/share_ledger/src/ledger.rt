@@ -8,7 +8,7 @@ ghost use Rattle.share_model.specs.funding.Changes.{remove_currency_refusal, rem
 ghost use Rattle.share_model.specs.funding.Changes.{make_ticket, remove_ticket_refusal, remove_ticket};
 ghost use Rattle.share_model.specs.funding.Changes.{fund_currency_refusal, fund_currency, fund_flow_refusal, fund_flow};
 ghost use Rattle.share_model.specs.funding.Changes.{unfund_refusal, unfund, add_flow_refusal, add_flow, remove_flow};
-ghost use Rattle.share_model.specs.funding.Changes.{set_active};
+ghost use Rattle.share_model.specs.funding.Changes.{set_active, amend_refusal, amend};
 
 use crate::cache::Cache;
 use crate::tables::Tables;
@@ -106,6 +106,29 @@ impl Ledger {
             (λ e. (remove_ticket_refusal self.old ticket ≡ Some e) × (self.new ≡ self.old)) }
     {
         self.tables.remove_ticket(ticket)
+    }
+
+    /// Changes the amount of a ticket to 1 to 2^20 units, whatever the ticket funds. `Range` if the amount is out of
+    /// range, `NoTicket` if none has this number.
+    pub fn amend(&mut self, ticket: u64, amount: u64) -> Result<(), Refusal>
+        ensures done { IfOk result
+            (λ _. (amend_refusal self.old ticket amount ≡ None) × (self.new ≡ amend self.old ticket amount)) }
+        ensures refused { IfErr result
+            (λ e. (amend_refusal self.old ticket amount ≡ Some e) × (self.new ≡ self.old)) }
+    {
+        self.tables.is_kept();
+        if let Some(refusal) = self.tables.amend_refusal(ticket, amount) {
+            return Err(refusal);
+        }
+        let amount = amount as u32;
+        if !self.tables.is_held(ticket) {
+            self.tables.amend(ticket, amount);
+            return Ok(());
+        }
+        let (route, backing) = self.tables.route_of(ticket);
+        self.tables.amend(ticket, amount);
+        self.cache.amend(&self.tables, &route, amount, backing);
+        Ok(())
     }
 
     /// Makes a ticket fund a currency. `NoTicket` if none has this number, `NoCurrency` if none has this name, `Base`

@@ -1,6 +1,7 @@
 //! Worked figures, the limits and the orders of refusals, each a table of calls and their answers; and long runs
 //! compared with a plain model.
 
+mod amounts;
 mod chains;
 mod limits;
 mod many;
@@ -23,6 +24,7 @@ enum Change {
     RemoveCurrency(Name),
     MakeTicket(u64, Name),
     RemoveTicket(u64),
+    Amend(u64, u64),
     FundCurrency(u64, Name),
     FundFlow(u64, Name),
     Unfund(u64),
@@ -36,6 +38,8 @@ enum Call {
     RemoveCurrency(&'static str),
     MakeTicket(u64, &'static str),
     RemoveTicket(u64),
+    /// Gives the ticket of a number this amount.
+    Amend(u64, u64),
     Back(u64, &'static str),
     Fund(u64, &'static str),
     Unfund(u64),
@@ -106,6 +110,7 @@ fn apply(ledger: &mut Ledger, change: Change) -> Reply {
         Change::RemoveCurrency(name) => ledger.remove_currency(name),
         Change::MakeTicket(amount, currency) => return make_ticket(ledger, amount, currency),
         Change::RemoveTicket(ticket) => ledger.remove_ticket(ticket),
+        Change::Amend(ticket, amount) => ledger.amend(ticket, amount),
         Change::FundCurrency(ticket, currency) => ledger.fund_currency(ticket, currency),
         Change::FundFlow(ticket, flow) => ledger.fund_flow(ticket, flow),
         Change::Unfund(ticket) => ledger.unfund(ticket),
@@ -134,6 +139,7 @@ fn change_of(rt: &impl Abort, call: Call) -> Option<Change> {
         Call::RemoveCurrency(currency) => Change::RemoveCurrency(name(rt, currency)),
         Call::MakeTicket(amount, currency) => Change::MakeTicket(amount, name(rt, currency)),
         Call::RemoveTicket(ticket) => Change::RemoveTicket(ticket),
+        Call::Amend(ticket, amount) => Change::Amend(ticket, amount),
         Call::Back(ticket, currency) => Change::FundCurrency(ticket, name(rt, currency)),
         Call::Fund(ticket, flow) => Change::FundFlow(ticket, name(rt, flow)),
         Call::Unfund(ticket) => Change::Unfund(ticket),
@@ -269,6 +275,7 @@ fn plays(rt: &impl Abort, alloc: Global, tables: &[Table]) {
 fn ledgers_answer_as_worked(rt: HostRuntime) {
     let alloc = rt.alloc();
     shares::all(&rt, alloc);
+    amounts::all(&rt, alloc);
     chains::all(&rt, alloc);
     limits::all(&rt, alloc);
     refusals::all(&rt, alloc);

@@ -3,6 +3,7 @@
 mod asking;
 mod eight;
 mod faults;
+mod holding;
 mod made;
 mod memory;
 mod running;
@@ -19,6 +20,7 @@ use crate::tests::tariffs::ByByte;
 fn links_settle_as_worked(rt: HostRuntime) {
     let alloc = rt.alloc();
     asking::all(&rt, alloc, ByByte);
+    holding::all(&rt, alloc, ByByte);
     settling::all(&rt, alloc, ByByte);
     spending::all(&rt, alloc, ByByte);
     stopping::all(&rt, alloc, ByByte);

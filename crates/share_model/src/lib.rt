@@ -31,7 +31,7 @@ pub use laws::{
     shares_are_within_of_runs, shares_of_runs,
 };
 pub use line::{HolderKind, Line};
-pub use link::{Book, Counts, FlowLine, LinkState, Part, Row, Totals};
+pub use link::{Book, Counts, FlowLine, LinkState, Part, Row, Standing, Totals};
 pub use output::{Fault, put};
 pub use patient::PatientWriter;
 pub use rates::{Rate, Rates};

@@ -2,12 +2,13 @@
 
 use share_base::{FlowNo, Name};
 
-/// The books of an open flow: the number of its tariff on the shelf, from 1, and its account.
+/// The books of an open flow: the number of its tariff on the shelf, from 1, its account, and whether it is held.
 #[derive(Clone, Copy, Debug)]
 pub struct Book {
     pub flow: FlowNo,
     pub tariff: u64,
     pub account: u64,
+    pub held: bool,
 }
 
 /// A frame in part: the flow whose head packet it carries, and how many of its bytes are out.
@@ -79,17 +80,28 @@ pub struct Row {
     pub waiting: u32,
 }
 
+/// Whether an open flow takes part in the race for the link.
+#[derive(Clone, Copy, Debug, PartialEq, Eq)]
+pub enum Standing {
+    /// It competes.
+    In,
+    /// It has no packet or no tickets.
+    Out,
+    /// It is held.
+    Held,
+}
+
 /// What a report says of an open flow.
 #[derive(Clone, Copy, Debug)]
 pub struct FlowLine {
     pub flow: FlowNo,
     pub name: Name,
-    /// The tickets that it has now: 0 while it is idle.
+    /// The tickets that it has now: 0 while it is idle or held.
     pub tickets: u32,
     /// The packets in its buffer, a torn one not counted.
     pub waiting: u32,
     pub account: u64,
-    pub competing: bool,
+    pub standing: Standing,
     /// Its pass while it competes, its remain otherwise, which is 0 before it first competes.
     pub place: i128,
 }

@@ -1,5 +1,5 @@
 -- What the line of a flow shows.
-use Rattle.std.proofs.Common.{◌≡◌, ◌≤◌, ◌^◌, ℕ, ℤ, pos, negsuc, Bool, true, false, List, Option, None, Some}
+use Rattle.std.proofs.Common.{◌≡◌, ◌≤◌, ◌^◌, ℕ, ℤ, pos, negsuc, Bool, true, false, not, ◌&&◌, List, Option, None, Some}
 use Rattle.std.proofs.Common.{arith, rules, ◌∙◌, ap, refl}
 use Rattle.std.specs.FinMap.{get}
 use Rattle.std.specs.Prelude.{unwrap_or, IsTrue}
@@ -8,6 +8,7 @@ use Rattle.share_model.specs.declared.funding.OpenFlow.{OpenFlow}
 use Rattle.share_model.specs.declared.rates.Rate.{Rate}
 use Rattle.share_model.specs.declared.stride.Client.{Client}
 use Rattle.share_model.specs.funding.Graph.{NameBytes}
+use Rattle.share_model.specs.link.Books.{is_held}
 use Rattle.share_model.specs.link.Buffers.{is_busy}
 use Rattle.share_model.specs.link.Live.{Live}
 use Rattle.share_model.specs.run.Sound.{Sound}
@@ -15,12 +16,27 @@ use Rattle.share_model.proofs.lemmas.run.SoundLaws.{tickets-idle, flow-active}
 use Rattle.share_model.specs.stride.Bound.{IsBounded}
 use Rattle.share_model.proofs.lemmas.stride.BoundLaws.{distance-idle}
 use Rattle.share_model.specs.stride.Moves.{new_client, client, position}
-use Rattle.share_model.specs.text.Report.{flow_shown}
+use Rattle.share_model.specs.declared.link.Standing.TheVariants.{Held}
+use Rattle.share_model.specs.text.Report.{flow_shown, standing_of}
 
 pub idle_tickets : (life : ℕ) (rates : List Rate) (l : Live) (e : NameBytes × OpenFlow) → Sound life rates l
     → is_busy l.buffers e.1.number ≡ false → (flow_shown l e).tickets ≡ 0
 idle_tickets life rates l e sound idle =
-    tickets-idle l.graph e.1.number (flow-active sound e.1.number ∙ idle)
+    tickets-idle l.graph e.1.number
+    (flow-active sound e.1.number ∙ ap (λ busy. busy && not (is_held l.books e.1.number)) idle)
+
+never_awake : (busy : Bool) → (busy && false) ≡ false
+never_awake true = refl
+never_awake false = refl
+
+pub held_shown : (life : ℕ) (rates : List Rate) (l : Live) (e : NameBytes × OpenFlow) → Sound life rates l
+    → is_held l.books e.1.number ≡ true → ((flow_shown l e).tickets ≡ 0) × ((flow_shown l e).standing ≡ Held)
+held_shown life rates l e sound held = (
+  tickets-idle l.graph e.1.number
+      (flow-active sound e.1.number
+      ∙ (ap (λ h. is_busy l.buffers e.1.number && not h) held ∙ never_awake (is_busy l.buffers e.1.number))),
+  ap (λ h. standing_of h (position (client l.queue e.1.number)).competing) held,
+)
 
 none_from_bounds : (z : ℤ) → up z ≤ 0 → down z ≤ 0 → z ≡ pos 0
 none_from_bounds (pos n) above below = ap pos (omega (arith, above))

@@ -1,5 +1,5 @@
 -- How long lines are.
-use Rattle.std.proofs.Common.{◌≡◌, ◌<◌, ◌≤◌, ◌+◌, ◌-◌, ◌^◌, ℕ, suc, ℤ, pos, negsuc, Bool, true, false, List, [], ◌∷◌}
+use Rattle.std.proofs.Common.{◌≡◌, ◌<◌, ◌≤◌, ◌+◌, ◌-◌, ◌^◌, ℕ, suc, ℤ, pos, negsuc, List, [], ◌∷◌}
 use Rattle.std.proofs.Common.{◌++◌, length, arith, ◌∙◌, lit<, codes}
 use Rattle.std.specs.Prelude.{decimal, unsigned_abs}
 use Rattle.std.specs.List.{join_with_byte}
@@ -10,7 +10,9 @@ use Rattle.share_model.specs.declared.link.FlowLine.{FlowLine}
 use Rattle.share_report.specs.declared.text.Column.{Column}
 use Rattle.share_report.specs.declared.text.Column.TheVariants.{Left, Right}
 use Rattle.share_report.specs.Columns.{spaces, at_left, at_right, column_text, width_of}
-use Rattle.share_model.specs.text.Report.{total_line, standing, flow_line}
+use Rattle.share_model.specs.declared.link.Standing.{Standing}
+use Rattle.share_model.specs.declared.link.Standing.TheVariants.{In, Out, Held}
+use Rattle.share_model.specs.text.Report.{total_line, standing_word, flow_line}
 use Rattle.share_report.specs.Widths.{FitsColumns}
 
 pub length-column_text : (c : Column) (text : List ℕ) → length text ≤ width_of c → length (column_text c text)
@@ -33,9 +35,10 @@ length-total_line key value short narrow =
     let all = length-append (column_text (Left 8) key ++ column_text (Right 26) value) (codes "\n") in
     omega (arith, first, second, both, all)
 
-standing_fits : (competing : Bool) → length (standing competing) ≤ 3
-standing_fits true = omega arith
-standing_fits false = omega arith
+standing_fits : (s : Standing) → length (standing_word s) ≤ 3
+standing_fits In = omega arith
+standing_fits Out = omega arith
+standing_fits Held = omega arith
 
 place_fits : (z : ℤ) → unsigned_abs z < 10 ^ 25 → length (signed_decimal z) ≤ 26
 place_fits (pos n) small =
@@ -62,7 +65,7 @@ length-flow_line f fits =
     (length-decimal-le_wide 4 f.waiting (lit< tt) fits.waiting (omega (arith, fits.waiting))) in
     let account = length-column_text (Right 17) (decimal f.account)
     (length-decimal-le_wide 17 f.account (lit< tt) fits.account (omega (arith, fits.account))) in
-    let competing = length-column_text (Left 3) (standing f.competing) (standing_fits f.competing) in
+    let standing = length-column_text (Left 3) (standing_word f.standing) (standing_fits f.standing) in
     let place = length-column_text (Right 26) (signed_decimal f.place) (place_fits f.place fits.place) in
     length-joined _ _ _ _ _ _ _
-    ∙ omega (arith, flow, name, tickets, waiting, account, competing, place)
+    ∙ omega (arith, flow, name, tickets, waiting, account, standing, place)

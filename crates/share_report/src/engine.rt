@@ -2,12 +2,12 @@
 ghost use Rattle.std.specs.Prelude.{◌≡◌, ◌≤◌, ◌+◌, ◌*◌, ◌^◌, ◌++◌, [], length, slice_get, option_map};
 ghost use Rattle.share_model.specs.run.Sound.{Sound};
 ghost use Rattle.share_model.specs.io.Printing.{WritesText};
-ghost use Rattle.share_model.specs.text.Report.{flow_shown, flows_text, report};
+ghost use Rattle.share_model.specs.text.Report.{flow_shown, standing_of, flows_text, report};
 
 use crate::lines::{MAX_FLOW, MAX_TOTALS, push_flow, push_totals};
 use crate::text::ReportText;
 use share_core::{Engine, MAX_FLOWS};
-use share_model::{Fault, FlowLine, Rates, TellingWriter, put};
+use share_model::{Fault, FlowLine, Rates, Standing, TellingWriter, put};
 
 /// Writes the report of a link: a line for each of its totals, a line for each open flow, in order of opening, and the
 /// line `end`. A link whose life is spent is reported too. The call changes nothing and takes no memory: the text is
@@ -64,7 +64,20 @@ fn flow_at<W, S: Rates>(engine: &Engine<W, S>, n: u32) -> Option<FlowLine>
         tickets: engine.tickets(row.flow)?,
         waiting: row.waiting,
         account: engine.account(row.flow)?,
-        competing: position.competing,
+        standing: standing(engine.held(row.flow)?, position.competing),
         place: position.place,
     })
+}
+
+// A flow that is held does not compete.
+fn standing(held: bool, competing: bool) -> Standing
+    ensures { result ≡ standing_of held competing }
+{
+    if held {
+        Standing::Held
+    } else if competing {
+        Standing::In
+    } else {
+        Standing::Out
+    }
 }

@@ -1,10 +1,10 @@
 //! The lines of a report.
 ghost use Rattle.std.specs.Prelude.{◌≡◌, ◌≤◌, ◌+◌, ◌*◌, ◌++◌, length};
-ghost use Rattle.share_model.specs.text.Report.{total_line, totals_text, standing, link_number, flow_line};
+ghost use Rattle.share_model.specs.text.Report.{total_line, totals_text, standing_word, link_number, flow_line};
 
 use crate::text::{Column, ROOM, ReportText, WIDEST};
 use itoa::Integer;
-use share_model::{FlowLine, LinkState, Totals};
+use share_model::{FlowLine, LinkState, Standing, Totals};
 
 /// More bytes than the lines of the totals have.
 pub(crate) const MAX_TOTALS: usize = 1024;
@@ -73,15 +73,19 @@ pub fn push_flow(text: &mut ReportText, flow: &FlowLine)
     text.push(b" ");
     text.push_number(Column::Right(17), flow.account);
     text.push(b" ");
-    text.push_column(Column::Left(3), standing(flow.competing));
+    text.push_column(Column::Left(3), standing_word(flow.standing));
     text.push(b" ");
     text.push_number(Column::Right(WIDEST), flow.place);
     text.push(b"\n");
 }
 
-fn standing(competing: bool) -> &'static [u8]
-    ensures word { result.now ≡ standing competing }
+fn standing_word(standing: Standing) -> &'static [u8]
+    ensures word { result.now ≡ standing_word standing }
     ensures short { length result.now ≤ 3 }
 {
-    if competing { b"in" } else { b"out" }
+    match standing {
+        Standing::In => b"in",
+        Standing::Out => b"out",
+        Standing::Held => b"hld",
+    }
 }

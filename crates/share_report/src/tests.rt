@@ -25,6 +25,7 @@ enum Call {
     Turn(u32),
     Tear,
     Close(&'static str),
+    Hold(&'static str),
 }
 
 fn name(rt: &impl Abort, text: &str) -> Name {
@@ -54,6 +55,7 @@ fn command_of(rt: &impl Abort, call: Call) -> Option<Command> {
         }),
         Call::Unfund(ticket) => Some(Command::Unfund(ticket)),
         Call::Close(flow) => Some(Command::CloseFlow(name(rt, flow))),
+        Call::Hold(flow) => Some(Command::Hold(name(rt, flow))),
         Call::Send(_, _) => None,
         Call::Turn(_) => None,
         Call::Tear => None,

@@ -9,9 +9,9 @@ use Rattle.share_base.specs.declared.refusal.Refusal.TheVariants.{NoMemory}
 use Rattle.share_model.specs.declared.line.Line.{Line}
 use Rattle.share_model.specs.declared.line.Line.TheVariants.{Send}
 use Rattle.share_model.specs.text.Lines.{words_of, line_or_refusal, is_in_range, is_send, named_of, numbered_of}
-use Rattle.share_model.specs.text.Lines.{mktkt_of, fund_of, open_of, turn_of, torn_of, report_of, audit_of}
+use Rattle.share_model.specs.text.Lines.{mktkt_of, amend_of, fund_of, open_of, turn_of, torn_of, report_of, audit_of}
 use Rattle.share_base.specs.declared.command.Command.TheVariants.{MakeCurrency, RemoveCurrency, RemoveTicket}
-use Rattle.share_base.specs.declared.command.Command.TheVariants.{Unfund, CloseFlow}
+use Rattle.share_base.specs.declared.command.Command.TheVariants.{Unfund, CloseFlow, Hold, Resume}
 
 abbrev pub words_left : Option (List ℕ) → List (List ℕ)
 words_left None = []
@@ -27,6 +27,19 @@ last f [] = None
 last f (w ∷ []) = f w
 last f (w ∷ v ∷ ws) = None
 
+-- the lines of the rarer keywords
+abbrev pub rarer_line_by : List ℕ → List (List ℕ) → Option Line
+rarer_line_by w ws =
+    if bytes_eq w (codes "mkcur") then named_of MakeCurrency ws
+    else if bytes_eq w (codes "rmcur") then named_of RemoveCurrency ws
+    else if bytes_eq w (codes "hold") then named_of Hold ws
+    else if bytes_eq w (codes "resume") then named_of Resume ws
+    else if bytes_eq w (codes "amend") then amend_of ws
+    else if bytes_eq w (codes "torn") then torn_of ws
+    else if bytes_eq w (codes "report") then report_of ws
+    else if bytes_eq w (codes "audit") then audit_of ws
+    else None
+
 -- the lines that take no memory
 abbrev pub short_line_by : List ℕ → List (List ℕ) → Option Line
 short_line_by w ws =
@@ -37,12 +50,7 @@ short_line_by w ws =
     else if bytes_eq w (codes "fund") then fund_of ws
     else if bytes_eq w (codes "unfund") then numbered_of Unfund ws
     else if bytes_eq w (codes "rmtkt") then numbered_of RemoveTicket ws
-    else if bytes_eq w (codes "mkcur") then named_of MakeCurrency ws
-    else if bytes_eq w (codes "rmcur") then named_of RemoveCurrency ws
-    else if bytes_eq w (codes "torn") then torn_of ws
-    else if bytes_eq w (codes "report") then report_of ws
-    else if bytes_eq w (codes "audit") then audit_of ws
-    else None
+    else rarer_line_by w ws
 
 -- the packet for a flow, where there is a payload
 abbrev pub line_sent_by : List ℕ → Option (List ℕ) → Option Line

@@ -4,15 +4,15 @@ ghost use Rattle.std.specs.Prelude.{IfSome, if◌then◌else◌};
 ghost use Rattle.share_base.specs.declared.refusal.Refusal.TheVariants.{Syntax};
 ghost use Rattle.share_base.specs.declared.command.Command.{Command};
 ghost use Rattle.share_base.specs.declared.command.Command.TheVariants.{MakeCurrency, RemoveCurrency, RemoveTicket};
-ghost use Rattle.share_base.specs.declared.command.Command.TheVariants.{Unfund, CloseFlow};
+ghost use Rattle.share_base.specs.declared.command.Command.TheVariants.{Unfund, CloseFlow, Hold, Resume};
 ghost use Rattle.share_model.specs.declared.line.Line.TheVariants.{Change};
 ghost use Rattle.share_model.specs.text.Lines.{ReadsLine, IsReading, IsUnread, is_in_range, is_pairs, payload_of};
-ghost use Rattle.share_model.specs.text.Lines.{named_of, numbered_of, mktkt_of, fund_of, funding_of, open_of};
+ghost use Rattle.share_model.specs.text.Lines.{named_of, numbered_of, mktkt_of, amend_of, fund_of, funding_of, open_of};
 ghost use Rattle.share_model.specs.text.Lines.{send_of, turn_of, torn_of, report_of, audit_of, line_or_refusal};
 ghost use Rattle.share_model.specs.text.Lines.{line_by};
 ghost use Rattle.share_model.specs.text.Lines.{words_of};
 ghost use Rattle.std.specs.Str.{bytes_eq};
-ghost use Rattle.share_script.specs.Words.{ReadsRanged, short_line_by, line_sent_by};
+ghost use Rattle.share_script.specs.Words.{ReadsRanged, short_line_by, rarer_line_by, line_sent_by};
 
 use crate::payload::{decode_behind, is_payload};
 use crate::words::Words;
@@ -131,11 +131,26 @@ fn short_line(keyword: &[u8], words: &mut Words<'_>) -> Option<Line>
     if is_word(keyword, b"rmtkt") {
         return remove_ticket(words);
     }
+    rarer_line(keyword, words)
+}
+
+fn rarer_line(keyword: &[u8], words: &mut Words<'_>) -> Option<Line>
+    ensures { result ≡ rarer_line_by keyword.now words.old }
+{
     if is_word(keyword, b"mkcur") {
         return make_currency(words);
     }
     if is_word(keyword, b"rmcur") {
         return remove_currency(words);
+    }
+    if is_word(keyword, b"hold") {
+        return hold(words);
+    }
+    if is_word(keyword, b"resume") {
+        return resume(words);
+    }
+    if is_word(keyword, b"amend") {
+        return amend(words);
     }
     if is_word(keyword, b"torn") {
         return torn(words);
@@ -257,6 +272,29 @@ fn close(words: &mut Words<'_>) -> Option<Line>
     ensures { result ≡ named_of CloseFlow words.old }
 {
     Some(Line::Change(Command::CloseFlow(last_name(words)?)))
+}
+
+fn hold(words: &mut Words<'_>) -> Option<Line>
+    ensures { result ≡ named_of Hold words.old }
+{
+    Some(Line::Change(Command::Hold(last_name(words)?)))
+}
+
+fn resume(words: &mut Words<'_>) -> Option<Line>
+    ensures { result ≡ named_of Resume words.old }
+{
+    Some(Line::Change(Command::Resume(last_name(words)?)))
+}
+
+fn amend(words: &mut Words<'_>) -> Option<Line>
+    ensures { result ≡ amend_of words.old }
+{
+    let ticket = words.number()?;
+    let amount = words.number()?;
+    if !words.is_end() {
+        return None;
+    }
+    Some(Line::Change(Command::Amend { ticket, amount }))
 }
 
 fn remove_ticket(words: &mut Words<'_>) -> Option<Line>

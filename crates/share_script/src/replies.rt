@@ -135,5 +135,7 @@ fn refusal_text(refusal: Refusal) -> &'static str
         Refusal::Sending => "no 18 Sending",
         Refusal::BufferFull => "no 19 BufferFull",
         Refusal::Broken => "no 20 Broken",
+        Refusal::Held => "no 21 Held",
+        Refusal::NotHeld => "no 22 NotHeld",
     }
 }

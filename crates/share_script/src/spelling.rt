@@ -75,6 +75,12 @@ fn push_command(text: &mut ShortText, command: &Command)
             push_number(text, *tariff);
         }
         Command::CloseFlow(name) => push_named(text, "close", name),
+        Command::Hold(name) => push_named(text, "hold", name),
+        Command::Resume(name) => push_named(text, "resume", name),
+        Command::Amend { ticket, amount } => {
+            push_numbered(text, "amend", *ticket);
+            push_number(text, *amount);
+        }
     }
 }
 

@@ -20,7 +20,9 @@ Lines of a script, whose words are parted by one space:
   mktkt AMOUNT NAME, rmtkt TICKET       make or remove a ticket in a currency
   fund TICKET cur NAME                  let a ticket fund a currency
   fund TICKET flow NAME, unfund TICKET  let it fund a flow, or nothing
+  amend TICKET AMOUNT                   change the amount of a ticket in its place
   open NAME LIMIT TARIFF, close NAME    open or close a flow
+  hold NAME, resume NAME                stop a flow without closing it, and go on
   send NAME HEX                         a packet comes for a flow
   turn BYTES                            the link writes at most so many bytes
   torn                                  the writer is declared failed
@@ -71,6 +73,8 @@ Refusals:
   18 Sending     a frame of the flow is in part
   19 BufferFull  the buffer of the flow is full
   20 Broken      the link is broken
+  21 Held        the flow is held
+  22 NotHeld     the flow is not held
 Exit statuses:
   0  the script was run to its end; refused lines are no fault
   1  the script could not be read, the output could not be written, or memory
@@ -95,7 +99,9 @@ An ingress connection brings packets: the length of a flow's name in 1 byte, the
 name, the length of the payload in 2 bytes, the greater first, and the payload. A
 connection whose packet is none, or is cut short, ends.
 The uplink gets the frames: the bytes 4c 01, the number of the flow in 4 bytes, that
-of the packet in 4, the length of the payload in 2, and the payload.
+of the packet in 4, the length of the payload in 2, and the payload. Packets of flows
+that are held or have no tickets are not sent: they stay in the report as waiting,
+and are no fault.
 A life lasts for L events: each command that is answered, each packet that came for
 a flow, and each write call on the uplink is one, refused commands and packets too.
 When it is spent the ingress connections are ended, lines are answered 'no 2 Spent',
@@ -111,8 +117,9 @@ is sent. A reply that can't be written for some seconds then ends its connection
 and an uplink that takes nothing for so long has failed.
 A signal ends the process without an audit, and the file beside stays.
 Exit statuses:
-  0  all connections have ended, and all that came was sent or refused; refused
-     lines, and the way in which a connection ended, are no fault
+  0  all connections have ended, and all that came was sent or refused, or waits in
+     a flow that is held or has no tickets; refused lines, and the way in which a
+     connection ended, are no fault
   1  a fault, which standard error tells in its last line; once connections were
      accepted the audit and the report are written nevertheless
   2  the words of the command line are wrong";

@@ -1,13 +1,14 @@
 //! Packets that come for a flow.
-ghost use Rattle.std.specs.Prelude.{◌≡◌, false, IsSome};
-ghost use Rattle.share_model.specs.link.Buffers.{buffer_of};
+ghost use Rattle.std.specs.Prelude.{◌≡◌, ◌&&◌, not, false, IsSome};
+ghost use Rattle.share_model.specs.link.Books.{is_held};
+ghost use Rattle.share_model.specs.link.Buffers.{buffer_of, is_busy};
 ghost use Rattle.share_model.specs.link.Calls.{is_spent, Stepped, Steps};
 ghost use Rattle.share_model.specs.link.Fields.{IsBody};
 ghost use Rattle.share_model.specs.link.Arrivals.{arrive_in, arrive_step};
 ghost use Rattle.share_flows.specs.Places.{Stands};
 
 use super::Link;
-use super::levelling::wake;
+use super::levelling::set_active;
 use share_base::{Body, FlowNo, Name, Refusal, Reply};
 use share_flows::Place;
 use share_model::Rates;
@@ -27,6 +28,15 @@ impl<S: Rates> Link<S> {
         }
     }
 
+    // Whether a packet makes the flow of the buffer at a place active: it has none, and it is not held.
+    fn wakes_at(&self, place: &Place) -> bool
+        requires { Stands self.now.live.buffers place.now }
+        ensures { result
+            ≡ (not (is_busy self.now.live.buffers place.now.flow) && not (is_held self.now.live.books place.now.flow)) }
+    {
+        !self.buffers.is_busy_at(place) && !self.books.is_held_at(place.at, place.flow)
+    }
+
     // A packet comes for the flow of the buffer at a place.
     fn accept_at(&mut self, place: &Place, body: Body) -> Reply
         requires living { is_spent self.old ≡ false }
@@ -36,19 +46,20 @@ impl<S: Rates> Link<S> {
             (arrive_in self.old.live place.now.flow body.payload (buffer_of self.old.live.buffers place.now.flow))
             self.old result self.new }
     {
-        let busy = self.buffers.is_busy_at(place);
+        let wakes = self.wakes_at(place);
         let Ok(seq) = self.buffers.push_at(place, body) else {
             return self.refuse(Refusal::BufferFull);
         };
         self.counts.accepted += 1;
         self.counts.events += 1;
         let flow = place.flow;
-        if !busy {
-            wake(
+        if wakes {
+            set_active(
                 &mut self.queue,
                 &mut self.ledger,
                 &mut self.levelled_with,
                 flow,
+                true,
             );
         }
         Reply::Packet { flow, seq }

@@ -3,6 +3,7 @@
 ghost use Rattle.std.specs.Prelude.{◌≡◌, false};
 ghost use Rattle.share_base.specs.declared.command.Command.TheVariants.{MakeCurrency, RemoveCurrency, MakeTicket};
 ghost use Rattle.share_base.specs.declared.command.Command.TheVariants.{RemoveTicket, FundCurrency, FundFlow, Unfund};
+ghost use Rattle.share_base.specs.declared.command.Command.TheVariants.{Amend};
 ghost use Rattle.share_model.specs.link.Calls.{is_spent, CommandCall, CommandStep};
 
 use super::Link;
@@ -111,6 +112,20 @@ impl<S: Rates> Link<S> {
         }
     }
 
+    fn amend(&mut self, ticket: u64, amount: u64) -> Reply
+        requires { is_spent self.old ≡ false }
+        ensures { CommandStep self.old (Amend ticket amount) result self.new }
+    {
+        match self.ledger.amend(ticket, amount) {
+            Err(refusal) => self.refuse(refusal),
+            Ok(()) => {
+                self.counts.events += 1;
+                level(&mut self.queue, &self.ledger, &mut self.levelled_with);
+                Reply::Done
+            }
+        }
+    }
+
     /// Makes a command: one event, or no event where memory was refused.
     pub fn command(&mut self, command: Command) -> Reply
         requires { is_spent self.old ≡ false }
@@ -130,6 +145,9 @@ impl<S: Rates> Link<S> {
                 tariff,
             } => self.open_flow(name, limit, tariff),
             Command::CloseFlow(name) => self.close_flow(name),
+            Command::Hold(name) => self.hold_flow(name),
+            Command::Resume(name) => self.resume_flow(name),
+            Command::Amend { ticket, amount } => self.amend(ticket, amount),
         }
     }
 }

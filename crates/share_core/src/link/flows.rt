@@ -1,13 +1,17 @@
-//! Flows that are opened and closed.
-ghost use Rattle.std.specs.Prelude.{◌≡◌, false, None, if◌then◌else◌};
-ghost use Rattle.share_base.specs.declared.command.Command.TheVariants.{OpenFlow, CloseFlow};
+//! Flows that are opened, held, resumed and closed.
+ghost use Rattle.std.specs.Prelude.{◌≡◌, ◌&&◌, not, true, false, None, if◌then◌else◌};
+ghost use Rattle.share_base.specs.declared.command.Command.TheVariants.{OpenFlow, CloseFlow, Hold, Resume};
+ghost use Rattle.share_model.specs.link.Buffers.{is_busy};
 ghost use Rattle.share_model.specs.link.Commands.{IsClosable};
 ghost use Rattle.share_model.specs.link.Calls.{is_spent, Stepped, CommandCall, CommandStep};
 ghost use Rattle.share_model.specs.link.Commands.{open_flow_refusal, is_part_of, is_torn_of, waiting_of};
-ghost use Rattle.share_model.specs.link.Commands.{close_flow, closed_reply};
+ghost use Rattle.share_model.specs.link.Commands.{close_flow, closed_reply, hold_flow};
+ghost use Rattle.share_base.specs.declared.command.Reply.TheVariants.{Done};
+ghost use Rattle.share_model.specs.funding.Graph.{flow_numbers};
+ghost use Rattle.share_model.specs.lists.Rises.{has_number};
 
 use super::Link;
-use super::levelling::level_from_scratch;
+use super::levelling::{level_from_scratch, set_active};
 use share_base::{FlowNo, Name, Refusal, Reply};
 use share_flows::MAX_LIMIT;
 use share_model::Rates;
@@ -87,6 +91,64 @@ impl<S: Rates> Link<S> {
     {
         let held = self.buffers.len(flow);
         if self.is_torn(flow) { held - 1 } else { held }
+    }
+
+    pub fn hold_flow(&mut self, name: Name) -> Reply
+        requires { is_spent self.old ≡ false }
+        ensures { CommandStep self.old (Hold name) result self.new }
+    {
+        match self.ledger.flow(name) {
+            None => self.refuse(Refusal::NoFlow),
+            Some(flow) => {
+                if self.books.is_held(flow) {
+                    self.refuse(Refusal::Held)
+                } else {
+                    self.set_held(flow, true)
+                }
+            }
+        }
+    }
+
+    pub fn resume_flow(&mut self, name: Name) -> Reply
+        requires { is_spent self.old ≡ false }
+        ensures { CommandStep self.old (Resume name) result self.new }
+    {
+        match self.ledger.flow(name) {
+            None => self.refuse(Refusal::NoFlow),
+            Some(flow) => {
+                if self.books.is_held(flow) {
+                    self.set_held(flow, false)
+                } else {
+                    self.refuse(Refusal::NotHeld)
+                }
+            }
+        }
+    }
+
+    // Whether a flow is active once it is held or no longer: it is if it has a packet and is not held.
+    fn is_awake(&self, flow: FlowNo, held: bool) -> bool
+        ensures { result ≡ (is_busy self.now.live.buffers flow && not held) }
+    {
+        self.buffers.is_busy(flow) && !held
+    }
+
+    // Holds an open flow, or ends its hold.
+    fn set_held(&mut self, flow: FlowNo, held: bool) -> Reply
+        requires living { is_spent self.old ≡ false }
+        requires stands { has_number flow (flow_numbers self.old.live.graph.flows) ≡ true }
+        ensures { Stepped (hold_flow self.old.live flow held, Done) self.old result self.new }
+    {
+        let active = self.is_awake(flow, held);
+        self.books.hold(flow, held);
+        self.counts.events += 1;
+        set_active(
+            &mut self.queue,
+            &mut self.ledger,
+            &mut self.levelled_with,
+            flow,
+            active,
+        );
+        Reply::Done
     }
 
     pub fn close_flow(&mut self, name: Name) -> Reply

@@ -1,5 +1,5 @@
 //! Levelling: each open flow competes with as many tickets as it has.
-ghost use Rattle.std.specs.Prelude.{◌≡◌, ◌<◌, ◌≤◌, ◌+◌, ◌^◌, true, false, length, set, slice_get, None, IsSome, IfSome};
+ghost use Rattle.std.specs.Prelude.{◌≡◌, ◌<◌, ◌≤◌, ◌+◌, ◌^◌, true, length, set, slice_get, None, IsSome, IfSome};
 ghost use Rattle.share_model.specs.funding.Changes.{set_active};
 ghost use Rattle.std.specs.FinMap.{get};
 ghost use Rattle.share_model.specs.link.Live.{tickets_of_all};
@@ -41,39 +41,22 @@ pub fn level_from_scratch(queue: &mut Queue, ledger: &Ledger, levelled_with: &mu
     }
 }
 
-/// Makes a flow active, and levels the clients of all. It takes no memory.
-pub fn wake(
+/// Makes a flow active or idle, and levels the clients of all. It takes no memory.
+pub fn set_active(
     queue: &mut Queue,
     ledger: &mut Ledger,
     levelled_with: &mut [u32; MAX_FLOWS],
     flow: FlowNo,
+    active: bool,
 )
     requires level { IsLevel queue.old (tickets_of_all ledger.old) }
     requires levelled_with { AreTicketsOf levelled_with.old ledger.old }
-    requires can { CanLevel queue.old (tickets_of_all (set_active ledger.old flow true)) }
-    ensures ledger { ledger.new ≡ set_active ledger.old flow true }
+    requires can { CanLevel queue.old (tickets_of_all (set_active ledger.old flow active)) }
+    ensures ledger { ledger.new ≡ set_active ledger.old flow active }
     ensures queue { queue.new ≡ level_all queue.old (tickets_of_all ledger.new) }
     ensures levelled_with { AreTicketsOf levelled_with.new ledger.new }
 {
-    ledger.set_active(flow, true);
-    level(queue, ledger, levelled_with);
-}
-
-/// Makes a flow idle, and levels the clients of all. It takes no memory.
-pub fn rest(
-    queue: &mut Queue,
-    ledger: &mut Ledger,
-    levelled_with: &mut [u32; MAX_FLOWS],
-    flow: FlowNo,
-)
-    requires level { IsLevel queue.old (tickets_of_all ledger.old) }
-    requires levelled_with { AreTicketsOf levelled_with.old ledger.old }
-    requires can { CanLevel queue.old (tickets_of_all (set_active ledger.old flow false)) }
-    ensures ledger { ledger.new ≡ set_active ledger.old flow false }
-    ensures queue { queue.new ≡ level_all queue.old (tickets_of_all ledger.new) }
-    ensures levelled_with { AreTicketsOf levelled_with.new ledger.new }
-{
-    ledger.set_active(flow, false);
+    ledger.set_active(flow, active);
     level(queue, ledger, levelled_with);
 }
 

@@ -58,6 +58,14 @@ impl<S: Rates> Link<S> {
         Some(book.account)
     }
 
+    /// Whether an open flow is held.
+    pub fn held(&self, flow: FlowNo) -> Option<bool>
+        ensures { result ≡ option_map (λ b. b.held) (find (is_book_of flow) self.now.live.books) }
+    {
+        let book = self.books.book(flow)?;
+        Some(book.held)
+    }
+
     /// The number of the open flow of a name.
     pub fn flow(&self, name: &Name) -> Option<FlowNo>
         ensures { result ≡ option_map (λ f. f.number) (flow_named self.now.live.graph name.now) }

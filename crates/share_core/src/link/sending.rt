@@ -10,7 +10,7 @@ ghost use Rattle.share_core.specs.NextWrite.{IsNextWriteOf, IsWithinRest, Writes
 ghost use Rattle.share_flows.specs.Places.{Stands};
 
 use super::Link;
-use super::levelling::rest;
+use super::levelling::set_active;
 use crate::next_write::NextWrite;
 use share_base::{FlowNo, Turn};
 use share_frame::{HEADER, header};
@@ -93,11 +93,12 @@ impl<S: Rates> Link<S> {
         self.counts.written += 1;
         self.counts.sent += u64::from(k);
         if !self.buffers.is_busy_at(&buffer) {
-            rest(
+            set_active(
                 &mut self.queue,
                 &mut self.ledger,
                 &mut self.levelled_with,
                 flow,
+                false,
             );
         }
         Turn::Wrote {

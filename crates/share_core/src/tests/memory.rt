@@ -6,9 +6,9 @@
 //! count the drops of shelves and writers; the rest is seen over the allocator of `.ci/allocator.c` alone, as
 //! `.ci/memory` runs it.
 
-use super::{Call, FLOW, Row, TURN, Wanted, play};
+use super::{Call, FLOW, OTHER, Row, Seen, TURN, Wanted, ask, play};
 use crate::Engine;
-use share_base::{FlowNo, Refusal, Reply, Turn};
+use share_base::{Refusal, Reply, Turn};
 use share_model::allocator::{IS_HELD_OTHER, MARK_HELD, REFUSE_EACH, WAS_REFUSED};
 use share_model::{PlainWriter, Rates, TellingWriter, asks};
 use std::alloc::Global;
@@ -163,9 +163,6 @@ fn gives_its_writer<S: Rates + Copy>(rt: &impl Abort, alloc: Global, shelf: S, t
 /// Too long to stand in the place of a payload.
 const PAYLOAD: [u8; 40] = [b'x'; 40];
 
-/// A second flow, and its packets.
-const OTHER: FlowNo = FlowNo(2);
-
 const UNDER_WAY: [Row; 5] = [
     (Call::Open("a", 2, 1), Wanted::Opened),
     (Call::MakeTicket(10, "base"), Wanted::Ticket(1)),
@@ -273,17 +270,25 @@ const READY: [Row; 5] = [
 ];
 
 /// These calls take no memory. The payloads stand in their place, so that making them takes none either.
-const TAKE_NONE: [Row; 26] = [
+const TAKE_NONE: [Row; 34] = [
     (Call::Back(1, "x"), Wanted::Done),
     (Call::Fund(2, "a"), Wanted::Done),
     (Call::Send("a", b"hi"), Wanted::Packet(1)),
     (Call::Send("a", b"hi"), Wanted::Refused(Refusal::BufferFull)),
     (Call::Send("zz", b"hi"), Wanted::Refused(Refusal::NoFlow)),
     (Call::Tickets(1), Wanted::Number(10)),
+    (Call::Amend(1, 12), Wanted::Done),
+    (Call::Amend(9, 12), Wanted::Refused(Refusal::NoTicket)),
+    (Call::Tickets(1), Wanted::Number(12)),
     (Call::Turn(5), Wanted::Part(5)),
+    (Call::Hold("a"), Wanted::Done),
+    (Call::Hold("a"), Wanted::Refused(Refusal::Held)),
+    (Call::Held(1), Wanted::Held(true)),
     (TURN, Wanted::Is(Turn::Again)),
     (TURN, Wanted::Whole(9)),
     (TURN, Wanted::Is(Turn::Idle)),
+    (Call::Resume("a"), Wanted::Done),
+    (Call::Resume("a"), Wanted::Refused(Refusal::NotHeld)),
     (Call::Account(1), Wanted::Number(14)),
     (Call::Flow("a"), Wanted::Number(1)),
     (Call::Unfund(2), Wanted::Done),
@@ -312,7 +317,7 @@ const TAKE_NONE: [Row; 26] = [
             account: 14,
         }),
     ),
-    (Call::Events, Wanted::Number(23)),
+    (Call::Events, Wanted::Number(29)),
     (TURN, Wanted::Is(Turn::Broken)),
 ];
 
@@ -324,6 +329,82 @@ fn takes_no_memory<S: Rates>(rt: &impl Abort, alloc: Global, engine: &mut HeldEn
     let counted = engine.totals().bytes == 14 && engine.global().tickets == 0;
     let taken = asks!(alloc, WAS_REFUSED);
     assert!(rt; shown && counted && !taken, "a request for memory");
+}
+
+/// More requests than a command makes.
+const REQUESTS: u16 = 64;
+
+/// The commands that take memory, and how many requests each makes on a new link: a flow one for its ring and four for
+/// the table of flows, a currency four for the table of currencies, a ticket one for that of tickets.
+const GROWING: [Row; 3] = [
+    (Call::Open("a", 4, 1), Wanted::Opened),
+    (Call::MakeCurrency("x"), Wanted::Done),
+    (Call::MakeTicket(10, "base"), Wanted::Ticket(1)),
+];
+
+const GROWTHS: [u16; 3] = [5, 4, 1];
+
+fn answer_to<S: Rates>(
+    rt: &impl Abort,
+    alloc: Global,
+    engine: &mut HeldEngine<S>,
+    row: &Row,
+) -> Seen {
+    let (asked, _) = *row;
+    ask(rt, alloc, engine, asked)
+}
+
+fn wanted_of(row: &Row) -> Seen {
+    let (_, wanted) = *row;
+    wanted.seen()
+}
+
+// Makes a command whose request of this number is refused, and then once more. The answer is whether one was. A refused
+// one is no event and changes nothing, and the next takes the number that it would have taken.
+fn is_refused<S: Rates>(
+    rt: &impl Abort,
+    alloc: Global,
+    engine: &mut HeldEngine<S>,
+    row: &Row,
+    request: u16,
+) -> bool {
+    let before = engine.totals();
+    let _ = asks!(alloc, request);
+    let answer = answer_to(rt, alloc, engine, row);
+    let refused = asks!(alloc, WAS_REFUSED);
+    if refused {
+        let told = answer == Wanted::Refused(Refusal::NoMemory).seen();
+        let same = engine.events() == 0 && engine.totals() == before;
+        assert!(rt; told && same, "request {request}");
+        assert!(rt;
+            answer_to(rt, alloc, engine, row) == wanted_of(row),
+            "request {request}"
+        );
+    } else {
+        assert!(rt; answer == wanted_of(row), "request {request}");
+    }
+    refused
+}
+
+// Each request of each of these commands is refused in turn, on a new link each.
+fn finds_memory_at_last<S: Rates + Copy>(
+    rt: &impl Abort,
+    alloc: Global,
+    shelf: S,
+    tokens: &Tokens,
+) {
+    for at in 0..3 {
+        for request in 1..REQUESTS {
+            let mut engine = tokens.engine(rt, alloc, shelf, 64).expect(rt, "a link");
+            let refused = is_refused(rt, alloc, &mut engine, &GROWING[at], request);
+            drop(engine);
+            if !refused {
+                let asked = request - 1;
+                assert!(rt; asked == 0 || asked == GROWTHS[at], "{asked} requests");
+                break;
+            }
+        }
+    }
 }
 
 /// What is played on a new link.
@@ -347,6 +428,7 @@ fn all<S: Rates + Copy>(rt: &impl Abort, alloc: Global, shelf: S) {
     lives_are_out_of_range(rt, alloc, shelf, &tokens);
     is_refused_memory(rt, alloc, shelf, &tokens);
     gives_its_writer(rt, alloc, shelf, &tokens);
+    finds_memory_at_last(rt, alloc, shelf, &tokens);
     for (case, life) in [(Case::Packets, 64), (Case::Spent, 1), (Case::NoMemory, 64)] {
         let mut engine = tokens.engine(rt, alloc, shelf, life).expect(rt, "a link");
         plays(rt, alloc, &mut engine, case);

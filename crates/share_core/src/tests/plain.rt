@@ -61,6 +61,7 @@ struct Tenant {
     account: u64,
     next: u32,
     packets: Vec<Packet>,
+    held: bool,
     /// What its tickets are worth by now.
     worth: u64,
     /// The tickets with which it competes, or did last; 0 before it competed.
@@ -85,6 +86,7 @@ pub(crate) struct Told {
     pub(crate) waiting: u32,
     pub(crate) account: u64,
     pub(crate) tickets: u32,
+    pub(crate) held: bool,
     pub(crate) position: Position,
 }
 
@@ -231,6 +233,7 @@ impl Plain {
             waiting: self.waiting(tenant),
             account: tenant.account,
             tickets: tenant.capped(),
+            held: tenant.held,
             position: Position {
                 competing: tenant.competes,
                 tickets: tenant.tickets,

@@ -23,14 +23,15 @@ struct Pair<S: Rates> {
     state: u64,
 }
 
-/// What a run met: refusals by their numbers, and how many flows were closed, frames sent whole and in part, and events
-/// made.
+/// What a run met: refusals by their numbers, and how many flows were closed, frames sent whole, of held flows among
+/// them, frames sent in part, and events made.
 #[derive(Clone, Copy, Debug)]
 struct Met {
     refusals: u64,
     closed: u32,
     dropped: u64,
     whole: u32,
+    held: u32,
     parts: u32,
     again: u32,
     torn: u32,
@@ -43,6 +44,7 @@ const NOTHING: Met = Met {
     closed: 0,
     dropped: 0,
     whole: 0,
+    held: 0,
     parts: 0,
     again: 0,
     torn: 0,
@@ -160,6 +162,7 @@ fn ask<S: Rates>(
 fn is_gone<S: Rates>(rt: &impl Abort, engine: &Engine<Scripted, S>, flow: FlowNo) {
     assert_eq!(rt; engine.account(flow), None);
     assert_eq!(rt; engine.tickets(flow), None);
+    assert_eq!(rt; engine.held(flow), None);
     assert_eq!(rt; engine.position(flow), None);
 }
 
@@ -178,6 +181,7 @@ fn shows_row<S: Rates>(rt: &impl Abort, engine: &Engine<Scripted, S>, n: u32, to
 fn shows<S: Rates>(rt: &impl Abort, engine: &Engine<Scripted, S>, told: &Told) {
     assert_eq!(rt; engine.account(told.flow), Some(told.account));
     assert_eq!(rt; engine.tickets(told.flow), Some(told.tickets));
+    assert_eq!(rt; engine.held(told.flow), Some(told.held));
     assert_eq!(rt; engine.position(told.flow), Some(told.position));
 }
 
@@ -228,6 +232,20 @@ fn closed_by(outcome: &Outcome) -> Option<FlowNo> {
     }
 }
 
+// Whether the last bytes of a frame went out whose flow is held.
+fn is_of_held<S: Rates>(engine: &Engine<Scripted, S>, outcome: &Outcome) -> bool {
+    match outcome {
+        Outcome::Turned(
+            Turn::Wrote {
+                flow,
+                whole: true,
+                ..
+            },
+        ) => engine.held(*flow) == Some(true),
+        _ => false,
+    }
+}
+
 // Makes the event of a step on both, and compares them after it.
 fn goes_on<S: Rates>(
     rt: &impl Abort,
@@ -257,7 +275,11 @@ fn goes_through<S: Rates>(
     let mut met = NOTHING;
     let mut after: u32 = 0;
     for step in 0..world.steps {
-        met.add(goes_on(rt, alloc, pair, world, step)?);
+        let outcome = goes_on(rt, alloc, pair, world, step)?;
+        met.add(outcome);
+        if is_of_held(&pair.engine, &outcome) {
+            met.held = met.held.saturating_add(1);
+        }
         if pair.plain.broken() {
             after = after.saturating_add(1);
         }

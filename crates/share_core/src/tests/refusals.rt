@@ -8,7 +8,7 @@ use std::alloc::Global;
 use std::process::Abort;
 
 /// Each row is one event and changes nothing else.
-const ON_A_NEW_LINK: [(Call, Refusal); 12] = [
+const ON_A_NEW_LINK: [(Call, Refusal); 18] = [
     (Call::MakeTicket(0, "nope"), Refusal::Range),
     (Call::MakeTicket(1048577, "base"), Refusal::Range),
     (Call::MakeTicket(4294967297, "base"), Refusal::Range),
@@ -21,6 +21,12 @@ const ON_A_NEW_LINK: [(Call, Refusal); 12] = [
     (Call::Open("a", 1, 9), Refusal::NoTariff),
     (Call::Open("a", 1, 4294967297), Refusal::NoTariff),
     (Call::Send("zz", b"hi"), Refusal::NoFlow),
+    (Call::Hold("zz"), Refusal::NoFlow),
+    (Call::Resume("zz"), Refusal::NoFlow),
+    (Call::Amend(9, 0), Refusal::Range),
+    (Call::Amend(9, 1048577), Refusal::Range),
+    (Call::Amend(9, 4294967297), Refusal::Range),
+    (Call::Amend(9, 1), Refusal::NoTicket),
 ];
 
 const STILL_NEW: [Row; 2] = [
@@ -33,7 +39,7 @@ const AFTER_REFUSALS: [Row; 5] = [
     (Call::Tear, Wanted::Is(Turn::Idle)),
     (Call::Open("a", 1024, 4), Wanted::Opened),
     (Call::MakeTicket(1, "base"), Wanted::Ticket(1)),
-    (Call::Events, Wanted::Number(14)),
+    (Call::Events, Wanted::Number(20)),
 ];
 
 fn refuses_on_a_new_link<S: Rates>(
@@ -129,9 +135,32 @@ const ENDS_WITH_A_FAULT: [Row; 5] = [
     (Call::Tear, Wanted::Torn(0)),
 ];
 
-const SPENT: [Row; 4] = [
+/// Each row is one event.
+const ENDS_WITH_A_HOLD: [Row; 5] = [
+    (Call::Open("a", 1, 1), Wanted::Opened),
+    (Call::Hold("a"), Wanted::Done),
+    (Call::Hold("a"), Wanted::Refused(Refusal::Held)),
+    (Call::Resume("a"), Wanted::Done),
+    (Call::Resume("a"), Wanted::Refused(Refusal::NotHeld)),
+];
+
+/// Each row is one event.
+const ENDS_WITH_AN_AMENDED_TICKET: [Row; 5] = [
+    (Call::MakeTicket(1, "base"), Wanted::Ticket(1)),
+    (Call::Amend(1, 2), Wanted::Done),
+    (Call::Amend(1, 0), Wanted::Refused(Refusal::Range)),
+    (Call::Amend(2, 1), Wanted::Refused(Refusal::NoTicket)),
+    (Call::Amend(1, 1048576), Wanted::Done),
+];
+
+const SPENT: [Row; 9] = [
     (Call::MakeTicket(0, "nope"), Wanted::Refused(Refusal::Spent)),
     (Call::Send("zz", b"hi"), Wanted::Refused(Refusal::Spent)),
+    (Call::Hold("zz"), Wanted::Refused(Refusal::Spent)),
+    (Call::Hold("a"), Wanted::Refused(Refusal::Spent)),
+    (Call::Resume("zz"), Wanted::Refused(Refusal::Spent)),
+    (Call::Resume("a"), Wanted::Refused(Refusal::Spent)),
+    (Call::Amend(9, 0), Wanted::Refused(Refusal::Spent)),
     (TURN, Wanted::Is(Turn::Spent)),
     (Call::Tear, Wanted::Is(Turn::Spent)),
 ];
@@ -193,7 +222,12 @@ pub(super) fn plays<S: Rates>(
 // Each row of the tables is one event, and the first of them, as many as the life allows, are made.
 fn lives_end<S: Rates + Copy>(rt: &impl Abort, alloc: Global, shelf: S) {
     for life in 1..6 {
-        for rows in [&ENDS_WITH_A_FRAME, &ENDS_WITH_A_FAULT] {
+        for rows in [
+            &ENDS_WITH_A_FRAME,
+            &ENDS_WITH_A_FAULT,
+            &ENDS_WITH_A_HOLD,
+            &ENDS_WITH_AN_AMENDED_TICKET,
+        ] {
             let case = super::Case::Refused(Case::Life(life, rows));
             on_a_new_link(rt, alloc, shelf, life as u64, &[], case);
         }

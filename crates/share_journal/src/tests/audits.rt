@@ -126,6 +126,7 @@ fn show_the_same_flow<V, W, S: Rates>(
         (same.flow, same.name, same.waiting)
     );
     assert_eq!(rt; one.account(row.flow), other.account(row.flow));
+    assert_eq!(rt; one.held(row.flow), other.held(row.flow));
     assert_eq!(rt; one.tickets(row.flow), other.tickets(row.flow));
     assert_eq!(rt; one.position(row.flow), other.position(row.flow));
 }

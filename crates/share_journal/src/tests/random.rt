@@ -21,7 +21,7 @@ struct World {
 }
 
 /// The kinds of events.
-const KINDS: [&str; 12] = [
+const KINDS: [&str; 15] = [
     "MakeCurrency",
     "RemoveCurrency",
     "MakeTicket",
@@ -31,10 +31,16 @@ const KINDS: [&str; 12] = [
     "Unfund",
     "OpenFlow",
     "CloseFlow",
+    "Hold",
+    "Resume",
+    "Amend",
     "Arrived",
     "Written",
     "Faulted",
 ];
+
+/// The place of the last kind.
+const FAULTED: usize = 14;
 
 /// What a run met: how many calls were interrupted; and in its journal how many events there are, how many of each kind
 /// that were done, how many that were refused or came after a fault, how many packets were dropped, and how many frames
@@ -43,7 +49,7 @@ const KINDS: [&str; 12] = [
 struct Met {
     interrupted: u32,
     events: u64,
-    done: [u32; 12],
+    done: [u32; 15],
     refused: u32,
     after: u32,
     dropped: u32,
@@ -61,6 +67,9 @@ fn kind_of_command(command: &Command) -> usize {
         Command::Unfund(_) => 6,
         Command::OpenFlow { .. } => 7,
         Command::CloseFlow(_) => 8,
+        Command::Hold(_) => 9,
+        Command::Resume(_) => 10,
+        Command::Amend { .. } => 11,
     }
 }
 
@@ -68,9 +77,9 @@ fn kind_of_command(command: &Command) -> usize {
 fn kind_of(event: &Event) -> usize {
     match event {
         Event::Commanded(command) => kind_of_command(command),
-        Event::Arrived { .. } => 9,
-        Event::Written(_) => 10,
-        Event::Faulted => 11,
+        Event::Arrived { .. } => 12,
+        Event::Written(_) => 13,
+        Event::Faulted => FAULTED,
     }
 }
 
@@ -79,7 +88,7 @@ impl Met {
         Met {
             interrupted,
             events,
-            done: [0; 12],
+            done: [0; 15],
             refused: 0,
             after: 0,
             dropped: 0,
@@ -88,7 +97,7 @@ impl Met {
     }
 
     fn add(&mut self, event: &Event, reply: &Outcome) {
-        self.after = self.after.saturating_add(self.done[11]);
+        self.after = self.after.saturating_add(self.done[FAULTED]);
         match reply {
             Outcome::Replied(Reply::Refused(_)) => {
                 self.refused = self.refused.saturating_add(1);
@@ -178,7 +187,7 @@ fn run<S: Rates + Copy>(rt: &impl Abort, alloc: Global, shelf: S, world: &World,
 fn has_met(rt: &impl Abort, met: &Met, least: u32, faults: u32) {
     for (place, kind) in KINDS.iter().enumerate() {
         let done = met.done.get(place).copied().unwrap_or(0);
-        if place == 11 {
+        if place == FAULTED {
             assert_eq!(rt; done, faults, "{kind}");
         } else {
             assert!(rt; done >= least, "{kind} was done {done} times");

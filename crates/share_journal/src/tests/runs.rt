@@ -1,5 +1,8 @@
 //! Worked runs as tables: calls, what they answer, and what the writer, the journal and its audit are after them.
 
+mod holding;
+
+use holding::HOLDING;
 use share_base::{FlowNo, Outcome, Refusal, Reply, TicketNo, Turn};
 use share_model::Answer;
 
@@ -20,6 +23,9 @@ pub(super) enum Call {
     Unfund(u64),
     Open(&'static str, u64, u64),
     Close(&'static str),
+    Hold(&'static str),
+    Resume(&'static str),
+    Amend(u64, u64),
     Send(&'static str, &'static [u8]),
     Turn(u32),
     Tear,
@@ -244,7 +250,8 @@ const TORN_PACKET: Run = Run {
     audit: b"audit 1\nopen a 4 2\nmktkt 1 base\nfund 1 flow a\nsend a 6869\nturn 7\ntorn\nmkcur x\n",
 };
 
-/// Each kind of command, one frame by short writes, and refusals, of which one is the writer's interruption.
+/// Each kind of command but those of `HOLDING`, one frame by short writes, and refusals, of which one is the writer's
+/// interruption.
 const EVERY_COMMAND: Run = Run {
     life: 64,
     answers: &[
@@ -334,11 +341,12 @@ const EVERY_COMMAND: Run = Run {
         send abcdefghijklmnop 7a\nclose abcdefghijklmnop\n",
 };
 
-pub(super) const RUNS: [Run; 6] = [
+pub(super) const RUNS: [Run; 7] = [
     EVERY_KIND,
     FAULT,
     DECLARED_FAULT,
     ONE_EVENT,
     TORN_PACKET,
     EVERY_COMMAND,
+    HOLDING,
 ];

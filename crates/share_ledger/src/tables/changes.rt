@@ -4,6 +4,7 @@ ghost use Rattle.share_base.specs.Refusal.{IsRefused};
 ghost use Rattle.share_model.specs.funding.Changes.{with_holder, make_currency_refusal, make_currency};
 ghost use Rattle.share_model.specs.funding.Changes.{remove_currency_refusal, remove_currency, make_ticket_refusal};
 ghost use Rattle.share_model.specs.funding.Changes.{make_ticket, remove_ticket_refusal, remove_ticket};
+ghost use Rattle.share_model.specs.funding.Changes.{amend_refusal, amend};
 ghost use Rattle.share_model.specs.funding.Changes.{fund_currency_refusal, fund_currency, fund_flow_refusal, fund_flow};
 ghost use Rattle.share_model.specs.funding.Changes.{unfund, add_flow_refusal, add_flow, release_from};
 ghost use Rattle.share_model.specs.funding.Changes.{remove_flow, set_active};
@@ -85,6 +86,16 @@ impl Tables {
             self.tickets.remove(place);
         }
         Ok(())
+    }
+
+    /// Gives the first ticket of this number this amount.
+    pub(crate) fn amend(&mut self, number: u64, amount: u32)
+        requires { amend_refusal self.old number amount ≡ None }
+        ensures { self.new ≡ amend self.old number amount }
+    {
+        if let Some(place) = self.place_of_ticket(number) {
+            self.tickets[place].amount = amount;
+        }
     }
 
     // Gives the first ticket of this number this holder.

@@ -3,7 +3,8 @@ ghost use Rattle.std.specs.Prelude.{◌≡◌, Some};
 ghost use Rattle.share_model.specs.funding.Changes.{uses, make_currency_refusal};
 ghost use Rattle.share_model.specs.funding.Changes.{remove_currency_refusal, make_ticket_refusal};
 ghost use Rattle.share_model.specs.funding.Changes.{remove_ticket_refusal, fund_currency_refusal, fund_flow_refusal};
-ghost use Rattle.share_model.specs.funding.Changes.{unfund_refusal, add_flow_refusal};
+ghost use Rattle.share_model.specs.funding.Changes.{unfund_refusal, add_flow_refusal, amend_refusal};
+ghost use Rattle.share_model.specs.funding.Changes.{is_amount, ticket_of, is_found_held};
 ghost use Rattle.std.specs.List.{list_any};
 ghost use Rattle.share_ledger.specs.Ranks.{AreBacking};
 ghost use Rattle.share_ledger.specs.FundingTickets.{AreTicketed, funds_of};
@@ -52,7 +53,7 @@ impl Tables {
     pub(crate) fn make_ticket_refusal(&self, amount: u64, currency: Name) -> Option<Refusal>
         ensures { result ≡ make_ticket_refusal self.now amount currency }
     {
-        if amount < 1 || amount > MAX_AMOUNT {
+        if !is_amount(amount) {
             return Some(Refusal::Range);
         }
         if !self.is_currency(currency) {
@@ -75,6 +76,26 @@ impl Tables {
                 }
                 None
             }
+        }
+    }
+
+    /// Whether the ticket of a number has a holder.
+    pub(crate) fn is_held(&self, number: u64) -> bool
+        ensures { result ≡ is_found_held (ticket_of self.now number) }
+    {
+        match self.ticket(number) {
+            None => false,
+            Some(ticket) => holders::is_held(&ticket.holder),
+        }
+    }
+
+    pub(crate) fn amend_refusal(&self, number: u64, amount: u64) -> Option<Refusal>
+        ensures { result ≡ amend_refusal self.now number amount }
+    {
+        match self.ticket(number) {
+            _ if !is_amount(amount) => Some(Refusal::Range),
+            None => Some(Refusal::NoTicket),
+            Some(_) => None,
         }
     }
 
@@ -151,6 +172,13 @@ impl Tables {
         }
         None
     }
+}
+
+// Whether a ticket may have this amount.
+fn is_amount(amount: u64) -> bool
+    ensures { result ≡ is_amount amount }
+{
+    1 <= amount && amount <= MAX_AMOUNT
 }
 
 // Whether a ticket is denominated in the currency, or funds it.

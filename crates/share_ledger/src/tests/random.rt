@@ -12,7 +12,7 @@ use std::alloc::Global;
 use std::process::Abort;
 
 /// The refusals of each command, those for lack of memory or numbers left out; that of a full table is last.
-const REFUSALS: [&[Refusal]; 8] = [
+const REFUSALS: [&[Refusal]; 9] = [
     &[Refusal::Taken, Refusal::TableFull],
     &[Refusal::NoCurrency, Refusal::Base, Refusal::InUse],
     &[Refusal::Range, Refusal::NoCurrency, Refusal::TableFull],
@@ -34,6 +34,7 @@ const REFUSALS: [&[Refusal]; 8] = [
     ],
     &[Refusal::NoTicket, Refusal::Unfunded],
     &[Refusal::Taken, Refusal::TableFull],
+    &[Refusal::Range, Refusal::NoTicket],
 ];
 
 // The place of a command among those of `REFUSALS`.
@@ -47,6 +48,7 @@ fn kind_of(change: &Change) -> usize {
         Change::FundFlow(_, _) => 5,
         Change::Unfund(_) => 6,
         Change::Open(_) => 7,
+        Change::Amend(_, _) => 8,
     }
 }
 
@@ -58,14 +60,14 @@ fn bit_of(refusal: &Refusal) -> u64 {
 /// were removed while later ones were there, and how many flows were closed.
 #[derive(Clone, Copy)]
 struct Met {
-    refusals: [u64; 8],
+    refusals: [u64; 9],
     late: u32,
     middle: u32,
     closed: u32,
 }
 
 const NOTHING: Met = Met {
-    refusals: [0; 8],
+    refusals: [0; 9],
     late: 0,
     middle: 0,
     closed: 0,

@@ -62,23 +62,28 @@ const OF_A_FLOW_IN_ORDER: [Row; 5] = [
 const CUT: u64 = 4_294_967_297;
 
 /// A number that no ticket has is refused by each command that takes one.
-const NUMBERS_ARE_NOT_CUT: [Row; 11] = [
+const NUMBERS_ARE_NOT_CUT: [Row; 13] = [
     (Call::MakeTicket(1, "base"), Ok(Some(1))),
     (Call::Open("a"), Ok(Some(1))),
     (Call::Fund(CUT, "a"), Err(Refusal::NoTicket)),
     (Call::Back(CUT, "base"), Err(Refusal::NoTicket)),
     (Call::RemoveTicket(CUT), Err(Refusal::NoTicket)),
     (Call::Unfund(CUT), Err(Refusal::NoTicket)),
+    (Call::Amend(CUT, 1), Err(Refusal::NoTicket)),
     (Call::Fund(0, "a"), Err(Refusal::NoTicket)),
     (Call::Back(0, "base"), Err(Refusal::NoTicket)),
     (Call::RemoveTicket(0), Err(Refusal::NoTicket)),
     (Call::Unfund(0), Err(Refusal::NoTicket)),
+    (Call::Amend(0, 1), Err(Refusal::NoTicket)),
     (Call::Fund(1, "a"), DONE),
 ];
 
-const AMOUNTS_ARE_NOT_CUT: [Row; 2] = [
+const AMOUNTS_ARE_NOT_CUT: [Row; 5] = [
     (Call::MakeTicket(CUT, "base"), Err(Refusal::Range)),
     (Call::MakeTicket(u64::MAX, "base"), Err(Refusal::Range)),
+    (Call::MakeTicket(1, "base"), Ok(Some(1))),
+    (Call::Amend(1, CUT), Err(Refusal::Range)),
+    (Call::Amend(1, u64::MAX), Err(Refusal::Range)),
 ];
 
 const NAMES_ARE_APART: [Row; 14] = [

@@ -294,6 +294,11 @@ fn is_same_command(one: &Command, other: &Command) -> bool
                 if a == name && b == limit && c == tariff)
         }
         Command::CloseFlow(name) => matches!(other, Command::CloseFlow(b) if b == name),
+        Command::Hold(name) => matches!(other, Command::Hold(b) if b == name),
+        Command::Resume(name) => matches!(other, Command::Resume(b) if b == name),
+        Command::Amend { ticket, amount } => {
+            matches!(other, Command::Amend { ticket: a, amount: b } if a == ticket && b == amount)
+        }
     }
 }
 

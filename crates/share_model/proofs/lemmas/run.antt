@@ -16,6 +16,7 @@ pub mod PacketLaws
 pub mod QueueLaws
 pub mod ShareLaws
 pub mod SoundCloseLaws
+pub mod SoundHoldLaws
 pub mod SoundLaws
 pub mod SoundStepLaws
 pub mod SoundWriteLaws

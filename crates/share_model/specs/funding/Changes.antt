@@ -111,6 +111,20 @@ remove_ticket_refusal g n = first_refusal (
 abbrev pub remove_ticket : Graph → ℕ → Graph
 remove_ticket g n = record g { tickets = remove_key (is_numbered n) g.tickets }
 
+-- the ticket with this amount
+abbrev pub with_amount : ℕ → Ticket → Ticket
+with_amount amount t = record t { amount = amount }
+
+abbrev pub amend_refusal : Graph → ℕ → ℕ → Option Refusal
+amend_refusal g n amount = first_refusal (
+    (not (is_amount amount), Range)
+    ∷ (not (is_some (ticket_of g n)), NoTicket)
+    ∷ [])
+
+-- the amount of a ticket changes in its place, whatever the ticket funds
+abbrev pub amend : Graph → ℕ → ℕ → Graph
+amend g n amount = record g { tickets = change_first (is_numbered n) (with_amount amount) g.tickets }
+
 -- Funding, and its end
 abbrev pub fund_currency_refusal : Graph → ℕ → NameBytes → Option Refusal
 fund_currency_refusal g n c = first_refusal (

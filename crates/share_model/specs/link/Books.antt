@@ -1,12 +1,12 @@
 -- The books of the open flows, and what is posted to them.
-use Rattle.std.specs.Prelude.{ℕ, Bool, List, find, nat_eq, Option, None, Some}
+use Rattle.std.specs.Prelude.{ℕ, Bool, false, List, find, nat_eq, Option, None, Some}
 use Rattle.share_model.specs.declared.link.Book.{Book}
 use Rattle.share_model.specs.declared.rates.Rate.{Rate}
 use Rattle.share_model.specs.link.Tariff.{rate_of, units_of, post_of}
 use Rattle.share_model.specs.lists.Change.{change_first}
 
 abbrev pub new_book : ℕ → ℕ → Book
-new_book f tariff = record { flow = f; tariff = tariff; account = 0 }
+new_book f tariff = record { flow = f; tariff = tariff; account = 0; held = false }
 
 abbrev pub is_book_of : ℕ → Book → Bool
 is_book_of f b = nat_eq f b.flow
@@ -18,6 +18,23 @@ account_in (Some b) = b.account
 
 abbrev pub account_of : List Book → ℕ → ℕ
 account_of books f = account_in (find (is_book_of f) books)
+
+-- Holds
+
+-- whether a flow is held: no flow is that is not open
+abbrev pub is_held_by : Option Book → Bool
+is_held_by None = false
+is_held_by (Some b) = b.held
+
+abbrev pub is_held : List Book → ℕ → Bool
+is_held books f = is_held_by (find (is_book_of f) books)
+
+-- the flow is held from now on, or no longer
+abbrev pub with_hold : Bool → Book → Book
+with_hold held b = record b { held = held }
+
+abbrev pub books_with_hold : List Book → ℕ → Bool → List Book
+books_with_hold books f held = change_first (is_book_of f) (with_hold held) books
 
 -- What is posted
 

@@ -77,7 +77,7 @@ abbrev pub holds_packet : {A : Type 0} → Option (BufferOf A) → Bool
 holds_packet None = false
 holds_packet (Some b) = is_some_packet b.packets
 
--- a flow is active while its buffer holds a packet
+-- whether the buffer of a flow holds a packet
 abbrev pub is_busy : {A : Type 0} → List (BufferOf A) → ℕ → Bool
 is_busy bs f = holds_packet (buffer_of bs f)
 

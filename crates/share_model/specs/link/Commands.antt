@@ -4,18 +4,18 @@ use Rattle.std.specs.Prelude.{Option, None, Some, is_some, if◌then◌else◌, 
 use Rattle.std.specs.Set.{remove_key}
 use Rattle.share_base.specs.Refusal.{first_refusal}
 use Rattle.share_base.specs.declared.refusal.Refusal.{Refusal}
-use Rattle.share_base.specs.declared.refusal.Refusal.TheVariants.{Range, NoFlow, NoTariff, Taken, TableFull}
-use Rattle.share_base.specs.declared.refusal.Refusal.TheVariants.{Sending as SendingRefusal}
+use Rattle.share_base.specs.declared.refusal.Refusal.TheVariants.{Range, NoFlow, NoTariff, Taken, TableFull, Held}
+use Rattle.share_base.specs.declared.refusal.Refusal.TheVariants.{NotHeld, Sending as SendingRefusal}
 use Rattle.share_base.specs.declared.command.Command.{Command}
 use Rattle.share_base.specs.declared.command.Command.TheVariants.{MakeCurrency, RemoveCurrency, MakeTicket}
 use Rattle.share_base.specs.declared.command.Command.TheVariants.{RemoveTicket, FundCurrency, FundFlow, Unfund}
-use Rattle.share_base.specs.declared.command.Command.TheVariants.{OpenFlow, CloseFlow}
+use Rattle.share_base.specs.declared.command.Command.TheVariants.{OpenFlow, CloseFlow, Hold, Resume, Amend}
 use Rattle.share_base.specs.declared.command.Reply.{Reply}
 use Rattle.share_base.specs.declared.command.Reply.TheVariants.{Done, Ticket, Flow, Closed}
 use Rattle.share_model.specs.declared.link.Part.{Part}
 use Rattle.share_model.specs.declared.rates.Rate.{Rate}
 use Rattle.share_model.specs.link.Tariff.{rate_at}
-use Rattle.share_model.specs.link.Buffers.{open_in, close_in, count_in}
+use Rattle.share_model.specs.link.Buffers.{open_in, close_in, count_in, is_busy}
 use Rattle.share_model.specs.stride.Moves.{add, remove}
 use Rattle.share_model.specs.stride.Level.{level_one}
 use Rattle.share_model.specs.funding.Graph.{NameBytes, Graph, flow_numbers}
@@ -23,11 +23,11 @@ use Rattle.share_model.specs.funding.Changes.{make_currency_refusal, make_curren
 use Rattle.share_model.specs.funding.Changes.{remove_currency, make_ticket_refusal, make_ticket, remove_ticket_refusal}
 use Rattle.share_model.specs.funding.Changes.{remove_ticket, fund_currency_refusal, fund_currency, fund_flow_refusal}
 use Rattle.share_model.specs.funding.Changes.{fund_flow, unfund_refusal, unfund, flow_named, flow_number, add_flow}
-use Rattle.share_model.specs.funding.Changes.{remove_flow}
+use Rattle.share_model.specs.funding.Changes.{remove_flow, amend_refusal, amend, set_active}
 use Rattle.share_model.specs.lists.Rises.{has_number}
 use Rattle.share_model.specs.funding.Kept.{IsKept}
 use Rattle.share_model.specs.link.Live.{Live, with_one_event, by_refusal, with_level_queue}
-use Rattle.share_model.specs.link.Books.{account_of, is_book_of, new_book}
+use Rattle.share_model.specs.link.Books.{account_of, is_book_of, new_book, is_held, books_with_hold}
 
 -- Commands
 
@@ -87,6 +87,25 @@ close_flow l f = with_level_queue (record l {
 abbrev pub closed_reply : Live → ℕ → Reply
 closed_reply l f = Closed f (waiting_of l f) (account_of l.books f)
 
+abbrev pub hold_refusal : Live → NameBytes → Option Refusal
+hold_refusal l name = first_refusal (
+    (not (is_some (flow_named l.graph name)), NoFlow)
+    ∷ (is_held l.books (flow_number (flow_named l.graph name)), Held)
+    ∷ [])
+
+-- the flow is held or not, and active accordingly. Its frame in part goes on all the same
+abbrev pub hold_flow : Live → ℕ → Bool → Live
+hold_flow l f held = with_level_queue (record (with_one_event l) {
+  graph = set_active l.graph f (is_busy l.buffers f && not held);
+  books = books_with_hold l.books f held;
+})
+
+abbrev pub resume_refusal : Live → NameBytes → Option Refusal
+resume_refusal l name = first_refusal (
+    (not (is_some (flow_named l.graph name)), NoFlow)
+    ∷ (not (is_held l.books (flow_number (flow_named l.graph name))), NotHeld)
+    ∷ [])
+
 -- a command for which memory may be refused
 abbrev pub takes_memory : Command → Bool
 takes_memory (MakeCurrency name) = true
@@ -98,6 +117,9 @@ takes_memory (FundFlow ticket flow) = false
 takes_memory (Unfund ticket) = false
 takes_memory (OpenFlow name limit tariff) = true
 takes_memory (CloseFlow name) = false
+takes_memory (Hold name) = false
+takes_memory (Resume name) = false
+takes_memory (Amend ticket amount) = false
 
 abbrev pub command_refusal : List Rate → Live → Command → Option Refusal
 command_refusal rates l (MakeCurrency name) = make_currency_refusal l.graph name
@@ -109,6 +131,9 @@ command_refusal rates l (FundFlow ticket flow) = fund_flow_refusal l.graph ticke
 command_refusal rates l (Unfund ticket) = unfund_refusal l.graph ticket
 command_refusal rates l (OpenFlow name limit tariff) = open_flow_refusal rates l name limit tariff
 command_refusal rates l (CloseFlow name) = close_flow_refusal l name
+command_refusal rates l (Hold name) = hold_refusal l name
+command_refusal rates l (Resume name) = resume_refusal l name
+command_refusal rates l (Amend ticket amount) = amend_refusal l.graph ticket amount
 
 abbrev pub change_by_command : Live → Command → Live × Reply
 change_by_command l (MakeCurrency name) = (with_graph l (make_currency l.graph name), Done)
@@ -122,6 +147,9 @@ change_by_command l (Unfund ticket) = (with_graph l (unfund l.graph ticket), Don
 change_by_command l (OpenFlow name limit tariff) = (open_flow l name limit tariff, Flow l.graph.next_flow)
 change_by_command l (CloseFlow name) =
     let f = flow_number (flow_named l.graph name) in (close_flow l f, closed_reply l f)
+change_by_command l (Hold name) = (hold_flow l (flow_number (flow_named l.graph name)) true, Done)
+change_by_command l (Resume name) = (hold_flow l (flow_number (flow_named l.graph name)) false, Done)
+change_by_command l (Amend ticket amount) = (with_graph l (amend l.graph ticket amount), Done)
 
 abbrev pub command_step : List Rate → Live → Command → Live × Reply
 command_step rates l c = by_refusal l (command_refusal rates l c) (change_by_command l c)

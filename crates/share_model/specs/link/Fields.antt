@@ -5,7 +5,7 @@ use Rattle.share_base.specs.Name.{is_name}
 use Rattle.share_base.specs.declared.command.Command.{Command}
 use Rattle.share_base.specs.declared.command.Command.TheVariants.{MakeCurrency, RemoveCurrency, MakeTicket}
 use Rattle.share_base.specs.declared.command.Command.TheVariants.{RemoveTicket, FundCurrency, FundFlow, Unfund}
-use Rattle.share_base.specs.declared.command.Command.TheVariants.{OpenFlow, CloseFlow}
+use Rattle.share_base.specs.declared.command.Command.TheVariants.{OpenFlow, CloseFlow, Hold, Resume, Amend}
 
 abbrev pub IsName : List ℕ → Type 0
 IsName w = is_name w ≡ true
@@ -36,3 +36,6 @@ HasCommandFields (FundFlow ticket flow) = IsNumber ticket × IsName flow
 HasCommandFields (Unfund ticket) = IsNumber ticket
 HasCommandFields (OpenFlow name limit tariff) = IsName name × IsNumber limit × IsNumber tariff
 HasCommandFields (CloseFlow name) = IsName name
+HasCommandFields (Hold name) = IsName name
+HasCommandFields (Resume name) = IsName name
+HasCommandFields (Amend ticket amount) = IsNumber ticket × IsNumber amount

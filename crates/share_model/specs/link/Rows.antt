@@ -85,7 +85,7 @@ two_packets tariff part = record {
       next_flow = 2;
     };
     buffers = record { flow = 1; limit = 4; next = 3; packets = hi ∷ hi ∷ [] } ∷ [];
-    books = record { flow = 1; tariff = tariff; account = 0 } ∷ [];
+    books = record { flow = 1; tariff = tariff; account = 0; held = false } ∷ [];
     part = part;
     counts = record no_counts { events = 3; accepted = 2 };
   };

@@ -1,6 +1,6 @@
 -- Which frame is sent, and what the writer's answers make of it.
-use Rattle.std.specs.Prelude.{ℕ, ◌+◌, Bool, true, false, List, length, drop, nat_eq, Option, None, Some, option_map}
-use Rattle.std.specs.Prelude.{option_and_then, if◌then◌else◌}
+use Rattle.std.specs.Prelude.{ℕ, ◌+◌, Bool, true, false, not, ◌&&◌, List, length, drop, nat_eq, Option, None, Some}
+use Rattle.std.specs.Prelude.{option_map, option_and_then, if◌then◌else◌}
 use Rattle.share_base.specs.declared.command.Turn.{Turn}
 use Rattle.share_base.specs.declared.command.Turn.TheVariants.{Wrote, Torn}
 use Rattle.share_model.specs.declared.link.Part.{Part}
@@ -10,7 +10,7 @@ use Rattle.share_model.specs.link.Buffers.{Buffer, pop_in, head_of, is_busy}
 use Rattle.share_model.specs.stride.Moves.{next, charge}
 use Rattle.share_model.specs.funding.Changes.{set_active}
 use Rattle.share_model.specs.link.Live.{Live, with_level_queue, with_one_event}
-use Rattle.share_model.specs.link.Books.{books_with_units, units_due}
+use Rattle.share_model.specs.link.Books.{books_with_units, units_due, is_held}
 
 -- Which packet is sent
 
@@ -55,7 +55,7 @@ whole rates l s k =
     let units = units_due rates l.books s.head.flow (length (frame s.head)) in
     let left = pop_in l.buffers s.head.flow in
     with_level_queue (record l {
-      graph = set_active l.graph s.head.flow (is_busy left s.head.flow);
+      graph = set_active l.graph s.head.flow (is_busy left s.head.flow && not (is_held l.books s.head.flow));
       queue = charge l.queue s.head.flow units;
       buffers = left;
       books = books_with_units rates l.books s.head.flow units;

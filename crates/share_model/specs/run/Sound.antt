@@ -1,8 +1,9 @@
 -- What holds of every link that events have made, layer by layer: the bounds that keep each number in its type, and the
 -- ties between the funding, the queue, the buffers and the books. Callers learn it from each call; the laws say that
 -- each event keeps it.
-use Rattle.std.specs.Prelude.{◌≡◌, ◌⊎◌, ◌<◌, ◌≤◌, ◌+◌, ◌-◌, ◌*◌, ◌^◌, ℕ, Bool, true, false, List, map, length, sum_by}
-use Rattle.std.specs.Prelude.{Option, None, Some, IsTrue, is_some}
+use Rattle.std.specs.Prelude.{◌≡◌, ◌⊎◌, ◌<◌, ◌≤◌, ◌+◌, ◌-◌, ◌*◌, ◌^◌, ℕ, Bool, true, false, not, List, map, length}
+use Rattle.std.specs.Prelude.{sum_by}
+use Rattle.std.specs.Prelude.{◌&&◌, Option, None, Some, IsTrue, is_some}
 use Rattle.std.specs.FinMap as finmap
 use Rattle.std.specs.FinMap.{get}
 use Rattle.share_model.specs.lists.Each.{Each}
@@ -15,6 +16,7 @@ use Rattle.share_model.specs.declared.funding.OpenFlow.{OpenFlow}
 use Rattle.share_model.specs.link.Fields.{IsBody}
 use Rattle.share_model.specs.link.Tariff.{rate_at}
 use Rattle.share_model.specs.link.Frame.{Packet, frame}
+use Rattle.share_model.specs.link.Books.{is_held}
 use Rattle.share_model.specs.link.Buffers.{Buffer, buffer_of, head_of, is_some_packet}
 use Rattle.share_model.specs.link.Totals.{packets_in}
 use Rattle.share_model.specs.funding.Graph.{NameBytes, Graph, flow_numbers}
@@ -48,12 +50,16 @@ pub record FundingIsSound (events : ℕ) (g : Graph) : Type 0 where
   pub next_ticket : g.next_ticket ≤ events + 1
   pub next_flow : g.next_flow ≤ events + 1
 
--- each open flow has a buffer and a book, in order of opening, and is active if its buffer holds a packet
+-- a flow is active while its buffer holds a packet and it is not held
+abbrev pub is_awake : List Book → Buffer → Bool
+is_awake books b = is_some_packet b.packets && not (is_held books b.flow)
+
+-- each open flow has a buffer and a book, in order of opening, and is active accordingly
 pub record FlowsAreTied (es : List (NameBytes × OpenFlow)) (buffers : List Buffer) (books : List Book) : Type 0 where
   pub buffered : map (λ (b : Buffer). b.flow) buffers ≡ flow_numbers es
   pub booked : map (λ (b : Book). b.flow) books ≡ flow_numbers es
   pub active : map (λ (e : NameBytes × OpenFlow). e.1.active) es
-      ≡ map (λ (b : Buffer). is_some_packet b.packets) buffers
+      ≡ map (is_awake books) buffers
 
 -- ---- The queue
 

@@ -12,11 +12,11 @@ use Rattle.share_base.specs.declared.refusal.Refusal.{Refusal}
 use Rattle.share_base.specs.declared.refusal.Refusal.TheVariants.{NoMemory, Spent, Syntax, Range, NoCurrency, NoTicket}
 use Rattle.share_base.specs.declared.refusal.Refusal.TheVariants.{NoFlow, NoTariff, Taken, Base, InUse, Funding}
 use Rattle.share_base.specs.declared.refusal.Refusal.TheVariants.{Unfunded, Crowded, Cycle, Deep, TableFull, Sending}
-use Rattle.share_base.specs.declared.refusal.Refusal.TheVariants.{BufferFull, Broken}
+use Rattle.share_base.specs.declared.refusal.Refusal.TheVariants.{BufferFull, Broken, Held, NotHeld}
 use Rattle.share_base.specs.declared.command.Command.{Command}
 use Rattle.share_base.specs.declared.command.Command.TheVariants.{MakeCurrency, RemoveCurrency, MakeTicket}
 use Rattle.share_base.specs.declared.command.Command.TheVariants.{RemoveTicket, FundCurrency, FundFlow, Unfund}
-use Rattle.share_base.specs.declared.command.Command.TheVariants.{OpenFlow, CloseFlow}
+use Rattle.share_base.specs.declared.command.Command.TheVariants.{OpenFlow, CloseFlow, Hold, Resume, Amend}
 use Rattle.share_model.specs.declared.line.HolderKind.{HolderKind}
 use Rattle.share_model.specs.declared.line.HolderKind.TheVariants.{Currency as CurrencyKind, Flow as FlowKind}
 use Rattle.share_model.specs.declared.line.Line.{Line}
@@ -63,6 +63,9 @@ command_words (FundFlow ticket flow) = codes "fund" ∷ decimal ticket ∷ codes
 command_words (Unfund ticket) = codes "unfund" ∷ decimal ticket ∷ []
 command_words (OpenFlow name limit tariff) = codes "open" ∷ name ∷ decimal limit ∷ decimal tariff ∷ []
 command_words (CloseFlow name) = codes "close" ∷ name ∷ []
+command_words (Hold name) = codes "hold" ∷ name ∷ []
+command_words (Resume name) = codes "resume" ∷ name ∷ []
+command_words (Amend ticket amount) = codes "amend" ∷ decimal ticket ∷ decimal amount ∷ []
 
 abbrev pub words : Line → List (List ℕ)
 words (Change c) = command_words c
@@ -190,6 +193,12 @@ mktkt_of ws = do
   currency ← field name_of amount.1
   line_at_end currency.1 (Change (MakeTicket amount.0 currency.0))
 
+abbrev pub amend_of : List (List ℕ) → Option Line
+amend_of ws = do
+  ticket ← field number_of ws
+  amount ← field number_of ticket.1
+  line_at_end amount.1 (Change (Amend ticket.0 amount.0))
+
 abbrev pub fund_of : List (List ℕ) → Option Line
 fund_of ws = do
   ticket ← field number_of ws
@@ -231,6 +240,9 @@ line_by w ws =
     else if bytes_eq w (codes "rmtkt") then numbered_of RemoveTicket ws
     else if bytes_eq w (codes "mkcur") then named_of MakeCurrency ws
     else if bytes_eq w (codes "rmcur") then named_of RemoveCurrency ws
+    else if bytes_eq w (codes "hold") then named_of Hold ws
+    else if bytes_eq w (codes "resume") then named_of Resume ws
+    else if bytes_eq w (codes "amend") then amend_of ws
     else if bytes_eq w (codes "torn") then torn_of ws
     else if bytes_eq w (codes "report") then report_of ws
     else if bytes_eq w (codes "audit") then audit_of ws
@@ -286,6 +298,8 @@ IsUnread bs TableFull = ⊥
 IsUnread bs Sending = ⊥
 IsUnread bs BufferFull = ⊥
 IsUnread bs Broken = ⊥
+IsUnread bs Held = ⊥
+IsUnread bs NotHeld = ⊥
 
 -- a reading that may have found no memory for a payload
 abbrev pub ReadsLine : List ℕ → Result Line Refusal → Type 0

@@ -6,11 +6,13 @@ use Rattle.share_model.specs.declared.funding.OpenFlow.{OpenFlow}
 use Rattle.share_model.specs.declared.link.FlowLine.{FlowLine}
 use Rattle.share_model.specs.declared.link.LinkState.{LinkState}
 use Rattle.share_model.specs.declared.link.LinkState.TheVariants.{Free, InPart, Torn}
+use Rattle.share_model.specs.declared.link.Standing.{Standing}
+use Rattle.share_model.specs.declared.link.Standing.TheVariants.{In, Out, Held}
 use Rattle.share_model.specs.declared.link.Totals.{Totals}
 use Rattle.share_model.specs.funding.Graph.{NameBytes, tickets}
 use Rattle.share_model.specs.link.Live.{Live}
 use Rattle.share_model.specs.link.Commands.{waiting_of}
-use Rattle.share_model.specs.link.Books.{account_of}
+use Rattle.share_model.specs.link.Books.{account_of, is_held}
 use Rattle.share_model.specs.link.Totals.{totals}
 use Rattle.share_model.specs.stride.Moves.{client, position}
 use Rattle.share_model.specs.text.Columns.{at_left, at_right}
@@ -46,9 +48,10 @@ totals_text t = flat_map total_line (totals_shown t)
 
 -- Open flows
 
-abbrev pub standing : Bool → List ℕ
-standing true = codes "in"
-standing false = codes "out"
+abbrev pub standing_word : Standing → List ℕ
+standing_word In = codes "in"
+standing_word Out = codes "out"
+standing_word Held = codes "hld"
 
 abbrev pub fields_of : FlowLine → List (List ℕ)
 fields_of f =
@@ -58,7 +61,7 @@ fields_of f =
     ∷ at_right 7 (decimal f.tickets)
     ∷ at_right 4 (decimal f.waiting)
     ∷ at_right 17 (decimal f.account)
-    ∷ at_left 3 (standing f.competing)
+    ∷ at_left 3 (standing_word f.standing)
     ∷ at_right 26 (signed_decimal f.place)
     ∷ []
 
@@ -70,6 +73,12 @@ flow_line f = join_with_byte 32 (fields_of f) ++ codes "\n"
 
 unfoldable pub report_text : Totals → List FlowLine → List ℕ
 report_text t flows = totals_text t ++ flat_map flow_line flows ++ codes "end\n"
+
+-- a flow that is held does not compete
+abbrev pub standing_of : Bool → Bool → Standing
+standing_of true competing = Held
+standing_of false true = In
+standing_of false false = Out
 
 -- what the report shows of an open flow: the tickets that it has now, not those with which it competed last; its pass
 -- if it competes, else its remain
@@ -83,7 +92,7 @@ flow_shown l e =
       tickets = tickets l.graph f;
       waiting = waiting_of l f;
       account = account_of l.books f;
-      competing = at.competing;
+      standing = standing_of (is_held l.books f) at.competing;
       place = at.place;
     }
 

@@ -1,9 +1,10 @@
 -- Reports, checked against worked examples: each equation holds by computation alone.
-use Rattle.std.specs.Prelude.{◌≡◌, ℕ, pos, true, List, [], ◌∷◌, ◌++◌, codes, refl}
+use Rattle.std.specs.Prelude.{◌≡◌, ℕ, pos, List, [], ◌∷◌, ◌++◌, codes, refl}
 use Rattle.std.specs.Fmt.{digits}
 use Rattle.std.proofs.Common.{ap, ◌∙◌, subst}
 use Rattle.share_model.specs.declared.link.FlowLine.{FlowLine}
 use Rattle.share_model.specs.declared.link.LinkState.TheVariants.{Free, Torn}
+use Rattle.share_model.specs.declared.link.Standing.TheVariants.{In}
 use Rattle.share_model.specs.declared.link.Totals.{Totals}
 use Rattle.share_model.specs.link.Live.{empty_link}
 use Rattle.share_model.specs.link.Totals.{totals}
@@ -76,7 +77,7 @@ torn_flow = record {
   tickets = 1;
   waiting = 0;
   account = 128;
-  competing = true;
+  standing = In;
   place = pos 1168231104512;
 }
 

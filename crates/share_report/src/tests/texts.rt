@@ -1,4 +1,6 @@
 //! Calls of a link, and the report of what it holds after them.
+mod holding;
+
 use super::Call;
 
 /// The only packet of a flow is torn after 7 bytes.
@@ -210,7 +212,7 @@ const CLOSED_SHOWS: &str = "clock                           13\n\
     end\n";
 
 /// Links by the calls that they were made, and their reports.
-pub fn links() -> [(&'static [Call], &'static str); 8] {
+pub fn links() -> [(&'static [Call], &'static str); 10] {
     [
         (&[], NEW_SHOWS),
         (TORN, TORN_SHOWS),
@@ -220,5 +222,7 @@ pub fn links() -> [(&'static [Call], &'static str); 8] {
         (IDLE, IDLE_SHOWS),
         (BEHIND, BEHIND_SHOWS),
         (CLOSED, CLOSED_SHOWS),
+        (holding::HELD_IN_PART, holding::HELD_IN_PART_SHOWS),
+        (holding::HELD, holding::HELD_SHOWS),
     ]
 }

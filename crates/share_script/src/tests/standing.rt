@@ -44,6 +44,8 @@ macro_rules! shared {
     };
 }
 
+mod holding;
+
 /// What a row tells, its script, where some flows stand after it, and what all flows share.
 type Row = (
     &'static str,
@@ -283,19 +285,24 @@ fn a_torn_flow_is_closed<S: Rates + Copy>(rt: &impl Abort, alloc: Global, shelf:
     assert_eq!(rt; totals.link, LinkState::Torn);
 }
 
-fn flows_stand_as_worked<S: Rates + Copy>(rt: &impl Abort, alloc: Global, shelf: S) {
+fn flows_stand_as_worked<S: Rates + Copy>(
+    rt: &impl Abort,
+    alloc: Global,
+    shelf: S,
+) -> Result<(), Fail> {
     for row in &ROWS {
         stands(rt, alloc, shelf, row);
     }
     a_closed_flow_is_counted(rt, alloc, shelf);
     a_torn_flow_is_closed(rt, alloc, shelf);
+    holding::all(rt, alloc, shelf)
 }
 
 #[test]
 fn flows_stand_in_the_queue_after_scripts(rt: HostRuntime) -> Result<(), Fail> {
     let alloc = rt.alloc();
     let shelf = shelf!(alloc);
-    flows_stand_as_worked(&rt, alloc, &shelf);
+    let worked = flows_stand_as_worked(&rt, alloc, &shelf);
     drop(shelf);
-    Ok(())
+    worked
 }

@@ -1,5 +1,7 @@
 //! Lines and answers that are written, against their texts.
 
+mod holding;
+
 use crate::{read_line, write_line, write_reply, write_turn};
 use share_base::{Body, Command, FlowNo, Name, Outcome, Refusal, Reply, TicketNo, Turn};
 use share_model::{Answer, Fault, Line, Scripted, Tape, TellingWriter};

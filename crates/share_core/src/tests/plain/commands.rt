@@ -7,6 +7,10 @@ use std::alloc::AllocError;
 /// The most tickets that fund one flow or currency.
 const CROWD: usize = 16;
 
+fn is_amount(amount: u64) -> bool {
+    1 <= amount && amount <= 1_048_576
+}
+
 fn is_held(ticket: &Issued) -> bool {
     let funds = ticket.funds;
     !matches!(&funds, Funds::Nothing)
@@ -102,7 +106,7 @@ impl Plain {
     }
 
     fn make_ticket(&mut self, amount: u64, name: Name) -> Result<Reply, AllocError> {
-        if amount < 1 || amount > 1_048_576 {
+        if !is_amount(amount) {
             return Ok(Reply::Refused(Refusal::Range));
         }
         let Ok(currency) = self.currency(name) else {
@@ -189,6 +193,19 @@ impl Plain {
         Ok(Reply::Done)
     }
 
+    fn amend(&mut self, number: u64, amount: u64) -> Result<Reply, Refusal> {
+        if !is_amount(amount) {
+            return Err(Refusal::Range);
+        }
+        let ticket = self.ticket(number)?;
+        for other in self.issued.iter_mut() {
+            if other.number == ticket.number {
+                other.amount = amount;
+            }
+        }
+        Ok(Reply::Done)
+    }
+
     fn open_refusal(&self, name: Name, limit: u64, tariff: u64) -> Option<Refusal> {
         if limit < 1 || limit > 1024 {
             Some(Refusal::Range)
@@ -218,6 +235,7 @@ impl Plain {
             account: 0,
             next: 1,
             packets: Vec::new(self.alloc),
+            held: false,
             worth: 0,
             tickets: 0,
             competes: false,
@@ -277,6 +295,20 @@ impl Plain {
         })
     }
 
+    // Holds the flow of a name, or ends its hold. Its frame in part goes on either way.
+    fn mark(&mut self, name: Name, held: bool) -> Result<Reply, Refusal> {
+        let flow = self.flow(name)?;
+        let Some(tenant) = self.tenants.get_mut(place_of(flow)) else {
+            return Err(Refusal::NoFlow);
+        };
+        match (tenant.held, held) {
+            (true, true) => return Err(Refusal::Held),
+            (false, false) => return Err(Refusal::NotHeld),
+            (_, _) => tenant.held = held,
+        }
+        Ok(Reply::Done)
+    }
+
     fn change(&mut self, command: Command) -> Result<Reply, AllocError> {
         let reply = match command {
             Command::MakeCurrency(name) => return self.make_currency(name),
@@ -292,6 +324,9 @@ impl Plain {
             Command::FundFlow { ticket, flow } => self.fund_flow(ticket, flow),
             Command::Unfund(ticket) => self.unfund(ticket),
             Command::CloseFlow(name) => self.close(name),
+            Command::Hold(name) => self.mark(name, true),
+            Command::Resume(name) => self.mark(name, false),
+            Command::Amend { ticket, amount } => self.amend(ticket, amount),
         };
         match reply {
             Ok(reply) => Ok(reply),

@@ -19,7 +19,7 @@ fn funds_active_flow(tenants: &[Tenant], ticket: &Issued) -> bool {
     let funds = ticket.funds;
     match funds {
         Funds::Flow(flow) => match tenants.get(place_of(flow)) {
-            Some(tenant) => !tenant.packets.is_empty(),
+            Some(tenant) => !tenant.packets.is_empty() && !tenant.held,
             None => false,
         },
         _ => false,

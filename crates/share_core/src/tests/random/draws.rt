@@ -188,15 +188,30 @@ fn funding(rt: &impl Abort, state: &mut u64, world: &World, issued: u32) -> Comm
     let kind = next(state) % 100;
     let k = next(state);
     match kind {
-        0..25 => backed(rt, state, world, issued),
-        25..65 => Command::FundFlow {
+        0..27 => backed(rt, state, world, issued),
+        27..57 => Command::FundFlow {
             ticket: ticket(state, issued),
             flow: flow(rt, world, k),
         },
-        65..82 => Command::Unfund(ticket(state, issued)),
+        57..72 => Command::Unfund(ticket(state, issued)),
+        72..82 => Command::Amend {
+            ticket: ticket(state, issued),
+            amount: amount(state),
+        },
         82..89 => Command::RemoveTicket(ticket(state, issued)),
         89..97 => Command::MakeCurrency(currency(rt, world, k)),
         _ => Command::RemoveCurrency(currency(rt, world, k)),
+    }
+}
+
+// Three commands of four would end a hold, so that most flows are not held.
+fn held(rt: &impl Abort, state: &mut u64, world: &World) -> Command {
+    let k = next(state);
+    let flow = flow(rt, world, k / 4);
+    if k % 4 == 0 {
+        Command::Hold(flow)
+    } else {
+        Command::Resume(flow)
     }
 }
 
@@ -240,6 +255,7 @@ pub(super) fn drawn(
         64..72 if next_ticket.saturating_mul(world.spacing) <= step => {
             Asked::Command(issued(rt, state, world, next_ticket))
         }
+        72..75 => Asked::Command(held(rt, state, world)),
         _ => Asked::Command(funding(rt, state, world, next_ticket)),
     }
 }

@@ -15,6 +15,7 @@ struct Wanted {
     events: u64,
     again: u32,
     whole: u32,
+    held: u32,
     parts: u32,
     closed: u32,
     dropped: u64,
@@ -27,6 +28,7 @@ const ANYTHING: Wanted = Wanted {
     events: 0,
     again: 0,
     whole: 0,
+    held: 0,
     parts: 0,
     closed: 0,
     dropped: 0,
@@ -66,10 +68,13 @@ const AMONG_FEW_NAMES: Wanted = Wanted {
         Refusal::Cycle,
         Refusal::Sending,
         Refusal::BufferFull,
+        Refusal::Held,
+        Refusal::NotHeld,
     ],
     events: 8000,
     again: 100,
     whole: 500,
+    held: 1,
     parts: 300,
     closed: 80,
     dropped: 80,
@@ -83,7 +88,7 @@ const LONG_LIFE: World = World {
     currencies: 5,
     spacing: 60,
     writes: 12000,
-    fault: 6500,
+    fault: 5000,
     after: 2000,
     ..FEW_NAMES
 };
@@ -92,6 +97,7 @@ const IN_A_LONG_LIFE: Wanted = Wanted {
     events: 30000,
     again: 500,
     whole: 1500,
+    held: 5,
     parts: 1000,
     torn: 1,
     broken: 100,
@@ -116,7 +122,7 @@ const OF_MANY_FLOWS: Wanted = Wanted {
 
 const LONG_CHAINS: World = World {
     seed: 2_463_534_242,
-    steps: 5000,
+    steps: 9000,
     flows: 3,
     currencies: 13,
     closing: 1,
@@ -161,7 +167,7 @@ const OF_A_BROKEN_LINK: Wanted = Wanted {
 
 const SPENT_LIFE: World = World {
     seed: 6_616_326_155_283,
-    steps: 1200,
+    steps: 1500,
     life: 1000,
     ..FEW_NAMES
 };
@@ -181,7 +187,7 @@ const WORLDS: [(World, Wanted); 12] = [
     (
         World {
             seed: 521_288_629,
-            fault: 500,
+            fault: 300,
             ..FAILING
         },
         OF_A_BROKEN_LINK,
@@ -189,7 +195,7 @@ const WORLDS: [(World, Wanted); 12] = [
     (
         World {
             seed: 362_436_069,
-            fault: 350,
+            fault: 150,
             ..FAILING
         },
         OF_A_BROKEN_LINK,
@@ -241,7 +247,7 @@ fn meets(rt: &impl Abort, met: &Met, wanted: &Wanted) {
         "{met:?}"
     );
     assert!(rt;
-        met.whole >= wanted.whole && met.parts >= wanted.parts,
+        met.whole >= wanted.whole && met.held >= wanted.held && met.parts >= wanted.parts,
         "{met:?}"
     );
     assert!(rt;

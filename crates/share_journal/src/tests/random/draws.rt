@@ -131,9 +131,17 @@ impl Draws {
         }
     }
 
-    /// A command.
+    // The amount of a ticket changes.
+    fn amending(&mut self) -> Command {
+        Command::Amend {
+            ticket: self.held(),
+            amount: self.next() % 1500,
+        }
+    }
+
+    /// A command. More holds are ended than begun.
     pub(super) fn command(&mut self, rt: &impl Abort) -> Command {
-        match self.next() % 32 {
+        match self.next() % 40 {
             0..3 => Command::MakeCurrency(numbered(rt, b'c', self.next())),
             3..6 => Command::RemoveCurrency(numbered(rt, b'c', self.next())),
             6..11 => self.issuing(rt),
@@ -141,6 +149,9 @@ impl Draws {
             16..23 => self.funding(rt),
             23..26 => Command::Unfund(self.held()),
             26..31 => self.opened(rt),
+            31..33 => Command::Hold(self.flow(rt)),
+            33..37 => Command::Resume(self.flow(rt)),
+            37..39 => self.amending(),
             _ => Command::CloseFlow(self.flow(rt)),
         }
     }

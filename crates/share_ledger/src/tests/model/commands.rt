@@ -195,6 +195,19 @@ impl Model {
         None
     }
 
+    fn amend(&mut self, number: u64, amount: u64) -> Option<Refusal> {
+        if amount < 1 || amount > 1048576 {
+            return Some(Refusal::Range);
+        }
+        for ticket in self.issued.iter_mut() {
+            if u64::from(ticket.number) == number {
+                ticket.amount = amount;
+                return None;
+            }
+        }
+        Some(Refusal::NoTicket)
+    }
+
     fn unfund(&mut self, number: u64) -> Option<Refusal> {
         let Some(ticket) = self.ticket(number) else {
             return Some(Refusal::NoTicket);
@@ -214,6 +227,7 @@ impl Model {
             Change::Open(name) => return self.open(name),
             Change::RemoveCurrency(name) => self.remove_currency(name),
             Change::RemoveTicket(ticket) => self.remove_ticket(ticket),
+            Change::Amend(ticket, amount) => self.amend(ticket, amount),
             Change::FundCurrency(ticket, currency) => self.fund_currency(ticket, currency),
             Change::FundFlow(ticket, flow) => self.fund_flow(ticket, flow),
             Change::Unfund(ticket) => self.unfund(ticket),

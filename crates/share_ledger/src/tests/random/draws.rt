@@ -149,6 +149,11 @@ fn funded_flow(rt: &impl Abort, draws: &mut Draws, scene: &Scene, model: &Model)
     Change::FundFlow(ticket, numbered(rt, b'f', k as usize))
 }
 
+fn amended(draws: &mut Draws, model: &Model) -> Change {
+    let ticket = draws.ticket(model);
+    Change::Amend(ticket, draws.amount())
+}
+
 // A change that keeps the number of tickets.
 fn kept(rt: &impl Abort, draws: &mut Draws, scene: &Scene, model: &Model) -> Change {
     if model.ticket_count() < scene.tickets {
@@ -162,10 +167,11 @@ fn any(rt: &impl Abort, draws: &mut Draws, scene: &Scene, model: &Model) -> Chan
         0..6 => Change::MakeCurrency(some_currency(rt, draws, scene)),
         6..9 => Change::RemoveCurrency(some_currency(rt, draws, scene)),
         9..24 => made_ticket(rt, draws, scene, model),
-        24..34 => Change::RemoveTicket(draws.ticket(model)),
-        34..59 => funded_currency(rt, draws, scene, model),
-        59..76 => funded_flow(rt, draws, scene, model),
-        76..90 => Change::Unfund(draws.ticket(model)),
+        24..33 => Change::RemoveTicket(draws.ticket(model)),
+        33..57 => funded_currency(rt, draws, scene, model),
+        57..73 => funded_flow(rt, draws, scene, model),
+        73..83 => amended(draws, model),
+        83..92 => Change::Unfund(draws.ticket(model)),
         _ => Change::Open(flow(rt, draws, scene)),
     }
 }

@@ -20,17 +20,17 @@ use Rattle.share_model.specs.funding.Graph.{is_held_by_flow}
 use Rattle.share_model.specs.funding.Graph.{backing, funding, chain_within, is_deep}
 use Rattle.share_model.specs.funding.Changes.{is_numbered, ticket_of, is_found_held, found_denomination, is_currency}
 use Rattle.share_model.specs.funding.Changes.{flow_named, flow_number, held_by, with_holder, is_amount}
-use Rattle.share_model.specs.funding.Changes.{make_ticket_refusal}
+use Rattle.share_model.specs.funding.Changes.{make_ticket_refusal, with_amount, amend_refusal, amend}
 use Rattle.share_model.specs.funding.Changes.{made_ticket, make_ticket, remove_ticket, unfund, fund_currency_refusal}
 use Rattle.share_model.specs.funding.Changes.{fund_currency, fund_flow_refusal, fund_flow}
 use Rattle.share_model.specs.funding.Kept.{names_of, times, IsHolderKnown, IsUncrowded, IsKept}
 use Rattle.share_model.proofs.lemmas.lists.SumLaws.{same_name, name_sym}
 use Rattle.share_model.proofs.lemmas.lists.CountLaws.{Each-remove, length-remove, count-remove, count-more}
-use Rattle.share_model.proofs.lemmas.lists.CountLaws.{count-changed_within}
+use Rattle.share_model.proofs.lemmas.lists.CountLaws.{count-changed, count-changed_within}
 use Rattle.share_model.proofs.lemmas.lists.CountLaws.{rises-remove, rises-changed}
 use Rattle.share_model.proofs.lemmas.funding.ChangeLaws.{not-refused, not_false, room, stands, found-open}
 use Rattle.share_model.proofs.lemmas.funding.ChainLaws.{IsShort, short-less, less-remove, less-made, less-held}
-use Rattle.share_model.proofs.lemmas.funding.ChainLaws.{short-from_deep}
+use Rattle.share_model.proofs.lemmas.funding.ChainLaws.{less-changed, short-from_deep}
 
 -- How many tickets a holder has
 length-held : (p : Holder → Bool) (n : ℕ) (h : Holder) (k : ℕ) → cond (p h) 1 0 ≤ k → (ts : List Ticket)
@@ -66,6 +66,9 @@ length-removed : (p test : Ticket → Bool) (ts : List Ticket)
     → length (filter p ts) ≤ 16 → length (filter p (remove_key test ts)) ≤ 16
 length-removed p test ts few =
     omega (arith, length-filter p ts, length-filter p (remove_key test ts), count-remove p test ts)
+
+in_range : (n : ℕ) → is_amount n ≡ true → (1 ≤ n) × (n ≤ 2 ^ 20)
+in_range n e = (grind (arith, nat_tests), grind (arith, nat_tests))
 
 module _ (g : Graph) (ok : IsKept g) where
   -- the holder has room for one ticket more
@@ -199,9 +202,6 @@ module _ (g : Graph) (ok : IsKept g) where
         few_currencies = ok.few_currencies;
         few_flows = ok.few_flows;
       }
-    where
-      in_range : (n : ℕ) → is_amount n ≡ true → (1 ≤ n) × (n ≤ 2 ^ 20)
-      in_range n e = (grind (arith, nat_tests), grind (arith, nat_tests))
 
   pub kept-remove_ticket : (n : ℕ) → IsKept (remove_ticket g n)
   unfolding backing funding
@@ -236,3 +236,59 @@ module _ (g : Graph) (ok : IsKept g) where
     few_currencies = ok.few_currencies;
     few_flows = ok.few_flows;
   }
+
+  -- a ticket gets another amount
+  each-amended : (n amount : ℕ) (P : Ticket → Type 0) → Each P g.tickets
+      → ((t : Ticket) → P t → P (with_amount amount t)) → Each P (amend g n amount).tickets
+  each-amended n amount P each kept =
+      each-change_first P P (is_numbered n) (with_amount amount) (λ t e. e) kept g.tickets each
+
+  length-amended : (p : Holder → Bool) (n amount : ℕ)
+      → length (filter (λ (t : Ticket). p t.holder) g.tickets) ≤ 16
+      → length (filter (λ (t : Ticket). p t.holder) (amend g n amount).tickets) ≤ 16
+  length-amended p n amount few =
+      let test : Ticket → Bool = λ t. p t.holder in
+      let us = (amend g n amount).tickets in
+      let same = count-changed test (is_numbered n) (with_amount amount) (λ t. refl) g.tickets in
+      omega (arith, length-filter test g.tickets, length-filter test us)
+
+  pub kept-amend : (n amount : ℕ) → amend_refusal g n amount ≡ None → IsKept (amend g n amount)
+  unfolding backing funding
+  kept-amend n amount none =
+      let one = not-refused (not (is_amount amount)) Range _ none in
+      record {
+        sound = record {
+          names = ok.sound.names;
+          flow_names = ok.sound.flow_names;
+          numbers = ok.sound.numbers;
+          known =
+              each-amended n amount (λ (t : Ticket). 1 ≤ times t.denomination (names_of g)) ok.sound.known (λ t e. e);
+        };
+        shallow = record {
+          unbacked =
+              each-amended n amount (λ (t : Ticket). is_held_by_currency base t.holder ≡ false) ok.shallow.unbacked
+              (λ t e. e);
+          short =
+              short-less (amend g n amount).tickets g.tickets
+              (less-changed (with_amount amount) (λ a on t e. e) (is_numbered n) g.tickets) ok.shallow.short;
+        };
+        numbered = record {
+          tickets =
+              rises-changed (λ (t : Ticket). t.number) (is_numbered n) (with_amount amount) 0 g.next_ticket g.tickets
+              (λ t. refl) ok.numbered.tickets;
+          flows = ok.numbered.flows;
+        };
+        uncrowded = record {
+          currencies = λ c. length-amended (is_held_by_currency c) n amount (ok.uncrowded.currencies c);
+          flows = λ f. length-amended (is_held_by_flow f) n amount (ok.uncrowded.flows f);
+        };
+        held = each-amended n amount (λ (t : Ticket). IsHolderKnown g t.holder) ok.held (λ t e. e);
+        amounts =
+            each-amended n amount (λ (t : Ticket). (1 ≤ t.amount) × (t.amount ≤ 2 ^ 20)) ok.amounts
+            (λ t e. in_range amount (not_false (is_amount amount) one.0));
+        few_tickets =
+            let few = ok.few_tickets in
+            omega (arith, length-change_first (is_numbered n) (with_amount amount) g.tickets);
+        few_currencies = ok.few_currencies;
+        few_flows = ok.few_flows;
+      }

@@ -7,7 +7,7 @@ use Rattle.share_base.specs.declared.refusal.Refusal.TheVariants.{BufferFull}
 use Rattle.share_base.specs.declared.command.Command.{Command}
 use Rattle.share_base.specs.declared.command.Command.TheVariants.{MakeCurrency, RemoveCurrency, MakeTicket}
 use Rattle.share_base.specs.declared.command.Command.TheVariants.{RemoveTicket, FundCurrency, FundFlow, Unfund}
-use Rattle.share_base.specs.declared.command.Command.TheVariants.{OpenFlow, CloseFlow}
+use Rattle.share_base.specs.declared.command.Command.TheVariants.{OpenFlow, CloseFlow, Hold, Resume, Amend}
 use Rattle.share_base.specs.declared.command.Reply.{Reply}
 use Rattle.share_base.specs.declared.command.Reply.TheVariants.{Packet, Refused}
 use Rattle.share_model.specs.declared.funding.OpenFlow.{OpenFlow as FlowEntry}
@@ -35,6 +35,9 @@ refusal_own rates l (FundFlow ticket flow) = grind rules
 refusal_own rates l (Unfund ticket) = grind rules
 refusal_own rates l (OpenFlow name limit tariff) = grind rules
 refusal_own rates l (CloseFlow name) = grind rules
+refusal_own rates l (Hold name) = grind rules
+refusal_own rates l (Resume name) = grind rules
+refusal_own rates l (Amend ticket amount) = grind rules
 
 done_own : (l : Live) (c : Command) → answers_event (change_by_command l c).1 ≡ true
 done_own l (MakeCurrency name) = refl
@@ -46,6 +49,9 @@ done_own l (FundFlow ticket flow) = refl
 done_own l (Unfund ticket) = refl
 done_own l (OpenFlow name limit tariff) = refl
 done_own l (CloseFlow name) = refl
+done_own l (Hold name) = refl
+done_own l (Resume name) = refl
+done_own l (Amend ticket amount) = refl
 
 by_own : (l : Live) (o : Option Refusal) (done : Live × Reply) → is_own o ≡ true → answers_event done.1 ≡ true
     → answers_event (by_refusal l o done).1 ≡ true

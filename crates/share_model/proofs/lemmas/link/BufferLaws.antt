@@ -1,7 +1,7 @@
 -- Laws of buffers: the head packet of a flow after a packet was pushed or a buffer opened, and the ties between the
 -- buffers and the open flows.
 use Rattle.std.specs.Prelude.{◌≡◌, ◌<◌, ◌+◌, ◌-◌, ℕ, Bool, true, false, ◌&&◌, ◌||◌, List, [], ◌∷◌, ◌++◌, length, map}
-use Rattle.std.specs.Prelude.{suc, nat_eq, is_some, Option, None, Some, option_map, option_and_then, if◌then◌else◌}
+use Rattle.std.specs.Prelude.{not, suc, nat_eq, is_some, Option, None, Some, option_map, option_and_then, if◌then◌else◌}
 use Rattle.std.specs.List.{list_any}
 use Rattle.std.specs.Set.{remove_key}
 use Rattle.std.specs.Map.{lookup}
@@ -22,7 +22,7 @@ use Rattle.share_model.specs.funding.Graph.{flow_numbers}
 use Rattle.share_model.specs.lists.Rises.{Rises}
 use Rattle.share_model.proofs.lemmas.lists.Laws.{map-change_first, find-change_first, find-change_first_other}
 use Rattle.share_model.specs.lists.Rises.{has_number}
-use Rattle.share_model.proofs.lemmas.lists.Laws.{find-holds}
+use Rattle.share_model.proofs.lemmas.lists.Laws.{find-holds, each_map}
 use Rattle.share_model.proofs.lemmas.lists.Laws.{find-append_found, is_some-find_number}
 use Rattle.share_model.proofs.lemmas.lists.RemoveLaws.{map-remove_key, find-remove_other, find-absent}
 
@@ -98,65 +98,94 @@ numbers-with_activity f t es =
 abbrev pub activities : List (NameBytes × OpenFlow) → List Bool
 activities es = map (λ (e : NameBytes × OpenFlow). e.1.active) es
 
-abbrev pub fillings : List Buffer → List Bool
-fillings bs = map (λ (b : Buffer). is_some_packet b.packets) bs
+below_not : (f n m : ℕ) → f ≡ n → n < m → f ≡ m → ⊥
+below_not f n m a b c = omega arith
+
+-- which buffers hold a packet of a flow that is not held
+abbrev pub fillings : (ℕ → Bool) → List Buffer → List Bool
+fillings held bs = map (λ (b : Buffer). is_some_packet b.packets && not (held b.flow)) bs
 
 abbrev pub buffer_flows : List Buffer → List ℕ
 buffer_flows bs = map (λ (b : Buffer). b.flow) bs
 
--- each open flow has a buffer, in the same place, and is active if that holds a packet
-pub record AreTied (es : List (NameBytes × OpenFlow)) (bs : List Buffer) : Type 0 where
+-- each open flow has a buffer, in the same place, and is active if that holds a packet and the flow is not held
+pub record AreTied (held : ℕ → Bool) (es : List (NameBytes × OpenFlow)) (bs : List Buffer) : Type 0 where
   pub numbers : buffer_flows bs ≡ flow_numbers es
-  pub active : activities es ≡ fillings bs
+  pub active : activities es ≡ fillings held bs
 
-record HeadsTied (e : NameBytes × OpenFlow) (b : Buffer) (es : List (NameBytes × OpenFlow))
+record HeadsTied (held : ℕ → Bool) (e : NameBytes × OpenFlow) (b : Buffer) (es : List (NameBytes × OpenFlow))
     (bs : List Buffer) : Type 0 where
   number : b.flow ≡ e.1.number
-  activity : e.1.active ≡ is_some_packet b.packets
-  rest : AreTied es bs
+  activity : e.1.active ≡ (is_some_packet b.packets && not (held b.flow))
+  rest : AreTied held es bs
 
-heads_tied : (e : NameBytes × OpenFlow) (b : Buffer) (es : List (NameBytes × OpenFlow)) (bs : List Buffer)
-    → AreTied (e ∷ es) (b ∷ bs) → HeadsTied e b es bs
-heads_tied e b es bs tied =
+heads_tied : (held : ℕ → Bool) (e : NameBytes × OpenFlow) (b : Buffer) (es : List (NameBytes × OpenFlow))
+    (bs : List Buffer) → AreTied held (e ∷ es) (b ∷ bs) → HeadsTied held e b es bs
+heads_tied held e b es bs tied =
     let n : b.flow ∷ buffer_flows bs ≡ e.1.number ∷ flow_numbers es = tied.numbers in
-    let a : e.1.active ∷ activities es ≡ is_some_packet b.packets ∷ fillings bs = tied.active in
+    let a : e.1.active ∷ activities es ≡ (is_some_packet b.packets && not (held b.flow)) ∷ fillings held bs =
+    tied.active in
     record { number = cc; activity = cc; rest = record { numbers = cc; active = cc } }
 
-changed_by : (f : ℕ) (t : Bool) (change : Buffer → Buffer) (e : NameBytes × OpenFlow) (b : Buffer)
-    (es es' : List (NameBytes × OpenFlow)) (bs bs' : List Buffer) (k : Bool)
-    → HeadsTied e b es bs → (k ≡ true → is_some_packet (change b).packets ≡ t)
-    → (k ≡ false → activities es' ≡ fillings bs')
-    → activities (if k then (e.0, record e.1 { active = t }) ∷ es else e ∷ es')
-    ≡ fillings (if k then change b ∷ bs else b ∷ bs')
-changed_by f t change e b es es' bs bs' true tied here rest =
-    let q : is_some_packet (change b).packets ≡ t = here refl in
-    let r : activities es ≡ fillings bs = tied.rest.active in
-    let s : t ∷ activities es ≡ is_some_packet (change b).packets ∷ fillings bs = cc in s
-changed_by f t change e b es es' bs bs' false tied here rest =
-    let r : activities es' ≡ fillings bs' = rest refl in
-    let q : e.1.active ≡ is_some_packet b.packets = tied.activity in
-    let s : e.1.active ∷ activities es' ≡ is_some_packet b.packets ∷ fillings bs' = cc in s
+-- of flows that are held as before
+pub fillings-same : (held held' : ℕ → Bool) (bs : List Buffer) → Each (λ n. held' n ≡ held n) (buffer_flows bs)
+    → fillings held' bs ≡ fillings held bs
+fillings-same held held' [] same = refl
+fillings-same held held' (b ∷ bs) same =
+    let rest : fillings held' bs ≡ fillings held bs = fillings-same held held' bs same.1 in
+    let here : (is_some_packet b.packets && not (held' b.flow)) ≡ (is_some_packet b.packets && not (held b.flow)) =
+    ap (λ h. is_some_packet b.packets && not h) same.0 in
+    let s : (is_some_packet b.packets && not (held' b.flow)) ∷ fillings held' bs
+    ≡ (is_some_packet b.packets && not (held b.flow)) ∷ fillings held bs = cc in s
 
-pub activities-changed : (f : ℕ) (t : Bool) (change : Buffer → Buffer) (es : List (NameBytes × OpenFlow))
-    (bs : List Buffer) → AreTied es bs
-    → ((b : Buffer) → buffer_of bs f ≡ Some b → is_some_packet (change b).packets ≡ t)
-    → activities (with_activity f t es) ≡ fillings (change_first (is_buffer_of f) change bs)
-unfolding change_first
-activities-changed f t change [] [] tied here = refl
-activities-changed f t change [] (b ∷ bs) tied here = let n : b.flow ∷ buffer_flows bs ≡ [] = tied.numbers in cc
-activities-changed f t change (e ∷ es) [] tied here = let n : [] ≡ e.1.number ∷ flow_numbers es = tied.numbers in cc
-activities-changed f t change (e ∷ es) (b ∷ bs) tied here =
-    let ties : HeadsTied e b es bs = heads_tied e b es bs tied in
+changed_by : (held held' : ℕ → Bool) (t : Bool) (change : Buffer → Buffer) (e : NameBytes × OpenFlow) (b : Buffer)
+    (es es' : List (NameBytes × OpenFlow)) (bs bs' : List Buffer) (k : Bool)
+    → HeadsTied held e b es bs → (k ≡ true → (is_some_packet (change b).packets && not (held' (change b).flow)) ≡ t)
+    → (k ≡ true → fillings held' bs ≡ fillings held bs) → (k ≡ false → held' b.flow ≡ held b.flow)
+    → (k ≡ false → activities es' ≡ fillings held' bs')
+    → activities (if k then (e.0, record e.1 { active = t }) ∷ es else e ∷ es')
+    ≡ fillings held' (if k then change b ∷ bs else b ∷ bs')
+changed_by held held' t change e b es es' bs bs' true tied here later same rest =
+    let q : (is_some_packet (change b).packets && not (held' (change b).flow)) ≡ t = here refl in
+    let o : fillings held' bs ≡ fillings held bs = later refl in
+    let r : activities es ≡ fillings held bs = tied.rest.active in
+    let s : t ∷ activities es
+    ≡ (is_some_packet (change b).packets && not (held' (change b).flow)) ∷ fillings held' bs = cc in s
+changed_by held held' t change e b es es' bs bs' false tied here later same rest =
+    let r : activities es' ≡ fillings held' bs' = rest refl in
+    let q : e.1.active ≡ (is_some_packet b.packets && not (held b.flow)) = tied.activity in
+    let o : (is_some_packet b.packets && not (held' b.flow)) ≡ (is_some_packet b.packets && not (held b.flow)) =
+    ap (λ h. is_some_packet b.packets && not h) (same refl) in
+    let s : e.1.active ∷ activities es' ≡ (is_some_packet b.packets && not (held' b.flow)) ∷ fillings held' bs' = cc in
+    s
+
+-- The buffer of one flow changed, or its hold, and it is active or not accordingly; the others are held as before.
+pub activities-changed : (limit f : ℕ) (t : Bool) (held held' : ℕ → Bool) (change : Buffer → Buffer)
+    (es : List (NameBytes × OpenFlow)) (bs : List Buffer) → AreTied held es bs → Rises limit (flow_numbers es)
+    → ((n : ℕ) → nat_eq f n ≡ false → held' n ≡ held n)
+    → ((b : Buffer) → buffer_of bs f ≡ Some b → (is_some_packet (change b).packets && not (held' (change b).flow)) ≡ t)
+    → activities (with_activity f t es) ≡ fillings held' (change_first (is_buffer_of f) change bs)
+unfolding change_first Rises
+activities-changed limit f t held held' change [] [] tied rises others here = refl
+activities-changed limit f t held held' change [] (b ∷ bs) tied rises others here =
+    let n : b.flow ∷ buffer_flows bs ≡ [] = tied.numbers in cc
+activities-changed limit f t held held' change (e ∷ es) [] tied rises others here =
+    let n : [] ≡ e.1.number ∷ flow_numbers es = tied.numbers in cc
+activities-changed limit f t held held' change (e ∷ es) (b ∷ bs) tied rises others here =
+    let ties : HeadsTied held e b es bs = heads_tied held e b es bs tied in
     let same : nat_eq f e.1.number ≡ nat_eq f b.flow = ap (nat_eq f) (sym ties.number) in
-    changed_by f t change e b es (with_activity f t es) bs (change_first (is_buffer_of f) change bs)
+    let above : Each (λ m. e.1.number < m) (buffer_flows bs) =
+    subst (Each (λ m. e.1.number < m)) (sym ties.rest.numbers) rises.1 in
+    changed_by held held' t change e b es (with_activity f t es) bs (change_first (is_buffer_of f) change bs)
     (nat_eq f e.1.number) ties
     (λ k. here b (cond-true (nat_eq f b.flow) (Some b) (buffer_of bs f) (sym same ∙ k)))
-    (λ k. activities-changed f t change es bs ties.rest
+    (λ k. fillings-same held held' bs (each_map (λ m. e.1.number < m) (λ m. held' m ≡ held m)
+    (λ m more. others m (ne_eqb f m (below_not f e.1.number m (eqb-true f e.1.number k) more)))
+    (buffer_flows bs) above))
+    (λ k. others b.flow (sym same ∙ k))
+    (λ k. activities-changed limit f t held held' change es bs ties.rest rises.2 others
     (λ b' found. here b' (cond-false (nat_eq f b.flow) (Some b) (buffer_of bs f) (sym same ∙ k) ∙ found)))
-    ∙ ap (λ k. fillings (if k then change b ∷ bs else b ∷ change_first (is_buffer_of f) change bs)) same
-
-below_not : (f n m : ℕ) → f ≡ n → n < m → f ≡ m → ⊥
-below_not f n m a b c = omega arith
+    ∙ ap (λ k. fillings held' (if k then change b ∷ bs else b ∷ change_first (is_buffer_of f) change bs)) same
 
 or_none : (a r : Bool) → r ≡ false → ((true && a) || r) ≡ a
 or_none true r none = refl
@@ -171,27 +200,30 @@ absent f n (e ∷ es) is above =
     (and_left (nat_eq f e.1.number) e.1.active (ne_eqb f e.1.number (λ same. below_not f n e.1.number is above.0 same)))
     (absent f n es is above.1)
 
-active_busy_by : (f : ℕ) (b : Buffer) (active r : Bool) (o : Option Buffer) (k : Bool)
-    → active ≡ is_some_packet b.packets → (k ≡ true → r ≡ false) → (k ≡ false → r ≡ holds_packet o)
-    → ((k && active) || r) ≡ holds_packet (if k then Some b else o)
-active_busy_by f b active r o true same none rest = or_none active r (none refl) ∙ same
-active_busy_by f b active r o false same none rest = rest refl
+active_busy_by : (held : ℕ → Bool) (f : ℕ) (b : Buffer) (active r : Bool) (o : Option Buffer) (k : Bool)
+    → active ≡ (is_some_packet b.packets && not (held b.flow)) → (k ≡ true → r ≡ false) → (k ≡ true → b.flow ≡ f)
+    → (k ≡ false → r ≡ (holds_packet o && not (held f)))
+    → ((k && active) || r) ≡ (holds_packet (if k then Some b else o) && not (held f))
+active_busy_by held f b active r o true same none own rest =
+    or_none active r (none refl) ∙ (same ∙ ap (λ n. is_some_packet b.packets && not (held n)) (own refl))
+active_busy_by held f b active r o false same none own rest = rest refl
 
--- a flow is active if its buffer holds a packet
-pub active-busy : (limit f : ℕ) (es : List (NameBytes × OpenFlow)) (bs : List Buffer) → AreTied es bs
-    → Rises limit (flow_numbers es) → list_any (λ (e : NameBytes × OpenFlow). nat_eq f e.1.number && e.1.active) es
-    ≡ is_busy bs f
+-- a flow is active if its buffer holds a packet and it is not held
+pub active-busy : (held : ℕ → Bool) (limit f : ℕ) (es : List (NameBytes × OpenFlow)) (bs : List Buffer)
+    → AreTied held es bs → Rises limit (flow_numbers es)
+    → list_any (λ (e : NameBytes × OpenFlow). nat_eq f e.1.number && e.1.active) es ≡ (is_busy bs f && not (held f))
 unfolding Rises
-active-busy limit f [] [] tied rises = refl
-active-busy limit f [] (b ∷ bs) tied rises = let n : b.flow ∷ buffer_flows bs ≡ [] = tied.numbers in cc
-active-busy limit f (e ∷ es) [] tied rises = let n : [] ≡ e.1.number ∷ flow_numbers es = tied.numbers in cc
-active-busy limit f (e ∷ es) (b ∷ bs) tied rises =
-    let ties : HeadsTied e b es bs = heads_tied e b es bs tied in
-    active_busy_by f b e.1.active (list_any (λ (e : NameBytes × OpenFlow). nat_eq f e.1.number && e.1.active) es)
+active-busy held limit f [] [] tied rises = refl
+active-busy held limit f [] (b ∷ bs) tied rises = let n : b.flow ∷ buffer_flows bs ≡ [] = tied.numbers in cc
+active-busy held limit f (e ∷ es) [] tied rises = let n : [] ≡ e.1.number ∷ flow_numbers es = tied.numbers in cc
+active-busy held limit f (e ∷ es) (b ∷ bs) tied rises =
+    let ties : HeadsTied held e b es bs = heads_tied held e b es bs tied in
+    active_busy_by held f b e.1.active (list_any (λ (e : NameBytes × OpenFlow). nat_eq f e.1.number && e.1.active) es)
     (buffer_of bs f) (nat_eq f e.1.number) ties.activity
     (λ k. absent f e.1.number es (eqb-true f e.1.number k) rises.1)
-    (λ _. active-busy limit f es bs ties.rest rises.2)
-    ∙ ap (λ n. holds_packet (if nat_eq f n then Some b else buffer_of bs f)) (sym ties.number)
+    (λ k. ties.number ∙ sym (eqb-true f e.1.number k))
+    (λ _. active-busy held limit f es bs ties.rest rises.2)
+    ∙ ap (λ n. holds_packet (if nat_eq f n then Some b else buffer_of bs f) && not (held f)) (sym ties.number)
 
 named_by : (n : ℕ) (r : Bool) (x : NameBytes × OpenFlow) (o : Option OpenFlow) (e : OpenFlow) → n ≡ e.number
     → (k : Bool) → (o ≡ Some e → r ≡ true) → (if k then Some x.1 else o) ≡ Some e → (nat_eq n x.1.number || r) ≡ true

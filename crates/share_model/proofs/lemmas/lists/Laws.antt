@@ -26,6 +26,20 @@ each-append P (x ∷ xs) ys front back = (front.0, each-append P xs ys front.1 b
 pub each-one : {A : Type 0} (P : A → Type 0) (x : A) → P x → Each P (x ∷ [])
 each-one P x here = (here, tt)
 
+pub each-all : {A : Type 0} (P : A → Type 0) → ((x : A) → P x) → (xs : List A) → Each P xs
+each-all P all [] = tt
+each-all P all (x ∷ xs) = (all x, each-all P all xs)
+
+neither : (a b : Bool) → (a || b) ≡ false → (a ≡ false) × (b ≡ false)
+neither true b none = cc
+neither false b none = (refl, none)
+
+-- a number that is not in a list is none of its numbers
+pub each-other : (f : ℕ) (ns : List ℕ) → has_number f ns ≡ false → Each (λ n. nat_eq f n ≡ false) ns
+each-other f [] none = tt
+each-other f (n ∷ ns) none =
+    let both = neither (nat_eq f n) (has_number f ns) none in (both.0, each-other f ns both.1)
+
 pub each-drop_one : {A : Type 0} (P : A → Type 0) (xs : List A) → Each P xs → Each P (drop 1 xs)
 each-drop_one P [] all = tt
 each-drop_one P (x ∷ xs) all = all.1

@@ -1,6 +1,6 @@
 -- A law of the packets that a run accepted: those of an open flow are, in order, those that were written whole of it
 -- and those that its buffer holds; and those written whole of any flow come first.
-use Rattle.std.specs.Prelude.{◌≡◌, ◌<◌, ◌≤◌, ℕ, Bool, true, false, ◌||◌, List, [], ◌∷◌, ◌++◌, nat_eq}
+use Rattle.std.specs.Prelude.{◌≡◌, ◌<◌, ◌≤◌, ℕ, Bool, true, false, not, ◌&&◌, ◌||◌, List, [], ◌∷◌, ◌++◌, nat_eq}
 use Rattle.std.specs.Prelude.{Option, None, Some, is_some, if◌then◌else◌}
 use Rattle.std.specs.Set.{remove_key}
 use Rattle.std.proofs.Common.{refl, ap, sym, ◌∙◌, subst, arith, append_assoc}
@@ -29,7 +29,9 @@ use Rattle.share_model.proofs.lemmas.link.BufferLaws.{numbers-with_activity}
 use Rattle.share_model.proofs.lemmas.link.CommandLaws.{command-cases}
 use Rattle.share_model.specs.link.Live.{Live, with_one_event}
 use Rattle.share_model.specs.link.Turns.{Sending, sending}
-use Rattle.share_model.specs.link.Commands.{with_graph, open_flow, close_flow}
+use Rattle.share_model.specs.link.Commands.{with_graph, open_flow, close_flow, hold_flow}
+use Rattle.share_model.specs.link.Books.{is_held}
+use Rattle.share_model.specs.funding.Changes.{with_activity}
 use Rattle.share_model.specs.link.Commands.{command_step}
 use Rattle.share_model.specs.link.Arrivals.{accept, arrive_in, arrive_by, arrive_step}
 use Rattle.share_model.specs.link.Turns.{is_whole, whole, in_part, torn_link}
@@ -66,6 +68,21 @@ accepted_same f hs l l' done flows next buffers was = record {
   held =
       λ stands. was.held (ap (λ (es : List (NameBytes × FlowEntry)). has_number f (flow_numbers es)) (sym flows)
       ∙ stands) ∙ ap (λ bs. held_packets bs f) (sym buffers);
+  fresh = λ above. was.fresh (omega (arith, next));
+}
+
+-- whether a flow is active does not matter
+accepted_awake : (f : ℕ) (hs : List Packet) (l l' : Live) (done : List Sent) (g : ℕ) (t : Bool)
+    → l'.graph.flows ≡ with_activity g t l.graph.flows → l'.graph.next_flow ≡ l.graph.next_flow
+    → l'.buffers ≡ l.buffers → AreAccepted f hs l done → AreAccepted f hs l' done
+accepted_awake f hs l l' done g t flows next buffers was = record {
+  rest = was.rest;
+  split = was.split;
+  held =
+      λ stands. was.held
+      (ap (has_number f) (sym (numbers-with_activity g t l.graph.flows))
+      ∙ (ap (λ (es : List (NameBytes × FlowEntry)). has_number f (flow_numbers es)) (sym flows) ∙ stands))
+      ∙ ap (λ bs. held_packets bs f) (sym buffers);
   fresh = λ above. was.fresh (omega (arith, next));
 }
 
@@ -128,6 +145,8 @@ accepted_commanded {rates = rates} {l = l} sound f hs done c was =
     (λ g funded. accepted_same f hs l (with_graph l g) done funded.flows funded.next_flow refl was)
     (λ name limit tariff allowed. accepted_opened sound f hs done name limit tariff was)
     (λ g may. accepted_closed sound f hs done g was)
+    (λ g held stands. accepted_awake f hs l (hold_flow l g held) done g (is_busy l.buffers g && not held) refl refl refl
+    was)
 
 accepted_none : (f : ℕ) (hs : List Packet) (l : Live) (done : List Sent) → AreAccepted f hs l done
     → AreAccepted f (hs ++ []) l done
@@ -147,7 +166,8 @@ accepted_pushed {l = l} sound f hs done n body b found was =
           ∙ append_assoc (packets_of f (sent_packets done)) was.rest more;
       held =
           λ stands. ap (λ hs. hs ++ more)
-          (was.held (ap (has_number f) (sym (numbers-with_activity n true l.graph.flows)) ∙ stands))
+          (was.held
+          (ap (has_number f) (sym (numbers-with_activity n (not (is_held l.books n)) l.graph.flows)) ∙ stands))
           ∙ sym (held_pushed l.buffers n body b found f (nat_eq f n) refl);
       fresh = λ above. ap (λ hs. hs ++ more) (was.fresh above) ∙ by_flow above (nat_eq f n) refl;
     }
@@ -226,7 +246,9 @@ accepted_whole {l = l} sound f hs done snd k is was false test =
           ∙ append-nil (packets_of f (sent_packets done)))));
       held =
           λ stands. was.held
-          (ap (has_number f) (sym (numbers-with_activity g (is_busy (pop_in l.buffers g) g) l.graph.flows)) ∙ stands)
+          (ap (has_number f)
+          (sym (numbers-with_activity g (is_busy (pop_in l.buffers g) g && not (is_held l.books g)) l.graph.flows))
+          ∙ stands)
           ∙ sym (held_popped l.buffers snd.head (sending-head sound is) f false test);
       fresh = was.fresh;
     }

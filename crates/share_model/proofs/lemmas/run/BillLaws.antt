@@ -1,5 +1,6 @@
 -- Laws of the histories of runs: accounts are what the packets cost, those of closed flows among them.
-use Rattle.std.specs.Prelude.{◌≡◌, ◌<◌, ◌+◌, ℕ, Bool, true, false, not, ◌||◌, List, [], ◌∷◌, ◌++◌, length, map, filter}
+use Rattle.std.specs.Prelude.{◌≡◌, ◌<◌, ◌+◌, ℕ, Bool, true, false, not, ◌&&◌, ◌||◌, List, [], ◌∷◌, ◌++◌, length, map}
+use Rattle.std.specs.Prelude.{filter}
 use Rattle.std.specs.Prelude.{find, sum_by, nat_eq, Option, None, Some, option_map, is_some, if◌then◌else◌}
 use Rattle.std.specs.Option.{option_or}
 use Rattle.std.specs.Set.{remove_key}
@@ -28,7 +29,8 @@ use Rattle.share_model.proofs.lemmas.link.BufferLaws.{numbers-with_activity}
 use Rattle.share_model.specs.link.Commands.{IsClosable}
 use Rattle.share_model.specs.link.Turns.{Sending}
 use Rattle.share_model.specs.link.Books.{is_book_of, account_in, new_book, units_by, units_due, with_units}
-use Rattle.share_model.specs.link.Books.{books_with_units}
+use Rattle.share_model.specs.link.Books.{books_with_units, is_held}
+use Rattle.share_model.proofs.lemmas.link.HoldLaws.{account-with_hold}
 use Rattle.share_model.specs.link.Commands.{open_flow, close_flow}
 use Rattle.share_model.specs.link.Turns.{whole, torn_link}
 use Rattle.share_model.specs.run.Fold.{Sent, State, empty_state, tariff_in, tariff_of, torn_by, run}
@@ -234,7 +236,8 @@ finished_billed life rates s sound was snd k sends = record {
   past =
       was.past
       ∙ sym (ap (λ ms. cost_of rates (is_closed ms) (s.done ++ sent_of s.live snd ∷ []) s.torn)
-      (numbers-with_activity snd.head.flow (is_busy (pop_in s.live.buffers snd.head.flow) snd.head.flow)
+      (numbers-with_activity snd.head.flow
+      (is_busy (pop_in s.live.buffers snd.head.flow) snd.head.flow && not (is_held s.live.books snd.head.flow))
       s.live.graph.flows)
       ∙ finished_past rates s snd (head-stands sound.live snd.head.flow (sending-head sound.live sends.is)));
 }
@@ -267,6 +270,12 @@ tore_billed life rates s sound was snd sends =
           (head-stands sound.live snd.head.flow (sending-head sound.live sends.is))));
     }
 
+-- the account of a book that is found with it
+account_found : (o : Option Book) (m n : ℕ) → option_map (λ b. b.account) o ≡ Some m
+    → ((b : Book) → o ≡ Some b → b.account ≡ n) → m ≡ n
+account_found None m n is was = cc
+account_found (Some b) m n is was = sym (same_Some b.account m is) ∙ was b refl
+
 pub billed_cases : (life : ℕ) (rates : List Rate) (s : State) → SoundState life rates s → s.live.counts.events < life
     → IsBilled rates s → StepCases (IsBilled rates) rates s
 billed_cases life rates s sound below was = record {
@@ -282,13 +291,22 @@ billed_cases life rates s sound below was = record {
       };
   opened = λ name limit tariff allowed. opened_billed rates s name limit tariff was;
   closed = λ f may. closed_billed life rates s sound was f may;
+  held = λ g held stands. record {
+    given = was.given;
+    billed = λ f b found. account_found (find (is_book_of f) s.live.books) b.account (bill rates s f)
+        (sym (account-with_hold s.live.books g f held) ∙ ap (option_map (λ b. b.account)) found) (was.billed f);
+    past =
+        was.past
+        ∙ ap (λ ms. cost_of rates (is_closed ms) s.done s.torn)
+        (sym (numbers-with_activity g (is_busy s.live.buffers g && not held) s.live.graph.flows));
+  };
   accepted = λ f body short b found. record {
     given = was.given;
     billed = was.billed;
     past =
         was.past
         ∙ ap (λ ms. cost_of rates (is_closed ms) s.done s.torn)
-        (sym (numbers-with_activity f true s.live.graph.flows));
+        (sym (numbers-with_activity f (not (is_held s.live.books f)) s.live.graph.flows));
   };
   finished = λ snd k sends whole. finished_billed life rates s sound was snd k sends;
   begun = λ snd k sends. record { given = was.given; billed = was.billed; past = was.past };

@@ -88,6 +88,7 @@ keeps-commanded {rates = rates} {l = l} sound c =
       written = refl;
       sent = refl;
     })
+    (λ f held stands. record { part = refl; frame = refl; broken = refl; written = refl; sent = refl })
 
 arrive_in_keeps : (l : Live) → PartIsSound l.buffers l.part → (f : ℕ) (body : List ℕ) (o : Option Buffer)
     → KeepsFrames l (arrive_in l f body o).0

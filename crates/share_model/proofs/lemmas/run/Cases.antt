@@ -22,7 +22,9 @@ use Rattle.share_model.proofs.lemmas.link.CommandLaws.{command-cases}
 use Rattle.share_model.specs.link.Live.{Live, with_one_event}
 use Rattle.share_model.specs.link.Turns.{Sending}
 use Rattle.share_model.specs.link.Commands.{command_step}
-use Rattle.share_model.specs.link.Commands.{with_graph, open_flow_refusal, open_flow, close_flow}
+use Rattle.share_model.specs.link.Commands.{with_graph, open_flow_refusal, open_flow, close_flow, hold_flow}
+use Rattle.share_model.specs.funding.Graph.{flow_numbers}
+use Rattle.share_model.specs.lists.Rises.{has_number}
 use Rattle.share_model.specs.link.Arrivals.{accept, arrive_in}
 use Rattle.share_model.specs.link.Arrivals.{arrive_by, arrive_step}
 use Rattle.share_model.specs.link.Turns.{is_whole}
@@ -42,6 +44,8 @@ pub record StepCases (P : State → Type 0) (rates : List Rate) (s : State) : Ty
       → P (record { live = open_flow s.live name limit tariff; done = s.done; torn = s.torn })
   pub closed : (f : ℕ) → IsClosable s.live f
       → P (record { live = close_flow s.live f; done = s.done; torn = s.torn })
+  pub held : (f : ℕ) (held : Bool) → has_number f (flow_numbers s.live.graph.flows) ≡ true
+      → P (record { live = hold_flow s.live f held; done = s.done; torn = s.torn })
   pub accepted : (f : ℕ) (body : List ℕ) → IsBody body → (b : Buffer) → buffer_of s.live.buffers f ≡ Some b
       → P (record { live = accept s.live f body; done = s.done; torn = s.torn })
   pub finished : (snd : Sending) (k : ℕ) → Sends s.live snd → snd.out + k ≡ length (frame snd.head)
@@ -59,6 +63,7 @@ both-cases P Q rates s p q = record {
   funded = λ g funded. (p.funded g funded, q.funded g funded);
   opened = λ name limit tariff allowed. (p.opened name limit tariff allowed, q.opened name limit tariff allowed);
   closed = λ f may. (p.closed f may, q.closed f may);
+  held = λ f held stands. (p.held f held stands, q.held f held stands);
   accepted = λ f body short b found. (p.accepted f body short b found, q.accepted f body short b found);
   finished = λ snd k sends whole. (p.finished snd k sends whole, q.finished snd k sends whole);
   begun = λ snd k sends. (p.begun snd k sends, q.begun snd k sends);
@@ -74,7 +79,7 @@ command_case : (P : State → Type 0) (rates : List Rate) (s : State) → StepCa
     → P (record { live = (command_step rates s.live c).0; done = s.done; torn = s.torn })
 command_case P rates s cases c =
     command-cases (λ (l : Live). P (record { live = l; done = s.done; torn = s.torn })) rates s.live c cases.refused
-    cases.funded cases.opened cases.closed
+    cases.funded cases.opened cases.closed cases.held
 
 arrive_in_case : (P : State → Type 0) (rates : List Rate) (s : State) → StepCases P rates s → (f : ℕ) (body : List ℕ)
     → IsBody body → (o : Option Buffer) → buffer_of s.live.buffers f ≡ o

@@ -205,7 +205,7 @@ pub events-commanded : (rates : List Rate) (l : Live) (c : Command)
     → (command_step rates l c).0.counts.events ≡ l.counts.events + 1
 events-commanded rates l c =
     command-cases (λ (l' : Live). l'.counts.events ≡ l.counts.events + 1) rates l c refl (λ g funded. refl)
-    (λ name limit tariff allowed. refl) (λ f may. refl)
+    (λ name limit tariff allowed. refl) (λ f may. refl) (λ f held stands. refl)
 
 pub events-arrived : (l : Live) (name : NameBytes) (body : List ℕ)
     → (arrive_step l name body).0.counts.events ≡ l.counts.events + 1

@@ -155,6 +155,7 @@ small_cases life rates s sound below was =
       funded = λ g funded. later;
       opened = λ name limit tariff allowed. later;
       closed = λ f may. later;
+      held = λ f held stands. later;
       accepted = λ f body short b found. later;
       finished = λ snd k sends whole. record {
         sent =

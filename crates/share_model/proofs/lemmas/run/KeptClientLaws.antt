@@ -148,6 +148,7 @@ client-commanded {life = life} {rates = rates} {l = l} sound f many was c =
     (λ g may after now. with_level_queue-kept _ f many (client l.queue f) sound
     (client-remove_other (level_one l.queue g 0) g f (other_than_closed sound f g after now.competes)
     ∙ client-level_one_other l.queue g 0 f (other_than_closed sound f g after now.competes)) refl refl was after now)
+    (λ g held stands after now. with_level_queue-kept _ f many (client l.queue f) sound refl refl refl was after now)
 
 arrived_in : {life : ℕ} {rates : List Rate} {l : Live} → Sound life rates l → (f many : ℕ)
     → CompetesWith l.queue f many → (n : ℕ) (body : List ℕ) (o : Option Buffer)

@@ -168,6 +168,7 @@ numbered_cases life rates s sound billed was = record {
         numbered = λ g. closed_numbers s.live.graph.next_flow s.live.buffers f g (sent_numbers g s.done)
             (buffers-rise sound.live) (nat_eq g f) refl (was.numbered g);
       };
+  held = λ f held stands. record { numbered = was.numbered };
   accepted =
       λ f body short b found. record {
         numbered = λ g. pushed_numbers s.live.buffers f body b found g

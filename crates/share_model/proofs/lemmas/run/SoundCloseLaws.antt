@@ -10,43 +10,60 @@ use Rattle.share_model.specs.declared.link.Part.{Part}
 use Rattle.share_model.specs.declared.rates.Rate.{Rate}
 use Rattle.share_model.proofs.lemmas.lists.CountLaws.{Each-remove}
 use Rattle.share_model.proofs.lemmas.lists.RemoveLaws.{map-remove_key, values-remove_key, other_way}
+use Rattle.share_model.proofs.lemmas.lists.RemoveLaws.{has_number-remove_same}
+use Rattle.share_model.proofs.lemmas.lists.Laws.{each_map, each-other}
+use Rattle.share_model.specs.lists.Rises.{Rises, has_number}
 use Rattle.share_model.specs.funding.Graph.{NameBytes, flow_numbers}
 use Rattle.share_model.specs.funding.Changes.{without_flow}
 use Rattle.share_model.proofs.lemmas.funding.FlowLaws.{kept-remove_flow}
-use Rattle.share_model.specs.link.Buffers.{Buffer, is_buffer_of, close_in, is_some_packet}
-use Rattle.share_model.proofs.lemmas.link.BufferLaws.{flows-close_in, head_of-closed_other}
+use Rattle.share_model.specs.link.Buffers.{Buffer, is_buffer_of, close_in}
+use Rattle.share_model.proofs.lemmas.link.BufferLaws.{flows-close_in, head_of-closed_other, fillings, fillings-same}
+use Rattle.share_model.proofs.lemmas.link.BufferLaws.{buffer_flows}
+use Rattle.share_model.proofs.lemmas.link.HoldLaws.{is_held-closed_other}
 use Rattle.share_model.specs.link.Commands.{IsClosable}
 use Rattle.share_model.proofs.lemmas.link.CommandLaws.{command-cases}
 use Rattle.share_model.specs.link.Live.{Live}
-use Rattle.share_model.specs.link.Books.{is_book_of}
+use Rattle.share_model.specs.link.Books.{is_book_of, is_held}
 use Rattle.share_model.specs.link.Commands.{is_part_of, is_torn_of, close_flow, command_step}
 use Rattle.share_model.specs.stride.Moves.{remove}
 use Rattle.share_model.specs.stride.Level.{level_one}
 use Rattle.share_model.specs.run.Sound.{QueueIsSound, FlowsAreTied, IsSoundBuffer, IsOnShelf, PartIsSound, TornIsNamed}
-use Rattle.share_model.specs.run.Sound.{Sound}
+use Rattle.share_model.specs.run.Sound.{Sound, is_awake}
 use Rattle.share_model.proofs.lemmas.run.CountLaws.{close_in-balance, accounts-close_in}
 use Rattle.share_model.proofs.lemmas.run.QueueLaws.{queue-closed}
 use Rattle.share_model.proofs.lemmas.run.SoundLaws.{sound-numbered}
 use Rattle.share_model.proofs.lemmas.run.SoundStepLaws.{sound-with_level_queue, buffers-later, sound-with_one_event}
 use Rattle.share_model.proofs.lemmas.run.SoundStepLaws.{sound-with_graph}
 use Rattle.share_model.proofs.lemmas.run.SoundStepLaws.{sound-open_flow}
+use Rattle.share_model.proofs.lemmas.run.SoundHoldLaws.{sound-hold_flow}
 
 pub numbers-without : (f : ℕ) (es : List (NameBytes × FlowEntry))
     → flow_numbers (without_flow f es) ≡ remove_key (nat_eq f) (flow_numbers es)
 numbers-without f es = map-remove_key (λ (e : NameBytes × FlowEntry). e.1.number) (nat_eq f) es
 
-flows_closed : (f : ℕ) {es : List (NameBytes × FlowEntry)} {bs : List Buffer} {books : List Book}
-    → FlowsAreTied es bs books
+-- the flows that stay are held as before
+stay_held : (limit f : ℕ) (bs : List Buffer) (books : List Book) → Rises limit (buffer_flows bs)
+    → fillings (is_held (remove_key (is_book_of f) books)) (close_in bs f) ≡ fillings (is_held books) (close_in bs f)
+stay_held limit f bs books rises =
+    let gone : has_number f (buffer_flows (close_in bs f)) ≡ false =
+    ap (has_number f) (flows-close_in bs f) ∙ has_number-remove_same limit f (buffer_flows bs) rises in
+    fillings-same (is_held books) (is_held (remove_key (is_book_of f) books)) (close_in bs f)
+    (each_map (λ g. nat_eq f g ≡ false) (λ g. is_held (remove_key (is_book_of f) books) g ≡ is_held books g)
+    (λ g apart. is_held-closed_other books f g apart) (buffer_flows (close_in bs f))
+    (each-other f (buffer_flows (close_in bs f)) gone))
+
+flows_closed : (limit f : ℕ) {es : List (NameBytes × FlowEntry)} {bs : List Buffer} {books : List Book}
+    → FlowsAreTied es bs books → Rises limit (flow_numbers es)
     → FlowsAreTied (without_flow f es) (close_in bs f) (remove_key (is_book_of f) books)
-flows_closed f {es = es} {bs = bs} {books = books} was = record {
+flows_closed limit f {es = es} {bs = bs} {books = books} was rises = record {
   buffered = flows-close_in bs f ∙ (ap (remove_key (nat_eq f)) was.buffered ∙ sym (numbers-without f es));
   booked =
       map-remove_key (λ (b : Book). b.flow) (nat_eq f) books
       ∙ (ap (remove_key (nat_eq f)) was.booked ∙ sym (numbers-without f es));
   active =
       values-remove_key (λ (e : NameBytes × FlowEntry). e.1.number) (λ (b : Buffer). b.flow)
-      (λ (e : NameBytes × FlowEntry). e.1.active) (λ (b : Buffer). is_some_packet b.packets) f es bs
-      (sym was.buffered) was.active;
+      (λ (e : NameBytes × FlowEntry). e.1.active) (is_awake books) f es bs (sym was.buffered) was.active
+      ∙ sym (stay_held limit f bs books (subst (Rises limit) (sym was.buffered) rises));
 }
 
 part_closed : (bs : List Buffer) (f : ℕ) (o : Option Part) → is_part_of f o ≡ false → PartIsSound bs o
@@ -90,7 +107,7 @@ sound-close_flow {life = life} {rates = rates} {l = l} was few f may = sound-wit
     next_ticket = omega (arith, was.funding.next_ticket);
     next_flow = omega (arith, was.funding.next_flow);
   };
-  flows = flows_closed f was.flows;
+  flows = flows_closed l.graph.next_flow f was.flows (sound-numbered was);
   queue =
       subst (λ ns. QueueIsSound life (l.counts.events + 1) ns (remove (level_one l.queue f 0) f))
       (sym (numbers-without f l.graph.flows))
@@ -113,4 +130,4 @@ pub sound-commanded : {life : ℕ} {rates : List Rate} {l : Live} → Sound life
     → (c : Command) → Sound life rates (command_step rates l c).0
 sound-commanded {life = life} {rates = rates} {l = l} was few c =
     command-cases (Sound life rates) rates l c (sound-with_one_event was few) (sound-with_graph was few)
-    (sound-open_flow was few) (sound-close_flow was few)
+    (sound-open_flow was few) (sound-close_flow was few) (sound-hold_flow was few)

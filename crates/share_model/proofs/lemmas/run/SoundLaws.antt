@@ -1,6 +1,7 @@
 -- What holds of every link: bounds, what it has to send, and its open flows.
 use Rattle.std.specs.Prelude.{◌≡◌, ◌<◌, ◌≤◌, ◌+◌, ◌-◌, ◌*◌, ◌/◌, ◌^◌, ℕ, zero, suc, Bool, true, false, List, [], ◌∷◌}
-use Rattle.std.specs.Prelude.{length, find, filter, sum_by, slice_get, unwrap_or, Option, None, Some, option_map}
+use Rattle.std.specs.Prelude.{not, ◌&&◌, length, find, filter, sum_by, slice_get, unwrap_or, Option, None, Some}
+use Rattle.std.specs.Prelude.{option_map}
 use Rattle.std.specs.Prelude.{option_and_then, is_some, IsSome, bytes_eq}
 use Rattle.std.proofs.Common.{refl, ap, sym, ◌∙◌, arith, length-drop}
 use Rattle.std.proofs.lemmas.Bool.{cond_both, cond-false, eqb-true}
@@ -30,7 +31,7 @@ use Rattle.share_model.specs.funding.Graph.{funding, tickets, is_held_by_flow, i
 use Rattle.share_model.specs.funding.Changes.{flow_named}
 use Rattle.share_model.specs.link.Live.{Live}
 use Rattle.share_model.specs.link.Turns.{Sending, sending_at, frame_in_part, sending_by, sending, rest_of}
-use Rattle.share_model.specs.link.Books.{is_book_of, units_by, units_due, with_units, books_with_units}
+use Rattle.share_model.specs.link.Books.{is_book_of, units_by, units_due, with_units, books_with_units, is_held}
 use Rattle.share_model.specs.lists.Each.{Each}
 use Rattle.share_model.specs.lists.Change.{change_first}
 use Rattle.share_model.specs.lists.Rises.{Rises}
@@ -249,7 +250,8 @@ rest-short {s = s} sound is = omega (arith, sending-few sound is, length-drop s.
 
 -- Open flows, their buffers and their books
 
-pub sound-tied : {life : ℕ} {rates : List Rate} {l : Live} → Sound life rates l → AreTied l.graph.flows l.buffers
+pub sound-tied : {life : ℕ} {rates : List Rate} {l : Live} → Sound life rates l
+    → AreTied (is_held l.books) l.graph.flows l.buffers
 sound-tied sound = record { numbers = sound.flows.buffered; active = sound.flows.active }
 
 -- flows are numbered from 1, in order of opening
@@ -304,8 +306,8 @@ pub book-account : {life : ℕ} {rates : List Rate} {l : Live} {b : Book} → So
 book-account {l = l} {b = b} sound f found =
     omega (arith, sound.books.accounts, sum_by-found (λ (b : Book). b.account) (is_book_of f) b l.books found)
 
--- a flow is active if and only if its buffer holds a packet
+-- a flow is active if and only if its buffer holds a packet and it is not held
 pub flow-active : {life : ℕ} {rates : List Rate} {l : Live} → Sound life rates l → (f : ℕ)
-    → is_active_flow l.graph f ≡ is_busy l.buffers f
+    → is_active_flow l.graph f ≡ (is_busy l.buffers f && not (is_held l.books f))
 flow-active {l = l} sound f =
-    active-busy l.graph.next_flow f l.graph.flows l.buffers (sound-tied sound) (sound-numbered sound)
+    active-busy (is_held l.books) l.graph.next_flow f l.graph.flows l.buffers (sound-tied sound) (sound-numbered sound)

@@ -3,7 +3,7 @@
 use Rattle.std.specs.Prelude.{◌≡◌, ◌<◌, ◌≤◌, ◌+◌, ℕ, Bool, true, not, ◌&&◌, List, [], ◌∷◌, ◌++◌, length, map}
 use Rattle.std.specs.Prelude.{nat_le, Option, None, Some, is_some}
 use Rattle.std.proofs.Common.{refl, ap, sym, ◌∙◌, subst, arith, length-append}
-use Rattle.std.proofs.lemmas.Bool.{cond_both}
+use Rattle.std.proofs.lemmas.Bool.{cond_both, eqb-true}
 use Rattle.std.proofs.lemmas.List.{map-append, length-map}
 use Rattle.std.proofs.lemmas.List.Sums.{sum_by-append}
 use Rattle.share_base.specs.declared.command.Reply.{Reply}
@@ -18,13 +18,15 @@ use Rattle.share_model.specs.lists.Change.{change_first}
 use Rattle.share_model.specs.lists.Each.{Each}
 use Rattle.share_model.specs.lists.Rises.{Rises}
 use Rattle.share_model.proofs.lemmas.lists.Laws.{each_map, each-append, each-one, each-change_first, rises-fresh}
+use Rattle.share_model.proofs.lemmas.lists.Laws.{each-all, find-holds}
 use Rattle.share_model.specs.link.Fields.{IsBody}
 use Rattle.share_model.specs.link.Tariff.{rate_at}
 use Rattle.share_model.specs.link.Buffers.{Buffer, is_buffer_of, buffer_of, new_buffer, open_in, with_packet, push_in}
 use Rattle.share_model.specs.link.Buffers.{is_full, is_some_packet}
 use Rattle.share_model.proofs.lemmas.link.BufferLaws.{fillings, head_of-push_in, head_of-open_in, buffer_flows}
 use Rattle.share_model.proofs.lemmas.link.BufferLaws.{flows-push_in}
-use Rattle.share_model.proofs.lemmas.link.BufferLaws.{activities-changed, numbers-with_activity}
+use Rattle.share_model.proofs.lemmas.link.BufferLaws.{activities-changed, numbers-with_activity, fillings-same}
+use Rattle.share_model.proofs.lemmas.link.HoldLaws.{is_held-opened}
 use Rattle.share_model.specs.funding.Graph.{NameBytes, Graph, flow_numbers}
 use Rattle.share_model.specs.funding.Changes.{flow_named, added_flow, add_flow_refusal, add_flow, with_activity}
 use Rattle.share_model.proofs.lemmas.funding.ChangeLaws.{not-refused, not_false, room}
@@ -35,13 +37,13 @@ use Rattle.share_model.proofs.lemmas.stride.LevelLaws.{levelled_is_level}
 use Rattle.share_model.specs.link.Commands.{IsFunded}
 use Rattle.share_model.specs.link.Totals.{packets_in}
 use Rattle.share_model.specs.link.Live.{Live, empty_link, with_one_event, with_level_queue, tickets_of_all}
-use Rattle.share_model.specs.link.Books.{new_book}
+use Rattle.share_model.specs.link.Books.{new_book, is_held}
 use Rattle.share_model.specs.link.Commands.{open_flow, with_graph}
 use Rattle.share_model.specs.link.Commands.{open_flow_refusal}
 use Rattle.share_model.specs.link.Arrivals.{accept, arrive_in, arrive_by, arrive_step}
 use Rattle.share_model.specs.run.Sound.{torn_gone, CountsAreSound, FundingIsSound, FlowsAreTied, QueueIsSound}
 use Rattle.share_model.specs.run.Sound.{IsSoundBuffer, IsOnShelf, BooksAreSound, PartIsSound, TornIsSound}
-use Rattle.share_model.specs.run.Sound.{TornIsNamed, Sound}
+use Rattle.share_model.specs.run.Sound.{TornIsNamed, Sound, is_awake}
 use Rattle.share_model.proofs.lemmas.run.CountLaws.{counts-later, packets_in-open_in, packets_in-push_in}
 use Rattle.share_model.proofs.lemmas.run.QueueLaws.{queue-later, queue-empty_queue, queue-added, queue-levelled}
 use Rattle.share_model.proofs.lemmas.run.QueueLaws.{tickets_of_all-distinct}
@@ -208,10 +210,17 @@ flows_opened l name limit tariff was = record {
       was.booked ∙ sym (numbers-added l.graph name);
   active =
       map_last (λ (e : NameBytes × FlowEntry). e.1.active) l.graph.flows (name, added_flow l.graph)
-      (fillings l.buffers) was.active
-      ∙ sym (map_last (λ (b : Buffer). is_some_packet b.packets) l.buffers (new_buffer l.graph.next_flow limit)
-      (fillings l.buffers) refl);
+      (fillings (is_held l.books) l.buffers) was.active
+      ∙ sym (map_last (is_awake (l.books ++ new_book l.graph.next_flow tariff ∷ [])) l.buffers
+      (new_buffer l.graph.next_flow limit) (fillings (is_held l.books) l.buffers) as_before);
 }
+  where
+    as_before : fillings (is_held (l.books ++ new_book l.graph.next_flow tariff ∷ [])) l.buffers
+        ≡ fillings (is_held l.books) l.buffers
+    as_before =
+        fillings-same (is_held l.books) (is_held (l.books ++ new_book l.graph.next_flow tariff ∷ [])) l.buffers
+        (each-all (λ f. is_held (l.books ++ new_book l.graph.next_flow tariff ∷ []) f ≡ is_held l.books f)
+        (is_held-opened l.books l.graph.next_flow tariff) (buffer_flows l.buffers))
 
 books_opened : {rates : List Rate} {c : Counts} {books : List Book} (f tariff : ℕ)
     → is_some (rate_at rates tariff) ≡ true → BooksAreSound rates c books
@@ -295,16 +304,23 @@ torn_pushed bs broken g body (Some f) was = record {
 }
 
 -- the flows after one of them was set active or not, and its buffer changed to hold a packet or not
-pub flows-changed : (f : ℕ) (t : Bool) (change : Buffer → Buffer) {es : List (NameBytes × FlowEntry)}
-    {bs : List Buffer} {books : List Book} → FlowsAreTied es bs books
+pub flows-changed : (limit f : ℕ) (t : Bool) (change : Buffer → Buffer) {es : List (NameBytes × FlowEntry)}
+    {bs : List Buffer} {books : List Book} → FlowsAreTied es bs books → Rises limit (flow_numbers es)
     → buffer_flows (change_first (is_buffer_of f) change bs) ≡ buffer_flows bs
-    → ((b : Buffer) → buffer_of bs f ≡ Some b → is_some_packet (change b).packets ≡ t)
+    → ((b : Buffer) → buffer_of bs f ≡ Some b
+    → (is_some_packet (change b).packets && not (is_held books (change b).flow)) ≡ t)
     → FlowsAreTied (with_activity f t es) (change_first (is_buffer_of f) change bs) books
-flows-changed f t change {es = es} {bs = bs} was same here = record {
+flows-changed limit f t change {es = es} {bs = bs} {books = books} was rises same here = record {
   buffered = same ∙ (was.buffered ∙ sym (numbers-with_activity f t es));
   booked = was.booked ∙ sym (numbers-with_activity f t es);
-  active = activities-changed f t change es bs (record { numbers = was.buffered; active = was.active }) here;
+  active =
+      activities-changed limit f t (is_held books) (is_held books) change es bs
+      (record { numbers = was.buffered; active = was.active }) rises (λ _ _. refl) here;
 }
+
+-- the buffer that is found is that of the flow
+pub found-own : (bs : List Buffer) (f : ℕ) (b : Buffer) → buffer_of bs f ≡ Some b → b.flow ≡ f
+found-own bs f b found = sym (eqb-true f b.flow (find-holds (is_buffer_of f) bs b found))
 
 pub sound-accept : {life : ℕ} {rates : List Rate} {l : Live} → Sound life rates l → l.counts.events < life
     → (f : ℕ) (body : List ℕ) → IsBody body → (b : Buffer) → buffer_of l.buffers f ≡ Some b
@@ -318,16 +334,18 @@ sound-accept {life = life} {l = l} was few f body short b found = sound-with_lev
     balance = omega (arith, was.counts.balance, packets_in-push_in l.buffers f body b found);
   };
   funding = record {
-    kept = kept-set_active l.graph was.funding.kept f true;
+    kept = kept-set_active l.graph was.funding.kept f (not (is_held l.books f));
     next_ticket = omega (arith, was.funding.next_ticket);
     next_flow = omega (arith, was.funding.next_flow);
   };
   flows =
-      flows-changed f true (with_packet body) was.flows (flows-push_in l.buffers f body)
-      (λ b _. is_some_last b.packets body);
+      flows-changed l.graph.next_flow f (not (is_held l.books f)) (with_packet body) was.flows (sound-numbered was)
+      (flows-push_in l.buffers f body)
+      (λ b found. ap (λ some. some && not (is_held l.books b.flow)) (is_some_last b.packets body)
+      ∙ ap (λ g. not (is_held l.books g)) (found-own l.buffers f b found));
   queue =
       subst (λ ns. QueueIsSound life (l.counts.events + 1) ns l.queue)
-      (sym (numbers-with_activity f true l.graph.flows)) (queue-later was.queue);
+      (sym (numbers-with_activity f (not (is_held l.books f)) l.graph.flows)) (queue-later was.queue);
   buffers =
       buffers-changed l.counts.events f (with_packet body) l.buffers (with_packet_sound l.counts.events body short)
       was.buffers;

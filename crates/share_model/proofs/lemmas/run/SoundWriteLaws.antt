@@ -1,5 +1,5 @@
 -- Each write and each fault keeps what holds of every link.
-use Rattle.std.specs.Prelude.{◌≡◌, ◌<◌, ◌≤◌, ◌+◌, ℕ, Bool, true, false, List, length, map}
+use Rattle.std.specs.Prelude.{◌≡◌, ◌<◌, ◌≤◌, ◌+◌, ℕ, Bool, true, false, not, ◌&&◌, List, length, map}
 use Rattle.std.specs.Prelude.{nat_eq, Option, None, Some, option_map}
 use Rattle.std.proofs.Common.{refl, ap, sym, ◌∙◌, subst, arith, length-drop}
 use Rattle.std.proofs.lemmas.Bool.{cond_both, eqb-false, both_ways}
@@ -13,27 +13,29 @@ use Rattle.share_model.specs.link.Tariff.{AreInRange}
 use Rattle.share_model.specs.link.Frame.{frame}
 use Rattle.share_model.specs.link.Buffers.{Buffer, is_buffer_of, buffer_of, head_of, without_head, pop_in}
 use Rattle.share_model.specs.link.Buffers.{is_some_packet, holds_packet, is_busy}
-use Rattle.share_model.proofs.lemmas.link.BufferLaws.{flows-pop_in, numbers-with_activity}
+use Rattle.share_model.proofs.lemmas.link.BufferLaws.{flows-pop_in, numbers-with_activity, fillings, fillings-same}
+use Rattle.share_model.proofs.lemmas.link.BufferLaws.{buffer_flows}
+use Rattle.share_model.proofs.lemmas.link.HoldLaws.{is_held-posted}
 use Rattle.share_model.proofs.lemmas.funding.FlowLaws.{kept-set_active}
 use Rattle.share_model.specs.link.Live.{Live}
 use Rattle.share_model.specs.link.Turns.{Sending, sending, rest_of}
 use Rattle.share_model.specs.link.Books.{is_book_of, units_due, with_units}
-use Rattle.share_model.specs.link.Books.{books_with_units}
+use Rattle.share_model.specs.link.Books.{books_with_units, is_held}
 use Rattle.share_model.specs.link.Turns.{is_whole, in_part, whole, torn_link, write_step, fault_step}
 use Rattle.share_model.specs.link.Live.{tickets_of_all}
 use Rattle.share_model.specs.stride.Moves.{charge}
-use Rattle.share_model.proofs.lemmas.lists.Laws.{each-drop_one, each-change_first, map-change_first}
+use Rattle.share_model.proofs.lemmas.lists.Laws.{each-drop_one, each-change_first, map-change_first, each-all}
 use Rattle.share_model.proofs.lemmas.lists.Laws.{find-change_first}
 use Rattle.share_model.specs.run.Sound.{torn_gone, QueueIsSound, IsSoundBuffer, IsOnShelf, BooksAreSound, TornIsNamed}
 use Rattle.share_model.specs.run.Sound.{Sound}
 use Rattle.share_model.proofs.lemmas.run.CountLaws.{packets_in-pop_in}
 use Rattle.share_model.proofs.lemmas.run.QueueLaws.{queue-later, queue-after_charge, level-after_charge}
 use Rattle.share_model.proofs.lemmas.run.SoundLaws.{units_due-few, books_with_units-few_more, rest-short, sending-few}
-use Rattle.share_model.proofs.lemmas.run.SoundLaws.{sending-head}
+use Rattle.share_model.proofs.lemmas.run.SoundLaws.{sending-head, sound-numbered}
 use Rattle.share_model.proofs.lemmas.run.SoundLaws.{sending-short, head-stands}
 use Rattle.share_model.proofs.lemmas.run.SoundStepLaws.{sound-with_level_queue, funding-later, buffers-later}
 use Rattle.share_model.proofs.lemmas.run.SoundStepLaws.{buffers-changed}
-use Rattle.share_model.proofs.lemmas.run.SoundStepLaws.{flows-changed}
+use Rattle.share_model.proofs.lemmas.run.SoundStepLaws.{flows-changed, found-own}
 
 -- Writes
 
@@ -67,6 +69,14 @@ popped_busy bs f b found =
     sym (ap holds_packet (find-change_first (is_buffer_of f) without_head (λ b holds. holds) bs
     ∙ ap (option_map without_head) found))
 
+-- what is posted changes no activity
+posted_fillings : (rates : List Rate) (books : List Book) (f units : ℕ) (bs : List Buffer)
+    → fillings (is_held (books_with_units rates books f units)) bs ≡ fillings (is_held books) bs
+posted_fillings rates books f units bs =
+    fillings-same (is_held books) (is_held (books_with_units rates books f units)) bs
+    (each-all (λ g. is_held (books_with_units rates books f units) g ≡ is_held books g)
+    (is_held-posted rates books f units) (buffer_flows bs))
+
 -- a link that is whole names no torn packet
 untorn : (bs bs' : List Buffer) (broken : Bool) (o : Option ℕ) → broken ≡ false → TornIsNamed bs broken o
     → TornIsNamed bs' broken o
@@ -81,9 +91,11 @@ sound-whole {life = life} {rates = rates} {l = l} {s = s} range was few unbroken
     let head : head_of l.buffers f ≡ Some s.head = sending-head was is in
     let units = units_due rates l.books f (length (frame s.head)) in
     let cheap : units ≤ 4026 = units_due-few rates l.books f (length (frame s.head)) range (sending-short was is) in
+    let awake = is_busy (pop_in l.buffers f) f && not (is_held l.books f) in
     let tied =
-    flows-changed f (is_busy (pop_in l.buffers f) f) without_head was.flows (flows-pop_in l.buffers f)
-    (popped_busy l.buffers f) in
+    flows-changed l.graph.next_flow f awake without_head was.flows (sound-numbered was) (flows-pop_in l.buffers f)
+    (λ b found. ap (λ some. some && not (is_held l.books b.flow)) (popped_busy l.buffers f b found)
+    ∙ ap (λ g. is_busy (pop_in l.buffers f) f && not (is_held l.books g)) (found-own l.buffers f b found)) in
     sound-with_level_queue (record {
       some = omega arith;
       counts = record {
@@ -93,18 +105,18 @@ sound-whole {life = life} {rates = rates} {l = l} {s = s} range was few unbroken
         balance = omega (arith, was.counts.balance, packets_in-pop_in l.buffers f s.head head);
       };
       funding = record {
-        kept = kept-set_active l.graph was.funding.kept f (is_busy (pop_in l.buffers f) f);
+        kept = kept-set_active l.graph was.funding.kept f awake;
         next_ticket = omega (arith, was.funding.next_ticket);
         next_flow = omega (arith, was.funding.next_flow);
       };
       flows = record {
         buffered = tied.buffered;
         booked = booked_posted rates l.books f units ∙ tied.booked;
-        active = tied.active;
+        active = tied.active ∙ sym (posted_fillings rates l.books f units (pop_in l.buffers f));
       };
       queue =
           subst (λ ns. QueueIsSound life (l.counts.events + 1) ns (charge l.queue f units))
-          (sym (numbers-with_activity f (is_busy (pop_in l.buffers f) f) l.graph.flows))
+          (sym (numbers-with_activity f awake l.graph.flows))
           (queue-after_charge f units (head-stands was f head) few cheap was.queue);
       buffers =
           buffers-changed l.counts.events f without_head l.buffers (popped_sound l.counts.events) was.buffers;
@@ -179,7 +191,7 @@ sound-failed {rates = rates} {l = l} {s = s} range was few unbroken is =
       flows = record {
         buffered = was.flows.buffered;
         booked = booked_posted rates l.books f units ∙ was.flows.booked;
-        active = was.flows.active;
+        active = was.flows.active ∙ sym (posted_fillings rates l.books f units l.buffers);
       };
       queue = queue-after_charge f units (head-stands was f head) few cheap was.queue;
       level = level-after_charge l.queue f units (tickets_of_all l.graph) was.level;

@@ -26,7 +26,7 @@ use Rattle.share_model.proofs.lemmas.link.BufferLaws.{head_of-closed_other}
 use Rattle.share_model.proofs.lemmas.link.BufferLaws.{buffer_of-absent, flows-push_in, flows-close_in}
 use Rattle.share_model.proofs.lemmas.link.CommandLaws.{command-cases}
 use Rattle.share_model.specs.link.Live.{Live, with_one_event}
-use Rattle.share_model.specs.link.Commands.{is_torn_of, with_graph, open_flow, close_flow}
+use Rattle.share_model.specs.link.Commands.{is_torn_of, with_graph, open_flow, close_flow, hold_flow}
 use Rattle.share_model.specs.link.Commands.{command_step}
 use Rattle.share_model.specs.link.Arrivals.{accept, arrive_in, arrive_by, arrive_step}
 use Rattle.share_model.specs.run.Fold.{TornFrame}
@@ -127,6 +127,7 @@ torn-commanded {rates = rates} {l = l} sound c o was =
     (λ f may. told_kept l (close_flow l f) o refl (omega arith)
     (λ none. ap (λ o. if is_torn_of f o then None else o) none)
     (λ t below place. place_closed l.graph.next_flow l.buffers l.torn f t (buffers-rise sound) place) was)
+    (λ f held stands. told_kept l (hold_flow l f held) o refl (omega arith) (λ none. none) (λ t below place. place) was)
 
 place_pushed : (bs : List Buffer) (torn : Option ℕ) (f : ℕ) (body : List ℕ) (t : TornFrame) → IsTornPlaced bs torn t
     → IsTornPlaced (push_in bs f body) torn t

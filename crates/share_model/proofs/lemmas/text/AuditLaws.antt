@@ -9,7 +9,7 @@ use Rattle.std.proofs.lemmas.Bool.{and_parts, leb-true}
 use Rattle.share_base.specs.Name.{is_letter}
 use Rattle.share_base.specs.declared.command.Command.TheVariants.{MakeCurrency, RemoveCurrency, MakeTicket}
 use Rattle.share_base.specs.declared.command.Command.TheVariants.{RemoveTicket, FundCurrency, FundFlow, Unfund}
-use Rattle.share_base.specs.declared.command.Command.TheVariants.{OpenFlow, CloseFlow}
+use Rattle.share_base.specs.declared.command.Command.TheVariants.{OpenFlow, CloseFlow, Hold, Resume, Amend}
 use Rattle.share_base.specs.declared.command.Event.{Event}
 use Rattle.share_base.specs.declared.command.Event.TheVariants.{Commanded, Arrived, Written, Faulted}
 use Rattle.share_base.specs.declared.refusal.Refusal.TheVariants.{Range}
@@ -68,6 +68,11 @@ line-short (Change (OpenFlow name limit tariff)) h r =
     let all = length-append name (32 ∷ (decimal limit ++ 32 ∷ decimal tariff)) in
     omega (arith, all, numbers, short_name name h.0, short_number limit h.1, short_number tariff h.2)
 line-short (Change (CloseFlow name)) h r = omega (arith, short_name name h)
+line-short (Change (Hold name)) h r = omega (arith, short_name name h)
+line-short (Change (Resume name)) h r = omega (arith, short_name name h)
+line-short (Change (Amend ticket amount)) h r =
+    let all = length-append (decimal ticket) (32 ∷ decimal amount) in
+    omega (arith, all, short_number ticket h.0, short_number amount h.1)
 line-short (Send flow body) h r =
     let all = length-append flow (32 ∷ hex body.payload) in
     omega (arith, all, length-hex body.payload, leb-true (length body.payload) max_payload r, short_name flow h.0)

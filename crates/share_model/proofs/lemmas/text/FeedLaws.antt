@@ -14,7 +14,7 @@ use Rattle.std.proofs.lemmas.Bool.{and_parts}
 use Rattle.share_base.specs.Name.{is_name_byte}
 use Rattle.share_base.specs.declared.command.Command.TheVariants.{MakeCurrency, RemoveCurrency, MakeTicket}
 use Rattle.share_base.specs.declared.command.Command.TheVariants.{RemoveTicket, FundCurrency, FundFlow, Unfund}
-use Rattle.share_base.specs.declared.command.Command.TheVariants.{OpenFlow, CloseFlow}
+use Rattle.share_base.specs.declared.command.Command.TheVariants.{OpenFlow, CloseFlow, Hold, Resume, Amend}
 use Rattle.share_model.specs.declared.line.Line.{Line}
 use Rattle.share_model.specs.declared.line.Line.TheVariants.{Change, Send, Turn, Torn, Report, Audit}
 use Rattle.share_model.specs.lists.Each.{Each}
@@ -83,6 +83,10 @@ seen-spelling_of (Change (OpenFlow name limit tariff)) h =
     seen-more name (32 ∷ (decimal limit ++ 32 ∷ decimal tariff)) (seen-name name h.0)
     (seen-more (decimal limit) (32 ∷ decimal tariff) (seen-decimal limit h.1) (seen-decimal tariff h.2))
 seen-spelling_of (Change (CloseFlow name)) h = seen-name name h
+seen-spelling_of (Change (Hold name)) h = seen-name name h
+seen-spelling_of (Change (Resume name)) h = seen-name name h
+seen-spelling_of (Change (Amend ticket amount)) h =
+    seen-more (decimal ticket) (32 ∷ decimal amount) (seen-decimal ticket h.0) (seen-decimal amount h.1)
 seen-spelling_of (Send flow body) h =
     seen-more flow (32 ∷ hex body.payload) (seen-name flow h.0) (seen-hex body.payload)
 seen-spelling_of (Turn most) h = seen-decimal most h

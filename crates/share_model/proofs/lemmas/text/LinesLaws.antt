@@ -12,12 +12,12 @@ use Rattle.share_base.specs.declared.refusal.Refusal.TheVariants.{Syntax, Range}
 use Rattle.share_base.specs.declared.command.Command.{Command}
 use Rattle.share_base.specs.declared.command.Command.TheVariants.{MakeCurrency, RemoveCurrency, MakeTicket}
 use Rattle.share_base.specs.declared.command.Command.TheVariants.{RemoveTicket, FundCurrency, FundFlow, Unfund}
-use Rattle.share_base.specs.declared.command.Command.TheVariants.{OpenFlow, CloseFlow}
+use Rattle.share_base.specs.declared.command.Command.TheVariants.{OpenFlow, CloseFlow, Hold, Resume, Amend}
 use Rattle.share_model.specs.declared.line.Line.{Line}
 use Rattle.share_model.specs.declared.line.Line.TheVariants.{Change, Send, Turn, Torn, Report, Audit}
 use Rattle.share_model.specs.text.Lines.{hex, words, spelling_of}
 use Rattle.share_model.specs.text.Lines.{IsName, IsNumber, IsPayload, HasFields, IsLine, is_in_range, is_space}
-use Rattle.share_model.specs.text.Lines.{words_of, named_of, numbered_of, mktkt_of, fund_of, open_of}
+use Rattle.share_model.specs.text.Lines.{words_of, named_of, numbered_of, mktkt_of, amend_of, fund_of, open_of}
 use Rattle.share_model.specs.text.Lines.{send_of, turn_of, line_by, line_of}
 use Rattle.share_model.specs.text.Lines.{line_or_refusal, reading, IsReading, IsUnread}
 use Rattle.share_model.proofs.lemmas.text.WordLaws.{NoSpace, no_space-name_bytes, no_space-name, no_space-decimal}
@@ -57,6 +57,10 @@ mktkt_of-words : (amount : ℕ) (currency : List ℕ) → IsNumber amount → Is
     → mktkt_of (decimal amount ∷ currency ∷ []) ≡ Some (Change (MakeTicket amount currency))
 mktkt_of-words amount currency a c = rw (number_of-decimal amount a, name_of-name currency c) refl
 
+amend_of-words : (ticket amount : ℕ) → IsNumber ticket → IsNumber amount
+    → amend_of (decimal ticket ∷ decimal amount ∷ []) ≡ Some (Change (Amend ticket amount))
+amend_of-words ticket amount t a = rw (number_of-decimal ticket t, number_of-decimal amount a) refl
+
 fund_of-currency : (ticket : ℕ) (currency : List ℕ) → IsNumber ticket → IsName currency
     → fund_of (decimal ticket ∷ codes "cur" ∷ currency ∷ []) ≡ Some (Change (FundCurrency ticket currency))
 fund_of-currency ticket currency t c = rw (number_of-decimal ticket t, name_of-name currency c) refl
@@ -85,6 +89,9 @@ line_of-words (Change (FundFlow ticket flow)) h = fund_of-flow ticket flow h.0 h
 line_of-words (Change (Unfund ticket)) h = numbered_of-words Unfund ticket h
 line_of-words (Change (OpenFlow name limit tariff)) h = open_of-words name limit tariff h.0 h.1 h.2
 line_of-words (Change (CloseFlow name)) h = named_of-words CloseFlow name h
+line_of-words (Change (Hold name)) h = named_of-words Hold name h
+line_of-words (Change (Resume name)) h = named_of-words Resume name h
+line_of-words (Change (Amend ticket amount)) h = amend_of-words ticket amount h.0 h.1
 line_of-words (Send flow body) h = send_of-words flow body h.0 h.1 h.2
 line_of-words (Turn most) h = turn_of-words most h
 line_of-words Torn h = refl
@@ -113,6 +120,12 @@ words_of-spelling_of (Change (FundFlow ticket flow)) h =
     (no_space-decimal _ h.0, (no_space-name_bytes (codes "flow") refl, (no_space-name _ h.1, tt)))
 words_of-spelling_of (Change (CloseFlow name)) h =
     words_of-join _ _ (no_space-name_bytes (codes "close") refl) (no_space-name _ h, tt)
+words_of-spelling_of (Change (Hold name)) h =
+    words_of-join _ _ (no_space-name_bytes (codes "hold") refl) (no_space-name _ h, tt)
+words_of-spelling_of (Change (Resume name)) h =
+    words_of-join _ _ (no_space-name_bytes (codes "resume") refl) (no_space-name _ h, tt)
+words_of-spelling_of (Change (Amend ticket amount)) h =
+    words_of-join _ _ (no_space-name_bytes (codes "amend") refl) (no_space-decimal _ h.0, (no_space-decimal _ h.1, tt))
 words_of-spelling_of (Send flow body) h =
     words_of-join _ _ (no_space-name_bytes (codes "send") refl) (no_space-name _ h.0, (no_space-hex body.payload, tt))
 words_of-spelling_of (Turn most) h = words_of-join _ _ (no_space-name_bytes (codes "turn") refl)

@@ -6,7 +6,7 @@ use Rattle.std.proofs.lemmas.Slice.Eq.{bytes_eq-Decides}
 use Rattle.share_base.specs.declared.command.Command.{Command}
 use Rattle.share_base.specs.declared.command.Command.TheVariants.{MakeCurrency, RemoveCurrency}
 use Rattle.share_base.specs.declared.command.Command.TheVariants.{RemoveTicket, Unfund}
-use Rattle.share_base.specs.declared.command.Command.TheVariants.{CloseFlow}
+use Rattle.share_base.specs.declared.command.Command.TheVariants.{CloseFlow, Hold, Resume}
 use Rattle.share_model.specs.declared.line.HolderKind.{HolderKind}
 use Rattle.share_model.specs.declared.line.HolderKind.TheVariants.{Currency as CurrencyKind, Flow as FlowKind}
 use Rattle.share_model.specs.declared.line.Line.{Line}
@@ -14,7 +14,7 @@ use Rattle.share_model.specs.declared.line.Line.TheVariants.{Change, Audit}
 use Rattle.share_model.specs.text.Lines.{hex, words, IsName, IsNumber, IsPayload, HasFields, HasCommandFields}
 use Rattle.share_model.specs.text.Lines.{name_of, number_of, payload_of, field, with_rest, ◌>>=◌}
 use Rattle.share_model.specs.text.Lines.{kind_of, funding_of, line_at_end}
-use Rattle.share_model.specs.text.Lines.{named_of, numbered_of, mktkt_of, fund_of, open_of}
+use Rattle.share_model.specs.text.Lines.{named_of, numbered_of, mktkt_of, amend_of, fund_of, open_of}
 use Rattle.share_model.specs.text.Lines.{send_of, turn_of, torn_of, report_of, audit_of, line_by, line_of}
 use Rattle.share_model.proofs.lemmas.text.WordLaws.{name_of-only, number_of-only, payload_of-only}
 
@@ -128,6 +128,15 @@ mktkt_of-only ws l e =
     let b = took_name n.value.1 m.value m.first in
     are_words _ ws _ l _ refl (a.0, b.0) (before _ _ _ _ a.1 (before _ _ _ _ b.1 z.0)) z.1
 
+amend_of-only : (ws : List (List ℕ)) (l : Line) → amend_of ws ≡ Some l → AreWords (codes "amend" ∷ ws) l
+amend_of-only ws l e =
+    let n = bound _ _ _ e in
+    let m = bound _ _ _ n.then in
+    let z = line_at_end-only _ _ _ m.then in
+    let a = took_number ws n.value n.first in
+    let b = took_number n.value.1 m.value m.first in
+    are_words _ ws _ l _ refl (a.0, b.0) (before _ _ _ _ a.1 (before _ _ _ _ b.1 z.0)) z.1
+
 named_of-only : (k : List ℕ) (command : List ℕ → Command)
     → ((name : List ℕ) → words (Change (command name)) ≡ k ∷ name ∷ [])
     → ((name : List ℕ) → IsName name → HasCommandFields (command name)) → (ws : List (List ℕ)) (l : Line)
@@ -226,11 +235,15 @@ line_by-only w ws l e =
     (by_keyword w _ ws _ _ l (numbered_of-only _ RemoveTicket (λ n. refl) (λ n h. h) ws l)
     (by_keyword w _ ws _ _ l (named_of-only _ MakeCurrency (λ n. refl) (λ n h. h) ws l)
     (by_keyword w _ ws _ _ l (named_of-only _ RemoveCurrency (λ n. refl) (λ n h. h) ws l)
+    (by_keyword w _ ws _ _ l (named_of-only _ Hold (λ n. refl) (λ n h. h) ws l)
+    (by_keyword w _ ws _ _ l (named_of-only _ Resume (λ n. refl) (λ n h. h) ws l)
+    (by_keyword w _ ws _ _ l (amend_of-only ws l)
     (by_keyword w _ ws _ _ l (torn_of-only ws l)
     (by_keyword w _ ws _ _ l (report_of-only ws l)
     (by_keyword w _ ws _ _ l (audit_of-only ws l)
     (λ (h : None ≡ Some l). cc)
-    _ refl) _ refl) _ refl) _ refl) _ refl) _ refl) _ refl) _ refl) _ refl) _ refl) _ refl) _ refl) _ refl e
+    _ refl) _ refl) _ refl) _ refl) _ refl) _ refl) _ refl) _ refl) _ refl) _ refl) _ refl) _ refl) _ refl) _ refl)
+    _ refl) _ refl e
 
 pub line_of-only : (ws : List (List ℕ)) (l : Line) → line_of ws ≡ Some l → AreWords ws l
 line_of-only [] l e = cc

@@ -21,4 +21,4 @@ returns-clause-bytes c =
     ≡ c.push-7.new.self ++ column_text (Right 26) (signed_decimal c.args.flow.now.place) = search rules in
     let place = field_added old _ _ (codes "\n") c.push-8.ensures.bytes number standing in
     place ∙ ap (λ r. old ++ r)
-    (rw (c.number.ensures, c.as_bytes.ensures.value, c.standing.ensures.word) (fields_joined _ _ _ _ _ _ _))
+    (rw (c.number.ensures, c.as_bytes.ensures.value, c.standing_word.ensures.word) (fields_joined _ _ _ _ _ _ _))

@@ -62,3 +62,9 @@ returns-in-BufferFull-clause-text c = rw (c.in-BufferFull.is, decimal_two_digits
 
 pub returns-in-Broken-clause-text : goal.returns-in-Broken-clause-text
 returns-in-Broken-clause-text c = rw (c.in-Broken.is, decimal_two_digits 20 (lit≤ tt) (lit< tt)) refl
+
+pub returns-in-Held-clause-text : goal.returns-in-Held-clause-text
+returns-in-Held-clause-text c = rw (c.in-Held.is, decimal_two_digits 21 (lit≤ tt) (lit< tt)) refl
+
+pub returns-in-NotHeld-clause-text : goal.returns-in-NotHeld-clause-text
+returns-in-NotHeld-clause-text c = rw (c.in-NotHeld.is, decimal_two_digits 22 (lit≤ tt) (lit< tt)) refl

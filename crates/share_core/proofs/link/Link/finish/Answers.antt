@@ -46,13 +46,13 @@ pub pop_at-requires-clause-busy : goal.pop_at-requires-clause-busy
 pop_at-requires-clause-busy g c =
     busy _ _ _ c.args.place c.self.invariant.1 (sent _ _ c.args.place c.self.view_is c.requires.place)
 
-pub rest-requires-clause-level : goal.rest-requires-clause-level
-rest-requires-clause-level g c =
+pub set_active-requires-clause-level : goal.set_active-requires-clause-level
+set_active-requires-clause-level g c =
     let t = sent _ _ c.args.place c.self.view_is c.requires.place in
     rw (c.charge.ensures) (charged-level _ _ _ c.args.place c.self.invariant.1 t c.charge_at-units.result)
 
-pub rest-requires-clause-can : goal.rest-requires-clause-can
-rest-requires-clause-can g c =
+pub set_active-requires-clause-can : goal.set_active-requires-clause-can
+set_active-requires-clause-can g c =
     let sound = c.self.invariant.1 in
     let t = sent _ _ c.args.place c.self.view_is c.requires.place in
     let few = subst (λ units. units ≤ 4026) (sym c.charge_at-units.ensures.units)
@@ -70,10 +70,10 @@ invariant_of-self g c =
     let unbroken = subst (λ (k : LinkView (Unit {0})). k.live.broken ≡ false) (sym c.self.view_is)
     c.requires.unbroken in
     let idle = left _ _ _ _ false c.pop_at.ensures.after c.is_busy_at.ensures c.if-not-is_busy_at.true in (
-      (c.self.invariant.0.0, c.rest.ensures.levelled_with),
+      (c.self.invariant.0.0, c.set_active.ensures.levelled_with),
       rw (
-        c.rest.ensures.queue,
-        c.rest.ensures.ledger,
+        c.set_active.ensures.queue,
+        c.set_active.ensures.ledger,
         c.pop_at.ensures.after,
         c.charge.ensures,
         c.charge_at-units.ensures.posted,
@@ -117,8 +117,8 @@ returns g c =
       | then-not-is_busy_at w ↦
           let idle = left _ _ _ _ false c.pop_at.ensures.after c.is_busy_at.ensures w.if-not-is_busy_at.true in
           w.self-is ∙ rw (
-            w.rest.ensures.queue,
-            w.rest.ensures.ledger,
+            w.set_active.ensures.queue,
+            w.set_active.ensures.ledger,
             idle,
             c.pop_at.ensures.after,
             c.charge.ensures,

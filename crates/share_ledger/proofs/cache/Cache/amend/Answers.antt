@@ -1,0 +1,5 @@
+use Rattle.share_ledger.proofs.StaleSteps.{lefts-was}
+use Rattle.share_ledger.proofs.cache.Cache.amend.Goals as goal
+
+pub follow-requires-clause-was : goal.follow-requires-clause-was
+follow-requires-clause-was c = lefts-was _ _ _ _ _ c.requires.was c.amend.ensures.left

@@ -5,11 +5,13 @@ what it answers with plain models of the rules.
 The program is bin/stridelink, or that of the environment variable STRIDELINK; it has to know `serve` and `run`. The
 models are written from docs/SPECIFICATION.md and README.md, with nothing kept that the rules compute from scratch: the
 tickets of the flows come from the whole graph at each levelling. Reports are modelled too, and whole outputs are
-compared, byte for byte.
+compared, byte for byte. Before anything else the models are given worked examples, whose answers were found by hand.
 
     fuzz.py                 runs the seed that stands below, so it does the same each time
     fuzz.py --seed N        runs another seed
     fuzz.py --minutes N     draws seeds, tells each, and runs them for so long
+    fuzz.py --self          runs the models alone, on the scripts of a seed: no program is needed
+    fuzz.py --print FILE    prints what the models answer to a script
 
 A run of a seed has SCRIPTS scripts, each with its audit and that audit with one byte changed, dropped or doubled, and a
 server for each of TEXTS control texts and STREAMS streams of records. It ends with a line that says how many of each
@@ -50,7 +52,8 @@ LIMIT = 60
 # ---- The model of a link
 
 REFUSALS = ("NoMemory", "Spent", "Syntax", "Range", "NoCurrency", "NoTicket", "NoFlow", "NoTariff", "Taken", "Base",
-            "InUse", "Funding", "Unfunded", "Crowded", "Cycle", "Deep", "TableFull", "Sending", "BufferFull", "Broken")
+            "InUse", "Funding", "Unfunded", "Crowded", "Cycle", "Deep", "TableFull", "Sending", "BufferFull", "Broken",
+            "Held", "NotHeld")
 MOST_TICKETS = 1024
 MOST_CURRENCIES = 64
 MOST_FLOWS = 64
@@ -70,7 +73,8 @@ TARIFFS = {1: (1, 0, 1), 2: (48, 16, 2), 3: (1024, 0, 1), 4: (2048, 1024, 3)}
 # The spellings of a line. Of words in capitals there are many.
 SPELLINGS = [spelling.split(" ") for spelling in (
     "mkcur NAME", "rmcur NAME", "mktkt NUM NAME", "rmtkt NUM", "fund NUM cur NAME", "fund NUM flow NAME", "unfund NUM",
-    "open NAME NUM NUM", "close NAME", "send NAME HEX", "turn NUM", "torn", "report", "audit 1")]
+    "amend NUM NUM", "open NAME NUM NUM", "close NAME", "hold NAME", "resume NAME", "send NAME HEX", "turn NUM", "torn",
+    "report", "audit 1")]
 WORDS = {"NAME": re.compile("[a-z][a-z0-9_-]{0,15}"), "NUM": re.compile("0|[1-9][0-9]{0,19}"),
          "HEX": re.compile("([0-9a-f]{2})+")}
 TURNS = ("turn NUM", "torn")
@@ -139,6 +143,10 @@ class Flow:
     remain: int = 0
     place: int = 0
     competes: bool = False
+    is_held: bool = False
+
+    def is_active(self):
+        return bool(self.packets) and not self.is_held
 
 
 class Worths:
@@ -293,7 +301,7 @@ class Link:
         refuse(spelling in TURNS and self.is_broken, "Broken")
 
     def level(self):
-        worths = Worths(self.tickets.values(), {flow.number for flow in self.flows if flow.packets})
+        worths = Worths(self.tickets.values(), {flow.number for flow in self.flows if flow.is_active()})
         for flow in self.flows:
             self.queue.level(flow, worths.tickets(flow) if worths.active_flows else 0)
 
@@ -371,6 +379,12 @@ class Link:
         self.tickets[number].holder = None
         return "ok"
 
+    def amend(self, number, amount):
+        refuse(not 1 <= amount <= MOST_AMOUNT, "Range")
+        refuse(number not in self.tickets, "NoTicket")
+        self.tickets[number].amount = amount
+        return "ok"
+
     def open(self, name, limit, tariff):
         refuse(not 1 <= limit <= 1024, "Range")
         refuse(tariff not in TARIFFS, "NoTariff")
@@ -393,6 +407,20 @@ class Link:
         self.dropped += dropped
         self.past += flow.account
         return "closed %d %d %d" % (flow.number, dropped, flow.account)
+
+    def hold(self, name):
+        flow = self.flow_named(name)
+        refuse(flow is None, "NoFlow")
+        refuse(flow.is_held, "Held")
+        flow.is_held = True
+        return "ok"
+
+    def resume(self, name):
+        flow = self.flow_named(name)
+        refuse(flow is None, "NoFlow")
+        refuse(not flow.is_held, "NotHeld")
+        flow.is_held = False
+        return "ok"
 
     def waiting(self, flow):
         """How many packets of a flow wait, a torn one not counted."""
@@ -451,7 +479,8 @@ class Link:
         for flow in self.flows:
             lines.append("flow %8d %-16s %7d %4d %17d %-3s %26d" % (
                 flow.number, flow.name, flow.tickets if flow.competes else 0, self.waiting(flow), flow.account,
-                "in" if flow.competes else "out", flow.place if flow.competes else flow.remain))
+                "hld" if flow.is_held else "in" if flow.competes else "out",
+                flow.place if flow.competes else flow.remain))
         return "\n".join(lines + ["end"])
 
     def out_line(self):
@@ -482,8 +511,9 @@ def longest_chain(backed, currencies):
 
 CALLS = {"mkcur NAME": Link.make_currency, "rmcur NAME": Link.remove_currency, "mktkt NUM NAME": Link.make_ticket,
          "rmtkt NUM": Link.remove_ticket, "fund NUM cur NAME": Link.fund_currency,
-         "fund NUM flow NAME": Link.fund_flow, "unfund NUM": Link.unfund, "open NAME NUM NUM": Link.open,
-         "close NAME": Link.close, "send NAME HEX": Link.arrive, "turn NUM": Link.turn, "torn": Link.tear}
+         "fund NUM flow NAME": Link.fund_flow, "unfund NUM": Link.unfund, "amend NUM NUM": Link.amend,
+         "open NAME NUM NUM": Link.open, "close NAME": Link.close, "hold NAME": Link.hold, "resume NAME": Link.resume,
+         "send NAME HEX": Link.arrive, "turn NUM": Link.turn, "torn": Link.tear}
 
 
 def printout(text, life):
@@ -491,6 +521,72 @@ def printout(text, life):
     link = Link(life)
     replies = [link.answer(line) for line in lines_of(text)]
     return "".join(reply + "\n" for reply in replies if reply is not None) + link.out_line(), link
+
+
+# Worked examples: lines with their answers, and where flows stand in between, at their passes or their remains, and at
+# which pass the link.
+WORKED = ("""\
+open a 4 3 => flow 1
+mktkt 1 base => ticket 1
+fund 1 flow a => ok
+send a 61 => packet 1 1
+send a 62 => packet 1 2
+turn 5 => wrote 1 1 5 part
+hold a => ok
+turn 65535 => wrote 1 1 8 whole
+a at 2199023255552
+turn 65535 => idle
+hold a => no 21 Held
+resume a => ok
+a at 2199023255552
+turn 65535 => wrote 1 2 13 whole
+resume a => no 22 NotHeld""", """\
+mkcur x => ok
+mktkt 1000 base => ticket 1
+fund 1 cur x => ok
+mktkt 1 x => ticket 2
+mktkt 2 x => ticket 3
+open a 4 1 => flow 1
+open b 4 1 => flow 2
+fund 2 flow a => ok
+fund 3 flow b => ok
+send a 61 => packet 1 1
+send b 62 => packet 2 1
+a has 333
+b has 666
+amend 3 4 => ok
+a has 200
+b has 800
+a at 5497558138
+b at 1374389534
+turn 65535 => wrote 2 1 13 whole
+link at 13958643
+b at 1377879195
+amend 9 0 => no 4 Range
+amend 9 1 => no 6 NoTicket""")
+
+
+def standing(link, name, word):
+    """At which place a flow or the link is, or which tickets it has."""
+    where = link.queue if name == "link" else link.flow_named(name)
+    if word == "has":
+        return where.tickets
+    return where.remain if name != "link" and not where.competes else where.place
+
+
+def check_models():
+    """Gives the models the worked examples."""
+    for example in WORKED:
+        link = Link(DEFAULT_LIFE)
+        for step in example.split("\n"):
+            line, answers, wanted = step.partition(" => ")
+            if answers:
+                found = link.answer(line)
+            else:
+                name, word, wanted = line.split(" ")
+                found = str(standing(link, name, word))
+            if found != wanted:
+                sys.exit("the models are wrong: '%s', and they have %s" % (step, found))
 
 
 # ---- The model of ingress records
@@ -538,12 +634,12 @@ FLOW_NAMES = ("a", "base", "b", "c0", "z9_-", "f", "abcdefghij012345")
 NO_NAMES = ("abcdefghij0123456", "A", "9a", "-a", "a.b", "")
 
 # How often each kind of line is drawn, in scripts of several kinds and on control connections.
-KINDS = ("mkcur", "rmcur", "mktkt", "rmtkt", "fund_cur", "fund_flow", "unfund", "open", "close", "send", "turn", "torn",
-         "report", "odd", "doubtful")
-MIXED = (3, 2, 4, 2, 6, 8, 6, 4, 2, 20, 40, 0.2, 1, 3, 3)
-FUNDING = (8, 6, 10, 6, 18, 16, 12, 5, 1.5, 10, 15, 0.1, 1, 2, 3)
-SENDING = (0.5, 0.5, 2, 1, 2, 6, 5, 1, 0.6, 20, 60, 0.1, 0.5, 1, 1)
-CONTROL = (8, 5, 10, 4, 12, 12, 6, 8, 3, 2, 1, 1, 3, 12, 8)
+KINDS = ("mkcur", "rmcur", "mktkt", "rmtkt", "fund_cur", "fund_flow", "unfund", "amend", "open", "close", "hold",
+         "resume", "send", "turn", "held_in_part", "torn", "report", "odd", "doubtful")
+MIXED = (3, 2, 4, 2, 6, 8, 6, 4, 4, 2, 4, 5, 20, 40, 3, 0.2, 1, 3, 3)
+FUNDING = (8, 6, 10, 6, 18, 16, 12, 12, 5, 1.5, 3, 4, 10, 15, 1, 0.1, 1, 2, 3)
+SENDING = (0.5, 0.5, 2, 1, 2, 6, 5, 3, 1, 0.6, 4, 6, 20, 60, 4, 0.1, 0.5, 1, 1)
+CONTROL = (8, 5, 10, 4, 12, 12, 6, 8, 8, 3, 6, 6, 2, 1, 0, 1, 3, 12, 8)
 
 
 class Drawer:
@@ -609,12 +705,42 @@ class Drawer:
     def unfund(self):
         self.give("unfund %d" % self.ticket(True))
 
+    def amend(self):
+        """Another amount for a ticket, most often for one that funds something."""
+        self.give("amend %d %d" % (self.ticket(self.happens(0.9)), self.pick(AMOUNTS, NO_AMOUNTS)))
+
     def open(self):
         self.give("open %s %d %d" % (self.pick(FLOW_NAMES, NO_NAMES), self.pick(LIMITS, NO_LIMITS),
                                      self.pick((1, 2, 3, 4), (0, 5, 1 << 63))))
 
     def close(self):
         self.give("close %s" % self.flow())
+
+    def hold(self):
+        """A flow is held, now and then the one whose frame is sent, or one that is closed and opened again then."""
+        sent = self.link.part or self.link.queue.next()
+        name = sent.name if sent and self.happens(0.4) else self.flow()
+        self.give("hold %s" % name)
+        if self.happens(0.05):
+            self.give("close %s" % name)
+            self.give("open %s 8 %d" % (name, self.pick((1, 2, 3, 4))))
+
+    def resume(self):
+        self.give("resume %s" % self.pick([flow.name for flow in self.link.flows if flow.is_held], FLOW_NAMES))
+
+    def held_in_part(self):
+        """A flow is held while its frame is in part; most often its frame is finished, and then it is resumed."""
+        self.turn()
+        self.give("turn %d" % self.pick(TURN_SIZES[:4]))
+        if not self.link.part:
+            return
+        name = self.link.part.name
+        self.give("hold %s" % name)
+        for kind in self.random.choices(("amend", "unfund", "fund_flow", "send", "report", "close"), k=2):
+            getattr(self, kind)()
+        for line in ("turn 65535", "turn 65535", "resume %s" % name):
+            if self.happens(0.8):
+                self.give(line)
 
     def send(self):
         """Some packets for a flow, most often for one that is funded and has places in its buffer."""
@@ -721,7 +847,9 @@ class Drawer:
         self.give("turn %d" % self.pick(TURN_SIZES[:5]))
         self.torn()
         name = self.link.torn_flow.name if self.link.torn_flow else self.flow()
-        for line in self.random.sample(("report", "turn 1", "torn", "send %s 00" % name, "close %s" % name), 3):
+        lines = ("report", "turn 1", "torn", "send %s 00" % name, "close %s" % name, "hold %s" % name,
+                 "resume %s" % name)
+        for line in self.random.sample(lines, self.pick((3, 5))):
             self.give(line)
 
     def draw(self):
@@ -977,14 +1105,63 @@ def run_seed(seed, until, agreed):
             agreed.update(case.agreed)
 
 
-def main():
+def check_alone(case):
+    """The models alone, on a script: no packet is lost, no flow that is held competes, and the audit is answered as the
+    script was."""
+    drawer = Drawer(case.chance, DEFAULT_LIFE)
+    drawer.draw()
+    link = drawer.link
+    audit = link.audit().encode()
+    case.given, case.again = drawer.text(), "%s --print %s.input" % (sys.argv[0], case.name)
+    waiting = sum(map(link.waiting, link.flows))
+    case.compare("sums of packets", str(link.written + link.is_broken + waiting + link.dropped), str(link.accepted))
+    held = [flow for flow in link.flows if flow.is_held]
+    case.compare("flows that are held", str([flow.name for flow in held if flow.competes]), "[]")
+    case.compare("audits", "".join(reply + "\n" for _, reply in link.events) + link.out_line(),
+                 printout(audit, DEFAULT_LIFE)[0])
+    case.agreed["links with flows that are held"] += bool(held)
+    for name in ("hold", "resume", "amend"):
+        case.agreed["lines of " + name] += sum(line.startswith(name + " ") for line, _ in link.events)
+    for name in REFUSALS[-2:]:
+        case.agreed["answers " + name] += sum(reply.endswith(" " + name) for _, reply in link.events)
+
+
+def run_alone(seed, agreed):
+    """Runs the models alone on the scripts of a seed."""
+    for number in range(1, SCRIPTS + 1):
+        case = Case(seed, "script", number)
+        try:
+            check_alone(case)
+        except Exception as fault:
+            tell(case, fault)
+        agreed.update(case.agreed)
+
+
+def print_answers(path):
+    with open(path, "rb") as script:
+        print(printout(script.read(), DEFAULT_LIFE)[0], end="")
+
+
+def read_words():
     parser = argparse.ArgumentParser(description="compares a built program with models of the rules")
     parser.add_argument("--seed", type=int, default=SEED, help="the seed, %d if not given" % SEED)
     parser.add_argument("--minutes", type=float, help="draws seeds, and runs them for so long")
-    words = parser.parse_args()
+    parser.add_argument("--self", action="store_true", dest="is_alone", help="runs the models alone, with no program")
+    parser.add_argument("--print", metavar="FILE", help="prints what the models answer to a script")
+    return parser.parse_args()
+
+
+def main():
+    words = read_words()
+    check_models()
+    if words.print:
+        print_answers(words.print)
+        return
     limit_time()
     agreed = Counter()
-    if words.minutes is None:
+    if words.is_alone:
+        run_alone(words.seed, agreed)
+    elif words.minutes is None:
         run_seed(words.seed, None, agreed)
     else:
         until = time.monotonic() + 60 * words.minutes

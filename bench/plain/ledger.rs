@@ -158,6 +158,16 @@ impl Ledger {
         Ok(())
     }
 
+    /// Changes the amount of a ticket, whatever it funds.
+    pub fn amend(&mut self, number: u64, amount: u64) -> Result<(), Refusal> {
+        if !(1..=MAX_AMOUNT).contains(&amount) {
+            return Err(Range);
+        }
+        let place = self.ticket(number).ok_or(NoTicket)?;
+        self.worths.amend(place, amount as u32);
+        Ok(())
+    }
+
     /// Computes what has to be computed anew, and answers the set of the flows whose tickets may have changed.
     pub fn settle(&mut self) -> u64 {
         self.worths.settle(&self.chains)

@@ -35,6 +35,7 @@ struct Flow {
     next: u32,
     tariff: &'static Tariff,
     account: u64,
+    held: bool,
     buffer: Buffer,
 }
 
@@ -47,6 +48,11 @@ impl Flow {
         let units = if bytes == 0 { 0 } else { overhead + cells };
         self.account += price * u64::from(units);
         units
+    }
+
+    /// Whether a packet that has just come is the first one that the flow could send.
+    fn wakes(&self) -> bool {
+        self.buffer.len() == 1 && !self.held
     }
 
     /// The number of the first packet.
@@ -195,6 +201,13 @@ impl Link {
             }
             b"open" => self.open(words),
             b"close" => self.close(words),
+            b"hold" => self.set_held(words, true),
+            b"resume" => self.set_held(words, false),
+            b"amend" => {
+                let (ticket, words) = number_first(words).ok_or(Syntax)?;
+                let amount = number(words).ok_or(Syntax)?;
+                self.change(|link| link.ledger.amend(ticket, amount))
+            }
             _ => Err(Syntax),
         }
     }
@@ -242,6 +255,7 @@ impl Link {
             waiting: flow.buffer.len() - usize::from(self.torn == Some(place)),
             account: flow.account,
             competes,
+            held: flow.held,
             position,
         })
     }
@@ -314,7 +328,7 @@ impl Link {
         self.opened += 1;
         self.names.insert(name, place);
         let (number, buffer) = (self.opened, Buffer::new(limit));
-        self.flows[place] = Some(Flow { name, number, next: 1, tariff, account: 0, buffer });
+        self.flows[place] = Some(Flow { name, number, next: 1, tariff, account: 0, held: false, buffer });
         self.ledger.worths.add_flow(place);
         self.queue.add(place, self.opened);
     }
@@ -339,6 +353,22 @@ impl Link {
             self.output.line(b"closed", &[u64::from(flow.number), dropped as u64, flow.account], b"\n");
         }
         Ok(())
+    }
+
+    /// Holds a flow, or ends its hold.
+    fn set_held(&mut self, words: &[u8], held: bool) -> Result<(), Refusal> {
+        let name = name(words).ok_or(Syntax)?;
+        self.change(|link| {
+            let place = link.names.get(name).ok_or(NoFlow)?;
+            let flow = link.flows[place].as_mut().ok_or(NoFlow)?;
+            if flow.held == held {
+                return Err(if held { Held } else { NotHeld });
+            }
+            flow.held = held;
+            let active = !held && flow.buffer.len() > 0;
+            link.ledger.worths.set_active(place, active);
+            Ok(())
+        })
     }
 
     /// Levels the flows whose tickets may have changed.
@@ -386,7 +416,7 @@ impl Link {
         self.events += 1;
         self.output.line(b"packet", &[u64::from(flow.number), u64::from(flow.next)], b"\n");
         flow.next += 1;
-        if flow.buffer.len() == 1 {
+        if flow.wakes() {
             self.ledger.worths.set_active(place, true);
             self.level();
         }
@@ -401,7 +431,7 @@ impl Link {
         let Some(flow) = &mut self.flows[place] else { return };
         flow.buffer.push_bytes(flow.number, flow.next, payload);
         flow.next += 1;
-        if flow.buffer.len() == 1 {
+        if flow.wakes() {
             self.ledger.worths.set_active(place, true);
             self.level();
         }

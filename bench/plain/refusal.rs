@@ -21,6 +21,8 @@ pub enum Refusal {
     Sending,
     BufferFull,
     Broken,
+    Held,
+    NotHeld,
 }
 
 use Refusal::*;
@@ -47,6 +49,8 @@ impl Refusal {
             Sending => b"no 18 Sending\n",
             BufferFull => b"no 19 BufferFull\n",
             Broken => b"no 20 Broken\n",
+            Held => b"no 21 Held\n",
+            NotHeld => b"no 22 NotHeld\n",
         }
     }
 }

@@ -23,6 +23,7 @@ pub struct Row {
     pub waiting: usize,
     pub account: u64,
     pub competes: bool,
+    pub held: bool,
     pub position: i128,
 }
 
@@ -41,9 +42,13 @@ pub fn text(totals: &Totals, rows: &[Row]) -> Vec<u8> {
         let _ = writeln!(text, "{key:<8}{value:>26}");
     }
     let _ = writeln!(text, "{:<8}{pass:>26}\n{:<8}{link:>26}", "pass", "link");
-    for Row { number, name, tickets, waiting, account, competes, position } in rows {
+    for Row { number, name, tickets, waiting, account, competes, held, position } in rows {
         let name = spelled(*name);
-        let state = if *competes { "in" } else { "out" };
+        let state = match (*held, *competes) {
+            (true, _) => "hld",
+            (false, true) => "in",
+            (false, false) => "out",
+        };
         let front = format_args!("flow {number:>8} {name:<16} {tickets:>7} {waiting:>4} {account:>17}");
         let _ = writeln!(text, "{front} {state:<3} {position:>26}");
     }

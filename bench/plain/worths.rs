@@ -163,6 +163,24 @@ impl Worths {
         self.tickets[ticket].holder = Holder::Nobody;
     }
 
+    /// A ticket has another amount from now on, and an active one weighs as much.
+    pub fn amend(&mut self, ticket: usize, amount: u32) {
+        let Ticket { amount: before, denomination, holder, seat } = self.tickets[ticket];
+        self.tickets[ticket].amount = amount;
+        if seat == ASLEEP {
+            return;
+        }
+        let denomination = usize::from(denomination);
+        if denomination == BASE_PLACE {
+            self.pour(holder, u64::from(amount).wrapping_sub(u64::from(before)));
+            return;
+        }
+        let currency = &mut self.currencies[denomination];
+        currency.active = currency.active - u64::from(before) + u64::from(amount);
+        currency.shares[usize::from(seat)].amount = amount;
+        self.stale |= 1 << (denomination - 1);
+    }
+
     /// A new flow stands at a place. Nothing funds it.
     pub fn add_flow(&mut self, flow: usize) {
         self.flows[flow] = NEW_FLOW;

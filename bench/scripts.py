@@ -114,6 +114,14 @@ def toggling(name, count):
     return Script(name, beginning + heavy, turns_of(line for each in sends for line in (send(1, "heavy"), each)), count)
 
 
+def holds(name, count):
+    """All flows have packets that wait; one of them is held in front of each other turn, and resumed in front of those
+    between."""
+    beginning, sends = backlog(1, FLOWS)
+    changes = ("hold f0\n", "resume f0\n")
+    return Script(name, beginning, turns_of(changes[number % 2] + each for number, each in enumerate(sends)), count)
+
+
 def waking(name, funding, count, flows=FLOWS):
     """Each packet wakes a flow, and each turn rests one: the flows wake one after the other and are served then."""
     sends = "".join(send(1, "f%d" % flow) for flow in range(flows))
@@ -212,6 +220,18 @@ def commands(name, count):
     return Script(name, funding.text() + sends, round_of, count)
 
 
+# A ticket of `layers`: it is denominated in the first currency, and backs the first of the second layer.
+TICKET_BETWEEN = 9
+
+
+def amends(name, count):
+    """The amount of one ticket changes, where all flows have a packet: shares follow in all layers of currencies, and
+    so do the tickets of all flows."""
+    sends = "".join(send(1, "f%d" % flow) for flow in range(FLOWS))
+    lines = "".join("amend %d %d\n" % (TICKET_BETWEEN, 1000 + 37 * step) for step in range(20))
+    return Script(name, layers().text() + sends, lines, count)
+
+
 SCRIPTS = [
     Script("pairs of 700 bytes", opening(1000), send(700) + TURN, 100_000),
     Script("pairs of 2 bytes", opening(1000), send(2) + TURN, 500_000),
@@ -228,5 +248,7 @@ SCRIPTS = [
     waking("churn of 16 currencies", layers(), 400),
     toggling("one toggles beside 63", 300),
     commands("commands only", 600),
+    amends("amends", 2000),
+    holds("holds", 300),
     waking("deep graph", deep_graph(), 100),
 ]

@@ -4,19 +4,25 @@ from dataclasses import dataclass
 TOTALS = ("clock", "accepted", "written", "torn", "waiting", "dropped", "bytes", "past", "tickets", "pass", "link")
 
 
+# Whether a flow competes, and whether it is held, by the word of its line.
+STANDINGS = {"in": (True, False), "out": (False, False), "hld": (False, True)}
+
+
 class NoReport(Exception):
     """A line that no report has in this place."""
 
 
 @dataclass(frozen=True)
 class FlowRow:
-    """What a report says of an open flow. `place` is its pass while it competes, and else its remain."""
+    """What a report says of an open flow. `place` is its pass while it competes, and else its remain. A flow that is
+    held does not compete."""
     number: int
     name: str
     tickets: int
     waiting: int
     account: int
     competes: bool
+    held: bool
     place: int
 
 
@@ -30,9 +36,8 @@ class Report:
 def flow_row(words):
     """The row of a line `flow ..`, from its words."""
     try:
-        _, number, name, tickets, waiting, account, side, place = words
-        return FlowRow(int(number), name, int(tickets), int(waiting), int(account), {"in": True, "out": False}[side],
-                       int(place))
+        _, number, name, tickets, waiting, account, standing, place = words
+        return FlowRow(int(number), name, int(tickets), int(waiting), int(account), *STANDINGS[standing], int(place))
     except (ValueError, KeyError):
         raise NoReport("no line of a report: '%s'" % " ".join(words)) from None
 

@@ -23,8 +23,9 @@ TORN = ("open a 4 2", "mktkt 1 base", "fund 1 flow a", "send a 6869", "turn 7", 
 
 # The lines of an audit, and its bill: an audit of 14 bytes under tariff 1; strides of 3, 2 and 1 tickets; a currency of
 # 1000, of which b has two parts of three; a write of 7 bytes and a fault, with and without the close of its flow; one
-# byte a write; a frame in part whose flow loses its ticket; a name that is opened again; a frame of 1502 bytes; the
-# most tickets; overheads; refused lines, which are billed to nobody.
+# byte a write; a frame in part whose flow loses its ticket, or is held; a hold that ends, with another amount then; a
+# name that is opened again; a frame of 1502 bytes; the most tickets; overheads; refused lines, which are billed to
+# nobody.
 WORKED = {
     "no lines": ((), []),
     "one packet": (ONE_PACKET, [(1, "a", 10, 1, 14, 14, 1, 14, "open")]),
@@ -39,6 +40,10 @@ WORKED = {
                         [(1, "a", 5, 1, 13, 1024, 1, 1024, "open")]),
     "in part": (("open a 4 3", "mktkt 5 base", "fund 1 flow a", "send a 61", "turn 5"),
                 [(1, "a", 5, 0, 5, 0, 1, 0, "open")]),
+    "held in part": (("open a 4 3", "mktkt 5 base", "fund 1 flow a", "send a 61", "send a 62", "turn 5", "hold a",
+                      "turn 8"), [(1, "a", 5, 1, 13, 1024, 1, 1024, "open")]),
+    "held and amended": ((*ONE_PACKET[:4], "hold a", "amend 1 7", "resume a", "turn 14", "hold a"),
+                         [(1, "a", 7, 1, 14, 14, 1, 14, "open")]),
     "opened again": (("open a 4 1", "mktkt 1 base", "fund 1 flow a", *["send a 61"] * 4, "turn 5", "close a", "turn 8",
                       "close a", "open a 4 2", "fund 1 flow a"),
                      [(1, "a", 1, 1, 13, 13, 1, 13, "closed"), (2, "a", 0, 0, 0, 0, 2, 0, "open")]),
@@ -49,7 +54,8 @@ WORKED = {
     "overheads": (("open a 4 4", "mktkt 1 base", "fund 1 flow a", "send a 61", "turn 13", "mktkt 1 base",
                    "fund 2 flow a", "send a 61", "turn 13"), [(1, "a", 2, 2, 26, 6144, 3, 18432, "open")]),
     "refused lines": (("mkcur base", "open a 1 9", "open a 0 1", "open a 1 1", "send b 61", "send a 61", "send a 62",
-                       "close b"), [(1, "a", 0, 0, 0, 0, 1, 0, "open")]),
+                       "close b", "hold b", "hold a", "hold a", "resume a", "resume a", "amend 1 0", "amend 1 1"),
+                      [(1, "a", 0, 0, 0, 0, 1, 0, "open")]),
 }
 
 # Texts that no journal prints, with the line at fault and what is told of it. Lines 2 to 6 of ONE_PACKET are fine.

@@ -159,6 +159,39 @@ def held_up(run):
     check(server, peer)
 
 
+def waits_for(packets, exporter):
+    wait_for(lambda: exporter.scrape()[("stridelink_waiting_packets", ())] == packets, "packets that wait")
+
+
+def held(run):
+    """A flow that is held is told so, and has no tickets, until it is resumed. The server ends well while it is held
+    again, with a packet that waits."""
+    peer = run.peer()
+    server = run.server(peer, clerks=2)
+    exporter = beside(run, server)
+    control = server.control()
+    control.ask_wanted([*FUNDING, "hold acme"], [*FUNDED, "ok"])
+    client = server.ingress(record("acme", b"hello") + record("zeta", b"bye"))
+    wait_for(lambda: len(peer.got) == 15, "the frame of zeta")
+    waits_for(1, exporter)
+    scrape = exporter.scrape()
+    expect_flow(scrape, ACME, held=1, competes=0, tickets=0, waiting_packets=1, account_total=0, place=0)
+    expect_flow(scrape, ZETA, held=0, account_total=128)
+    control.ask_wanted(["amend 1 1000", "resume acme"], ["ok", "ok"])
+    wait_for(lambda: len(peer.got) == 15 + 17, "the frame of acme")
+    waits_for(0, exporter)
+    expect_flow(exporter.scrape(), ACME, held=0, account_total=17)
+    control.ask_wanted(["hold acme"], ["ok"])
+    client.sendall(record("acme", b"later"))
+    waits_for(1, exporter)
+    for connection in (client, control):
+        connection.close()
+    exporter.signal(signal.SIGTERM)
+    expect_equal(exporter.process.wait(PATIENCE), 0, "status")
+    server.ends()
+    expect_equal(check(server, peer).totals()["waiting"], 1, "packets that wait at the end")
+
+
 def many_scrapes(run):
     """Scrapes at once, from four threads, get whole reports over the one connection, while tickets are made."""
     peer = run.peer()
@@ -198,10 +231,12 @@ REPORT = "".join("%-8s%26d\n" % (key, value) for key, value in
                   ("bytes", 7), ("past", 0), ("tickets", 1), ("pass", 0), ("link", 2)))
 REPORT += "flow        1 a                      1    0               128 in               1168231104512\nend\n"
 FOUR_LINES = 4 * 35
+HELD_REPORT = REPORT.replace(" 1    0 ", " 0    1 ").replace(" in  ", " hld ")
 
 
 def answers(run):
-    """What is made of a refusal, of the report of a torn link, in pieces, and of an answer that is neither."""
+    """What is made of a refusal, of the report of a torn link, in pieces, with a flow that competes or is held, and of
+    an answer that is neither."""
     listener = socket.create_server((LOOPBACK, 0))
     run.stack.callback(listener.close)
     exporter = Exporter(run, "--control", "%s:%d" % listener.getsockname(), "--patience", "5")
@@ -209,7 +244,8 @@ def answers(run):
     run.stack.callback(connection.close)
     for pieces, is_up in ((["no 1 NoMemory\n"], 0), ([REPORT], 1),
                           ([REPORT[:FOUR_LINES], REPORT[FOUR_LINES:-1], "\n"], 1), (["no 1 NoM", "emory\n"], 0),
-                          ([REPORT.replace("clock", "clack")], 0), ([REPORT], 1)):
+                          ([REPORT.replace("clock", "clack")], 0), ([HELD_REPORT.replace("hld", "off")], 0),
+                          ([HELD_REPORT], 1), ([REPORT], 1)):
         replies = threading.Thread(target=reply, args=(connection, pieces), daemon=True)
         replies.start()
         scrape = exporter.scrape()
@@ -217,8 +253,9 @@ def answers(run):
         expect_equal(scrape[("stridelink_up", ())], is_up, "whether the link is up after %s" % pieces)
         if is_up:
             expect_equal(scrape[("stridelink_link_state", (("stridelink_link_state", "torn"),))], 1, "a torn link")
-            expect_flow(scrape, (("flow", "1"), ("name", "a")), tickets=1, account_total=128, competes=1,
-                        place=1168231104512)
+            is_held = pieces == [HELD_REPORT]
+            expect_flow(scrape, (("flow", "1"), ("name", "a")), tickets=1 - is_held, account_total=128,
+                        competes=1 - is_held, held=is_held, waiting_packets=is_held, place=1168231104512)
 
 
 def reply(connection, pieces):
@@ -243,4 +280,4 @@ def faults(run):
         expect(told.startswith("usage: exporter "), "told: %s" % told)
 
 
-try_cases(served, held_up, many_scrapes, server_ends, answers, faults)
+try_cases(served, held, held_up, many_scrapes, server_ends, answers, faults)

@@ -137,7 +137,7 @@ def refusals(run):
     numbers_of = dict(re.findall(r"Refusal::(\w+) => (\d+),", text))
     wanted = ["%s %s %s" % (numbers_of[name], name, sentence) for name, sentence in names.items()]
     part = section(page(FORMATS), "REFUSALS")
-    expect_all(wanted, 20, part, "refusals")
+    expect_all(wanted, 22, part, "refusals")
     shown = re.findall(r"^     (\d+) +\w+ ", part, re.MULTILINE)
     expect_equal(sorted(shown, key=int), sorted(numbers_of.values(), key=int), "the numbers of refusals")
 
@@ -147,7 +147,7 @@ def lines_and_answers(run):
     reading, replies = source("share_script", "reading.rt"), source("share_script", "replies.rt")
     keywords = sorted(set(re.findall(r'is_word\(keyword, b"(\w+)"\)', reading)))
     lines = re.findall(r"^     (\w+)", section(page(FORMATS), "SCRIPT LINES"), re.MULTILINE)
-    expect(set(keywords) <= set(lines) and len(keywords) >= 13, "lines not in the page: %s of %s"
+    expect(set(keywords) <= set(lines) and len(keywords) >= 16, "lines not in the page: %s of %s"
            % (set(keywords) - set(lines), keywords))
     answers = [text.strip() for text in re.findall(r'push_str\("([a-z ]+)"\)', replies)]
     shown = re.findall(r"^     (\w+)", section(page(FORMATS), "ANSWERS"), re.MULTILINE)

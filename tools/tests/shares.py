@@ -25,6 +25,16 @@ PROMISED = {"a": (0, 512, 1024, 1536, 2048, 2048, 2048), "b": (0, 341.333, 682.6
 FOURTH = {"a": 1099511627775, "b": 1099511627776, "c": 1099511627776}
 COMPETES = {"a": 4, "b": 5, "c": 6}
 
+# Two flows of a ticket and three packets each. a is held in front of the third frame and resumed in front of the fifth:
+# the frames are a1 b1 b2 b3 a2 a3, of 1024 units each. Where a is held it is promised nothing and has no pass; then its
+# pass is two strides of 2^40 above the one that it had, as the global pass is.
+HOLD = ("mktkt 1 base", "mktkt 1 base", "open a 4 3", "open b 4 3", "fund 1 flow a", "fund 2 flow b",
+        *["send a 61"] * 3, *["send b 62"] * 3, *["turn 13"] * 2, "hold a", *["turn 13"] * 2, "resume a",
+        *["turn 13"] * 2)
+HOLD_UNITS = {"a": (0, 1024, 1024, 1024, 1024, 2048, 3072), "b": (0, 0, 1024, 2048, 3072, 3072, 3072)}
+HOLD_PROMISED = {"a": (0, 512, 1024, 1024, 1024, 2048, 3072), "b": (0, 512, 1024, 2048, 3072, 3072, 3072)}
+HOLD_STRIDES = {"a": (1, 2, None, None, 4, 5, None), "b": (1, 1, 2, 3, None, None, None)}
+
 
 def rows(*words):
     """The rows that --csv prints, as dictionaries of text."""
@@ -42,6 +52,17 @@ def worked(run):
         expect_equal(tuple(float(row["promised"]) for row in own), PROMISED[name], "what was promised to " + name)
         expect_equal([bool(row["pass"]) for row in own], [at < COMPETES[name] for at in range(7)], "where it competes")
         expect_equal(int(own[3]["pass"]), FOURTH[name], "the pass in front of the fourth frame")
+
+
+def held(run):
+    """A flow that is held gets nothing and is promised nothing, and goes on as an idle one does."""
+    found = rows(write(run.folder(), "audit", audit(*HOLD)))
+    for name in "ab":
+        own = [row for row in found if row["name"] == name]
+        expect_equal(tuple(int(row["units"]) for row in own), HOLD_UNITS[name], "units of " + name)
+        expect_equal(tuple(float(row["promised"]) for row in own), HOLD_PROMISED[name], "what was promised to " + name)
+        passes = ["" if strides is None else str(strides << 40) for strides in HOLD_STRIDES[name]]
+        expect_equal([row["pass"] for row in own], passes, "the pass of " + name)
 
 
 def sampled(run):
@@ -122,4 +143,4 @@ def shape(picture):
     return [(node.get("d"), node.text) for node in root.iter() if node.tag.endswith(("}path", "}text"))]
 
 
-try_cases(worked, sampled, idle, pictures, faults, page)
+try_cases(worked, held, sampled, idle, pictures, faults, page)

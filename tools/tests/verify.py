@@ -23,9 +23,10 @@ def place(byte):
 
 
 def same(run):
-    """The bytes of an audit are the same, none and parts of a frame among them."""
+    """The bytes of an audit are the same, none and parts of a frame among them, and one whose flow is held."""
     folder = run.folder()
-    for lines, bytes_of_it, packets in ((LINES, FRAMES, 3), (LINES[:-1], FRAMES[:32], 2), (LINES[:9], b"", 0)):
+    for lines, bytes_of_it, packets in ((LINES, FRAMES, 3), (LINES[:-1], FRAMES[:32], 2), (LINES[:9], b"", 0),
+                                        ((*LINES[:-1], "hold a", "amend 1 2", "turn 8", "resume a"), FRAMES, 3)):
         found = expect_works("verify", write(folder, "audit", audit(*lines)), write(folder, "frames", bytes_of_it))
         expect_equal(found, "the same %d bytes, with %d whole frames\n" % (len(bytes_of_it), packets), "what is told")
 

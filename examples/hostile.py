@@ -379,8 +379,8 @@ def expect_no_audit(server, peer, count, size):
 
 
 def audit_cannot_take_its_name(run):
-    """The folder of the audit has gone since, or a folder has come to its place. The audit that was written stays in its
-    new file, if that is somewhere, and this is told."""
+    """The folder of the audit has gone since, or a folder has come to its place. The audit that was written stays in
+    its new file, if that is somewhere, and this is told."""
     for change, left in ((lambda folder: os.rename(folder, folder + " away"), "folder away"), (shutil.rmtree, None),
                          (lambda folder: os.mkdir(os.path.join(folder, "audit")), "folder")):
         peer = run.peer()

@@ -203,6 +203,31 @@ def idle(run):
     expect(share < QUIET_SHARE, "an idle server takes %.1f %% of a core" % (100 * share))
 
 
+def ends_held(run):
+    """A server that ends while flows are held ends well, and their packets are in its report as waiting; that of a flow
+    that was resumed is sent."""
+    peer = run.peer()
+    server = run.server(peer)
+    control = server.control()
+    control.fund(4)
+    control.ask_wanted(["open b 4 1", "mktkt 2 base", "fund 2 flow b", "open c 4 1", "hold a", "hold b", "hold c",
+                        "hold b", "amend 2 5", "amend 2 0", "amend 3 1", "resume d"],
+                       ["flow 2", "ticket 2", "ok", "flow 3", "ok", "ok", "ok", "no 21 Held", "ok", "no 4 Range",
+                        "no 6 NoTicket", "no 7 NoFlow"])
+    sent = [("a", b"a"), ("b", b"b"), ("c", b"c"), ("a", b"aa")]
+    client = server.ingress(b"".join(record(*packet) for packet in sent))
+    wait_for(lambda: total("waiting", 4) in control.ask("report")[0], "packets that wait")
+    control.ask_wanted(["resume b", "resume b"], ["ok", "no 22 NotHeld"])
+    wait_for(lambda: peer.got == frame(2, 1, b"b"), "the frame of the flow that is resumed")
+    client.close()
+    control.close()
+    server.ends()
+    replay = check(server, peer, [("whole", sent)])
+    expect_equal(replay.totals()["waiting"], 3, "packets that wait at the end")
+    standings = [line.split()[6] for line in replay.report.splitlines() if line.startswith("flow ")]
+    expect_equal(standings, ["hld", "out", "hld"], "what the report says of the flows")
+
+
 def shares_64(run):
     """Two floods share the link 3 to 1 while both buffers of 64 packets are full and the peer reads slowly."""
     shares(run, 64)
@@ -745,11 +770,12 @@ def audit_files(run):
     expect_equal(bytes(peer.got), frame(1, 1, b"1st"), "the frame")
 
 
-CASES = (served, quiet, control_lines, accepted_in_order, idle, full_queue, shares_64, shares_1024, malformed, cut,
-         clients_vanish, clients_stall, peer_closes_at_once, peer_resets_at_once, peer_closes_after_some_bytes,
-         peer_reads_slowly, peer_writes_back, spent_life, spent_life_under_load, until_eof_idle,
-         until_eof_gives_what_had_come, until_eof_floods, until_eof_unread_replies, until_eof_dead_peer, until_eof_open,
-         fault_words, fault_addresses, fault_memory, fault_accept, fault_thread, fault_files, audit_files)
+CASES = (served, quiet, control_lines, accepted_in_order, idle, ends_held, full_queue, shares_64, shares_1024,
+         malformed, cut, clients_vanish, clients_stall, peer_closes_at_once, peer_resets_at_once,
+         peer_closes_after_some_bytes, peer_reads_slowly, peer_writes_back, spent_life, spent_life_under_load,
+         until_eof_idle, until_eof_gives_what_had_come, until_eof_floods, until_eof_unread_replies, until_eof_dead_peer,
+         until_eof_open, fault_words, fault_addresses, fault_memory, fault_accept, fault_thread, fault_files,
+         audit_files)
 
 
 if __name__ == "__main__":

@@ -1,3 +1,4 @@
 pub mod Body
 pub mod Name
 pub mod Refusal
+pub mod Version

@@ -9,9 +9,11 @@ mod parcel;
 mod refusal;
 #[cfg(test)]
 mod tests;
+mod version;
 
 pub use command::{Command, Event, Outcome, Reply, Turn};
 pub use naming::{MAX_NAME, Name};
 pub use number::{FlowNo, TicketNo};
-pub use parcel::{Body, HEADER_ROOM, MAX_IN_PLACE, MAX_PAYLOAD, Parcel};
+pub use parcel::{Body, MAX_IN_PLACE, Parcel};
 pub use refusal::Refusal;
+pub use version::{HEADER_ROOM, MAX_PAYLOAD, Version};

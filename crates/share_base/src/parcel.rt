@@ -1,26 +1,21 @@
 //! The payloads of packets, and the two copies in which a payload is handed in.
-ghost use Rattle.std.specs.Prelude.{◌≡◌, ◌<◌, ◌≤◌, ◌+◌, ◌++◌, length, take, drop, IsOk, IfOk, IfErr, None};
-ghost use Rattle.share_base.specs.Body.{payload_refusal, unstamped, framed_bytes};
+ghost use Rattle.std.specs.Prelude.{◌≡◌, ◌<◌, ◌≤◌, ◌+◌, ◌-◌, ◌++◌, length, take, drop, IsOk, IfOk, IfErr, None};
+ghost use Rattle.share_base.specs.Body.{payload_refusal, unstamped, framed_bytes, IsHeaderLength};
 ghost use Rattle.share_base.specs.Refusal.{IsRefused};
 
 use crate::refusal::Refusal;
+use crate::version::{HEADER_ROOM, MAX_PAYLOAD};
 use smallvec::SmallVec;
 use std::alloc::Global;
 use std::marker::Model;
 
-/// The longest payload, in bytes.
-pub const MAX_PAYLOAD: usize = 1490;
-
 /// The longest payload that is held in the value itself, in bytes.
 pub const MAX_IN_PLACE: usize = 16;
-
-/// How many bytes a body keeps before its payload, for a header.
-pub const HEADER_ROOM: usize = 12;
 
 /// How many bytes the value itself holds.
 const IN_PLACE: usize = HEADER_ROOM + MAX_IN_PLACE;
 
-/// The payload of a packet: 1 to 1490 bytes, with room for a header before them. Up to 16 are held in the value itself,
+/// The payload of a packet: 1 to 9000 bytes, with room for a header before them. Up to 16 are held in the value itself,
 /// more in memory of their own. A contract sees the bytes last stamped before the payload, and the payload.
 #[derive(Drop)]
 pub struct Body {
@@ -33,7 +28,7 @@ pub struct Body {
 impl Model for Body {
     ghost use Rattle.std.specs.Prelude.{ℕ, List, length, take, drop, ◌≤◌, ◌+◌, ◌-◌};
     ghost use Rattle.share_base.specs.Body.{BodyView};
-    ghost use Rattle.share_base.specs.declared.parcel.TheConstants.{MAX_PAYLOAD, HEADER_ROOM};
+    ghost use Rattle.share_base.specs.declared.version.TheConstants.{MAX_PAYLOAD, HEADER_ROOM};
 
     ghost Value = { BodyView };
 
@@ -49,7 +44,7 @@ impl Model for Body {
 }
 
 impl Body {
-    /// Copies these bytes. `Range` if there are not 1 to 1490 of them, `NoMemory` if memory was refused; up to 16 bytes
+    /// Copies these bytes. `Range` if there are not 1 to 9000 of them, `NoMemory` if memory was refused; up to 16 bytes
     /// take none.
     pub fn new(alloc: Global, bytes: &[u8]) -> Result<Body, Refusal>
         ensures ok { IfOk result (λ body. (body ≡ unstamped bytes.now) × (payload_refusal bytes.now ≡ None)) }
@@ -68,11 +63,11 @@ impl Body {
         })
     }
 
-    /// Makes a payload, 1 to 1490 bytes, of the bytes behind the room for a header. It takes no memory.
+    /// Makes a payload, 1 to 9000 bytes, of the bytes behind the room for a header. It takes no memory.
     pub fn from_vec(bytes: Vec<u8>) -> Body
         requires some { HEADER_ROOM + 1 ≤ length bytes.items }
         requires few { length bytes.items ≤ HEADER_ROOM + MAX_PAYLOAD }
-        ensures { result ≡ unstamped (drop 12 bytes.items) }
+        ensures { result ≡ unstamped (drop HEADER_ROOM bytes.items) }
     {
         Body {
             bytes: SmallVec::from_vec(bytes),
@@ -84,7 +79,7 @@ impl Body {
     pub fn from_array(alloc: Global, bytes: [u8; HEADER_ROOM + MAX_IN_PLACE], count: usize) -> Body
         requires some { 1 ≤ count }
         requires few { count ≤ MAX_IN_PLACE }
-        ensures { result ≡ unstamped (take count (drop 12 bytes)) }
+        ensures { result ≡ unstamped (take count (drop HEADER_ROOM bytes)) }
     {
         Body {
             bytes: SmallVec::from_buf_and_len(alloc, bytes, HEADER_ROOM + count),
@@ -101,12 +96,13 @@ impl Body {
         &self.bytes.as_slice()[HEADER_ROOM..]
     }
 
-    /// Writes a header before the payload, in place of the one before. It takes no memory.
-    pub fn stamp(&mut self, header: &[u8; HEADER_ROOM])
+    /// Writes a header, 12 or 17 bytes, before the payload, in place of the one before. It takes no memory.
+    pub fn stamp(&mut self, header: &[u8])
+        requires { IsHeaderLength (length header.now) }
         ensures { self.new ≡ record { stamped = header.now; payload = self.old.payload } }
     {
         write_header(self.bytes.as_mut_slice(), header);
-        self.stamped = HEADER_ROOM;
+        self.stamped = header.len();
     }
 
     /// The bytes last stamped, none before a stamp, and the payload behind them.
@@ -117,12 +113,14 @@ impl Body {
     }
 }
 
-// Writes a header over the first bytes.
-fn write_header(bytes: &mut [u8], header: &[u8; HEADER_ROOM])
-    requires { HEADER_ROOM ≤ length bytes.old }
-    ensures { bytes.new ≡ header.now ++ drop HEADER_ROOM bytes.old }
+// Writes a header into the room, so that it ends where the payload begins.
+fn write_header(bytes: &mut [u8], header: &[u8])
+    requires few { length header.now ≤ HEADER_ROOM }
+    requires room { HEADER_ROOM ≤ length bytes.old }
+    ensures { bytes.new
+        ≡ take (HEADER_ROOM - length header.now) bytes.old ++ (header.now ++ drop HEADER_ROOM bytes.old) }
 {
-    bytes[..HEADER_ROOM].copy_from_slice(header);
+    bytes[HEADER_ROOM - header.len()..HEADER_ROOM].copy_from_slice(header);
 }
 
 /// A payload held twice, so that it can be sent and recorded with no further memory. A contract sees it as
@@ -146,7 +144,7 @@ impl Model for Parcel {
 }
 
 impl Parcel {
-    /// Copies these bytes twice. `Range` if there are not 1 to 1490 of them, `NoMemory` if memory was refused.
+    /// Copies these bytes twice. `Range` if there are not 1 to 9000 of them, `NoMemory` if memory was refused.
     pub fn new(alloc: Global, bytes: &[u8]) -> Result<Parcel, Refusal>
         ensures ok { IfOk result
             (λ parcel. (parcel ≡ bytes.now) × (payload_refusal bytes.now ≡ None)) }
@@ -155,6 +153,15 @@ impl Parcel {
         let sending = Body::new(alloc, bytes)?;
         let audit = Body::new(alloc, bytes)?;
         Ok(Parcel { sending, audit })
+    }
+
+    /// How many bytes it has: 1 to 9000.
+    pub fn len(&self) -> usize
+        ensures count { result ≡ length self.now }
+        ensures some { 1 ≤ result }
+        ensures few { result ≤ MAX_PAYLOAD }
+    {
+        self.sending.as_slice().len()
     }
 
     /// Gives the copy to send and the copy to record. It takes no memory.

@@ -1,10 +1,12 @@
-//! Worked values: the spellings of names, the lengths of payloads, and the number, name and text of each refusal.
+//! Worked values: the spellings of names, the lengths of payloads and headers, and the number, name and text of each
+//! refusal.
 ghost use Rattle.std.specs.Prelude.{◌≤◌};
 
 mod memory;
 
 use crate::{
     Body, FlowNo, HEADER_ROOM, MAX_IN_PLACE, MAX_PAYLOAD, Name, Parcel, Refusal, Reply, TicketNo,
+    Version,
 };
 use std::alloc::Global;
 use std::cmp::Ordering;
@@ -81,15 +83,27 @@ fn are_ordered(left: &Name, right: &Name, order: Ordering) -> bool {
 }
 
 #[test]
-fn payloads_are_1_to_1490_bytes(rt: HostRuntime) {
-    let bytes = [7; 1491];
+fn versions_have_their_lengths(rt: HostRuntime) {
+    for (version, payload, header) in [(Version::One, 1490, 12), (Version::Two, 9000, 17)] {
+        let is = version.payload() == payload && version.header() == header;
+        assert!(rt; is, "{version:?}");
+        let within = payload <= MAX_PAYLOAD && header <= HEADER_ROOM;
+        assert!(rt; within, "the room of {version:?}");
+    }
+}
+
+#[test]
+fn payloads_are_1_to_9000_bytes(rt: HostRuntime) {
+    let bytes = [7; 9001];
     let rows = [
         (0, Some(Refusal::Range)),
         (1, None),
         (16, None),
         (17, None),
         (1490, None),
-        (1491, Some(Refusal::Range)),
+        (1491, None),
+        (9000, None),
+        (9001, Some(Refusal::Range)),
     ];
     for (count, refusal) in rows {
         let payload = &bytes[..count];
@@ -112,12 +126,14 @@ fn body_is(alloc: Global, payload: &[u8], refusal: Option<Refusal>) -> bool {
     }
 }
 
-// Whether `Parcel::new` answers this refusal or, if there is none, a parcel whose halves both hold the payload.
+// Whether `Parcel::new` answers this refusal or, if there is none, a parcel of the payload's length whose halves both
+// hold the payload.
 fn parcel_is(alloc: Global, payload: &[u8], refusal: Option<Refusal>) -> bool {
     match Parcel::new(alloc, payload) {
         Ok(parcel) => {
+            let counts = parcel.len() == payload.len();
             let (sending, audit) = parcel.split();
-            let hold = sending.as_slice() == payload && audit.as_slice() == payload;
+            let hold = counts && sending.as_slice() == payload && audit.as_slice() == payload;
             drop(sending);
             drop(audit);
             hold && refusal.is_none()
@@ -127,7 +143,7 @@ fn parcel_is(alloc: Global, payload: &[u8], refusal: Option<Refusal>) -> bool {
 }
 
 // Room for a header, and sixteen bytes behind it.
-const ROOM_AND_SIXTEEN: &[u8; HEADER_ROOM + MAX_IN_PLACE] = b"............0123456789abcdef";
+const ROOM_AND_SIXTEEN: &[u8; HEADER_ROOM + MAX_IN_PLACE] = b".................0123456789abcdef";
 
 #[test]
 fn payloads_are_made_of_vectors_and_arrays(rt: HostRuntime) {
@@ -154,35 +170,35 @@ fn is_made(alloc: Global, count: usize, payload: &[u8]) -> bool
     is_made
 }
 
-// Room for a header with a payload behind it, the payload alone, and what `framed` gives after a stamp of small letters
-// and then after one of capitals.
+// Room for a header with a payload behind it, and the payload alone.
 #[derive(Clone, Copy)]
 struct Stamps<'a> {
     whole: &'a [u8],
     payload: &'a [u8],
-    small: &'a [u8],
-    capital: &'a [u8],
 }
 
 const STAMPS: [Stamps<'static>; 3] = [
     Stamps {
-        whole: b"............0",
+        whole: b".................0",
         payload: b"0",
-        small: b"abcdefghijkl0",
-        capital: b"ABCDEFGHIJKL0",
     },
     Stamps {
-        whole: b"............0123456789abcdef",
+        whole: b".................0123456789abcdef",
         payload: b"0123456789abcdef",
-        small: b"abcdefghijkl0123456789abcdef",
-        capital: b"ABCDEFGHIJKL0123456789abcdef",
     },
     Stamps {
-        whole: b"............0123456789abcdefg",
+        whole: b".................0123456789abcdefg",
         payload: b"0123456789abcdefg",
-        small: b"abcdefghijkl0123456789abcdefg",
-        capital: b"ABCDEFGHIJKL0123456789abcdefg",
     },
+];
+
+// Headers that are stamped one after the other, each length after itself and after the other one.
+const HEADERS: [&[u8]; 5] = [
+    b"abcdefghijkl",
+    b"ABCDEFGHIJKL",
+    b"abcdefghijklmnopq",
+    b"ABCDEFGHIJKLMNOPQ",
+    b"0123456789ab",
 ];
 
 #[test]
@@ -190,21 +206,14 @@ fn payloads_are_stamped(rt: HostRuntime) {
     for row in STAMPS {
         are_stamped(&rt, rt.alloc(), row);
     }
-    let whole = [b'7'; 1502];
-    let mut small = whole;
-    small[..12].copy_from_slice(b"abcdefghijkl");
-    let mut capital = whole;
-    capital[..12].copy_from_slice(b"ABCDEFGHIJKL");
     let longest = Stamps {
-        whole: &whole,
-        payload: &[b'7'; 1490],
-        small: &small,
-        capital: &capital,
+        whole: &[b'7'; 9017],
+        payload: &[b'7'; 9000],
     };
     are_stamped(&rt, rt.alloc(), longest);
 }
 
-// The payload of a row, however it is made, is stamped as the row says.
+// The payload of a row, however it is made, is stamped.
 fn are_stamped(rt: &impl Abort, alloc: Global, row: Stamps) {
     let count = row.payload.len();
     assert!(rt; is_new_stamped(alloc, row), "a new body of {count} bytes");
@@ -214,7 +223,7 @@ fn are_stamped(rt: &impl Abort, alloc: Global, row: Stamps) {
     }
 }
 
-// Whether a body that `Body::new` makes of the payload is stamped as the row says.
+// Whether a body that `Body::new` makes of the payload is stamped.
 fn is_new_stamped(alloc: Global, row: Stamps) -> bool {
     match Body::new(alloc, row.payload) {
         Ok(body) => is_stamped(body, row),
@@ -222,7 +231,7 @@ fn is_new_stamped(alloc: Global, row: Stamps) -> bool {
     }
 }
 
-// Whether a body that `Body::from_vec` makes is stamped as the row says.
+// Whether a body that `Body::from_vec` makes is stamped.
 fn is_vector_stamped(alloc: Global, row: Stamps) -> bool {
     match Vec::from_slice(alloc, row.whole) {
         Ok(vector) => is_vector_of(vector, row),
@@ -230,7 +239,7 @@ fn is_vector_stamped(alloc: Global, row: Stamps) -> bool {
     }
 }
 
-// Whether a body that `Body::from_vec` makes of this vector is stamped as the row says.
+// Whether a body that `Body::from_vec` makes of this vector is stamped.
 fn is_vector_of(vector: Vec<u8>, row: Stamps) -> bool {
     if vector.len() <= HEADER_ROOM || vector.len() > HEADER_ROOM + MAX_PAYLOAD {
         return false;
@@ -238,7 +247,7 @@ fn is_vector_of(vector: Vec<u8>, row: Stamps) -> bool {
     is_stamped(Body::from_vec(vector), row)
 }
 
-// Whether a body that `Body::from_array` makes is stamped as the row says.
+// Whether a body that `Body::from_array` makes is stamped.
 fn is_array_stamped(alloc: Global, row: Stamps) -> bool {
     let count = row.payload.len();
     if count < 1 || count > MAX_IN_PLACE {
@@ -247,21 +256,29 @@ fn is_array_stamped(alloc: Global, row: Stamps) -> bool {
     is_stamped(Body::from_array(alloc, *ROOM_AND_SIXTEEN, count), row)
 }
 
-// Whether `framed` is the payload before a stamp, and after each of two stamps what the row says.
+// Whether `framed` is the payload before a stamp, and after each stamp its header and the payload.
 fn is_stamped(body: Body, row: Stamps) -> bool {
     let mut body = body;
-    let before = is_framed(&body, row.payload, row.payload);
-    body.stamp(b"abcdefghijkl");
-    let small = is_framed(&body, row.small, row.payload);
-    body.stamp(b"ABCDEFGHIJKL");
-    let capital = is_framed(&body, row.capital, row.payload);
+    let mut is = is_framed(&body, b"", row.payload);
+    for header in HEADERS {
+        is = is && shows(&mut body, header, row.payload);
+    }
     drop(body);
-    before && small && capital
+    is
 }
 
-// Whether `framed` gives these bytes, and `as_slice` the payload alone.
-fn is_framed(body: &Body, framed: &[u8], payload: &[u8]) -> bool {
-    body.framed() == framed && body.as_slice() == payload
+// Stamps a header, and says whether it and the payload are framed then.
+fn shows(body: &mut Body, header: &[u8], payload: &[u8]) -> bool {
+    if header.len() != 12 && header.len() != 17 {
+        return false;
+    }
+    body.stamp(header);
+    is_framed(body, header, payload)
+}
+
+// Whether `framed` gives this header and the payload, and `as_slice` the payload alone.
+fn is_framed(body: &Body, header: &[u8], payload: &[u8]) -> bool {
+    body.framed().strip_prefix(header) == Some(payload) && body.as_slice() == payload
 }
 
 #[test]
@@ -269,12 +286,12 @@ fn halves_are_stamped_apart(rt: HostRuntime) {
     let (mut sending, mut audit) = Parcel::new(rt.alloc(), b"pay")
         .expect(&rt, "a parcel")
         .split();
-    let none = is_framed(&sending, b"pay", b"pay") && is_framed(&audit, b"pay", b"pay");
+    let none = is_framed(&sending, b"", b"pay") && is_framed(&audit, b"", b"pay");
     sending.stamp(b"abcdefghijkl");
-    let one = is_framed(&sending, b"abcdefghijklpay", b"pay") && is_framed(&audit, b"pay", b"pay");
-    audit.stamp(b"ABCDEFGHIJKL");
-    let first = is_framed(&sending, b"abcdefghijklpay", b"pay");
-    let second = is_framed(&audit, b"ABCDEFGHIJKLpay", b"pay");
+    let one = is_framed(&sending, b"abcdefghijkl", b"pay") && is_framed(&audit, b"", b"pay");
+    audit.stamp(b"ABCDEFGHIJKLMNOPQ");
+    let first = is_framed(&sending, b"abcdefghijkl", b"pay");
+    let second = is_framed(&audit, b"ABCDEFGHIJKLMNOPQ", b"pay");
     drop(sending);
     drop(audit);
     assert!(rt; none, "no half is stamped");

@@ -70,7 +70,7 @@ few_numbers {l = l} sound short f = by_buffer (buffer_of l.buffers f) refl
     by_buffer : (o : Option Buffer) → buffer_of l.buffers f ≡ o → IfSome o (λ b. is_full b ≡ false → b.next < 2 ^ 32)
     by_buffer None found = tt
     by_buffer (Some b) found =
-        let is = each-find (IsSoundBuffer l.counts.events) (is_buffer_of f) l.buffers b sound.buffers found in
+        let is = each-find (IsSoundBuffer l.version l.counts.events) (is_buffer_of f) l.buffers b sound.buffers found in
         λ _. omega (arith, is.numbers, sound.counts.events, short)
 
 -- what comes of a packet for a flow with a buffer: it takes the next number, or the buffer is full
@@ -116,13 +116,18 @@ took_number k n new f body number same some taken is =
 
 -- a packet that comes for an open flow
 pub sound-came : {life : ℕ} {rates : List Rate} {l : Live} → Sound life rates l → l.counts.events < life → (f : ℕ)
-    (body : List ℕ) → IsBody body → IsSome (buffer_of l.buffers f) → Sound life rates (accept l f body)
+    (body : List ℕ) → IsBody l.version body → IsSome (buffer_of l.buffers f) → Sound life rates (accept l f body)
 sound-came {life = life} {rates = rates} {l = l} sound few f body is there = by_buffer
     (buffer_of l.buffers f) refl there
   where
     by_buffer : (o : Option Buffer) → buffer_of l.buffers f ≡ o → IsSome o → Sound life rates (accept l f body)
     by_buffer None found some = absurd (cc)
     by_buffer (Some b) found some = sound-accept sound few f body is b found
+
+-- a payload is one of the version that the link was seen to have
+pub body_in : (k n : LinkView (Unit {0})) (body : List ℕ) → k ≡ n → IsBody n.live.version body
+    → IsBody k.live.version body
+body_in k n body same is = subst (λ (k : LinkView (Unit {0})). IsBody k.live.version body) (sym same) is
 
 -- an open flow is a client of the queue, and has a buffer and a book
 module _ {life : ℕ} {rates : List Rate} {l : Live} (sound : Sound life rates l) (f : ℕ)

@@ -41,5 +41,5 @@ module _ {life : ℕ} {rates : List Rate} {l : Live} (sound : Sound life rates l
       (queue-closed l.graph.next_flow f stands (sound-numbered sound) sound.queue))
 
   -- its account goes to those of the flows that were closed before
-  pub past_few : life ≤ 2 ^ 24 → (f : ℕ) → l.counts.past + account_of l.books f < 2 ^ 52
+  pub past_few : life ≤ 2 ^ 24 → (f : ℕ) → l.counts.past + account_of l.books f < 2 ^ 54
   past_few short f = omega (arith, sound.books.accounts, accounts-close_in l.books f, sound.counts.events, short)

@@ -29,9 +29,9 @@ headed : (o : Option Buffer) → holds_packet o ≡ true → option_and_then hea
 headed None busy none = cc
 headed (Some b) busy none = has_head b b.packets busy none
 
-no_head : (out : ℕ) (o : Option Packet) → option_map (sending_at out) o ≡ None → o ≡ None
-no_head out None none = refl
-no_head out (Some h) none = cc
+no_head : (l : Live) (out : ℕ) (o : Option Packet) → option_map (sending_at l out) o ≡ None → o ≡ None
+no_head l out None none = refl
+no_head l out (Some h) none = cc
 
 busy_or_none : (t : Bool) (n : ℕ) → (t ≡ false → n ≡ 0) → 0 < n → t ≡ true
 busy_or_none true n idle some = refl
@@ -57,8 +57,8 @@ no_part : {life : ℕ} {rates : List Rate} {l : Live} → Sound life rates l →
     → sending l ≡ None → o ≡ None
 no_part sound None is none = refl
 no_part {l = l} sound (Some p) is none =
-    let part = subst (PartIsSound l.buffers) is sound.part in
-    let head = no_head p.out (head_of l.buffers p.flow) (sym (sending-part l p is) ∙ none) in
+    let part = subst (PartIsSound l.version l.buffers) is sound.part in
+    let head = no_head l p.out (head_of l.buffers p.flow) (sym (sending-part l p is) ∙ none) in
     let both : Some part.head ≡ None = sym part.found ∙ head in
     cc
 
@@ -66,7 +66,7 @@ no_next : {life : ℕ} {rates : List Rate} {l : Live} → Sound life rates l →
     → next l.queue.clients ≡ o → IsNext l.queue.clients o → sending l ≡ None → o ≡ None
 no_next sound unparted None is first none = refl
 no_next {l = l} sound unparted (Some f) is first none =
-    absurd (next_headed sound f first (no_head 0 (head_of l.buffers f) (sym (sending-next l f unparted is) ∙ none)))
+    absurd (next_headed sound f first (no_head l 0 (head_of l.buffers f) (sym (sending-next l f unparted is) ∙ none)))
 
 pub idle_is_done : {life : ℕ} {rates : List Rate} {l : Live} → Sound life rates l → sending l ≡ None
     → (l.part ≡ None) × (next l.queue.clients ≡ None)

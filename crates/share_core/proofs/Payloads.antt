@@ -4,7 +4,7 @@ use Rattle.std.proofs.Common.{Option, None, Some, IsSome, IfSome, MatchOption, o
 use Rattle.std.proofs.Common.{Result, Ok, Err, IfOk, IfErr, OnOk, refl, sym, ap, subst}
 use Rattle.std.proofs.lemmas.Option.{same_Some}
 use Rattle.share_base.specs.Body.{BodyView, framed_bytes}
-use Rattle.share_model.specs.link.Frame.{Packet, PacketOf, map_packet, header, frame}
+use Rattle.share_model.specs.link.Frame.{Packet, PacketOf, map_packet}
 use Rattle.share_model.specs.link.Buffers.{Buffer, is_buffer_of, buffer_of, open_in, close_in, count_in, push_in}
 use Rattle.share_model.specs.link.Buffers.{head_in as head_in_buffer, head_of_buffer, holds_packet, is_some_packet}
 use Rattle.share_model.specs.link.Buffers.{is_full, pop_in, head_of, is_busy, map_buffer, payload_of, payloads_in}
@@ -163,7 +163,7 @@ module _ (bs : List BufferView) (seen : List Buffer) (is : payloads_in bs ≡ se
   pub popped_as : (f : ℕ) (new : List BufferView) → new ≡ pop_in bs f → payloads_in new ≡ pop_in seen f
   popped_as f new made = ap payloads_in made ∙ sym (pop_in-image payload_of bs f) ∙ ap (λ xs. pop_in xs f) is
 
--- The frame of a head packet, once its header is stamped
+-- The head packet, once a header is stamped before it
 
 abbrev stamped_packet : List ℕ → PacketOf BodyView → PacketOf BodyView
 stamped_packet header h =
@@ -187,31 +187,26 @@ head_of_stamped bs f header =
     ap (option_and_then head_of_buffer) (find-change_first (is_buffer_of f) (with_stamp header) (λ b same. same) bs)
     ∙ head_by_stamped header (buffer_of bs f)
 
--- the stamped bytes and the payload are the frame
-framed_as : (bs new : List BufferView) (f seq : ℕ) (body : BodyView) (own : List ℕ) (o : Option (PacketOf BodyView))
-    → head_of bs f ≡ o → new ≡ stamp_in bs f own
-    → IfSome (option_map (map_packet payload_of) o) (λ h. own ≡ header h.flow h.seq (length h.payload))
+-- its bytes are those of the header and its payload
+framed_as : (bs new : List BufferView) (f seq : ℕ) (body : BodyView) (header : List ℕ)
+    (o : Option (PacketOf BodyView))
+    → head_of bs f ≡ o → new ≡ stamp_in bs f header
     → head_of new f ≡ Some (record { flow = f; seq = seq; payload = body })
-    → IfSome (option_map (map_packet payload_of) o) (λ h. framed_bytes body ≡ frame h)
-unfolding frame
-framed_as bs new f seq body own None is stamped its head = tt
-framed_as bs new f seq body own (Some h) is stamped its head =
-    let there : Some (stamped_packet own h) ≡ Some (record { flow = f; seq = seq; payload = body }) =
-    ap (option_map (stamped_packet own)) (sym is) ∙ sym (head_of_stamped bs f own)
+    → IfSome (option_map (map_packet payload_of) o) (λ h. framed_bytes body ≡ header ++ h.payload)
+framed_as bs new f seq body header None is stamped head = tt
+framed_as bs new f seq body header (Some h) is stamped head =
+    let there : Some (stamped_packet header h) ≡ Some (record { flow = f; seq = seq; payload = body }) =
+    ap (option_map (stamped_packet header)) (sym is) ∙ sym (head_of_stamped bs f header)
     ∙ ap (λ xs. head_of xs f) (sym stamped) ∙ head in
     ap (λ (p : PacketOf BodyView). framed_bytes p.payload) (sym (same_Some _ _ there))
-    ∙ ap (λ (bytes : List ℕ). bytes ++ h.payload.payload) its
 
 pub framed_seen : (bs new : List BufferView) (seen : List Buffer) → payloads_in bs ≡ seen → (f seq : ℕ)
-    (body : BodyView) (own : List ℕ) → new ≡ stamp_in bs f own
-    → IfSome (head_of seen f) (λ h. own ≡ header h.flow h.seq (length h.payload))
+    (body : BodyView) (header : List ℕ) → new ≡ stamp_in bs f header
     → head_of new f ≡ Some (record { flow = f; seq = seq; payload = body })
-    → IfSome (head_of seen f) (λ h. framed_bytes body ≡ frame h)
-framed_seen bs new seen is f seq body own stamped its head =
-    subst (λ (o : Option Packet). IfSome o (λ h. framed_bytes body ≡ frame h)) (sym (head_as bs seen is f))
-    (framed_as bs new f seq body own (head_of bs f) refl stamped
-    (subst (λ (o : Option Packet). IfSome o (λ h. own ≡ header h.flow h.seq (length h.payload)))
-    (head_as bs seen is f) its) head)
+    → IfSome (head_of seen f) (λ h. framed_bytes body ≡ header ++ h.payload)
+framed_seen bs new seen is f seq body header stamped head =
+    subst (λ (o : Option Packet). IfSome o (λ h. framed_bytes body ≡ header ++ h.payload)) (sym (head_as bs seen is f))
+    (framed_as bs new f seq body header (head_of bs f) refl stamped head)
 
 -- there still is a head packet
 pub none_stamped : (new : List BufferView) (seen : List Buffer) (f : ℕ) → payloads_in new ≡ seen
@@ -234,14 +229,15 @@ head_busy (Some b) some = by_packets b.packets some
 pub busy_headed : (seen : List Buffer) (f : ℕ) → IsSome (head_of seen f) → is_busy seen f ≡ true
 busy_headed seen f some = head_busy (buffer_of seen f) some
 
--- bytes that are the frame, of which no more are out
-pub out_within : (o : Option Packet) (bytes : List ℕ) (out : ℕ) → IsSome o → IfSome o (λ h. bytes ≡ frame h)
-    → IfSome o (λ h. out ≤ length (frame h)) → out ≤ length bytes
-out_within None bytes out some is within = absurd (cc)
-out_within (Some h) bytes out some is within = rw is within
+-- of the framed bytes no more are out
+pub out_within : (o : Option Packet) (header bytes : List ℕ) (out : ℕ) → IsSome o
+    → IfSome o (λ h. bytes ≡ header ++ h.payload) → IfSome o (λ h. out ≤ length (header ++ h.payload))
+    → out ≤ length bytes
+out_within None header bytes out some is within = absurd (cc)
+out_within (Some h) header bytes out some is within = rw is within
 
--- what is offered of these bytes is offered of the frame
-pub of_frame : (o : Option Packet) (bytes : List ℕ) (Q : List ℕ → Type 0) → IfSome o (λ h. bytes ≡ frame h) → Q bytes
-    → IfSome o (λ h. Q (frame h))
-of_frame None bytes Q is holds = tt
-of_frame (Some h) bytes Q is holds = subst Q is holds
+-- what holds of the framed bytes holds of the header and the payload
+pub of_framed : (o : Option Packet) (header bytes : List ℕ) (Q : List ℕ → Type 0)
+    → IfSome o (λ h. bytes ≡ header ++ h.payload) → Q bytes → IfSome o (λ h. Q (header ++ h.payload))
+of_framed None header bytes Q is holds = tt
+of_framed (Some h) header bytes Q is holds = subst Q is holds

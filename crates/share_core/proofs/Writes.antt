@@ -116,13 +116,13 @@ module _ (life : ℕ) (rates : List Rate) (l : Live) (place : NextWrite) (sound 
       (λ b found. omega (arith, book-account sound place.buffer.flow found, sound.counts.events, few))
 
   -- its frame is short, and not all of it is out
-  pub short : place.length ≤ 1502
-  short = subst (λ (p : NextWrite). p.length ≤ 1502) (sym t.place_is) (sending-short sound t.is)
+  pub short : place.length ≤ 9017
+  short = subst (λ (p : NextWrite). p.length ≤ 9017) (sym t.place_is) (sending-short sound t.is)
 
-  pub out_few : place.out ≤ 1502
+  pub out_few : place.out ≤ 9017
   out_few =
       let few = sending-few sound t.is in let most = sending-short sound t.is in
-      subst (λ (p : NextWrite). p.out ≤ 1502) (sym t.place_is) (omega (arith, few, most))
+      subst (λ (p : NextWrite). p.out ≤ 9017) (sym t.place_is) (omega (arith, few, most))
 
   -- its flow is a client of the queue
   pub joined : IsSome (get l.queue.clients place.buffer.flow)
@@ -131,7 +131,7 @@ module _ (life : ℕ) (rates : List Rate) (l : Live) (place : NextWrite) (sound 
       (sound.queue.clients t.s.head.flow ∙ head-stands sound t.s.head.flow (sending-head sound t.is))
 
   -- the clock has room for its units
-  pub clock : AreInRange rates → life ≤ 2 ^ 24 → l.counts.events < life → (n : ℕ) → n ≤ 1502
+  pub clock : AreInRange rates → life ≤ 2 ^ 24 → l.counts.events < life → (n : ℕ) → n ≤ 9017
       → l.queue.clock + units_due rates l.books place.buffer.flow n ≤ 2 ^ 40
   clock range short_life living n few =
       omega (arith, sound.queue.clock, units_due-few rates l.books place.buffer.flow n range few)
@@ -177,7 +177,7 @@ module _ (life : ℕ) (rates : List Rate) (l : Live) (place : NextWrite) (sound 
     pub charged-level : IsLevel (charge l.queue place.buffer.flow units) (tickets_of_all l.graph)
     charged-level = level-after_charge l.queue place.buffer.flow units (tickets_of_all l.graph) sound.level
 
-    pub charged-can : l.counts.events < life → units ≤ 4026 → (active : Bool)
+    pub charged-can : l.counts.events < life → units ≤ 11842 → (active : Bool)
         → CanLevel (charge l.queue place.buffer.flow units)
         (tickets_of_all (set_active l.graph place.buffer.flow active))
     charged-can living few active =

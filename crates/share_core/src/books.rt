@@ -3,7 +3,7 @@ ghost use Rattle.std.specs.Prelude.{◌≡◌, ◌<◌, ◌≤◌, ◌^◌, ◌+
 ghost use Rattle.std.specs.Prelude.{Some, IsSome, IsTrue, is_some, option_copied};
 ghost use Rattle.std.specs.Set.{remove_key};
 ghost use Rattle.share_model.specs.link.Tariff.{rate_at, rate_of, units_of};
-ghost use Rattle.share_model.specs.link.Books.{is_book_of, new_book, account_of, units_due, with_units};
+ghost use Rattle.share_model.specs.link.Books.{is_book_of, new_book, account_of, tariff_of, units_due, with_units};
 ghost use Rattle.share_model.specs.link.Books.{books_with_units, is_held, with_hold, books_with_hold};
 ghost use Rattle.share_core.specs.Held.{IfFound};
 
@@ -79,6 +79,15 @@ impl Books {
             None => 0,
             Some(book) => book.account,
         }
+    }
+
+    /// The number of the tariff of the flow whose book is at a place.
+    pub fn tariff_at(&self, place: usize, flow: FlowNo) -> u64
+        requires { position (is_book_of flow) self.now ≡ Some place }
+        ensures { result ≡ tariff_of self.now flow }
+    {
+        let book = &self.books[place];
+        book.tariff
     }
 
     /// Posts the flow whose book is at a place for `count` bytes of a frame, and gives the units that they are charged.

@@ -1,13 +1,13 @@
 //! The engine of a link: a link and the writer of its frames.
-ghost use Rattle.std.specs.Prelude.{◌≡◌, ◌<◌, ◌≤◌, ◌^◌, find, IfOk, IfErr, IfSome};
+ghost use Rattle.std.specs.Prelude.{◌≡◌, ◌<◌, ◌≤◌, ◌^◌, length, find, IfOk, IfErr, IfSome};
 ghost use Rattle.std.specs.Prelude.{None, option_map, is_some, false};
 ghost use Rattle.share_base.specs.Refusal.{IsRefused};
-ghost use Rattle.std.specs.FinMap.{get};
+ghost use Rattle.share_base.specs.Version.{max_payload};
+ghost use Rattle.share_base.specs.declared.version.Version.TheVariants.{One};
 ghost use Rattle.share_model.specs.stride.Moves.{global_part};
-ghost use Rattle.share_model.specs.stride.Moves.{position as position_of};
+ghost use Rattle.share_model.specs.link.Readings.{position_at, tickets_at};
 ghost use Rattle.share_model.specs.link.Totals.{totals, row};
 ghost use Rattle.share_model.specs.link.Calls.{is_spent, Steps, CommandCall, OfferDecided, TurnCall, TearCall};
-ghost use Rattle.share_model.specs.funding.Graph.{tickets};
 ghost use Rattle.share_model.specs.funding.Changes.{flow_named};
 ghost use Rattle.share_model.specs.link.Live.{empty_link};
 ghost use Rattle.share_model.specs.link.Books.{is_book_of};
@@ -24,7 +24,7 @@ ghost use Rattle.share_core.specs.Life.{life_refusal};
 use crate::fields;
 use crate::link::Link;
 use crate::next_write::NextWrite;
-use share_base::{Body, Command, FlowNo, Name, Refusal, Reply, Turn};
+use share_base::{Body, Command, FlowNo, Name, Refusal, Reply, Turn, Version};
 use share_model::{Answer, GlobalPart, Position, Rates, Row, TellingWriter, Totals};
 use std::alloc::Global;
 use std::marker::Model;
@@ -53,11 +53,11 @@ impl<W, S: Rates> Model for Engine<W, S> {
 }
 
 impl<W: Drop, S: Rates + Drop> Engine<W, S> {
-    /// A new link over this writer, with a life of 1 to 2^24 events. Refusals, in order: `Range` where the life is
-    /// none of these, `NoMemory` where a growth was refused; the shelf and the writer are dropped then.
+    /// A new link of version 1 over this writer, with a life of 1 to 2^24 events. Refusals, in order: `Range` where the
+    /// life is none of these, `NoMemory` where a growth was refused; the shelf and the writer are dropped then.
     pub fn new(alloc: Global, shelf: S, life: u64, writer: W) -> Result<Engine<W, S>, Refusal>
         ensures ok { IfOk result (λ e.
-            (e ≡ record { life = life; rates = S.rates shelf; live = empty_link; writer = writer })
+            (e ≡ record { life = life; rates = S.rates shelf; live = empty_link One; writer = writer })
             × (life_refusal life ≡ None)) }
         ensures refused { IfErr result (IsRefused (life_refusal life)) }
     {
@@ -72,6 +72,21 @@ impl<W, S: Rates> Engine<W, S> {
         ensures { result ≡ self.now.life }
     {
         self.link.life()
+    }
+
+    /// The version of its frames, which is 1 unless `choose` chose another.
+    pub fn version(&self) -> Version
+        ensures { result ≡ self.now.live.version }
+    {
+        self.link.version()
+    }
+
+    /// Chooses the version of the frames, before the first event: the link is then a new one of this version.
+    pub fn choose(&mut self, version: Version)
+        requires { self.old.live.counts.events ≡ 0 }
+        ensures { self.new ≡ record self.old { live = empty_link version } }
+    {
+        self.link.choose(version);
     }
 
     /// How many events were made, at most the life. A link is sound after whatever events.
@@ -105,12 +120,12 @@ impl<W, S: Rates> Engine<W, S> {
         self.link.sending().is_some()
     }
 
-    /// The account of an open flow, below 2^52: the price of its tariff for each unit that its frames were charged.
+    /// The account of an open flow, below 2^54: the price of its tariff for each unit that its frames were charged.
     /// `None` where no open flow has this number.
     pub fn account(&self, flow: FlowNo) -> Option<u64>
         ensures account { result
             ≡ option_map (λ b. b.account) (find (is_book_of flow) self.now.live.books) }
-        ensures small { IfSome result (λ account. account < 2 ^ 52) }
+        ensures small { IfSome result (λ account. account < 2 ^ 54) }
     {
         self.link.account(flow)
     }
@@ -132,9 +147,7 @@ impl<W, S: Rates> Engine<W, S> {
     /// The tickets of an open flow: what funds it while it is active, at most 2^20, and 0 while it is idle or held.
     /// `None` where no open flow has this number.
     pub fn tickets(&self, flow: FlowNo) -> Option<u32>
-        ensures { result
-            ≡ option_map (λ _. tickets self.now.live.graph flow)
-            (find (is_book_of flow) self.now.live.books) }
+        ensures { result ≡ tickets_at self.now flow }
     {
         self.link.tickets(flow)
     }
@@ -143,7 +156,7 @@ impl<W, S: Rates> Engine<W, S> {
     /// does not compete), and its pass or, where it does not compete, its remain. `None` where no open flow has this
     /// number.
     pub fn position(&self, flow: FlowNo) -> Option<Position>
-        ensures { result ≡ option_map position_of (get self.now.live.queue.clients flow) }
+        ensures { result ≡ position_at self.now flow }
     {
         self.link.position(flow)
     }
@@ -210,10 +223,12 @@ impl<W, S: Rates> Engine<W, S> {
 
     /// A packet comes for the flow of a name, goes to the back of its buffer and takes the next number: one event,
     /// unless the life is spent. Refusals, in order: `Spent`, `NoFlow`, `BufferFull`. A refused payload is dropped,
-    /// and takes no number. It takes no memory.
+    /// and takes no number. The payload is one that frames of the link's version carry, at most 1490 or 9000 bytes. It
+    /// takes no memory.
     pub fn arrive(&mut self, flow: Name, body: Body) -> Reply
+        requires { length body.payload ≤ max_payload self.old.live.version }
         ensures did { Steps (λ _ l. arrive_step l flow body.payload) self.old result self.new }
-        ensures fields { IsName flow × IsBody body.payload }
+        ensures fields { IsName flow × IsBody self.old.live.version body.payload }
     {
         fields::of_arrival(&flow, &body);
         if self.link.spent() {

@@ -1,6 +1,7 @@
 //! What the types of commands and arrivals say of their fields: they are those that a line can spell.
 ghost use Rattle.std.specs.Prelude.{◌≡◌, true};
 ghost use Rattle.std.specs.List.{list_all};
+ghost use Rattle.share_base.specs.declared.version.Version.TheVariants.{Two};
 ghost use Rattle.share_model.specs.link.Fields.{IsName, IsNumber, is_byte, IsBody, HasCommandFields};
 
 use share_base::{Body, Command, Name};
@@ -53,9 +54,9 @@ fn of_both(number: u64, name: &Name)
     of_name(name);
 }
 
-/// The fields of an arrival.
+/// The fields of an arrival, whose payload a frame of version 2 carries.
 pub fn of_arrival(flow: &Name, body: &Body)
-    ensures { IsName flow.now × IsBody body.now.payload }
+    ensures { IsName flow.now × IsBody Two body.now.payload }
 {
     let _ = flow.as_bytes();
     of_bytes(body.as_slice());

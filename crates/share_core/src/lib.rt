@@ -12,15 +12,14 @@ mod payload_buffers;
 mod tests;
 
 pub use engine::Engine;
-pub use laws::idle_links_are_done;
-use share_base::MAX_PAYLOAD;
-use share_frame::HEADER;
+pub use laws::{idle_links_are_done, shares_of_calls, tickets_are_shares};
+use share_base::{HEADER_ROOM, MAX_PAYLOAD};
 
 /// The most flows that are open at once.
 pub const MAX_FLOWS: usize = 64;
 
-/// The longest frame, in bytes.
-const MAX_FRAME: usize = HEADER + MAX_PAYLOAD;
+/// The longest frame of any version, in bytes.
+const MAX_FRAME: usize = HEADER_ROOM + MAX_PAYLOAD;
 
 /// The longest life, in events.
 pub const MAX_LIFE: u64 = 1 << 24;

@@ -2,6 +2,7 @@
 ghost use Rattle.std.specs.Prelude.{◌≡◌, ◌<◌, ◌≤◌, ◌^◌, false, IfOk, IfErr, None};
 ghost use Rattle.share_base.specs.Refusal.{IsRefused};
 ghost use Rattle.share_base.specs.declared.command.Reply.TheVariants.{Refused};
+ghost use Rattle.share_base.specs.declared.version.Version.TheVariants.{One};
 ghost use Rattle.share_model.specs.link.Calls.{is_spent, Stepped};
 ghost use Rattle.share_model.specs.link.Live.{empty_link, with_one_event};
 ghost use Rattle.share_model.specs.run.Sound.{Sound};
@@ -17,7 +18,7 @@ mod sending;
 use crate::books::Books;
 use crate::payload_buffers::PayloadBuffers;
 use crate::{MAX_FLOWS, MAX_LIFE};
-use share_base::{FlowNo, Refusal, Reply};
+use share_base::{FlowNo, Refusal, Reply, Version};
 use share_ledger::Ledger;
 use share_model::{Counts, Part, Rates};
 use share_stride::Queue;
@@ -30,6 +31,7 @@ use std::marker::Model;
 pub struct Link<S: Rates> {
     life: u64,
     shelf: S,
+    version: Version,
     ledger: Ledger,
     queue: Queue,
     levelled_with: [u32; MAX_FLOWS],
@@ -57,6 +59,7 @@ impl<S: Rates> Model for Link<S> {
       life = e.life;
       rates = S.rates e.shelf;
       live = record {
+        version = e.version;
         graph = e.ledger;
         queue = e.queue;
         buffers = e.buffers;
@@ -72,6 +75,7 @@ impl<S: Rates> Model for Link<S> {
     ghost invariant = { λ e.
         ((e.life ≤ 2 ^ 24) × AreTicketsOf e.levelled_with e.ledger)
         × Sound e.life (S.rates e.shelf) (record {
+          version = e.version;
           graph = e.ledger;
           queue = e.queue;
           buffers = e.buffers;
@@ -84,11 +88,11 @@ impl<S: Rates> Model for Link<S> {
 }
 
 impl<S: Rates + Drop> Link<S> {
-    /// A new link with a life of 1 to 2^24 events. `Range` where the life is none of these, `NoMemory` where a
-    /// growth was refused; the shelf is dropped then.
+    /// A new link of version 1, with a life of 1 to 2^24 events. `Range` where the life is none of these, `NoMemory`
+    /// where a growth was refused; the shelf is dropped then.
     pub fn new(alloc: Global, shelf: S, life: u64) -> Result<Link<S>, Refusal>
         ensures ok { IfOk result (λ e.
-            (e ≡ record { life = life; rates = S.rates shelf; live = empty_link; writer = tt })
+            (e ≡ record { life = life; rates = S.rates shelf; live = empty_link One; writer = tt })
             × (life_refusal life ≡ None)) }
         ensures refused { IfErr result (IsRefused (life_refusal life)) }
     {
@@ -102,6 +106,7 @@ impl<S: Rates + Drop> Link<S> {
         Ok(Link {
             life,
             shelf,
+            version: Version::One,
             ledger,
             queue,
             levelled_with: [0; MAX_FLOWS],
@@ -126,6 +131,14 @@ const NO_COUNTS: Counts = Counts {
 };
 
 impl<S: Rates> Link<S> {
+    /// Makes a link that made no event a new one of this version.
+    pub fn choose(&mut self, version: Version)
+        requires { self.old.live.counts.events ≡ 0 }
+        ensures { self.new ≡ record self.old { live = empty_link version } }
+    {
+        self.version = version;
+    }
+
     // A refused command or arrival is an event that changes nothing else.
     fn refuse(&mut self, refusal: Refusal) -> Reply
         requires { is_spent self.old ≡ false }

@@ -1,18 +1,17 @@
 //! The buffers of a link, and the frames that are made in them.
-ghost use Rattle.std.specs.Prelude.{◌≡◌, ◌<◌, ◌≤◌, ◌^◌, [], true, false, take, drop, length, IfOk, IfErr, OnOk, None};
-ghost use Rattle.std.specs.Prelude.{Some, IsSome, IfSome, IsTrue, MatchOption, option_map};
+ghost use Rattle.std.specs.Prelude.{◌≡◌, ◌<◌, ◌≤◌, ◌^◌, [], ◌++◌, true, false, take, drop, length, IfOk, IfErr, OnOk};
+ghost use Rattle.std.specs.Prelude.{None, Some, IsSome, IfSome, IsTrue, MatchOption, option_map};
+ghost use Rattle.share_base.specs.Body.{IsHeaderLength};
 ghost use Rattle.share_base.specs.Refusal.{IsRefused};
 ghost use Rattle.share_base.specs.declared.refusal.Refusal.TheVariants.{NoMemory};
 ghost use Rattle.share_model.specs.link.Buffers.{buffer_of, open_in, close_in, count_in, push_in, pop_in, is_full};
 ghost use Rattle.share_model.specs.link.Buffers.{head_of, is_busy};
-ghost use Rattle.share_model.specs.link.Frame.{frame, header};
 ghost use Rattle.share_model.specs.io.Told.{Fits};
 ghost use Rattle.share_flows.specs.Limit.{limit_refusal};
 ghost use Rattle.share_flows.specs.Places.{Stands};
 
 use share_base::{Body, FlowNo, Refusal};
 use share_flows::{Buffers, Place};
-use share_frame::HEADER;
 use share_model::{Answer, TellingWriter};
 use std::alloc::Global;
 use std::marker::Model;
@@ -131,28 +130,27 @@ impl PayloadBuffers {
         self.buffers.close(flow)
     }
 
-    /// Offers a writer the next bytes of the frame of the head packet at a place, whose header is `stamp` and of which
-    /// `out` bytes are out: at most `most` bytes, in one call. They are one slice of the buffer's own memory, header
-    /// and payload, and nothing is copied but the header.
+    /// Offers a writer the next bytes of the head packet at a place with this header before it, of which `out` bytes
+    /// are out: at most `most` bytes, in one call. They are one slice of the buffer's own memory, header and payload,
+    /// and nothing is copied but the header.
     pub fn offer_at<W: TellingWriter>(
         &mut self,
         place: &Place,
-        stamp: &[u8; HEADER],
+        header: &[u8],
         out: u32,
         most: u32,
         writer: &mut W,
     ) -> Answer
         requires there { Stands self.old place.now }
         requires head { IsSome (head_of self.old place.now.flow) }
-        requires header { IfSome (head_of self.old place.now.flow)
-            (λ h. stamp.now ≡ header h.flow h.seq (length h.payload)) }
-        requires within { IfSome (head_of self.old place.now.flow) (λ h. out ≤ length (frame h)) }
+        requires header { IsHeaderLength (length header.now) }
+        requires within { IfSome (head_of self.old place.now.flow) (λ h. out ≤ length (header.now ++ h.payload)) }
         ensures answered { IfSome (head_of self.old place.now.flow)
-            (λ h. W.answers writer.old (take most (drop out (frame h))) result writer.new
-            × Fits (take most (drop out (frame h))) result) }
+            (λ h. W.answers writer.old (take most (drop out (header.now ++ h.payload))) result writer.new
+            × Fits (take most (drop out (header.now ++ h.payload))) result) }
         ensures same { self.new ≡ self.old }
     {
-        self.buffers.stamp_at(place, stamp);
+        self.buffers.stamp_at(place, header);
         match self.buffers.head_at(place) {
             None => unreachable!(),
             Some((_, body)) => offer(writer, body.framed(), out, most),

@@ -9,9 +9,10 @@ mod pieces;
 mod plain;
 mod random;
 mod refusals;
+mod versions;
 
 use crate::Engine;
-use share_base::{Body, Command, FlowNo, Name, Outcome, Refusal, Reply, TicketNo, Turn};
+use share_base::{Body, Command, FlowNo, Name, Outcome, Refusal, Reply, TicketNo, Turn, Version};
 use share_model::{Answer, GlobalPart, Position, Rates, Scripted, Tape, TellingWriter};
 use std::alloc::Global;
 use std::process::Abort;
@@ -19,6 +20,15 @@ use std::test::Fail;
 
 /// The frame of the first packet of the first flow, whose payload is `hi`.
 const FRAME: [u8; 14] = [0x4c, 0x01, 0, 0, 0, 1, 0, 0, 0, 1, 0, 2, 0x68, 0x69];
+
+/// The same in version 2, where the flow has the first tariff, and where it has the second.
+const FRAME_2: [u8; 19] = [
+    0x4c, 0x02, 1, 0, 0, 0, 1, 0, 0, 0, 0, 0, 0, 0, 1, 0, 2, 0x68, 0x69,
+];
+
+const FRAME_2_OF_TARIFF_2: [u8; 19] = [
+    0x4c, 0x02, 2, 0, 0, 0, 1, 0, 0, 0, 0, 0, 0, 0, 1, 0, 2, 0x68, 0x69,
+];
 
 const FLOW: FlowNo = FlowNo(1);
 
@@ -186,6 +196,23 @@ fn command_of(rt: &impl Abort, call: Call) -> Option<Command> {
     Some(command)
 }
 
+// Chooses the version of a link that made no event.
+fn choose<W, S: Rates>(rt: &impl Abort, engine: &mut Engine<W, S>, version: Version) {
+    assert_eq!(rt; engine.events(), 0);
+    engine.choose(version);
+}
+
+// A packet comes, whose payload is one of the link's version.
+fn arrive<W, S: Rates>(
+    rt: &impl Abort,
+    engine: &mut Engine<W, S>,
+    flow: Name,
+    body: Body,
+) -> Reply {
+    assert!(rt; body.as_slice().len() <= engine.version().payload());
+    engine.arrive(flow, body)
+}
+
 fn ask<W: TellingWriter, S: Rates>(
     rt: &impl Abort,
     alloc: Global,
@@ -198,7 +225,7 @@ fn ask<W: TellingWriter, S: Rates>(
     match call {
         Call::Send(flow, payload) => {
             let body = Body::new(alloc, payload).expect(rt, "a payload");
-            replied(engine.arrive(name(rt, flow), body))
+            replied(arrive(rt, engine, name(rt, flow), body))
         }
         Call::Turn(most) => turned(engine.turn(most.max(1))),
         Call::Tear => turned(engine.tear()),
@@ -239,17 +266,22 @@ fn play<W: TellingWriter, S: Rates>(
     }
 }
 
-// A new link over a writer that gives these answers, and then accepts all.
+// A new link of a version over a writer that gives these answers, and then accepts all.
 fn scripted<S: Rates + Copy>(
     rt: &impl Abort,
     alloc: Global,
     shelf: S,
+    version: Version,
     life: u64,
     script: &[Answer],
 ) -> Engine<Scripted, S> {
     let script = Vec::from_slice(alloc, script).expect(rt, "memory");
     let writer = Scripted::new(alloc, script);
-    Engine::new(alloc, shelf, life, writer).expect(rt, "a link")
+    let mut engine = Engine::new(alloc, shelf, life, writer).expect(rt, "a link");
+    if version != Version::One {
+        choose(rt, &mut engine, version);
+    }
+    engine
 }
 
 /// What is played on a new link.
@@ -263,6 +295,7 @@ enum Case<'a> {
     Pieces(pieces::Case<'a>),
     Fault(faults::Case),
     TwoShares(&'a [Row]),
+    Version(versions::Case),
 }
 
 fn plays<S: Rates>(
@@ -280,6 +313,7 @@ fn plays<S: Rates>(
         Case::Pieces(case) => pieces::plays(rt, alloc, engine, case),
         Case::Fault(case) => faults::plays(rt, alloc, engine, case),
         Case::TwoShares(rows) => holds::plays(rt, alloc, engine, rows),
+        Case::Version(case) => versions::plays(rt, alloc, engine, case),
     }
 }
 
@@ -288,18 +322,19 @@ fn on_a_new_link<S: Rates + Copy>(
     rt: &impl Abort,
     alloc: Global,
     shelf: S,
+    version: Version,
     life: u64,
     script: &[Answer],
     case: Case<'_>,
 ) {
-    let mut engine = scripted(rt, alloc, shelf, life, script);
+    let mut engine = scripted(rt, alloc, shelf, version, life, script);
     plays(rt, alloc, &mut engine, case);
     drop(engine);
 }
 
 fn plays_all<S: Rates + Copy>(rt: &impl Abort, alloc: Global, shelf: S, cases: &[Case<'_>]) {
     for case in cases {
-        on_a_new_link(rt, alloc, shelf, 65536, &[], *case);
+        on_a_new_link(rt, alloc, shelf, Version::One, 65536, &[], *case);
     }
 }
 
@@ -352,7 +387,7 @@ fn sends_the_largest_payload<S: Rates>(
     play(rt, alloc, engine, &FUNDED);
     let payload = [0; 1490];
     let body = Body::new(alloc, payload.as_slice()).expect(rt, "a payload");
-    let accepted = engine.arrive(name(rt, "a"), body);
+    let accepted = arrive(rt, engine, name(rt, "a"), body);
     assert_eq!(rt; replied(accepted), Wanted::Packet(1).seen());
     play(rt, alloc, engine, &LARGEST_SENT);
     is_the_largest_frame(rt, engine.writer().bytes());
@@ -396,6 +431,7 @@ fn answer_as_worked_and_as_a_plain_link<S: Rates + Copy>(
     pieces::all(rt, alloc, shelf);
     faults::all(rt, alloc, shelf);
     holds::all(rt, alloc, shelf);
+    versions::all(rt, alloc, shelf);
     random::worlds::all(rt, alloc, shelf)
 }
 

@@ -1,6 +1,7 @@
 //! The buffers of the open flows, found by the numbers of the flows.
 ghost use Rattle.std.specs.Prelude.{◌≡◌, ◌<◌, ◌≤◌, ◌^◌, [], true, false, position, IfOk, IfErr, OnOk, ◌-◌};
 ghost use Rattle.std.specs.Prelude.{length, slice_get, MatchOption, None, Some, IsSome, IfSome, IsTrue, option_map};
+ghost use Rattle.share_base.specs.Body.{IsHeaderLength};
 ghost use Rattle.share_base.specs.Refusal.{IsRefused};
 ghost use Rattle.share_base.specs.declared.refusal.Refusal.TheVariants.{NoMemory};
 ghost use Rattle.share_model.specs.link.Buffers.{buffer_of, is_buffer_of, open_in, close_in, count_in, push_in, pop_in};
@@ -10,7 +11,7 @@ ghost use Rattle.share_flows.specs.Stamps.{stamp_in};
 ghost use Rattle.share_flows.specs.Limit.{limit_refusal};
 
 use crate::ring::{MAX_LIMIT, Ring};
-use share_base::{Body, FlowNo, HEADER_ROOM, Refusal};
+use share_base::{Body, FlowNo, Refusal};
 use std::alloc::Global;
 use std::marker::Model;
 
@@ -190,10 +191,11 @@ impl Buffers {
         ring.pop()
     }
 
-    /// Stamps a header before the payload of the head packet of a flow's buffer, which holds one. It changes no
-    /// payload, and takes no memory.
-    pub fn stamp(&mut self, flow: FlowNo, header: &[u8; HEADER_ROOM])
-        requires { IsTrue (is_busy self.old flow) }
+    /// Stamps a header, 12 or 17 bytes, before the payload of the head packet of a flow's buffer, which holds one. It
+    /// changes no payload, and takes no memory.
+    pub fn stamp(&mut self, flow: FlowNo, header: &[u8])
+        requires busy { IsTrue (is_busy self.old flow) }
+        requires header { IsHeaderLength (length header.now) }
         ensures after { self.new ≡ stamp_in self.old flow header.now }
         ensures payloads { payloads_in self.new ≡ payloads_in self.old }
     {
@@ -204,9 +206,10 @@ impl Buffers {
     }
 
     /// The same, at a place, which stays good.
-    pub fn stamp_at(&mut self, place: &Place, header: &[u8; HEADER_ROOM])
+    pub fn stamp_at(&mut self, place: &Place, header: &[u8])
         requires there { Stands self.old place.now }
         requires busy { IsTrue (is_busy self.old place.now.flow) }
+        requires header { IsHeaderLength (length header.now) }
         ensures after { self.new ≡ stamp_in self.old place.now.flow header.now }
         ensures payloads { payloads_in self.new ≡ payloads_in self.old }
         ensures stands { Stands self.new place.now }

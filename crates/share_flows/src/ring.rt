@@ -3,10 +3,11 @@ ghost use Rattle.std.specs.Prelude.{◌≡◌, ◌<◌, ◌≤◌, ◌^◌, ◌-
 ghost use Rattle.std.specs.Prelude.{MatchOption, None, Some};
 ghost use Rattle.share_model.specs.link.Buffers.{is_buffer_of, new_buffer, is_full, with_packet, without_head};
 ghost use Rattle.share_model.specs.link.Buffers.{head_of_buffer, is_some_packet};
+ghost use Rattle.share_base.specs.Body.{IsHeaderLength};
 ghost use Rattle.share_flows.specs.Stamps.{with_stamp};
 
 use circular_buffer::HeapCircularBuffer;
-use share_base::{Body, FlowNo, HEADER_ROOM};
+use share_base::{Body, FlowNo};
 use std::alloc::{AllocError, Global};
 use std::marker::Model;
 
@@ -132,9 +133,10 @@ impl Ring {
         }
     }
 
-    /// Stamps a header before the payload of the head packet, which there is.
-    pub fn stamp(&mut self, header: &[u8; HEADER_ROOM])
-        requires { is_some_packet self.old.packets ≡ true }
+    /// Stamps a header, 12 or 17 bytes, before the payload of the head packet, which there is.
+    pub fn stamp(&mut self, header: &[u8])
+        requires some { is_some_packet self.old.packets ≡ true }
+        requires header { IsHeaderLength (length header.now) }
         ensures { self.new ≡ with_stamp header.now self.old }
     {
         match self.packets.get_mut(0) {

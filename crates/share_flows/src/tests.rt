@@ -4,7 +4,7 @@ mod memory;
 
 use crate::Buffers;
 use guarded::{close, head, is_framed, is_open, open, pop, push, stamp, stamp_by_place, through};
-use share_base::{Body, FlowNo, HEADER_ROOM, Refusal};
+use share_base::{Body, FlowNo, Refusal};
 use std::alloc::Global;
 use std::process::Abort;
 
@@ -22,10 +22,10 @@ enum Row {
     Pop(u32, Option<u8>),
     /// A packet is put in at the flow's place, and the head packet and its number are taken out.
     Through(u32, u8, Option<(u32, u8)>),
-    /// A header is stamped before the head packet; false if there is no packet.
-    Stamp(u32, &'static [u8; HEADER_ROOM], bool),
+    /// A header is stamped before the head packet; false if there is no packet, or no header is as long.
+    Stamp(u32, &'static [u8], bool),
     /// The same, at the flow's place.
-    StampAt(u32, &'static [u8; HEADER_ROOM], bool),
+    StampAt(u32, &'static [u8], bool),
     /// The bytes stamped before the head packet, and its payload; no bytes if there is no packet.
     Framed(u32, &'static [u8]),
     /// The buffer is closed: how many packets it held.
@@ -147,6 +147,13 @@ fn the_head_packet_is_stamped(rt: HostRuntime) {
         // a second header takes the place of the first
         Row::Stamp(1, b"ABCDEFGHIJKL", true),
         Row::Framed(1, b"ABCDEFGHIJKL1"),
+        // and so does one of another length
+        Row::Stamp(1, b"abcdefghijklmnopq", true),
+        Row::Framed(1, b"abcdefghijklmnopq1"),
+        Row::Stamp(1, b"ABCDEFGHIJKL", true),
+        Row::Framed(1, b"ABCDEFGHIJKL1"),
+        Row::Stamp(1, b"abcdefghijklm", false),
+        Row::Framed(1, b"ABCDEFGHIJKL1"),
         Row::Shows(1, true, true, 3),
         Row::Pop(1, Some(b'1')),
         Row::Framed(1, b"2"),
@@ -170,8 +177,9 @@ fn a_stamp_by_a_place_is_of_its_flow(rt: HostRuntime) {
         Row::StampAt(7, b"abcdefghijkl", true),
         Row::Framed(7, b"abcdefghijkl7"),
         Row::Framed(1, b"1"),
-        Row::StampAt(1, b"ABCDEFGHIJKL", true),
-        Row::Framed(1, b"ABCDEFGHIJKL1"),
+        Row::StampAt(1, b"ABCDEFGHIJKLMNOPQ", true),
+        Row::Framed(1, b"ABCDEFGHIJKLMNOPQ1"),
+        Row::StampAt(1, b"", false),
         Row::Framed(7, b"abcdefghijkl7"),
         Row::Head(7, Some((1, b'7'))),
     ];

@@ -1,5 +1,7 @@
+mod Bytes
 mod Fields
+mod Filled
 mod OneAnswer
-mod Payloads
+mod Order
 mod Steps
-mod Told
+mod Whole

@@ -1,51 +1,39 @@
 -- Bytes have one answer: they begin with one frame, or are the beginning of a frame, or have one first bad field.
-use Rattle.std.specs.Prelude.{◌≡◌, ◌<◌, ◌≤◌, ◌+◌, ◌⊎◌, ◌↔◌, ℕ, List, [], ◌++◌, length, take, drop}
-use Rattle.std.proofs.Common.{◌∙◌, refl, sym, ap, subst, inl, inr, append_assoc, append-nil, length-append, arith}
-use Rattle.std.proofs.lemmas.Bool.{cases_lt}
-use Rattle.std.proofs.lemmas.List.{take-take, take_all, take-append-le, take-append-drop, length-drop, length-take-le}
-use Rattle.share_model.specs.link.Frame.{Packet, FitsFrame, frame}
-use Rattle.share_model.proofs.lemmas.link.FrameLaws.{length-frame, frame-prefix}
+use Rattle.std.specs.Prelude.{◌≡◌, ◌<◌, ◌≤◌, ◌+◌, ◌↔◌, ℕ, List, [], ◌++◌, length, take, drop}
+use Rattle.std.proofs.Common.{◌∙◌, refl, sym, ap, subst, inl, inr, get_or, append_assoc, append-nil, length-append}
+use Rattle.std.proofs.Common.{arith}
+use Rattle.std.proofs.lemmas.List.{take-take, take-append-le, take-append-drop, length-drop}
+use Rattle.share_base.specs.Version.{header_length}
+use Rattle.share_base.specs.declared.version.Version.{Version}
+use Rattle.share_base.specs.declared.version.Version.TheVariants.{One, Two}
+use Rattle.share_model.specs.link.Frame.{Packet, FitsFrame, header, frame, version_byte}
+use Rattle.share_model.proofs.lemmas.link.FrameLaws.{length-frame, frame-prefix, SameFrame}
+use Rattle.share_model.proofs.lemmas.link.FrameLaws.{frame-version_byte, version_byte-tells, header_length-some}
 use Rattle.share_model.specs.run.History.{IsBeginning}
 use Rattle.share_frame.specs.declared.reading.Field.{Field}
-use Rattle.share_frame.specs.declared.reading.Field.TheVariants.{Magic, Version, Flow, Seq, Len}
 use Rattle.share_frame.specs.declared.reading.FrameRead.{FrameRead}
-use Rattle.share_frame.specs.declared.reading.FrameRead.TheVariants.{Frame, More, Bad}
-use Rattle.share_frame.specs.Reading.{BeginsWithFrame, IsFirstBad, start_of, end_of}
-
--- the answer that is right
-abbrev pub IsReadAs : List ℕ → FrameRead → Type 0
-IsReadAs x (Frame flow seq len) = BeginsWithFrame flow seq len x
-IsReadAs x More = IsBeginning x
-IsReadAs x (Bad place) = IsFirstBad place x
-
--- less of a beginning is a beginning
-pub less-begins : (n : ℕ) (x : List ℕ) → IsBeginning x → IsBeginning (take n x)
-less-begins n x b =
-    let few = b.few in
-    elim (cases_lt n b.at) [
-      | inl before ↦ record {
-        head = b.head;
-        fits = b.fits;
-        at = n;
-        few = omega arith;
-        is = ap (take n) b.is ∙ take-take n b.at (frame b.head) (omega arith);
-      }
-      | inr after ↦
-          let long : length x ≡ b.at = ap length b.is ∙ length-take-le b.at (frame b.head) (omega arith) in
-          subst IsBeginning (sym (take_all n x (omega arith))) b
-    ]
+use Rattle.share_frame.specs.declared.reading.FrameRead.TheVariants.{Frame as Frame1, More as More1, Bad as Bad1}
+use Rattle.share_frame.specs.declared.reading.FrameRead2.{FrameRead2}
+use Rattle.share_frame.specs.declared.reading.FrameRead2.TheVariants.{Frame, More, Bad}
+use Rattle.share_frame.specs.declared.reading.Field.TheVariants.{Version as VersionByte}
+use Rattle.share_frame.specs.Reading.{BeginsWithFrame, IsOfVersion, IsFirstBad, IsReadAs, start_of, end_of}
+use Rattle.share_frame.proofs.Order.{order, end-few}
+use Rattle.share_frame.proofs.Fields.{begins-good}
+use Rattle.share_frame.proofs.Filled.{less-begins}
 
 -- the header of a frame, or less of it, is a beginning
-frame-begins : (flow seq len n : ℕ) (x : List ℕ) → n ≤ 12 → BeginsWithFrame flow seq len x → IsBeginning (take n x)
-frame-begins flow seq len n x most a =
-    let long : n < length (frame a.head) =
-    let some = a.fits.payload.some in omega (arith, length-frame a.head) in
+frame-begins : (version : Version) (flow seq tariff len n : ℕ) (x : List ℕ) → n ≤ header_length version
+    → BeginsWithFrame version flow seq tariff len x → IsBeginning version (take n x)
+frame-begins version flow seq tariff len n x most a =
+    let some = a.fits.payload.some in
+    let long : n < length (frame version tariff a.head) = omega (arith, length-frame version tariff a.head) in
     record {
+      tariff = tariff;
       head = a.head;
       fits = a.fits;
       at = n;
       few = long;
-      is = ap (take n) a.is ∙ take-append-le n (frame a.head) a.rest (omega arith);
+      is = ap (take n) a.is ∙ take-append-le n (frame version tariff a.head) a.rest (omega arith);
     }
 
 no_rest : (xs ys : List ℕ) → 0 < length ys → xs ++ ys ≡ [] → ⊥
@@ -54,88 +42,172 @@ no_rest xs ys some none =
     omega arith
 
 -- bytes that begin with a frame are no beginning of one
-pub frame-whole : (head : Packet) (rest x : List ℕ) → FitsFrame head → x ≡ frame head ++ rest → IsBeginning x → ⊥
-frame-whole head rest x fits is b =
+frame-whole : (version : Version) (t : ℕ) (head : Packet) (rest x : List ℕ) → FitsFrame version t head
+    → x ≡ frame version t head ++ rest → IsBeginning version x → ⊥
+frame-whole version t head rest x fits is b =
     let few = b.few in
-    let left : List ℕ = drop b.at (frame b.head) in
-    let some : 0 < length left = omega (arith, length-drop b.at (frame b.head)) in
-    let whole : frame head ++ (rest ++ left) ≡ frame b.head ++ [] =
-    sym (append_assoc (frame head) rest left) ∙ ap (λ (l : List ℕ). l ++ left) (sym is ∙ b.is)
-    ∙ take-append-drop b.at (frame b.head) ∙ sym (append-nil (frame b.head)) in
-    no_rest rest left some (frame-prefix head b.head (rest ++ left) [] fits b.fits whole).1
-
--- two fields are the same, or one ends before the other begins
-order : (p q : Field) → (p ≡ q) ⊎ ((end_of p ≤ start_of q) ⊎ (end_of q ≤ start_of p))
-order Magic Magic = inl refl
-order Magic Version = inr (inl (omega arith))
-order Magic Flow = inr (inl (omega arith))
-order Magic Seq = inr (inl (omega arith))
-order Magic Len = inr (inl (omega arith))
-order Version Magic = inr (inr (omega arith))
-order Version Version = inl refl
-order Version Flow = inr (inl (omega arith))
-order Version Seq = inr (inl (omega arith))
-order Version Len = inr (inl (omega arith))
-order Flow Magic = inr (inr (omega arith))
-order Flow Version = inr (inr (omega arith))
-order Flow Flow = inl refl
-order Flow Seq = inr (inl (omega arith))
-order Flow Len = inr (inl (omega arith))
-order Seq Magic = inr (inr (omega arith))
-order Seq Version = inr (inr (omega arith))
-order Seq Flow = inr (inr (omega arith))
-order Seq Seq = inl refl
-order Seq Len = inr (inl (omega arith))
-order Len Magic = inr (inr (omega arith))
-order Len Version = inr (inr (omega arith))
-order Len Flow = inr (inr (omega arith))
-order Len Seq = inr (inr (omega arith))
-order Len Len = inl refl
-
-end-few : (p : Field) → end_of p ≤ 12
-end-few Magic = omega arith
-end-few Version = omega arith
-end-few Flow = omega arith
-end-few Seq = omega arith
-end-few Len = omega arith
+    let left : List ℕ = drop b.at (frame version b.tariff b.head) in
+    let some : 0 < length left = omega (arith, length-drop b.at (frame version b.tariff b.head)) in
+    let whole : frame version t head ++ (rest ++ left) ≡ frame version b.tariff b.head ++ [] =
+    sym (append_assoc (frame version t head) rest left) ∙ ap (λ (l : List ℕ). l ++ left) (sym is ∙ b.is)
+    ∙ take-append-drop b.at (frame version b.tariff b.head) ∙ sym (append-nil (frame version b.tariff b.head)) in
+    no_rest rest left some (frame-prefix version t b.tariff head b.head (rest ++ left) [] fits b.fits whole).rest
 
 -- before a first bad field there is no other
-bad-first : (p q : Field) (x : List ℕ) → IsFirstBad p x → IsFirstBad q x → end_of p ≤ start_of q → ⊥
-bad-first p q x a b before =
-    a.within (subst IsBeginning (take-take (end_of p) (start_of q) x before)
-    (less-begins (end_of p) (take (start_of q) x) b.before))
+bad-first : (version : Version) (p q : Field) (x : List ℕ) → IsFirstBad version p x → IsFirstBad version q x
+    → end_of version p ≤ start_of version q → ⊥
+bad-first version p q x a b before =
+    a.within (subst (IsBeginning version) (take-take (end_of version p) (start_of version q) x before)
+    (less-begins version (end_of version p) (take (start_of version q) x) b.before))
 
-same_bad : (p q : Field) (x : List ℕ) → IsFirstBad p x → IsFirstBad q x → ◌≡◌ {A = FrameRead} (Bad p) (Bad q)
-same_bad p q x a b =
-    elim (order p q) [
-      | inl same ↦ ap Bad same
+same_bad : (version : Version) (p q : Field) (x : List ℕ) → IsFirstBad version p x → IsFirstBad version q x → p ≡ q
+same_bad version p q x a b =
+    elim (order version p q) [
+      | inl same ↦ same
       | inr apart ↦
           elim apart [
-            | inl before ↦ absurd (bad-first p q x a b before)
-            | inr after ↦ absurd (bad-first q p x b a after)
+            | inl before ↦ absurd (bad-first version p q x a b before)
+            | inr after ↦ absurd (bad-first version q p x b a after)
           ]
     ]
 
-same_frame : (f s l g t m : ℕ) (x : List ℕ) → BeginsWithFrame f s l x → BeginsWithFrame g t m x
-    → ◌≡◌ {A = FrameRead} (Frame f s l) (Frame g t m)
-same_frame f s l g t m x a b =
-    let same : a.head ≡ b.head = (frame-prefix a.head b.head a.rest b.rest a.fits b.fits (sym a.is ∙ b.is)).0 in
-    let flows : f ≡ g = sym a.flow_is ∙ ap (λ (h : Packet). h.flow) same ∙ b.flow_is in
-    let seqs : s ≡ t = sym a.seq_is ∙ ap (λ (h : Packet). h.seq) same ∙ b.seq_is in
-    let lens : l ≡ m = sym a.len_is ∙ ap (λ (h : Packet). length h.payload) same ∙ b.len_is in
-    rw (flows, seqs, lens) refl
+-- the same answer; version 1 tells no tariff
+IsSame : Version → FrameRead2 → FrameRead2 → Type 0
+IsSame version (Frame f s t l) (Frame g u v m) = (f ≡ g) × (s ≡ u) × (version ≡ Two → t ≡ v) × (l ≡ m)
+IsSame version More More = Unit {0}
+IsSame version (Bad p) (Bad q) = p ≡ q
+IsSame version _ _ = ⊥
 
-pub unique : (x : List ℕ) (r s : FrameRead) → IsReadAs x r → IsReadAs x s → r ≡ s
-unique x (Frame f s l) (Frame g t m) a b = same_frame f s l g t m x a b
-unique x (Frame f s l) More a b = absurd (frame-whole a.head a.rest x a.fits a.is b)
-unique x (Frame f s l) (Bad q) a b = absurd (b.within (frame-begins f s l (end_of q) x (end-few q) a))
-unique x More (Frame g t m) a b = absurd (frame-whole b.head b.rest x b.fits b.is a)
-unique x More More a b = refl
-unique x More (Bad q) a b = absurd (b.within (less-begins (end_of q) x a))
-unique x (Bad p) (Frame g t m) a b = absurd (a.within (frame-begins g t m (end_of p) x (end-few p) b))
-unique x (Bad p) More a b = absurd (a.within (less-begins (end_of p) x b))
-unique x (Bad p) (Bad q) a b = same_bad p q x a b
+same_frame : (version : Version) (f s t l g u v m : ℕ) (x : List ℕ) → BeginsWithFrame version f s t l x
+    → BeginsWithFrame version g u v m x → (f ≡ g) × (s ≡ u) × (version ≡ Two → t ≡ v) × (l ≡ m)
+same_frame version f s t l g u v m x a b =
+    let same : SameFrame version t v a.head b.head a.rest b.rest =
+    frame-prefix version t v a.head b.head a.rest b.rest a.fits b.fits (sym a.is ∙ b.is) in (
+      sym a.flow_is ∙ ap (λ (h : Packet). h.flow) same.head ∙ b.flow_is,
+      sym a.seq_is ∙ ap (λ (h : Packet). h.seq) same.head ∙ b.seq_is,
+      same.tariff,
+      sym a.len_is ∙ ap (λ (h : Packet). length h.payload) same.head ∙ b.len_is,
+    )
 
--- an answer that is right is the one of which that is true
-pub read-exact : (x : List ℕ) (r s : FrameRead) → IsReadAs x r → (r ≡ s) ↔ IsReadAs x s
-read-exact x r s right = (λ same. subst (IsReadAs x) same right, λ other. unique x r s right other)
+unique : (version : Version) (x : List ℕ) (r s : FrameRead2) → IsReadAs version x r → IsReadAs version x s
+    → IsSame version r s
+unfolding IsSame
+unique version x (Frame f s t l) (Frame g u v m) a b = same_frame version f s t l g u v m x a b
+unique version x (Frame f s t l) More a b = frame-whole version t a.head a.rest x a.fits a.is b
+unique version x (Frame f s t l) (Bad q) a b =
+    b.within (frame-begins version f s t l (end_of version q) x (end-few version q) a)
+unique version x More (Frame g u v m) a b = frame-whole version v b.head b.rest x b.fits b.is a
+unique version x More More a b = tt
+unique version x More (Bad q) a b = b.within (less-begins version (end_of version q) x a)
+unique version x (Bad p) (Frame g u v m) a b =
+    a.within (frame-begins version g u v m (end_of version p) x (end-few version p) b)
+unique version x (Bad p) More a b = a.within (less-begins version (end_of version p) x b)
+unique version x (Bad p) (Bad q) a b = same_bad version p q x a b
+
+-- In version 2 an answer that is right is the one of which that is true
+
+same_answer : (r s : FrameRead2) → IsSame Two r s → r ≡ s
+unfolding IsSame
+same_answer (Frame f s t l) (Frame g u v m) same =
+    let tariffs : t ≡ v = same.2 refl in rw (same.0, same.1, tariffs, same.3) refl
+same_answer (Frame f s t l) More same = absurd same
+same_answer (Frame f s t l) (Bad q) same = absurd same
+same_answer More (Frame g u v m) same = absurd same
+same_answer More More same = refl
+same_answer More (Bad q) same = absurd same
+same_answer (Bad p) (Frame g u v m) same = absurd same
+same_answer (Bad p) More same = absurd same
+same_answer (Bad p) (Bad q) same = ap Bad same
+
+pub read-exact2 : (x : List ℕ) (r s : FrameRead2) → IsReadAs Two x r → (r ≡ s) ↔ IsReadAs Two x s
+read-exact2 x r s right =
+    (λ same. subst (IsReadAs Two x) same right, λ other. same_answer r s (unique Two x r s right other))
+
+-- In version 1 it is so under any tariff
+
+-- the same answer with a tariff
+abbrev pub with_tariff : ℕ → FrameRead → FrameRead2
+with_tariff t (Frame1 flow seq len) = Frame flow seq t len
+with_tariff t More1 = More
+with_tariff t (Bad1 place) = Bad place
+
+same_answer1 : (t : ℕ) (r s : FrameRead) → IsSame One (with_tariff t r) (with_tariff t s) → r ≡ s
+unfolding IsSame
+same_answer1 t (Frame1 f s l) (Frame1 g u m) same = rw (same.0, same.1, same.3) refl
+same_answer1 t (Frame1 f s l) More1 same = absurd same
+same_answer1 t (Frame1 f s l) (Bad1 q) same = absurd same
+same_answer1 t More1 (Frame1 g u m) same = absurd same
+same_answer1 t More1 More1 same = refl
+same_answer1 t More1 (Bad1 q) same = absurd same
+same_answer1 t (Bad1 p) (Frame1 g u m) same = absurd same
+same_answer1 t (Bad1 p) More1 same = absurd same
+same_answer1 t (Bad1 p) (Bad1 q) same = ap Bad1 same
+
+pub read-exact : (x : List ℕ) (t : ℕ) (r s : FrameRead) → IsReadAs One x (with_tariff t r)
+    → (r ≡ s) ↔ IsReadAs One x (with_tariff t s)
+read-exact x t r s right = (
+  λ same. subst (λ a. IsReadAs One x (with_tariff t a)) same right,
+  λ other. same_answer1 t r s (unique One x (with_tariff t r) (with_tariff t s) right other),
+)
+
+pub any_tariff : (f s t l u : ℕ) (x : List ℕ) → BeginsWithFrame One f s t l x → BeginsWithFrame One f s u l x
+unfolding frame header
+any_tariff f s t l u x a = record {
+  head = a.head;
+  fits = record {
+    tariff = tt;
+    some_flow = a.fits.some_flow;
+    flow = a.fits.flow;
+    some_seq = a.fits.some_seq;
+    seq = a.fits.seq;
+    payload = a.fits.payload;
+  };
+  flow_is = a.flow_is;
+  seq_is = a.seq_is;
+  len_is = a.len_is;
+  rest = a.rest;
+  is = a.is;
+}
+
+-- Two bytes tell the version
+
+second_byte : (version : Version) (x : List ℕ) → 2 ≤ length x → IsOfVersion version x
+    → get_or x 1 0 ≡ version_byte version
+second_byte version x long of_version =
+    elim of_version [
+      | inl whole ↦
+          let a = whole.4 in
+          ap (λ (l : List ℕ). get_or l 1 0) a.is ∙ frame-version_byte version whole.2 a.head a.rest
+      | inr begins ↦ begins-good version x begins VersionByte long
+    ]
+
+pub version-told : (version other : Version) (x : List ℕ) → 2 ≤ length x → IsOfVersion version x → IsOfVersion other x
+    → version ≡ other
+version-told version other x long a b =
+    version_byte-tells version other (sym (second_byte version x long a) ∙ second_byte other x long b)
+
+-- a frame begins with itself
+frame-read : (version : Version) (t : ℕ) (h : Packet) → FitsFrame version t h
+    → BeginsWithFrame version h.flow h.seq t (length h.payload) (frame version t h)
+frame-read version t h fits = record {
+  head = h;
+  fits = fits;
+  flow_is = refl;
+  seq_is = refl;
+  len_is = refl;
+  rest = [];
+  is = sym (append-nil (frame version t h));
+}
+
+-- and is no proper beginning of one, of either version
+pub frame-proper : (version other : Version) (t : ℕ) (h : Packet) → FitsFrame version t h
+    → IsBeginning other (frame version t h) → ⊥
+frame-proper version other t h fits begins =
+    let some = fits.payload.some in
+    let long : 2 ≤ length (frame version t h) =
+    omega (arith, length-frame version t h, header_length-some version) in
+    let same : other ≡ version =
+    version-told other version (frame version t h) long (inr begins)
+    (inl (h.flow, h.seq, t, length h.payload, frame-read version t h fits)) in
+    frame-whole version t h [] (frame version t h) fits (sym (append-nil (frame version t h)))
+    (subst (λ v. IsBeginning v (frame version t h)) same begins)

@@ -1,160 +1,53 @@
 -- What each field that is read says of the bytes.
-use Rattle.std.specs.Prelude.{◌≡◌, ◌<◌, ◌≤◌, ◌+◌, ℕ, Bool, true, false, IsTrue, ◌↔◌, List, [], ◌∷◌, length, take}
-use Rattle.std.proofs.Common.{◌∙◌, suc, zero, get_or, arith}
-use Rattle.std.proofs.lemmas.List.{get_or-take, length-take}
-use Rattle.share_model.specs.run.History.{IsBeginning}
+use Rattle.std.specs.Prelude.{◌≡◌, ◌<◌, ◌+◌, ◌↔◌, ℕ, Bool, true, false, IsTrue, List, take}
+use Rattle.std.proofs.Common.{get_or, inl, inr, subst, arith}
+use Rattle.std.proofs.lemmas.Bool.{cases_lt}
+use Rattle.std.proofs.lemmas.List.{length-take}
+use Rattle.share_base.specs.declared.version.Version.{Version}
 use Rattle.share_frame.specs.declared.reading.Field.{Field}
-use Rattle.share_frame.specs.declared.reading.Field.TheVariants.{Magic, Version, Flow, Seq, Len}
+use Rattle.share_frame.specs.declared.reading.Field.TheVariants.{Magic}
 use Rattle.share_frame.specs.Reading.{IsFirstBad, start_of, end_of}
-use Rattle.share_frame.specs.Fields.{number_in, length_in}
-use Rattle.share_frame.proofs.Fields.{four_same, two_same, AreBytes, GoodTo, good-begins}
-use Rattle.share_frame.proofs.Told.{begins-good}
-
-number-take : (n : ℕ) (x : List ℕ) (k : ℕ) → k + 3 < n → number_in (take n x) k ≡ number_in x k
-number-take n x k inside =
-    four_same _ _ _ _ _ _ _ _ (get_or-take n x k 0 (omega arith)) (get_or-take n x (k + 1) 0 (omega arith))
-    (get_or-take n x (k + 2) 0 (omega arith)) (get_or-take n x (k + 3) 0 (omega arith))
-
-size-take : (n : ℕ) (x : List ℕ) → 11 < n → length_in (take n x) ≡ length_in x
-size-take n x inside =
-    two_same _ _ _ _ (get_or-take n x 10 0 (omega arith)) (get_or-take n x 11 0 (omega arith))
-
--- what is good of bytes is good of the first n of them
-good-take : (n : ℕ) (x : List ℕ) → GoodTo n x → GoodTo n (take n x)
-good-take n x good =
-    let long = length-take n x in
-    record {
-      magic = λ inside there. get_or-take n x 0 0 inside ∙ good.magic inside (omega arith);
-      version = λ inside there. get_or-take n x 1 0 inside ∙ good.version inside (omega arith);
-      flow = λ inside there.
-          let same = number-take n x 2 (omega arith) in
-          let some = good.flow inside (omega arith) in omega arith;
-      seq = λ inside there.
-          let same = number-take n x 6 (omega arith) in
-          let some = good.seq inside (omega arith) in omega arith;
-      high = λ inside there.
-          let same = get_or-take n x 10 0 inside in
-          let few = good.high inside (omega arith) in omega arith;
-      some = λ inside there.
-          let same = size-take n x inside in
-          let some = good.some inside (omega arith) in omega arith;
-      few = λ inside there.
-          let same = size-take n x inside in
-          let few = good.few inside (omega arith) in omega arith;
-    }
-
-pub bytes-take : (n : ℕ) (x : List ℕ) → AreBytes x → AreBytes (take n x)
-bytes-take zero x bytes i = omega arith
-bytes-take (suc n) [] bytes i = omega arith
-bytes-take (suc n) (a ∷ x) bytes zero = bytes 0
-bytes-take (suc n) (a ∷ x) bytes (suc i) = bytes-take n x (λ j. bytes (suc j)) i
-
-pub good-front : (n : ℕ) (x : List ℕ) → n ≤ 12 → AreBytes x → GoodTo n x → IsBeginning (take n x)
-good-front n x most bytes good =
-    good-begins n (take n x) most (omega (arith, length-take n x)) (bytes-take n x bytes) (good-take n x good)
-
--- up to each field all is good
-pub good_0 : (x : List ℕ) → GoodTo 0 x
-good_0 x = record {
-  magic = λ inside there. absurd (omega arith);
-  version = λ inside there. absurd (omega arith);
-  flow = λ inside there. absurd (omega arith);
-  seq = λ inside there. absurd (omega arith);
-  high = λ inside there. absurd (omega arith);
-  some = λ inside there. absurd (omega arith);
-  few = λ inside there. absurd (omega arith);
-}
-
-pub good_1 : (x : List ℕ) → (0 < length x → get_or x 0 0 ≡ 76) → GoodTo 1 x
-good_1 x magic = record {
-  magic = λ inside there. magic there;
-  version = λ inside there. absurd (omega arith);
-  flow = λ inside there. absurd (omega arith);
-  seq = λ inside there. absurd (omega arith);
-  high = λ inside there. absurd (omega arith);
-  some = λ inside there. absurd (omega arith);
-  few = λ inside there. absurd (omega arith);
-}
-
-pub good_2 : (x : List ℕ) → GoodTo 1 x → (1 < length x → get_or x 1 0 ≡ 1) → GoodTo 2 x
-good_2 x good version = record {
-  magic = λ inside there. good.magic (omega arith) there;
-  version = λ inside there. version there;
-  flow = λ inside there. absurd (omega arith);
-  seq = λ inside there. absurd (omega arith);
-  high = λ inside there. absurd (omega arith);
-  some = λ inside there. absurd (omega arith);
-  few = λ inside there. absurd (omega arith);
-}
-
-pub good_6 : (x : List ℕ) → GoodTo 2 x → (5 < length x → 1 ≤ number_in x 2) → GoodTo 6 x
-good_6 x good flow = record {
-  magic = λ inside there. good.magic (omega arith) there;
-  version = λ inside there. good.version (omega arith) there;
-  flow = λ inside there. flow there;
-  seq = λ inside there. absurd (omega arith);
-  high = λ inside there. absurd (omega arith);
-  some = λ inside there. absurd (omega arith);
-  few = λ inside there. absurd (omega arith);
-}
-
-pub good_10 : (x : List ℕ) → GoodTo 6 x → (9 < length x → 1 ≤ number_in x 6) → GoodTo 10 x
-good_10 x good seq = record {
-  magic = λ inside there. good.magic (omega arith) there;
-  version = λ inside there. good.version (omega arith) there;
-  flow = λ inside there. good.flow (omega arith) there;
-  seq = λ inside there. seq there;
-  high = λ inside there. absurd (omega arith);
-  some = λ inside there. absurd (omega arith);
-  few = λ inside there. absurd (omega arith);
-}
-
-abbrev pub HasLength : List ℕ → Type 0
-HasLength x =
-    (10 < length x → get_or x 10 0 ≤ 5) × (11 < length x → 1 ≤ length_in x) × (11 < length x → length_in x ≤ 1490)
-
-pub good_12 : (x : List ℕ) → GoodTo 10 x → HasLength x → GoodTo 12 x
-good_12 x good has = record {
-  magic = λ inside there. good.magic (omega arith) there;
-  version = λ inside there. good.version (omega arith) there;
-  flow = λ inside there. good.flow (omega arith) there;
-  seq = λ inside there. good.seq (omega arith) there;
-  high = λ inside there. has.0 there;
-  some = λ inside there. has.1 there;
-  few = λ inside there. has.2 there;
-}
+use Rattle.share_frame.specs.Fields.{IsGood}
+use Rattle.share_frame.proofs.Order.{rank, fields, rank-at, same_rank, comes_before, start-few}
+use Rattle.share_frame.proofs.Bytes.{AreBytes, bytes-take}
+use Rattle.share_frame.proofs.Fields.{good-take, good-from-take, begins-good}
+use Rattle.share_frame.proofs.Filled.{good-begins}
 
 -- a field that is not good, behind fields that are, is the first that no frame has
-pub bad-at : (p : Field) (x : List ℕ) → start_of p ≤ 12 → AreBytes x → GoodTo (start_of p) x
-    → (GoodTo (end_of p) x → ⊥) → IsFirstBad p x
-bad-at p x most bytes good bad = record {
-  before = good-front (start_of p) x most bytes good;
-  within = λ begins. bad (begins-good (end_of p) x begins);
-}
+bad-at : (version : Version) (p : Field) (x : List ℕ) → AreBytes x
+    → ((q : Field) → rank q < rank p → IsGood version q x) → (IsGood version p x → ⊥) → IsFirstBad version p x
+bad-at version p x bytes good bad =
+    let long = length-take (start_of version p) x in
+    let few = start-few version p in
+    record {
+      before =
+          good-begins version (take (start_of version p) x) (bytes-take (start_of version p) x bytes) (omega arith)
+          (λ q here. good-take version q (start_of version p) x (good q (comes_before version q p (omega arith))));
+      within = λ begins.
+          bad (good-from-take version p (end_of version p) x (omega arith)
+          (begins-good version (take (end_of version p) x) begins p));
+    }
 
-pub bad_magic : (x : List ℕ) → AreBytes x → ((0 < length x → get_or x 0 0 ≡ 76) → ⊥) → IsFirstBad Magic x
-bad_magic x bytes bad = bad-at Magic x (omega arith) bytes (good_0 x) (λ good. bad (good.magic (omega arith)))
+-- the first n fields are good
+abbrev pub AreGood : Version → ℕ → List ℕ → Type 0
+AreGood version n x = (q : Field) → rank q < n → IsGood version q x
 
-pub bad_version : (x : List ℕ) → AreBytes x → GoodTo 1 x → ((1 < length x → get_or x 1 0 ≡ 1) → ⊥)
-    → IsFirstBad Version x
-bad_version x bytes before bad =
-    bad-at Version x (omega arith) bytes before (λ good. bad (good.version (omega arith)))
+-- so is one more, if the next is
+pub one_more_good : (version : Version) (n : ℕ) (x : List ℕ) (b : Bool) → n < 6 → AreGood version n x
+    → (IsTrue b ↔ IsGood version (get_or fields n Magic) x) → b ≡ true → AreGood version (n + 1) x
+one_more_good version n x b few good means is q before =
+    elim (cases_lt (rank q) n) [
+      | inl earlier ↦ good q earlier
+      | inr last ↦
+          let same : get_or fields n Magic ≡ q = same_rank (get_or fields n Magic) q (omega (arith, rank-at n few)) in
+          subst (λ p. IsGood version p x) same (means.0 is)
+    ]
 
-pub bad_flow : (x : List ℕ) → AreBytes x → GoodTo 2 x → ((5 < length x → 1 ≤ number_in x 2) → ⊥) → IsFirstBad Flow x
-bad_flow x bytes before bad =
-    bad-at Flow x (omega arith) bytes before (λ good. bad (good.flow (omega arith)))
-
-pub bad_seq : (x : List ℕ) → AreBytes x → GoodTo 6 x → ((9 < length x → 1 ≤ number_in x 6) → ⊥) → IsFirstBad Seq x
-bad_seq x bytes before bad =
-    bad-at Seq x (omega arith) bytes before (λ good. bad (good.seq (omega arith)))
-
-pub bad_length : (x : List ℕ) → AreBytes x → GoodTo 10 x → (HasLength x → ⊥) → IsFirstBad Len x
-bad_length x bytes before bad =
-    bad-at Len x (omega arith) bytes before
-    (λ good. bad (good.high (omega arith), good.some (omega arith), good.few (omega arith)))
-
-pub is_good : {b : Bool} {P : Type 0} → IsTrue b ↔ P → b ≡ true → P
-is_good means true_is = means.0 true_is
-
-pub is_bad : {b : Bool} {P : Type 0} → IsTrue b ↔ P → b ≡ false → P → ⊥
-is_bad means false_is holds = let true_is = means.1 holds in cc
+-- and if the next is not, it is the first that no frame has
+pub first_bad : (version : Version) (n : ℕ) (x : List ℕ) (b : Bool) → n < 6 → AreBytes x → AreGood version n x
+    → (IsTrue b ↔ IsGood version (get_or fields n Magic) x) → b ≡ false
+    → IsFirstBad version (get_or fields n Magic) x
+first_bad version n x b few bytes good means is =
+    let at = rank-at n few in
+    bad-at version (get_or fields n Magic) x bytes (λ q before. good q (omega arith))
+    (λ holds. let true_is = means.1 holds in cc)

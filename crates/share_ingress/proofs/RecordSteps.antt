@@ -9,6 +9,7 @@ use Rattle.std.proofs.Math.Seq.{drop-drop}
 use Rattle.std.specs.List.{slice_get, slice_range}
 use Rattle.std.proofs.lemmas.Nat.{div-mul-add, mod-mul-add}
 use Rattle.share_base.specs.Name.{is_name}
+use Rattle.share_base.specs.declared.version.TheConstants.{MAX_PAYLOAD}
 use Rattle.share_model.specs.ingress.Records.{two_bytes}
 use Rattle.share_model.specs.ingress.Records.{cut_in_name, cut_in_length, cut_in_payload}
 use Rattle.share_model.specs.ingress.Records.{IsBad, bad_name_length, bad_name, bad_length}
@@ -52,18 +53,18 @@ module _ (name tail : List ℕ) (good : is_name name ≡ true) where
       two : tail ≡ high ∷ low ∷ drop 2 tail
       two = rw (high_is, low_is) (two_first tail long)
 
-      pub length_bad : ((high * 256 + low) ≡ 0) ⊎ ((high * 256 + low ≢ 0) × (1490 < high * 256 + low))
+      pub length_bad : ((high * 256 + low) ≡ 0) ⊎ ((high * 256 + low ≢ 0) × (MAX_PAYLOAD < high * 256 + low))
           → IsBad ((length name ∷ name) ++ tail)
       length_bad h =
-          bad_length name high low (drop 2 tail) good (out_of_range _ 1490 h) (ap (λ t. (length name ∷ name) ++ t) two)
+          bad_length name high low (drop 2 tail) good (out_of_range _ _ h) (ap (λ t. (length name ∷ name) ++ t) two)
 
       length_two : 2 + length (drop 2 tail) ≡ length tail
       length_two = let e : length tail ≡ length (high ∷ low ∷ drop 2 tail) = ap (λ t. length t) two in omega (arith, e)
 
-      module _ (some : 1 ≤ high * 256 + low) (few : high * 256 + low ≤ 1490) where
+      module _ (some : 1 ≤ high * 256 + low) (few : high * 256 + low ≤ MAX_PAYLOAD) where
         pub payload_cut : length tail < 2 + (high * 256 + low) → NeedsMore ((length name ∷ name) ++ tail)
         payload_cut h =
-            inr (cut_in_payload name high low (drop 2 tail) good (in_range _ 1490 some few) (omega (arith, length_two))
+            inr (cut_in_payload name high low (drop 2 tail) good (in_range _ _ some few) (omega (arith, length_two))
             (ap (λ t. (length name ∷ name) ++ t) two))
 
         pub record_whole : low < 256 → 2 + (high * 256 + low) ≤ length tail
@@ -75,7 +76,7 @@ module _ (name tail : List ℕ) (good : is_name name ≡ true) where
             record {
               payload = payload;
               rest = drop size (drop 2 tail);
-              item = record { name = good; payload = rw long (in_range _ 1490 some few) };
+              item = record { name = good; payload = rw long (in_range _ _ some few) };
               size_is = long;
               bytes = joined (length name ∷ name) _ payload _ high low (rw long (two_bytes_are high low byte)) tail
                   (two ∙ ap (λ t. high ∷ low ∷ t) (sym (take-append-drop size (drop 2 tail))));

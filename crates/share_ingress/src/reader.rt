@@ -7,7 +7,7 @@ ghost use Rattle.share_ingress.specs.Reader.{Answers, HasReason, EndStands, Stop
 
 use crate::record::{FRAMING, Found, first_record};
 use bytes::BytesMut;
-use share_base::{Name, Parcel, Refusal};
+use share_base::{MAX_NAME, MAX_PAYLOAD, Name, Parcel, Refusal};
 use share_model::{Ended, Got, TellingReader};
 use std::alloc::{AllocError, Global};
 use std::marker::Model;
@@ -15,8 +15,12 @@ use std::marker::Model;
 /// How many bytes are read in one call, at most.
 const CHUNK: usize = 65536;
 
-/// How many bytes a part of a record may have, which is kept from one read to the next.
-const CARRIED: usize = 2048;
+/// How many bytes the longest record has.
+const LONGEST: usize = FRAMING + MAX_NAME + MAX_PAYLOAD;
+
+/// How many bytes are kept before a read, at most: a part of a record, and what was given before it, which the buffer
+/// drops once it is no less than the part. So a buffer with room for these and for one read never grows.
+const CARRIED: usize = 2 * LONGEST;
 
 /// What a reader answers.
 #[derive(Drop)]

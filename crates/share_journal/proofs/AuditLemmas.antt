@@ -22,7 +22,7 @@ use Rattle.share_model.specs.text.Texts.{line_text}
 use Rattle.share_journal.specs.declared.entry.Entry.{Entry}
 use Rattle.share_journal.specs.Entries.{events_in}
 use Rattle.share_journal.specs.Records.{IsRunNow}
-use Rattle.share_journal.specs.Replays.{IsReplayOf}
+use Rattle.share_journal.specs.Replays.{IsReplayOf, audit_lines_of}
 
 -- Entries that are written one after the other
 
@@ -97,22 +97,22 @@ pub replay : {W : Type 0} (told : W → Option Told) (link : LinkView W) (entrie
     → IsReplayOf told link entries life lacks
 replay told link entries was life lacks longer ample =
     let es = events_in entries in
-    let answers = audit-replays link.life life link.rates es was.range was.may longer in
+    let answers = audit-replays link.live.version link.life life link.rates es was.range was.may longer in
     let state = answers.state lacks ample in record {
-      lines = lines-audit link.life link.rates es was.range was.may;
+      lines = lines-audit link.live.version link.life link.rates es was.range was.may;
       text = answers.text lacks ample ∙ ap (flat_map line_text) was.replies_are;
       state = state;
       live = ap (λ (s : State). s.live) state ∙ was.ends.live;
-      bytes = told_bytes (told link.writer) (writes_in es) _ (run link.rates es) state was.tells;
+      bytes = told_bytes (told link.writer) (writes_in es) _ (run link.live.version link.rates es) state was.tells;
     }
 
 -- the same by the text that the audit is answered with, where no line of it says that memory was lacking
 pub replay_told : {W : Type 0} (told : W → Option Told) (link : LinkView W) (entries : List Entry)
     → IsRunNow told link entries → (life : ℕ) (lacks : List Bool) → link.life ≤ life
-    → FoundMemory (talk life link.rates start_of_script lacks (lines_of (audit (events_in entries))))
+    → FoundMemory (talk life link.rates start_of_script lacks (audit_lines_of link entries))
     → IsReplayOf told link entries life lacks
 replay_told told link entries was life lacks longer found =
-    let all = talk-found life link.rates start_of_script lacks (lines_of (audit (events_in entries))) found in
+    let all = talk-found life link.rates start_of_script lacks (audit_lines_of link entries) found in
     let same = replay told link entries was life [] longer refl in
     let P : Progress → Type 0 = λ p. IfSome (told link.writer) (λ t. t.bytes ≡ out p.state) in record {
       lines = same.lines;

@@ -11,6 +11,8 @@ use Rattle.share_base.specs.declared.command.Outcome.TheVariants.{Replied}
 use Rattle.share_base.specs.declared.command.Reply.{Reply}
 use Rattle.share_base.specs.declared.command.Turn.{Turn}
 use Rattle.share_base.specs.declared.command.Turn.TheVariants.{Wrote, Torn, Idle, Again, Broken, Spent}
+use Rattle.share_base.specs.declared.version.Version.{Version}
+use Rattle.share_base.specs.declared.version.Version.TheVariants.{One, Two}
 use Rattle.share_model.specs.declared.rates.Rate.{Rate}
 use Rattle.share_model.specs.io.Told.{Told}
 use Rattle.share_model.specs.link.Live.{Live, empty_link}
@@ -20,6 +22,7 @@ use Rattle.share_model.specs.run.Ends.{IsEndOf, TellsRun}
 use Rattle.share_model.specs.run.Events.{MayFollow, write_of, writes_in}
 use Rattle.share_model.specs.run.Fold.{State, empty_state, run, state_after, outcomes, out}
 use Rattle.share_model.proofs.lemmas.run.FoldLaws.{state-empty, state_after-append, outcomes-append, may_follow-append}
+use Rattle.share_model.proofs.lemmas.link.VersionLaws.{run-version}
 use Rattle.share_model.proofs.lemmas.run.FoldLaws.{events-after}
 use Rattle.share_model.proofs.lemmas.run.Laws.{Ran, turn_events, turn_outcomes}
 use Rattle.share_model.proofs.lemmas.run.Laws.{AskedOutcome, asked_spent, asked_no_memory, asked_made}
@@ -27,37 +30,46 @@ use Rattle.share_model.specs.run.Sound.{Sound}
 use Rattle.share_journal.specs.declared.entry.Entry.{Entry}
 use Rattle.share_journal.specs.declared.entry.Source.{Source}
 use Rattle.share_journal.specs.Entries.{JournalView, with_entries, events_in, replies_of, turn_entries}
-use Rattle.share_journal.specs.Records.{IsRun, IsRunNow, IsRunOf, AcceptedNothing, entry_if}
+use Rattle.share_journal.specs.Records.{IsRun, IsRunNow, IsRunOf, AcceptedNothing, is_same_version, entry_if}
 
 -- The run of no event
 
-told_nothing : (o : Option Told) → IfSome o AcceptedNothing → IfSome o (TellsRun empty_state [])
+told_nothing : (version : Version) (o : Option Told) → IfSome o AcceptedNothing
+    → IfSome o (TellsRun (empty_state version) [])
 unfolding out
-told_nothing None was = tt
-told_nothing (Some t) was = record { bytes = was.bytes; counts = was.counts }
+told_nothing version None was = tt
+told_nothing version (Some t) was = record { bytes = was.bytes; counts = was.counts }
 
-empty_run : (told : Option Told) (life : ℕ) (rates : List Rate) → AreInRange rates → IfSome told AcceptedNothing
-    → IsRun told life rates empty_link []
+empty_run : (version : Version) (told : Option Told) (life : ℕ) (rates : List Rate) → AreInRange rates
+    → IfSome told AcceptedNothing → IsRun told life rates (empty_link version) []
 unfolding MayFollow state_after outcomes
-empty_run told life rates range nothing = record {
+empty_run version told life rates range nothing = record {
   range = range;
   may = tt;
   replies_are = refl;
-  ends = record { live = refl; sound = state-empty life rates };
-  tells = told_nothing told nothing;
+  ends = record { live = refl; sound = state-empty version life rates };
+  tells = told_nothing version told nothing;
 }
 
 pub run-new : (told : Option Told) (life : ℕ) (rates : List Rate) (live : Live) (entries : List Entry)
-    → AreInRange rates → IfSome told AcceptedNothing → live ≡ empty_link → length entries ≡ 0
+    → AreInRange rates → IfSome told AcceptedNothing → live ≡ empty_link live.version → length entries ≡ 0
     → IsRun told life rates live entries
 run-new told life rates live [] range nothing empty none =
-    subst (λ (l : Live). IsRun told life rates l []) (sym empty) (empty_run told life rates range nothing)
+    subst (λ (l : Live). IsRun told life rates l []) (sym empty) (empty_run live.version told life rates range nothing)
 run-new told life rates live (e ∷ es) range nothing empty none = absurd (omega (arith, none))
+
+-- The versions of a link and its journal
+
+pub same_version : (one other : Version) → is_same_version one other ≡ true → one ≡ other
+same_version One One same = refl
+same_version Two Two same = refl
+same_version One Two same = cc
+same_version Two One same = cc
 
 -- What holds of every run
 
-module _ {told : Option Told} {life : ℕ} {rates : List Rate} {live : Live} {es : List Event} {os : List Outcome}
-    (was : IsRunOf told life rates live es os) where
+module _ {told : Option Told} {version : Version} {life : ℕ} {rates : List Rate} {live : Live} {es : List Event}
+    {os : List Outcome} (was : IsRunOf told version life rates live es os) where
   pub run-sound : Sound life rates live
   run-sound = subst (λ (l : Live). Sound life rates l) was.ends.live was.ends.sound.live
 
@@ -65,45 +77,53 @@ module _ {told : Option Told} {life : ℕ} {rates : List Rate} {live : Live} {es
   pub run-count : live.counts.events ≡ length es
   run-count =
       let last = ap (λ (l : Live). l.counts.events) was.ends.live in
-      let counted = events-after life rates empty_state es was.may in omega (arith, last, counted)
+      let counted = events-after life rates (empty_state version) es was.may in omega (arith, last, counted)
+
+  -- the link is of the version of the run
+  pub run-same : version ≡ live.version
+  run-same = sym (run-version version rates es) ∙ ap (λ (l : Live). l.version) was.ends.live
 
   pub run-few : length es ≤ life
   run-few = let sound = run-sound in let count = run-count in omega (arith, sound.counts.events, count)
 
 -- A run goes on
 
-module _ {W : Type 0} (told : W → Option Told) (old new : LinkView W) (es fs : List Event) (os ps : List Outcome) where
-  run_on : IsRunOf (told old.writer) old.life old.rates old.live es os → Ran told old fs ps new
-      → IsRunOf (told new.writer) old.life old.rates new.live (es ++ fs) (os ++ ps)
+module _ {W : Type 0} (told : W → Option Told) (version : Version) (old new : LinkView W) (es fs : List Event)
+    (os ps : List Outcome) where
+  run_on : IsRunOf (told old.writer) version old.life old.rates old.live es os → Ran told old fs ps new
+      → IsRunOf (told new.writer) version old.life old.rates new.live (es ++ fs) (os ++ ps)
   run_on was ran = record {
     range = was.range;
     may
-        = may_follow-append old.life old.rates empty_state es fs was.may (ran.may (run old.rates es) was.ends);
+        = may_follow-append old.life old.rates (empty_state version) es fs was.may
+        (ran.may (run version old.rates es) was.ends);
     replies_are
-        = outcomes-append old.rates empty_state es fs
-        ∙ (ap (λ made. made ++ outcomes old.rates (run old.rates es) fs) was.replies_are
-        ∙ ap (λ made. os ++ made) (ran.outcomes_are (run old.rates es) was.ends));
+        = outcomes-append old.rates (empty_state version) es fs
+        ∙ (ap (λ made. made ++ outcomes old.rates (run version old.rates es) fs) was.replies_are
+        ∙ ap (λ made. os ++ made) (ran.outcomes_are (run version old.rates es) was.ends));
     ends
         = subst (λ (s : State). IsEndOf old.life old.rates s new.live)
-        (sym (state_after-append old.rates empty_state es fs)) (ran.ends (run old.rates es) was.ends);
+        (sym (state_after-append old.rates (empty_state version) es fs)) (ran.ends (run version old.rates es) was.ends);
     tells
-        = subst (λ ks. IfSome (told new.writer) (TellsRun (run old.rates (es ++ fs)) ks))
+        = subst (λ ks. IfSome (told new.writer) (TellsRun (run version old.rates (es ++ fs)) ks))
         (sym (flat_map-append write_of es fs))
         (subst (λ (s : State). IfSome (told new.writer) (TellsRun s (writes_in es ++ writes_in fs)))
-        (sym (state_after-append old.rates empty_state es fs))
-        (ran.tells (run old.rates es) (writes_in es) was.ends was.tells));
+        (sym (state_after-append old.rates (empty_state version) es fs))
+        (ran.tells (run version old.rates es) (writes_in es) was.ends was.tells));
   }
 
-  run_more : IsRunOf (told old.writer) old.life old.rates old.live es os → Ran told old fs ps new
-      → IsRunOf (told new.writer) new.life new.rates new.live (es ++ fs) (os ++ ps)
+  run_more : IsRunOf (told old.writer) version old.life old.rates old.live es os → Ran told old fs ps new
+      → IsRunOf (told new.writer) new.live.version new.life new.rates new.live (es ++ fs) (os ++ ps)
   run_more was ran =
-      subst (λ n. IsRunOf (told new.writer) n new.rates new.live (es ++ fs) (os ++ ps)) (sym ran.life)
-      (subst (λ r. IsRunOf (told new.writer) old.life r new.live (es ++ fs) (os ++ ps)) (sym ran.rates)
-      (run_on was ran))
+      let now = run_on was ran in
+      subst (λ n. IsRunOf (told new.writer) new.live.version n new.rates new.live (es ++ fs) (os ++ ps)) (sym ran.life)
+      (subst (λ r. IsRunOf (told new.writer) new.live.version old.life r new.live (es ++ fs) (os ++ ps)) (sym ran.rates)
+      (subst (λ v. IsRunOf (told new.writer) v old.life old.rates new.live (es ++ fs) (os ++ ps)) (run-same now) now))
 
-run_as : (told : Option Told) (life : ℕ) (rates : List Rate) (live : Live) (es es' : List Event) (os os' : List Outcome)
-    → es ≡ es' → os ≡ os' → IsRunOf told life rates live es' os' → IsRunOf told life rates live es os
-run_as told life rates live es es' os os' e o ran = rw (e, o) ran
+run_as : (told : Option Told) (version : Version) (life : ℕ) (rates : List Rate) (live : Live) (es es' : List Event)
+    (os os' : List Outcome)
+    → es ≡ es' → os ≡ os' → IsRunOf told version life rates live es' os' → IsRunOf told version life rates live es os
+run_as told version life rates live es es' os os' e o ran = rw (e, o) ran
 
 module _ {W : Type 0} (told : W → Option Told) (old new : LinkView W) (entries : List Entry)
     (was : IsRun (told old.writer) old.life old.rates old.live entries) where
@@ -111,17 +131,18 @@ module _ {W : Type 0} (told : W → Option Told) (old new : LinkView W) (entries
   pub run-more : (more : List Entry) → Ran told old (events_in more) (replies_of more) new
       → IsRun (told new.writer) new.life new.rates new.live (entries ++ more)
   run-more more ran =
-      run_as (told new.writer) new.life new.rates new.live _ _ _ _
+      run_as (told new.writer) new.live.version new.life new.rates new.live _ _ _ _
       (map-append (λ (e : Entry). e.event) entries more) (map-append (λ (e : Entry). e.reply) entries more)
-      (run_more told old new (events_in entries) (events_in more) (replies_of entries) (replies_of more) was ran)
+      (run_more told old.live.version old new (events_in entries) (events_in more) (replies_of entries)
+      (replies_of more) was ran)
 
   -- where there is room for the entries of what an engine's call made
   pub run-room : (more : List Entry) → Ran told old (events_in more) (replies_of more) new
       → length (entries ++ more) ≤ old.life
   run-room more ran =
       let few : length (events_in entries ++ events_in more) ≤ old.life =
-      run-few (run_on told old new (events_in entries) (events_in more) (replies_of entries) (replies_of more) was
-      ran) in
+      run-few (run_on told old.live.version old new (events_in entries) (events_in more) (replies_of entries)
+      (replies_of more) was ran) in
       let one = length-append entries more in
       let all = length-append (events_in entries) (events_in more) in
       omega (
@@ -137,14 +158,15 @@ module _ {W : Type 0} (told : W → Option Told) (old new : LinkView W) (entries
 
 -- the journal is that of the link
 abbrev pub IsJournalOf : {W : Type 0} → (W → Option Told) → LinkView W → JournalView → Type 0
-IsJournalOf told link journal = (journal.life ≡ link.life) × IsRunNow told link journal.entries
+IsJournalOf told link journal =
+    (journal.life ≡ link.life) × (journal.version ≡ link.live.version) × IsRunNow told link journal.entries
 
 kept_noted : {W : Type 0} (told : W → Option Told) (old new : LinkView W) (journal after : JournalView)
     (more : List Entry)
-    → journal.life ≡ old.life → new.life ≡ old.life → after ≡ with_entries journal more
-    → IsRunNow told new (journal.entries ++ more) → IsJournalOf told new after
-kept_noted told old new journal after more life same noted_is run =
-    subst (λ (j : JournalView). IsJournalOf told new j) (sym noted_is) (life ∙ sym same, run)
+    → journal.life ≡ old.life → new.life ≡ old.life → journal.version ≡ new.live.version
+    → after ≡ with_entries journal more → IsRunNow told new (journal.entries ++ more) → IsJournalOf told new after
+kept_noted told old new journal after more life same version noted_is run =
+    subst (λ (j : JournalView). IsJournalOf told new j) (sym noted_is) (life ∙ sym same, version, run)
 
 -- what follows from what the engine's call made
 module _ {W : Type 0} (told : W → Option Told) (old new : LinkView W) (journal : JournalView)
@@ -152,14 +174,21 @@ module _ {W : Type 0} (told : W → Option Told) (old new : LinkView W) (journal
   ran_room : (more : List Entry) → Ran told old (events_in more) (replies_of more) new
       → length (journal.entries ++ more) ≤ journal.life
   ran_room more ran =
-      let few = run-room told old new journal.entries was.1 more ran in omega (arith, few, was.0)
+      let few = run-room told old new journal.entries was.2 more ran in omega (arith, few, was.0)
+
+  -- no event changes the version
+  ran_same : (more : List Entry) → Ran told old (events_in more) (replies_of more) new
+      → old.live.version ≡ new.live.version
+  ran_same more ran =
+      run-same (run_on told old.live.version old new (events_in journal.entries) (events_in more)
+      (replies_of journal.entries) (replies_of more) was.2 ran)
 
   ran_kept : (after : JournalView) (more : List Entry)
       → Ran told old (events_in more) (replies_of more) new → after ≡ with_entries journal more
       → IsJournalOf told new after
   ran_kept after more ran noted_is =
-      kept_noted told old new journal after more was.0 ran.life noted_is
-      (run-more told old new journal.entries was.1 more ran)
+      kept_noted told old new journal after more was.0 ran.life (was.1 ∙ ran_same more ran) noted_is
+      (run-more told old new journal.entries was.2 more ran)
 
 -- Turns and faults
 
@@ -222,9 +251,9 @@ module _ {W : Type 0} (told : W → Option Told) (old new : LinkView W) (journal
       → old.live.counts.events < new.live.counts.events
   made_more ran =
       let es = events_in journal.entries in
-      let now = run-count (run_on told old new es (e ∷ []) (replies_of journal.entries) (Replied reply ∷ []) was.1
-      ran) in
-      let before = run-count was.1 in omega (arith, now, before, length-append es (e ∷ []))
+      let now = run-count (run_on told old.live.version old new es (e ∷ []) (replies_of journal.entries)
+      (Replied reply ∷ []) was.2 ran) in
+      let before = run-count was.2 in omega (arith, now, before, length-append es (e ∷ []))
 
   none_ran : new ≡ old → Ran told old [] [] new
   none_ran same = subst (λ (s : LinkView W). Ran told old [] [] s) (sym same) (ran_nothing told old)

@@ -9,12 +9,14 @@ use Rattle.share_base.specs.declared.command.Outcome.TheVariants.{Replied, Turne
 use Rattle.share_base.specs.declared.command.Reply.{Reply}
 use Rattle.share_base.specs.declared.command.Turn.{Turn}
 use Rattle.share_base.specs.declared.command.Turn.TheVariants.{Wrote, Torn, Idle, Again, Broken, Spent}
+use Rattle.share_base.specs.declared.version.Version.{Version}
 use Rattle.share_journal.specs.declared.entry.Entry.{Entry}
 use Rattle.share_journal.specs.declared.entry.Source.TheVariants.{Clerk, Worker, Link}
 
--- how many entries it has room for, and those that it holds, in order
+-- how many entries it has room for, the version of the link's frames, and the entries that it holds, in order
 pub record JournalView : Type 0 where
   pub life : ℕ
+  pub version : Version
   pub entries : List Entry
 
 -- the entry of a number, from 1
@@ -24,7 +26,7 @@ entry_at entries (suc n) = slice_get entries n
 
 -- the same journal with more entries at its end
 abbrev pub with_entries : JournalView → List Entry → JournalView
-with_entries journal more = record { life = journal.life; entries = journal.entries ++ more }
+with_entries journal more = record journal { entries = journal.entries ++ more }
 
 -- What a list of entries tells
 

@@ -1,8 +1,10 @@
 -- What a contract sees of a recorder, and what holds of it at every moment.
-use Rattle.std.specs.Prelude.{◌≡◌, ◌&&◌, ℕ, Bool, List, [], ◌∷◌, filter, nat_lt, nat_eq, length, Option}
+use Rattle.std.specs.Prelude.{◌≡◌, ◌&&◌, ℕ, Bool, true, false, List, [], ◌∷◌, filter, nat_lt, nat_eq, length, Option}
 use Rattle.std.specs.Prelude.{IfSome, if◌then◌else◌}
 use Rattle.share_base.specs.declared.command.Event.{Event}
 use Rattle.share_base.specs.declared.command.Outcome.{Outcome}
+use Rattle.share_base.specs.declared.version.Version.{Version}
+use Rattle.share_base.specs.declared.version.Version.TheVariants.{One, Two}
 use Rattle.share_model.specs.declared.rates.Rate.{Rate}
 use Rattle.share_model.specs.io.Told.{Told}
 use Rattle.share_model.specs.link.Live.{Live}
@@ -19,20 +21,20 @@ pub record RecorderView (W : Type 0) : Type 0 where
   pub link : LinkView W
   pub entries : List Entry
 
--- the events are a run of a link, with these replies, and the link holds what the run left; and where the writer tells,
--- it holds the bytes of the run, and these are the counts that it accepted, but those of 0
-pub record IsRunOf (told : Option Told) (life : ℕ) (rates : List Rate) (live : Live) (events : List Event)
-    (replies : List Outcome) : Type 0 where
+-- the events are a run of a link of this version, with these replies, and the link holds what the run left; and where
+-- the writer tells, it holds the bytes of the run, and these are the counts that it accepted, but those of 0
+pub record IsRunOf (told : Option Told) (version : Version) (life : ℕ) (rates : List Rate) (live : Live)
+    (events : List Event) (replies : List Outcome) : Type 0 where
   pub range : AreInRange rates
-  pub may : MayRun life rates events
-  pub replies_are : outcomes rates empty_state events ≡ replies
-  pub ends : IsEndOf life rates (run rates events) live
-  pub tells : IfSome told (TellsRun (run rates events) (writes_in events))
+  pub may : MayRun version life rates events
+  pub replies_are : outcomes rates (empty_state version) events ≡ replies
+  pub ends : IsEndOf life rates (run version rates events) live
+  pub tells : IfSome told (TellsRun (run version rates events) (writes_in events))
 
--- the same of the events and the replies of these entries
+-- the same of the events and the replies of these entries, and of the version that the link holds
 abbrev pub IsRun : Option Told → ℕ → List Rate → Live → List Entry → Type 0
 IsRun told life rates live entries =
-    IsRunOf told life rates live (events_in entries) (replies_of entries)
+    IsRunOf told live.version life rates live (events_in entries) (replies_of entries)
 
 -- the same of a link and its journal as they are, where `told` says what a writer tells
 abbrev pub IsRunNow : {W : Type 0} → (W → Option Told) → LinkView W → List Entry → Type 0
@@ -43,10 +45,18 @@ pub record AcceptedNothing (t : Told) : Type 0 where
   pub bytes : t.bytes ≡ []
   pub counts : filter (nat_lt 0) t.counts ≡ []
 
--- the link made no event, the journal holds none, and both have the same life
+-- two versions are the same
+abbrev pub is_same_version : Version → Version → Bool
+is_same_version One One = true
+is_same_version Two Two = true
+is_same_version One Two = false
+is_same_version Two One = false
+
+-- the link made no event, the journal holds none, and both have the same life and the same version
 abbrev pub are_new : {W : Type 0} → LinkView W → JournalView → Bool
 are_new link journal =
     nat_eq link.live.counts.events 0 && nat_eq (length journal.entries) 0 && nat_eq link.life journal.life
+    && is_same_version link.live.version journal.version
 
 -- the call made an event, by the count of events
 abbrev pub made_event : {W : Type 0} → LinkView W → LinkView W → Bool

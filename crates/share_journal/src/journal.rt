@@ -1,6 +1,7 @@
 //! The list of the events of a link, in order.
 ghost use Rattle.std.specs.Prelude.{◌≡◌, ◌<◌, ◌≤◌, ◌^◌, [], ◌∷◌, length, IfOk, IfErr, None, option_copied};
 ghost use Rattle.share_base.specs.Refusal.{IsRefused};
+ghost use Rattle.share_base.specs.declared.version.Version.TheVariants.{One};
 ghost use Rattle.share_model.specs.io.Printing.{WritesText};
 ghost use Rattle.share_model.specs.text.Audit.{audit};
 ghost use Rattle.share_core.specs.Life.{life_refusal};
@@ -8,17 +9,18 @@ ghost use Rattle.share_journal.specs.Entries.{JournalView, entry_at, with_entrie
 
 use crate::audit::write_audit;
 use crate::entry::Entry;
-use share_base::Refusal;
+use share_base::{Refusal, Version};
 use share_core::MAX_LIFE;
 use share_model::{Fault, TellingWriter};
 use std::alloc::Global;
 use std::marker::Model;
 
 /// The events of a link, in order, each with its reply and its source. The room for a whole life is made once, so no
-/// other call takes memory. A contract sees the life and the list of the entries.
+/// other call takes memory. A contract sees the life, the version of the link and the list of the entries.
 #[derive(Drop)]
 pub struct Journal {
     life: u64,
+    version: Version,
     entries: Vec<Entry>,
 }
 
@@ -28,7 +30,7 @@ impl Model for Journal {
 
     ghost Value = { JournalView };
 
-    ghost view = { λ j. record { life = j.life; entries = j.entries.items } };
+    ghost view = { λ j. record { life = j.life; version = j.version; entries = j.entries.items } };
 
     ghost invariant = { λ j.
         (length j.entries.items ≤ j.life)
@@ -37,11 +39,11 @@ impl Model for Journal {
 }
 
 impl Journal {
-    /// An empty journal for a life of 1 to 2^24 events, with room for all of them. Refusals, in order: `Range` if the
-    /// life is another number, `NoMemory` if the room was refused.
+    /// An empty journal of version 1 for a life of 1 to 2^24 events, with room for all of them. Refusals, in order:
+    /// `Range` if the life is another number, `NoMemory` if the room was refused.
     pub fn new(alloc: Global, life: u64) -> Result<Journal, Refusal>
         ensures ok { IfOk result (λ j.
-            (j ≡ record { life = life; entries = [] })
+            (j ≡ record { life = life; version = One; entries = [] })
             × (life_refusal life ≡ None)) }
         ensures refused { IfErr result (IsRefused (life_refusal life)) }
     {
@@ -49,7 +51,11 @@ impl Journal {
             return Err(Refusal::Range);
         }
         let entries = Vec::with_capacity(alloc, life as usize)?;
-        Ok(Journal { life, entries })
+        Ok(Journal {
+            life,
+            version: Version::One,
+            entries,
+        })
     }
 
     /// How many entries it has room for.
@@ -57,6 +63,21 @@ impl Journal {
         ensures { result ≡ self.now.life }
     {
         self.life
+    }
+
+    /// The version of its audit, which is 1 unless `choose` chose another.
+    pub fn version(&self) -> Version
+        ensures { result ≡ self.now.version }
+    {
+        self.version
+    }
+
+    /// Chooses the version of a journal that holds no entry.
+    pub fn choose(&mut self, version: Version)
+        requires { length self.old.entries ≡ 0 }
+        ensures { self.new ≡ record self.old { version = version } }
+    {
+        self.version = version;
     }
 
     /// How many entries it holds, at most its life.
@@ -92,13 +113,15 @@ impl Journal {
         self.entries.push_reserved(entry);
     }
 
-    /// Writes the audit: the line `audit 1`, and then for each entry, in order, the line that makes its event again. A
-    /// command is spelled as its line, a packet as `send` with the audit copy of its payload, a write of k bytes as
-    /// `turn k`, and a fault as `torn`. It takes no memory: each line is put together on the stack, and a writer that
-    /// accepts it whole is called once for it. If an offer is refused, a beginning of the audit was written.
+    /// Writes the audit: the line `audit 1` or `audit 2`, by its version, and then for each entry, in order, the line
+    /// that makes its event again. A command is spelled as its line, a packet as `send` with the audit copy of its
+    /// payload, a write of k bytes as `turn k`, and a fault as `torn`. It takes no memory: each line is put together on
+    /// the stack, and a writer that accepts it whole is called once for it. If an offer is refused, a beginning of the
+    /// audit was written.
     pub fn audit<V: TellingWriter>(&self, output: &mut V) -> Result<(), Fault>
-        ensures { WritesText V.told V.answers output.old output.new (audit (events_in self.now.entries)) result }
+        ensures { WritesText V.told V.answers output.old output.new
+            (audit self.now.version (events_in self.now.entries)) result }
     {
-        write_audit(self.entries.as_slice(), output)
+        write_audit(self.version, self.entries.as_slice(), output)
     }
 }

@@ -1,9 +1,11 @@
 //! What holds of every recorder and its journal. A function here does nothing: its contract is a law, which is proved
 //! with it.
 ghost use Rattle.std.specs.Prelude.{◌≡◌, ◌≤◌, ◌++◌, ◌∷◌, [], ℕ, Bool, List};
-ghost use Rattle.share_model.specs.text.Audit.{IsAmple, audit};
-ghost use Rattle.share_model.specs.text.Talk.{start_of_script, talk, lines_of, FoundMemory};
+ghost use Rattle.share_model.specs.text.Audit.{IsAmple};
+ghost use Rattle.share_model.specs.text.Talk.{start_of_script, talk, FoundMemory};
 ghost use Rattle.share_model.specs.Headline.{Headline};
+ghost use Rattle.share_model.specs.link.Places.{SharesAreKept};
+ghost use Rattle.share_model.specs.link.Readings.{TicketsAreWithin, TicketsAreUncapped};
 ghost use Rattle.share_base.specs.declared.command.Command.{Command};
 ghost use Rattle.share_base.specs.declared.command.Reply.{Reply};
 ghost use Rattle.share_base.specs.declared.command.Turn.{Turn};
@@ -11,34 +13,36 @@ ghost use Rattle.share_model.specs.ingress.Queue.{Numbered};
 ghost use Rattle.share_journal.specs.Arrivals.{arrivals, arrivals_of, next_of};
 ghost use Rattle.share_journal.specs.Entries.{events_in, replies_of, command_entry, arrival_entry, turn_entries};
 ghost use Rattle.share_journal.specs.declared.entry.Entry.{Entry};
-ghost use Rattle.share_journal.specs.Replays.{IsReplayOf};
+ghost use Rattle.share_journal.specs.Replays.{IsReplayOf, audit_lines_of};
 
 use crate::recorder::Recorder;
+use share_core::{shares_of_calls, tickets_are_shares};
 use share_model::{Rates, TellingWriter};
 
 /// The sentence that this project stands for, of every recorder: whatever was called, whatever each write accepted and
 /// up to the writer's first fault, the replies, the accounts and the bytes are those of one plain fold, in which each
 /// next frame carries the head packet of the flow with the least pass, on tickets computed from scratch.
 pub fn recorders_are_one_fold<W: TellingWriter, S: Rates>(recorder: &Recorder<W, S>)
-    ensures { Headline recorder.now.link.life recorder.now.link.rates (events_in recorder.now.entries)
-        (replies_of recorder.now.entries) recorder.now.link.live (W.told recorder.now.link.writer) }
+    ensures { Headline recorder.now.link.live.version recorder.now.link.life recorder.now.link.rates
+        (events_in recorder.now.entries) (replies_of recorder.now.entries) recorder.now.link.live
+        (W.told recorder.now.link.writer) }
 {
     // What they answer is not used: their contracts say that the entries are a run, and how long a life is at most.
     let _ = recorder.journal();
     let _ = recorder.engine().events();
 }
 
-/// The audit of a recorder's journal makes its run again, whatever its writer accepted: as a script, on a new link with
-/// the same tariffs and a life that is not shorter, where no line finds that memory is lacking, it is answered by the
-/// journal's replies, one line each, and comes to the state of the run, so that the link then holds what the
-/// recorder's holds, and its tape the bytes that the recorder's writer tells. Whether a line lacked memory is seen in
-/// the answers: if none of their lines is `no 1 NoMemory`, none did.
+/// The audit of a recorder's journal makes its run again, whatever its writer accepted: as a script, on a new link, of
+/// which its first line chooses the version, with the same tariffs and a life that is not shorter, where no line finds
+/// that memory is lacking, it is answered by the journal's replies, one line each, and comes to the state of the run,
+/// so that the link then holds what the recorder's holds, and its tape the bytes that the recorder's writer tells.
+/// Whether a line lacked memory is seen in the answers: if none of their lines is `no 1 NoMemory`, none did.
 pub fn audits_replay<W: TellingWriter, S: Rates>(recorder: &Recorder<W, S>)
     ensures ample { (life : ℕ) (lacks : List Bool) → recorder.now.link.life ≤ life → IsAmple lacks
         → IsReplayOf W.told recorder.now.link recorder.now.entries life lacks }
     ensures answered { (life : ℕ) (lacks : List Bool) → recorder.now.link.life ≤ life
         → FoundMemory (talk life recorder.now.link.rates start_of_script lacks
-        (lines_of (audit (events_in recorder.now.entries))))
+        (audit_lines_of recorder.now.link recorder.now.entries))
         → IsReplayOf W.told recorder.now.link recorder.now.entries life lacks }
 {
     // What `journal` answers is not used: its contract says that the entries are a run.
@@ -57,3 +61,23 @@ pub fn arrivals_are_numbered()
     ensures turn { (entries : List Entry) (turn : Turn)
         → arrivals (entries ++ turn_entries turn) ≡ arrivals entries }
 {}
+
+/// What holds of the shares of a link holds of one with a journal. Take any chain of calls on the recorder: `command`,
+/// `arrive`, `turn` and `tear`, which each make the call of the link, whatever their arguments and answers. No frame is
+/// in part before the first call, and before it and after each call two flows, `one` and `other`, compete, each with
+/// tickets that stay the same. Then the place of `one`, as `Engine::position` reads it, gains in the chain at most the
+/// greater of 0 and this sum: what the place of `other` gains, by how much it was ahead at the start, and the most that
+/// the place of `one` gains in a single call.
+///
+/// What `Engine::tickets` answers of the open flows is together at most the active amount of `base`, and is what the
+/// tickets that fund each are worth together while at most 2^20 of `base` is issued.
+pub fn shares_of_recorders<W: TellingWriter, S: Rates>(recorder: &Recorder<W, S>)
+    ensures calls { SharesAreKept W.answers recorder.now.link }
+    ensures within { TicketsAreWithin recorder.now.link }
+    ensures uncapped { TicketsAreUncapped recorder.now.link }
+{
+    // Laws, which do nothing: their contracts say this of the link.
+    let engine = recorder.engine();
+    shares_of_calls(engine);
+    tickets_are_shares(engine);
+}

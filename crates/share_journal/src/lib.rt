@@ -12,6 +12,6 @@ mod tests;
 
 pub use entry::{Entry, Source};
 pub use journal::Journal;
-pub use laws::{arrivals_are_numbered, audits_replay, recorders_are_one_fold};
+pub use laws::{arrivals_are_numbered, audits_replay, recorders_are_one_fold, shares_of_recorders};
 pub use recorder::Recorder;
 pub use share_model::Fault;

@@ -1,15 +1,17 @@
 //! A link with its journal.
 ghost use Rattle.std.specs.Prelude.{◌≡◌, ◌<◌, ◌≤◌, ◌++◌, [], length, IfOk, IfErr, IfSome, true, false};
+ghost use Rattle.share_base.specs.Version.{max_payload};
 ghost use Rattle.share_model.specs.link.Answers.{answers_event};
 ghost use Rattle.share_model.specs.link.Calls.{Steps, CommandCall, TurnCall, TearCall};
 ghost use Rattle.share_model.specs.link.Arrivals.{arrive_step};
+ghost use Rattle.share_model.specs.link.Fields.{IsBody};
 ghost use Rattle.share_journal.specs.Entries.{command_entry, arrival_entry, turn_entries, with_entries};
 ghost use Rattle.share_journal.specs.Records.{RecorderView, IsRunNow, AcceptedNothing, are_new, made_event};
-ghost use Rattle.share_journal.specs.Records.{entry_if};
+ghost use Rattle.share_journal.specs.Records.{entry_if, is_same_version};
 
 use crate::entry::{self, Entry, Source};
 use crate::journal::Journal;
-use share_base::{Command, Event, Name, Parcel, Reply, Turn};
+use share_base::{Command, Event, Name, Parcel, Reply, Turn, Version};
 use share_core::Engine;
 use share_model::{Rates, TellingWriter};
 use std::marker::Model;
@@ -36,12 +38,13 @@ impl<W: TellingWriter, S: Rates> Model for Recorder<W, S> {
 
     ghost invariant = { λ r.
         (r.journal.life ≡ r.engine.life)
+        × (r.journal.version ≡ r.engine.live.version)
         × IsRunNow W.told r.engine r.journal.entries };
 }
 
 impl<W: TellingWriter, S: Rates> Recorder<W, S> {
-    /// A link and its journal, both new and of the same life; else both come back. The condition: a writer that tells
-    /// has accepted nothing yet. It takes no memory.
+    /// A link and its journal, both new and of the same life and version; else both come back. The condition: a writer
+    /// that tells has accepted nothing yet. It takes no memory.
     pub fn new(
         engine: Engine<W, S>,
         journal: Journal,
@@ -56,6 +59,9 @@ impl<W: TellingWriter, S: Rates> Recorder<W, S> {
             × (are_new engine journal ≡ false)) }
     {
         if engine.events() != 0 || journal.len() != 0 || engine.life() != journal.life() {
+            return Err((engine, journal));
+        }
+        if !is_same_version(engine.version(), journal.version()) {
             return Err((engine, journal));
         }
         Ok(Recorder { engine, journal })
@@ -73,7 +79,8 @@ impl<W: TellingWriter, S: Rates> Recorder<W, S> {
     /// holds what the run left, and where the writer tells, it holds the bytes of the run, and what it accepted are
     /// the writes among the events, in order.
     pub fn journal(&self) -> &Journal
-        ensures entries { result.now ≡ record { life = self.now.link.life; entries = self.now.entries } }
+        ensures entries { result.now
+            ≡ record { life = self.now.link.life; version = self.now.link.live.version; entries = self.now.entries } }
         ensures run { IsRunNow W.told self.now.link self.now.entries }
     {
         &self.journal
@@ -89,7 +96,8 @@ impl<W: TellingWriter, S: Rates> Recorder<W, S> {
     /// The link and the journal as they are.
     pub fn into_parts(self) -> (Engine<W, S>, Journal)
         ensures engine { result.0 ≡ self.link }
-        ensures journal { result.1 ≡ record { life = self.link.life; entries = self.entries } }
+        ensures journal { result.1
+            ≡ record { life = self.link.life; version = self.link.live.version; entries = self.entries } }
         ensures run { IsRunNow W.told self.link self.entries }
     {
         let Recorder { engine, journal } = self;
@@ -120,9 +128,11 @@ impl<W: TellingWriter, S: Rates> Recorder<W, S> {
 
     /// The packet of a worker for the flow of a name, as `Engine::arrive` takes it, and its entry where it was an
     /// event: where the answer is not `Spent`. One copy of the payload goes into the buffer of the flow, and the other
-    /// into the entry. It takes no memory.
+    /// into the entry. The payload is one that frames of the link's version carry. It takes no memory.
     pub fn arrive(&mut self, worker: u64, flow: Name, parcel: Parcel) -> Reply
+        requires { length parcel ≤ max_payload self.old.link.live.version }
         ensures did { Steps (λ _ l. arrive_step l flow parcel) self.old.link result self.new.link }
+        ensures body { IsBody self.old.link.live.version parcel }
         ensures entry { self.new.entries
             ≡ self.old.entries
             ++ entry_if (made_event self.old.link self.new.link)
@@ -162,6 +172,15 @@ impl<W: TellingWriter, S: Rates> Recorder<W, S> {
         let turn = self.engine.tear();
         note_turn(&mut self.journal, &turn);
         turn
+    }
+}
+
+fn is_same_version(one: Version, other: Version) -> bool
+    ensures { result ≡ is_same_version one other }
+{
+    match one {
+        Version::One => matches!(other, Version::One),
+        Version::Two => matches!(other, Version::Two),
     }
 }
 

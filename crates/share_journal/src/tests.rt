@@ -1,10 +1,12 @@
 //! Worked runs of a recorder: calls and what comes of them as rows of a table, and what the other tests share.
 ghost use Rattle.std.specs.Prelude.{◌≡◌, ◌≤◌, ◌+◌, length, IfSome};
+ghost use Rattle.share_base.specs.declared.version.Version.TheVariants.{One};
 ghost use Rattle.share_model.specs.link.Live.{empty_link};
 ghost use Rattle.share_journal.specs.Records.{AcceptedNothing};
 
 mod audits;
 mod faults;
+mod longest;
 mod memory;
 mod pairing;
 mod random;
@@ -12,7 +14,7 @@ mod runs;
 
 use crate::{Entry, Journal, Recorder, Source};
 use runs::{Call, RUNS, Row, Run, Wanted};
-use share_base::{Body, Command, Event, Name, Outcome, Parcel, Refusal, Reply, Turn};
+use share_base::{Body, Command, Event, Name, Outcome, Parcel, Refusal, Reply, Turn, Version};
 use share_core::Engine;
 use share_model::{Answer, Rates, Scripted, TellingWriter};
 use std::alloc::Global;
@@ -63,6 +65,19 @@ fn command_of(rt: &impl Abort, call: &Call) -> Option<Command> {
     }
 }
 
+// Brings a packet, whose payload is one that frames of the version carry.
+fn bring<W: TellingWriter, S: Rates>(
+    rt: &impl Abort,
+    recorder: &mut Recorder<W, S>,
+    worker: u64,
+    flow: Name,
+    parcel: Parcel,
+) -> Reply {
+    let few = parcel.len() <= recorder.engine().version().payload();
+    assert!(rt; few, "a payload of the version");
+    recorder.arrive(worker, flow, parcel)
+}
+
 fn ask<W: TellingWriter, S: Rates>(
     rt: &impl Abort,
     alloc: Global,
@@ -76,7 +91,7 @@ fn ask<W: TellingWriter, S: Rates>(
     match *call {
         Call::Send(flow, payload) => {
             let parcel = Parcel::new(alloc, payload).expect(rt, "a payload");
-            Outcome::Replied(recorder.arrive(number, name(rt, flow), parcel))
+            Outcome::Replied(bring(rt, recorder, number, name(rt, flow), parcel))
         }
         Call::Turn(most) => Outcome::Turned(recorder.turn(most.max(1))),
         _ => Outcome::Turned(recorder.tear()),
@@ -163,7 +178,7 @@ fn linked<W: TellingWriter + Drop, S: Rates + Copy>(
     life: u64,
     writer: W,
 ) -> Engine<W, S>
-    ensures empty { result.live ≡ empty_link }
+    ensures empty { result.live ≡ empty_link One }
     ensures writer { result.writer ≡ writer }
 {
     Engine::new(alloc, shelf, life, writer).expect(rt, "a link")
@@ -173,13 +188,37 @@ fn recording<W: TellingWriter + Drop, S: Rates + Copy>(
     rt: &impl Abort,
     alloc: Global,
     shelf: S,
+    version: Version,
     life: u64,
     writer: W,
 ) -> Recorder<W, S>
     requires { IfSome (W.told writer) AcceptedNothing }
 {
-    let journal = Journal::new(alloc, life).expect(rt, "a journal");
-    paired(rt, linked(rt, alloc, shelf, life, writer), journal)
+    let engine = linked_as(rt, alloc, shelf, version, life, writer);
+    paired(rt, engine, journal_as(rt, alloc, version, life))
+}
+
+// A new link of this version.
+fn linked_as<W: TellingWriter + Drop, S: Rates + Copy>(
+    rt: &impl Abort,
+    alloc: Global,
+    shelf: S,
+    version: Version,
+    life: u64,
+    writer: W,
+) -> Engine<W, S>
+    ensures { result.writer ≡ writer }
+{
+    let mut engine = linked(rt, alloc, shelf, life, writer);
+    engine.choose(version);
+    engine
+}
+
+// A new journal of this version.
+fn journal_as(rt: &impl Abort, alloc: Global, version: Version, life: u64) -> Journal {
+    let mut journal = Journal::new(alloc, life).expect(rt, "a journal");
+    journal.choose(version);
+    journal
 }
 
 fn paired<W: TellingWriter + Drop, S: Rates + Drop>(
@@ -189,9 +228,10 @@ fn paired<W: TellingWriter + Drop, S: Rates + Drop>(
 ) -> Recorder<W, S>
     requires { IfSome (W.told engine.writer) AcceptedNothing }
 {
-    Recorder::new(engine, journal)
-        .ok()
-        .expect(rt, "a new link and a new journal of the same life")
+    Recorder::new(engine, journal).ok().expect(
+        rt,
+        "a new link and a new journal of the same life and version",
+    )
 }
 
 fn scripted(rt: &impl Abort, alloc: Global, script: &[Answer]) -> Scripted
@@ -220,6 +260,11 @@ fn compare_parts<W, S: Rates>(
     assert_eq!(rt; (engine.events(), journal.len()), (events, events));
 }
 
+// Whether a link and a journal are of this version.
+fn has_version<W, S: Rates>(engine: &Engine<W, S>, journal: &Journal, version: Version) -> bool {
+    engine.version() == version && journal.version() == version
+}
+
 // A run on a new recorder, and its audits.
 fn is_played<S: Rates + Copy>(
     rt: &impl Abort,
@@ -229,6 +274,7 @@ fn is_played<S: Rates + Copy>(
     run: &Run,
 ) {
     assert_eq!(rt; recorder.life(), run.life);
+    assert!(rt; has_version(recorder.engine(), recorder.journal(), run.version));
     play(rt, alloc, recorder, run.rows);
     compare_bytes(rt, alloc, recorder.engine().writer(), run);
     audits::all(rt, alloc, shelf, recorder, run);
@@ -244,7 +290,8 @@ fn has_parts<S: Rates + Copy>(rt: &impl Abort, recorder: Recorder<Scripted, S>, 
 
 // Plays a run on a new recorder.
 fn plays<S: Rates + Copy>(rt: &impl Abort, alloc: Global, shelf: S, run: &Run) {
-    let mut recorder = recording(rt, alloc, shelf, run.life, scripted(rt, alloc, run.answers));
+    let writer = scripted(rt, alloc, run.answers);
+    let mut recorder = recording(rt, alloc, shelf, run.version, run.life, writer);
     is_played(rt, alloc, shelf, &mut recorder, run);
     has_parts(rt, recorder, run);
 }
@@ -257,6 +304,7 @@ fn play_as_worked_and_their_audits_again<S: Rates + Copy>(
     for run in &RUNS {
         plays(rt, alloc, shelf, run);
     }
+    longest::all(rt, alloc, shelf);
     pairing::all(rt, alloc, shelf);
     faults::all(rt, alloc, shelf);
     random::all(rt, alloc, shelf);

@@ -12,6 +12,7 @@ use Rattle.share_model.proofs.lemmas.link.AnswerLaws.{arrival-answers}
 use Rattle.share_model.specs.link.Answers.{answers_event}
 use Rattle.share_model.specs.link.Calls.{is_spent, Stepped, Steps}
 use Rattle.share_model.specs.link.Arrivals.{arrive_step}
+use Rattle.share_model.specs.link.Fields.{IsBody}
 use Rattle.share_ingress.specs.Ends.{IntakeView, IsTake}
 use Rattle.share_journal.specs.declared.entry.Entry.{Entry}
 use Rattle.share_journal.proofs.ArrivalLaws.{arrivals-arrival, arrivals-command}
@@ -51,7 +52,7 @@ module _ {W : Type 0} (old new : RecorderView W) (i after : IntakeView) (o : Off
     (did : Steps (λ rates l. arrive_step l o.name o.parcel) old.link reply new.link)
     (entry : new.entries
     ≡ old.entries ++ entry_if (made_event old.link new.link) (arrival_entry o.worker o.name o.parcel reply))
-    (event : made_event old.link new.link ≡ answers_event reply) where
+    (event : made_event old.link new.link ≡ answers_event reply) (body : IsBody old.link.live.version o.parcel) where
   arrival_stepped : (t : Bool) → is_spent old.link ≡ t → t ≡ false
       → MatchBool t ((reply ≡ Refused Spent) × (new.link ≡ old.link))
       (Stepped (arrive_step old.link.live o.name o.parcel) old.link reply new.link)
@@ -77,6 +78,7 @@ module _ {W : Type 0} (old new : RecorderView W) (i after : IntakeView) (o : Off
     worker_is = worker_is;
     number_is = number_is;
     living = living;
+    body = body;
     take = taken;
     stepped = stepped;
     entry = entered;

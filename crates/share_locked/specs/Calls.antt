@@ -9,6 +9,7 @@ use Rattle.share_model.specs.declared.ingress.Offer.{Offer}
 use Rattle.share_model.specs.link.Calls.{is_spent, Stepped, CommandCall}
 use Rattle.share_model.specs.link.Commands.{command_step}
 use Rattle.share_model.specs.link.Arrivals.{arrive_step}
+use Rattle.share_model.specs.link.Fields.{IsBody}
 use Rattle.share_ingress.specs.Ends.{IsTake, with_miss}
 use Rattle.share_journal.specs.Entries.{command_entry, arrival_entry}
 use Rattle.share_locked.specs.declared.locked.Admit.{Admit}
@@ -55,6 +56,7 @@ pub record Admits {W : Type 0} (old : LockedView W) (worker n : ℕ) (reply : Re
   pub worker_is : worker ≡ taken.worker
   pub number_is : n ≡ taken.n
   pub living : is_spent old.recorder.link ≡ false
+  pub body : IsBody old.recorder.link.live.version taken.parcel
   pub take : IsTake old.intake taken new.intake
   pub stepped : Stepped (arrive_step old.recorder.link.live taken.name taken.parcel) old.recorder.link reply
       new.recorder.link

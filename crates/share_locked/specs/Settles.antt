@@ -18,7 +18,7 @@ use Rattle.share_ingress.specs.declared.ends.gather.WhyNot.TheVariants.{NoMemory
 use Rattle.share_journal.specs.Arrivals.{arrivals}
 use Rattle.share_journal.specs.Entries.{events_in}
 use Rattle.share_journal.specs.Records.{RecorderView}
-use Rattle.share_journal.specs.Replays.{IsReplayOf}
+use Rattle.share_journal.specs.Replays.{IsReplayOf, audit_lines_of}
 use Rattle.share_locked.specs.declared.locked.settling.WhyUnsettled.{WhyUnsettled}
 use Rattle.share_locked.specs.declared.locked.settling.WhyUnsettled.TheVariants.{Unsent, Mismatch, LeftOver, NoMemory}
 use Rattle.share_locked.specs.Receipts.{Agrees, Disagrees, StandsInJournal, Ascend, commands_in, receipts_in, has_clerk}
@@ -102,7 +102,7 @@ pub record IsSettledBy {W : Type 0} (count : ℕ) (ends : List EndView) (recorde
 abbrev pub Replays : {W : Type 0} → (W → Option Told) → RecorderView W → Type 0
 Replays told r =
     (life : ℕ) (lacks : List Bool) → r.link.life ≤ life
-    → FoundMemory (talk life r.link.rates start_of_script lacks (lines_of (audit (events_in r.entries))))
+    → FoundMemory (talk life r.link.rates start_of_script lacks (audit_lines_of r.link r.entries))
     → IsReplayOf told r.link r.entries life lacks
 
 -- What each worker queued is what was admitted of it, and the audit gives the writer's bytes.

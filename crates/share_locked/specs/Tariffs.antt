@@ -9,5 +9,7 @@ abbrev pub byte_rates : List Rate
 byte_rates = record { cell = 1; overhead = 0; price = 1 } ∷ []
 
 pub are_in_range : AreInRange byte_rates
-are_in_range =
-    (record { some_cell = omega arith; cell = omega arith; overhead = omega arith; price = omega arith }, tt)
+are_in_range = record {
+  each = (record { some_cell = omega arith; cell = omega arith; overhead = omega arith; price = omega arith }, tt);
+  few = omega arith;
+}

@@ -2,6 +2,7 @@
 #![tactic(auto)]
 
 mod clerk;
+mod laws;
 mod link;
 mod locked;
 mod running;
@@ -10,6 +11,7 @@ mod tests;
 mod threads;
 
 pub use clerk::{Clerk, Receipt};
+pub use laws::shares_of_held_calls;
 pub use link::LinkBrand;
 pub use locked::{Admit, Locked, Settled, Unsettled, WhyUnsettled, settle};
 pub use running::{LinkEnd, Port, Stop, run_link};

@@ -2,6 +2,7 @@
 ghost use Rattle.std.specs.Prelude.{◌≡◌, ◌<◌, ◌≤◌, ◌++◌, [], suc, length, IfOk, IfErr};
 ghost use Rattle.share_base.specs.Refusal.{IsRefused};
 ghost use Rattle.share_base.specs.declared.refusal.Refusal.TheVariants.{NoMemory};
+ghost use Rattle.share_base.specs.declared.version.Version.TheVariants.{Two};
 ghost use Rattle.share_model.specs.link.Answers.{answers_event};
 ghost use Rattle.share_model.specs.link.Calls.{TurnCall};
 ghost use Rattle.share_model.specs.text.Report.{report};
@@ -27,9 +28,9 @@ use std::sync::Wait;
 /// How many clerks a link has at most.
 const MAX_CLERKS: u64 = 8;
 
-/// What is behind the lock of a running link: a recorder, the intake of its queue, and how many clerks were made. At
-/// every moment the events of the entries are the run of the link, as `recorder` says, and the arrivals among them are
-/// what the intake took, in order.
+/// What is behind the lock of a running link: a recorder, the intake of its queue, and how many clerks were made. Its
+/// frames are of version 2, which carry every payload of an offer. At every moment the events of the entries are the
+/// run of the link, as `recorder` says, and the arrivals among them are what the intake took, in order.
 #[derive(Drop)]
 pub struct Locked<W: TellingWriter, S: Rates, L: LinkBrand> {
     recorder: Recorder<W, S>,
@@ -42,6 +43,7 @@ impl<W: TellingWriter, S: Rates, L: LinkBrand> Model for Locked<W, S, L> {
     ghost use Rattle.std.specs.Prelude.{◌≡◌, ◌≤◌};
     ghost use Rattle.std.specs.Coded.{codes};
     ghost use Rattle.share_model.specs.stride.Moves.{coded_stride};
+    ghost use Rattle.share_base.specs.declared.version.Version.TheVariants.{Two};
     ghost use Rattle.share_journal.specs.Arrivals.{arrivals};
     ghost use Rattle.share_locked.specs.Views.{LockedView};
     ghost use Rattle.share_locked.specs.declared.locked.TheConstants.{MAX_CLERKS};
@@ -55,7 +57,8 @@ impl<W: TellingWriter, S: Rates, L: LinkBrand> Model for Locked<W, S, L> {
     ghost invariant = { λ l.
         (l.intake.link ≡ L.link)
         × (arrivals l.recorder.entries ≡ l.intake.popped)
-        × (l.clerks ≤ MAX_CLERKS) };
+        × (l.clerks ≤ MAX_CLERKS)
+        × (l.recorder.link.live.version ≡ Two) };
 }
 
 /// What `Locked::admit` answers.
@@ -70,9 +73,11 @@ pub enum Admit {
 }
 
 impl<W: TellingWriter, S: Rates, L: LinkBrand> Locked<W, S, L> {
-    /// Puts together an empty recorder and the intake of this link, which has popped nothing. It takes no memory.
+    /// Puts together an empty recorder of version 2 and the intake of this link, which has popped nothing. It takes no
+    /// memory.
     pub fn new(recorder: Recorder<W, S>, intake: Intake) -> Locked<W, S, L>
         requires empty { recorder.entries ≡ [] }
+        requires version { recorder.link.live.version ≡ Two }
         requires link { intake.link ≡ L.link }
         requires nothing { intake.popped ≡ [] }
         ensures { result ≡ record { recorder = recorder; intake = intake; clerks = 0 } }
@@ -92,6 +97,7 @@ impl<W: TellingWriter, S: Rates, L: LinkBrand> Locked<W, S, L> {
         ensures run { IsRunNow W.told self.now.recorder.link self.now.recorder.entries }
         ensures arrivals { arrivals self.now.recorder.entries ≡ self.now.intake.popped }
         ensures link { self.now.intake.link ≡ L.link }
+        ensures version { self.now.recorder.link.live.version ≡ Two }
     {
         let _ = self.recorder.journal();
         &self.recorder
@@ -153,6 +159,8 @@ impl<W: TellingWriter, S: Rates, L: LinkBrand> Locked<W, S, L> {
             name,
             parcel,
         } = offer;
+        // What it answers is not used: its contract says that frames of version 2 carry the payload.
+        let _ = parcel.len();
         let reply = self.recorder.arrive(worker, name, parcel);
         Admit::Admitted { worker, n, reply }
     }

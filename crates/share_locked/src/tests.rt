@@ -4,6 +4,7 @@ mod asking;
 mod eight;
 mod faults;
 mod holding;
+mod longest;
 mod made;
 mod memory;
 mod running;
@@ -21,6 +22,7 @@ fn links_settle_as_worked(rt: HostRuntime) {
     let alloc = rt.alloc();
     asking::all(&rt, alloc, ByByte);
     holding::all(&rt, alloc, ByByte);
+    longest::all(&rt, alloc, ByByte);
     settling::all(&rt, alloc, ByByte);
     spending::all(&rt, alloc, ByByte);
     stopping::all(&rt, alloc, ByByte);

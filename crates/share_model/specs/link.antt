@@ -4,10 +4,13 @@ pub mod Arrivals
 pub mod Books
 pub mod Buffers
 pub mod Calls
+pub mod Chains
 pub mod Commands
 pub mod Fields
 pub mod Frame
 pub mod Live
+pub mod Places
+pub mod Readings
 pub mod Rows
 pub mod Step
 pub mod Tariff

@@ -28,7 +28,7 @@ pub use laws::{
     accounts_are_bills, answers_tell_lacks, bounds_of_runs, bytes_tell_packets, events_add_bytes,
     events_are_counted, events_keep_sound, numbers_rise, packets_are_kept,
     packets_are_sent_as_accepted, runs_are_level, runs_are_one_fold, scripts_are_runs,
-    shares_are_within_of_runs, shares_of_runs,
+    shares_are_within_of_runs, shares_of_calls, shares_of_runs, tickets_are_uncapped_of_runs,
 };
 pub use line::{HolderKind, Line};
 pub use link::{Book, Counts, FlowLine, LinkState, Part, Row, Standing, Totals};

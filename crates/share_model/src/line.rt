@@ -1,6 +1,6 @@
 //! The lines of a script.
 
-use share_base::{Body, Command, Name};
+use share_base::{Body, Command, Name, Version};
 
 /// Whether a ticket is to fund a currency or a flow: the word after its number.
 #[derive(Clone, Copy, Debug, PartialEq, Eq)]
@@ -22,6 +22,6 @@ pub enum Line {
     Torn,
     /// The report of the link is asked for.
     Report,
-    /// The script is the audit of a journal, version 1. It may only be the first line.
-    Audit,
+    /// The script is of this version, as the audit of a link is. It may only be the first line.
+    Audit(Version),
 }

@@ -67,9 +67,9 @@ fn a_tape_tells_the_count_of_each_call(rt: HostRuntime) {
 }
 
 fn tells_each_count(rt: &impl Abort, tape: &mut Tape, alloc: Global) {
-    let lengths = [0, 1, 254, 255, 256, 0, 509, 510, 511, 1502, 2000, 1];
-    assert!(rt; takes_whole(tape, &[b'x'; 2000], &lengths), "the answers");
-    assert!(rt; tape.bytes().len() == 5799, "the bytes");
+    let lengths = [0, 1, 254, 255, 256, 0, 509, 510, 511, 1502, 9017, 1];
+    assert!(rt; takes_whole(tape, &[b'x'; 9017], &lengths), "the answers");
+    assert!(rt; tape.bytes().len() == 12816, "the bytes");
     assert!(rt; told(tape.counts(alloc), &lengths), "the counts");
 }
 

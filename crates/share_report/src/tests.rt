@@ -3,7 +3,7 @@ mod faults;
 mod texts;
 
 use crate::report;
-use share_base::{Body, Command, Name, Reply};
+use share_base::{Body, Command, Name, Reply, Version};
 use share_core::Engine;
 use share_model::{Rates, Tape};
 use share_tariff::shelf;
@@ -26,6 +26,7 @@ enum Call {
     Tear,
     Close(&'static str),
     Hold(&'static str),
+    Choose(Version),
 }
 
 fn name(rt: &impl Abort, text: &str) -> Name {
@@ -59,7 +60,21 @@ fn command_of(rt: &impl Abort, call: Call) -> Option<Command> {
         Call::Send(_, _) => None,
         Call::Turn(_) => None,
         Call::Tear => None,
+        Call::Choose(_) => None,
     }
+}
+
+// A packet comes, whose payload is one of the link's version.
+fn arrive<S: Rates>(
+    rt: &impl Abort,
+    alloc: Global,
+    engine: &mut Engine<Tape, S>,
+    flow: Name,
+    payload: &[u8],
+) -> Reply {
+    let body = Body::new(alloc, payload).expect(rt, "a payload");
+    assert!(rt; body.as_slice().len() <= engine.version().payload());
+    engine.arrive(flow, body)
 }
 
 // Makes a call, which is not refused.
@@ -70,8 +85,7 @@ fn make<S: Rates>(rt: &impl Abort, alloc: Global, engine: &mut Engine<Tape, S>, 
     }
     match call {
         Call::Send(flow, payload) => {
-            let body = Body::new(alloc, payload).expect(rt, "a payload");
-            let reply = engine.arrive(name(rt, flow), body);
+            let reply = arrive(rt, alloc, engine, name(rt, flow), payload);
             assert!(rt; !matches!(&reply, Reply::Refused(_)), "at {call:?}");
         }
         Call::Turn(most) => {
@@ -79,6 +93,10 @@ fn make<S: Rates>(rt: &impl Abort, alloc: Global, engine: &mut Engine<Tape, S>, 
         }
         Call::Tear => {
             engine.tear();
+        }
+        Call::Choose(version) => {
+            assert_eq!(rt; engine.events(), 0);
+            engine.choose(version);
         }
         _ => {}
     }

@@ -9,22 +9,21 @@ use Rattle.share_base.specs.declared.command.Reply.TheVariants.{Refused}
 use Rattle.share_base.specs.declared.command.Turn.{Turn}
 use Rattle.share_base.specs.declared.command.Turn.TheVariants.{Torn}
 use Rattle.share_base.specs.declared.command.Outcome.TheVariants.{Replied}
+use Rattle.share_base.specs.declared.version.Version.{Version}
 use Rattle.share_model.specs.declared.line.Line.{Line}
 use Rattle.share_model.specs.declared.line.Line.TheVariants.{Change, Send, Turn as TurnLine, Torn as TornLine}
 use Rattle.share_model.specs.declared.line.Line.TheVariants.{Report as ReportLine, Audit}
-use Rattle.share_model.specs.link.Live.{Live}
 use Rattle.share_model.specs.link.Calls.{is_spent}
 use Rattle.share_model.specs.link.View.{LinkView}
 use Rattle.share_model.specs.io.Told.{Told}
 use Rattle.share_model.specs.text.Lines.{is_send, reading, ReadsLine}
-use Rattle.share_model.specs.text.Talk.{is_syntax, audit_event}
+use Rattle.share_model.specs.text.Talk.{is_syntax}
 use Rattle.share_model.specs.text.Texts.{line_text}
 use Rattle.share_model.specs.text.Answering.{AnswersBytes, AnswersLine}
 use Rattle.share_model.proofs.lemmas.text.TalkLaws.{line-says, unread-says, no_memory-says}
 use Rattle.share_script.specs.Script.{is_torn}
 use Rattle.share_script.specs.Session.{answer_text}
 use Rattle.share_script.specs.declared.answers.LineAnswer.{LineAnswer}
-use Rattle.share_script.specs.declared.answers.LineAnswer.TheVariants.{Outcome as SaidOutcome, Nothing}
 
 pub added : (bs piece : List ℕ) → length bs ≤ 20481 → bs ++ take (20481 - length bs) piece ≡ take 20481 (bs ++ piece)
 added bs piece few =
@@ -39,29 +38,23 @@ pub untrue : {P : Type 0} (b : Bool) → b ≡ false → (IsTrue b ↔ P) → P 
 untrue true e same p = cc
 untrue false e same p = let q : false ≡ true = same.1 p in cc
 
-pub read_ok : (bytes : List ℕ) (l : Line) → ReadsLine bytes (Ok l) → reading bytes ≡ Ok l
-read_ok bytes l (inl e) = sym e
-read_ok bytes l (inr none) = let q : Ok l ≡ Err NoMemory = none.0 in cc
-
--- the answer to the line of an audit
-pub audit_answer : (l : Live) (first : Bool) (line_answer : LineAnswer)
-    → line_answer ≡ (if first then Nothing else SaidOutcome (Replied (Refused Syntax)))
-    → audit_event first ≡ Err (answer_text l line_answer)
-audit_answer l true line_answer is = ap (λ (s : LineAnswer). Err (answer_text l s)) (sym is)
-audit_answer l false line_answer is = ap (λ (s : LineAnswer). Err (answer_text l s)) (sym is)
+pub read_ok : (version : Version) (bytes : List ℕ) (l : Line) → ReadsLine version bytes (Ok l)
+    → reading version bytes ≡ Ok l
+read_ok version bytes l (inl e) = sym e
+read_ok version bytes l (inr none) = let q : Ok l ≡ Err NoMemory = none.0 in cc
 
 module _ {W : Type 0} (told : W → Option Told) where
   pub answered : {F : Type 0} (old new : LinkView W) (first : Bool) (bytes : List ℕ) (l : Line)
       (r : Result LineAnswer F)
-      → reading bytes ≡ Ok l → IfOk r
+      → reading old.live.version bytes ≡ Ok l → IfOk r
       (λ line_answer. AnswersLine told old first l (answer_text new.live line_answer) new)
       → IfOk r (λ line_answer. AnswersBytes told old first bytes (answer_text new.live line_answer) new)
   answered old new first bytes l (Ok line_answer) is h = line-says told old new first bytes l
       (answer_text new.live line_answer) is h
   answered old new first bytes l (Err f) is h = tt
 
-  no_memory_by : (old : LinkView W) (first : Bool) (bytes : List ℕ) (l : Line) (r : Refusal) → reading bytes ≡ Ok l
-      → is_send l ≡ true → r ≡ (if is_spent old then Spent else NoMemory)
+  no_memory_by : (old : LinkView W) (first : Bool) (bytes : List ℕ) (l : Line) (r : Refusal)
+      → reading old.live.version bytes ≡ Ok l → is_send l ≡ true → r ≡ (if is_spent old then Spent else NoMemory)
       → AnswersBytes told old first bytes (line_text (Replied (Refused r))) old
   no_memory_by old first bytes (Change c) r is send given = absurd (true≢false (sym send))
   no_memory_by old first bytes (Send flow body) r is send given =
@@ -69,10 +62,10 @@ module _ {W : Type 0} (told : W → Option Told) where
   no_memory_by old first bytes (TurnLine most) r is send given = absurd (true≢false (sym send))
   no_memory_by old first bytes TornLine r is send given = absurd (true≢false (sym send))
   no_memory_by old first bytes ReportLine r is send given = absurd (true≢false (sym send))
-  no_memory_by old first bytes Audit r is send given = absurd (true≢false (sym send))
+  no_memory_by old first bytes (Audit version) r is send given = absurd (true≢false (sym send))
 
   pub unread_said : (old : LinkView W) (first : Bool) (bytes : List ℕ) (e r : Refusal) (spent : Bool)
-      → ReadsLine bytes (Err e) → spent ≡ is_spent old
+      → ReadsLine old.live.version bytes (Err e) → spent ≡ is_spent old
       → r ≡ (if is_syntax e then Syntax else if spent then Spent else e)
       → AnswersBytes told old first bytes (line_text (Replied (Refused r))) old
   unread_said old first bytes e r spent (inl is) over given =

@@ -6,7 +6,6 @@ use Rattle.memchr.specs.Find.{IsFirstByte}
 use Rattle.std.proofs.lemmas.List.{append-nil, take-append-drop}
 use Rattle.std.proofs.lemmas.List.Elements.{All-append}
 use Rattle.share_model.specs.io.Told.{Told}
-use Rattle.share_model.specs.text.Lines.{reading}
 use Rattle.share_model.specs.text.Talk.{Progress, answer, talk, after, is_feed, lines_of}
 use Rattle.share_model.specs.link.View.{LinkView}
 use Rattle.share_model.specs.text.Answering.{Holds, AnswersBytes}
@@ -14,7 +13,8 @@ use Rattle.share_script.specs.Session.{SessionView, HoldsScript}
 use Rattle.share_script.specs.Printing.{Spooled, SpooledPart}
 use Rattle.share_script.specs.Script.{NoFeed, Went, IsTextBeginning, Feeds, FeedsPart, PrintedAnswer, PrintedAnswerPart}
 use Rattle.share_script.proofs.ChunkLemmas.{piece_clean, piece_whole, last_clean, last_whole}
-use Rattle.share_script.proofs.LineLemmas.{answer_same, later_place, reading_cut, clean_cut, alike_cut}
+use Rattle.share_model.proofs.lemmas.text.EventsLaws.{answer-later}
+use Rattle.share_script.proofs.LineLemmas.{ReadAlike, answer_same, reading_cut, clean_cut, alike_cut}
 use Rattle.share_script.proofs.WentLemmas.{went_as, begins_as, went_more, begins_more, went_line, went_cut, begins_cut}
 use Rattle.share_script.proofs.WentLemmas.{lines_as, lines_piece}
 use Rattle.share_script.proofs.SpoolLemmas.{spooled_none, spooled_more, spooled_then_part, spooled_part}
@@ -169,7 +169,7 @@ module _ {W : Type 0} (told : W → Option Told) where
 
   -- A line and its line feed
 
-  says_same : (old : LinkView W) (first : Bool) (xs ys text : List ℕ) (new : LinkView W) → reading xs ≡ reading ys
+  says_same : (old : LinkView W) (first : Bool) (xs ys text : List ℕ) (new : LinkView W) → ReadAlike xs ys
       → AnswersBytes told old first xs text new → AnswersBytes told old first ys text new
   says_same old first xs ys text new e says p h place =
       let answer_is = says p h place in
@@ -183,7 +183,7 @@ module _ {W : Type 0} (told : W → Option Told) where
       }
 
   pub printed_same : (a b : Option (List ℕ)) (x y : List ℕ) (old : SessionView W) (xs ys : List ℕ) (new : SessionView W)
-      → reading xs ≡ reading ys → PrintedAnswer told a x b y old xs new → PrintedAnswer told a x b y old ys new
+      → ReadAlike xs ys → PrintedAnswer told a x b y old xs new → PrintedAnswer told a x b y old ys new
   printed_same a b x y old xs ys new e printed =
       record {
         text = printed.text;
@@ -192,7 +192,7 @@ module _ {W : Type 0} (told : W → Option Told) where
         later = printed.later;
       }
 
-  pub part_same : (a b : Option (List ℕ)) (x : List ℕ) (old : SessionView W) (xs ys : List ℕ) → reading xs ≡ reading ys
+  pub part_same : (a b : Option (List ℕ)) (x : List ℕ) (old : SessionView W) (xs ys : List ℕ) → ReadAlike xs ys
       → PrintedAnswerPart told a x b old xs → PrintedAnswerPart told a x b old ys
   part_same a b x old xs ys e printed = record {
     text = printed.text;
@@ -271,7 +271,7 @@ module _ {W : Type 0} (told : W → Option Told) where
         let answer_is = printed.says p h.holds h.place in
         let next = (answer old.link.life old.link.rates p answer_is.lack (take 20481 (line ++ piece))).0 in record {
           progress = next;
-          stands = record { holds = answer_is.holds; place = later_place _ _ p _ _ ∙ sym printed.later };
+          stands = record { holds = answer_is.holds; place = answer-later _ _ p _ _ ∙ sym printed.later };
           goes = λ rest lacks.
               let P : List (List ℕ)
               → Type 0 = λ ls. Went old.link.life old.link.rates p ls printed.text next (lines_of rest) lacks in
@@ -304,7 +304,8 @@ module _ {W : Type 0} (told : W → Option Told) where
       → Feeds told a x b y old line (piece ++ 10 ∷ []) new []
   fed_by_line a b x y old new line piece printed also =
       fed_line a b x y old new line piece
-      (printed_same a b x y old (line ++ piece) (take 20481 (line ++ piece)) new (sym (reading_cut (line ++ piece)))
+      (printed_same a b x y old (line ++ piece) (take 20481 (line ++ piece)) new
+      (λ version. sym (reading_cut (line ++ piece) version))
       printed) also
 
   part_by_line : (a b : Option (List ℕ)) (x : List ℕ) (old : SessionView W) (line piece : List ℕ)
@@ -312,7 +313,9 @@ module _ {W : Type 0} (told : W → Option Told) where
       → FeedsPart told a x b old line (piece ++ 10 ∷ [])
   part_by_line a b x old line piece printed also =
       part_line a b x old line piece
-      (part_same a b x old (line ++ piece) (take 20481 (line ++ piece)) (sym (reading_cut (line ++ piece))) printed)
+      (part_same a b x old (line ++ piece) (take 20481 (line ++ piece))
+      (λ version. sym (reading_cut (line ++ piece) version))
+      printed)
       also
 
   -- A piece without its line feed

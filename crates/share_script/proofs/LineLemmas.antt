@@ -6,10 +6,10 @@ use Rattle.std.proofs.lemmas.List.{take_all, get_or-take}
 use Rattle.std.proofs.lemmas.List.Elements.{All-append, All-cons, All-from_get_or}
 use Rattle.std.proofs.lemmas.List.Splits.{slice_split_none}
 use Rattle.std.proofs.lemmas.Bool.Decides.{nat_tests, leb_tells}
-use Rattle.share_base.specs.declared.command.Event.{Event}
+use Rattle.share_base.specs.declared.version.Version.{Version}
 use Rattle.share_model.specs.declared.rates.Rate.{Rate}
 use Rattle.share_model.specs.text.Lines.{reading}
-use Rattle.share_model.specs.text.Talk.{Progress, is_first, read_event, progress_and_text, answer, first_flag, talk}
+use Rattle.share_model.specs.text.Talk.{Progress, read_event, progress_and_text, answer, first_flag, talk}
 use Rattle.share_model.specs.text.Talk.{after}
 use Rattle.share_model.specs.text.Talk.{is_feed, last_line, without_empty_end, lines_of}
 use Rattle.share_model.proofs.lemmas.text.FeedLaws.{lines-feed}
@@ -27,27 +27,21 @@ last-some (b ∷ bs) h = refl
 
 -- Long lines are cut
 
-long_same : (xs ys : List ℕ) → 20480 < length xs → 20480 < length ys → reading xs ≡ reading ys
-long_same xs ys h k = sym (too_long xs h) ∙ too_long ys k
+-- they are read alike in either version
+abbrev pub ReadAlike : List ℕ → List ℕ → Type 0
+ReadAlike xs ys = (version : Version) → reading version xs ≡ reading version ys
 
-pub answer_same : (life : ℕ) (rates : List Rate) (s : Progress) (lack : Bool) (xs ys : List ℕ) → reading xs
-    ≡ reading ys → answer life rates s lack xs ≡ answer life rates s lack ys
+long_same : (xs ys : List ℕ) → 20480 < length xs → 20480 < length ys → ReadAlike xs ys
+long_same xs ys h k version = sym (too_long version xs h) ∙ too_long version ys k
+
+pub answer_same : (life : ℕ) (rates : List Rate) (s : Progress) (lack : Bool) (xs ys : List ℕ)
+    → ReadAlike xs ys → answer life rates s lack xs ≡ answer life rates s lack ys
 unfolding answer
-answer_same life rates s lack xs ys e = ap (λ r. progress_and_text rates s (read_event life rates s lack r)) e
-
-later_by : (rates : List Rate) (p : Progress) (r : Result Event (List ℕ)) → is_first (progress_and_text rates p r).0
-    ≡ false
-later_by rates p (Ok e) = grind (arith, nat_tests)
-later_by rates p (Err text) = grind (arith, nat_tests)
-
--- the line after a line is not the first
-pub later_place : (life : ℕ) (rates : List Rate) (p : Progress) (lack : Bool) (bs : List ℕ)
-    → is_first (answer life rates p lack bs).0 ≡ false
-unfolding answer
-later_place life rates p lack bs = later_by rates p (read_event life rates p lack (reading bs))
+answer_same life rates s lack xs ys e =
+    ap (λ r. progress_and_text rates s (read_event life rates s lack r)) (e s.state.live.version)
 
 pub talk_same : (life : ℕ) (rates : List Rate) (s : Progress) (lacks : List Bool) (xs ys : List ℕ)
-    (ls : List (List ℕ)) → reading xs ≡ reading ys → talk life rates s lacks (xs ∷ ls)
+    (ls : List (List ℕ)) → ReadAlike xs ys → talk life rates s lacks (xs ∷ ls)
     ≡ talk life rates s lacks (ys ∷ ls)
 unfolding talk
 talk_same life rates s lacks xs ys ls e =
@@ -55,7 +49,7 @@ talk_same life rates s lacks xs ys ls e =
     (answer_same life rates s (first_flag lacks) xs ys e)
 
 pub after_same : (life : ℕ) (rates : List Rate) (s : Progress) (lacks : List Bool) (xs ys : List ℕ)
-    (ls : List (List ℕ)) → reading xs ≡ reading ys → after life rates s lacks (xs ∷ ls)
+    (ls : List (List ℕ)) → ReadAlike xs ys → after life rates s lacks (xs ∷ ls)
     ≡ after life rates s lacks (ys ∷ ls)
 unfolding after
 after_same life rates s lacks xs ys ls e =
@@ -65,11 +59,11 @@ after_same life rates s lacks xs ys ls e =
 short_or_long : (n : ℕ) → (n ≤ 20481) ⊎ (20481 < n)
 short_or_long n = elim (leb_tells n 20481) [ inl p ↦ inl p.1 | inr p ↦ inr p.1 ]
 
-pub reading_cut : (bs : List ℕ) → reading (take 20481 bs) ≡ reading bs
+pub reading_cut : (bs : List ℕ) → ReadAlike (take 20481 bs) bs
 reading_cut bs = cut_by (short_or_long (length bs))
   where
-    cut_by : (length bs ≤ 20481) ⊎ (20481 < length bs) → reading (take 20481 bs) ≡ reading bs
-    cut_by (inl h) = ap reading (take_all 20481 bs h)
+    cut_by : (length bs ≤ 20481) ⊎ (20481 < length bs) → ReadAlike (take 20481 bs) bs
+    cut_by (inl h) = λ version. ap (reading version) (take_all 20481 bs h)
     cut_by (inr h) = long_same (take 20481 bs) bs (omega (arith, length-take 20481 bs)) (omega arith)
 
 pub clean_cut : (bs : List ℕ) → NoFeed bs → NoFeed (take 20481 bs)

@@ -1,14 +1,18 @@
 -- The steps by which a line is read.
 use Rattle.std.proofs.Common.{if◌then◌else◌, ◌≡◌, ◌<◌, ◌≤◌, ◌*◌, inl, inr, ℕ, Bool, true, false, ◌&&◌, nat_le, nat_lt}
-use Rattle.std.proofs.Common.{List, [], ◌∷◌, length, Option, None, Some, Result, Ok, Err, IfOk, IfErr, codes, arith}
+use Rattle.std.proofs.Common.{List, [], ◌∷◌, length, take, Option, None, Some, Result, Ok, Err, IfOk, IfErr, codes}
+use Rattle.std.proofs.Common.{arith}
 use Rattle.std.proofs.Common.{sym, ◌∙◌, ap, subst, refl}
 use Rattle.std.specs.Str.{bytes_eq}
 use Rattle.std.specs.List.{join_with_byte}
+use Rattle.std.proofs.lemmas.List.{take_all}
 use Rattle.std.proofs.lemmas.List.Splits.{slice_split_none, join_with_byte-slice_split}
 use Rattle.std.proofs.lemmas.List.Elements.{All-from_recursion}
 use Rattle.std.proofs.lemmas.Bool.Decides.{nat_tests}
 use Rattle.std.proofs.lemmas.Bool.{and_parts}
-use Rattle.share_base.specs.Body.{is_payload_length, unstamped}
+use Rattle.share_base.specs.Body.{unstamped}
+use Rattle.share_base.specs.declared.version.Version.{Version}
+use Rattle.share_base.specs.Version.{max_payload}
 use Rattle.share_base.specs.declared.refusal.Refusal.{Refusal}
 use Rattle.share_base.specs.declared.refusal.Refusal.TheVariants.{NoMemory, Syntax, Range}
 use Rattle.share_model.specs.declared.line.Line.{Line}
@@ -24,57 +28,70 @@ use Rattle.share_script.specs.Words.{last, short_line_by, line_sent_by, ReadsRan
 -- Packets
 
 -- the digits are too many
-long_payload : (flow digits : List ℕ) → 2980 < length digits → (nat_le 2 (length digits) && is_pairs digits) ≡ true
-    → Err Range ≡ line_or_refusal (line_sent_by flow (payload_of digits))
-long_payload flow digits long good =
+long_payload : (version : Version) (flow digits : List ℕ) → 2 * max_payload version < length digits
+    → (nat_le 2 (length digits) && is_pairs digits) ≡ true
+    → Err Range ≡ line_or_refusal version (line_sent_by flow (payload_of digits))
+long_payload version flow digits long good =
     let both : (nat_le 2 (length digits) ≡ true) × (is_pairs digits ≡ true) = and_parts _ _ good in
     let h = hex-from_pairs digits both.1 in
-    let out : nat_le (length (from_pairs digits)) 1490 ≡ false = over _ _ h.2 long in
+    let out : nat_le (length (from_pairs digits)) (max_payload version) ≡ false = over _ _ _ h.2 long in
     rw (both.0, both.1, out) refl
   where
-    over : (m n : ℕ) → 2 * m ≡ n → 2980 < n → nat_le m 1490 ≡ false
-    over m n e h = grind (arith, nat_tests)
+    over : (m n most : ℕ) → 2 * m ≡ n → 2 * most < n → nat_le m most ≡ false
+    over m n most e h = grind (arith, nat_tests)
 
-bad_payload : (flow digits : List ℕ) → (nat_le 2 (length digits) && is_pairs digits) ≡ false → Err Syntax
-    ≡ line_or_refusal (line_sent_by flow (payload_of digits))
-bad_payload flow digits bad = rw bad refl
+bad_payload : (version : Version) (flow digits : List ℕ) → (nat_le 2 (length digits) && is_pairs digits) ≡ false
+    → Err Syntax ≡ line_or_refusal version (line_sent_by flow (payload_of digits))
+bad_payload version flow digits bad = rw bad refl
 
-in_range : (n : ℕ) → 1 ≤ n → n ≤ 1490 → (is_payload_length n ≡ true) × (nat_le n 1490 ≡ true)
-in_range n a b = (grind (arith, nat_tests), grind (arith, nat_tests))
+half_few : (m n most : ℕ) → 2 * m ≡ n → n ≤ 2 * most → nat_le m most ≡ true
+half_few m n most e h = grind (arith, nat_tests)
 
 -- memory was refused for a short payload
-unheld_sent : (flow digits : List ℕ) → length digits ≤ 2980 → (nat_le 2 (length digits) && is_pairs digits) ≡ true
-    → ReadsRanged (line_sent_by flow (payload_of digits)) (Err NoMemory)
-unheld_sent flow digits few good =
+unheld_sent : (version : Version) (flow digits : List ℕ) → length digits ≤ 2 * max_payload version
+    → (nat_le 2 (length digits) && is_pairs digits) ≡ true
+    → ReadsRanged version (line_sent_by flow (payload_of digits)) (Err NoMemory)
+unheld_sent version flow digits few good =
     let is : payload_of digits ≡ Some (from_pairs digits) = rw good refl in
-    let only = payload_of-only digits (from_pairs digits) is in
     let half : 2 * length (from_pairs digits) ≡ length digits = (hex-from_pairs digits (and_parts _ _ good).1).2 in
-    let short : length (from_pairs digits) ≤ 1490 = omega arith in
-    let r = in_range (length (from_pairs digits)) only.0.0 short in
-    inr (refl, (Send flow (unstamped (from_pairs digits)), ap (line_sent_by flow) is, r.1, refl))
+    let short = half_few (length (from_pairs digits)) (length digits) (max_payload version) half few in
+    inr (refl, (Send flow (unstamped (from_pairs digits)), ap (line_sent_by flow) is, short, refl))
 
 -- why digits were not read: they are too many
-pub unread_long : (flow digits : List ℕ) (r : Refusal) → 2980 < length digits
+pub unread_long : (version : Version) (flow digits : List ℕ) (r : Refusal)
+    → 2 * max_payload version < length digits
     → r ≡ (if nat_le 2 (length digits) && is_pairs digits then Range else Syntax)
-    → ReadsRanged (line_sent_by flow (payload_of digits)) (Err r)
-unread_long flow digits r long is = by _ refl is
+    → ReadsRanged version (line_sent_by flow (payload_of digits)) (Err r)
+unread_long version flow digits r long is = by _ refl is
   where
     by : (b : Bool) → (nat_le 2 (length digits) && is_pairs digits) ≡ b → r ≡ (if b then Range else Syntax)
-        → ReadsRanged (line_sent_by flow (payload_of digits)) (Err r)
-    by true good e = inl (ap Err e ∙ long_payload flow digits long good)
-    by false bad e = inl (ap Err e ∙ bad_payload flow digits bad)
+        → ReadsRanged version (line_sent_by flow (payload_of digits)) (Err r)
+    by true good e = inl (ap Err e ∙ long_payload version flow digits long good)
+    by false bad e = inl (ap Err e ∙ bad_payload version flow digits bad)
 
 -- or memory was refused for them
-pub unread_unheld : (flow digits : List ℕ) (r : Refusal) → length digits ≤ 2980
+pub unread_unheld : (version : Version) (flow digits : List ℕ) (r : Refusal)
+    → length digits ≤ 2 * max_payload version
     → r ≡ (if nat_le 2 (length digits) && is_pairs digits then NoMemory else Syntax)
-    → ReadsRanged (line_sent_by flow (payload_of digits)) (Err r)
-unread_unheld flow digits r few is = by _ refl is
+    → ReadsRanged version (line_sent_by flow (payload_of digits)) (Err r)
+unread_unheld version flow digits r few is = by _ refl is
   where
     by : (b : Bool) → (nat_le 2 (length digits) && is_pairs digits) ≡ b → r ≡ (if b then NoMemory else Syntax)
-        → ReadsRanged (line_sent_by flow (payload_of digits)) (Err r)
-    by true good e = let P : Refusal → Type 0 = λ x. ReadsRanged (line_sent_by flow (payload_of digits)) (Err x) in
-        subst P (sym e) (unheld_sent flow digits few good)
-    by false bad e = inl (ap Err e ∙ bad_payload flow digits bad)
+        → ReadsRanged version (line_sent_by flow (payload_of digits)) (Err r)
+    by true good e =
+        let P : Refusal → Type 0 = λ x. ReadsRanged version (line_sent_by flow (payload_of digits)) (Err x) in
+        subst P (sym e) (unheld_sent version flow digits few good)
+    by false bad e = inl (ap Err e ∙ bad_payload version flow digits bad)
+
+-- the digits of a payload that frames of the version carry
+pub sent_whole : (version : Version) (flow digits bytes : List ℕ) (count : ℕ)
+    → payload_of digits ≡ Some (take count bytes) → 2 * count ≡ length digits → length bytes ≡ count
+    → length digits ≤ 2 * max_payload version
+    → ReadsRanged version (line_sent_by flow (payload_of digits)) (Ok (Send flow (unstamped bytes)))
+sent_whole version flow digits bytes count is half all few =
+    let whole : take count bytes ≡ bytes = take_all count bytes (omega (arith, all)) in
+    let short = half_few (length bytes) (length digits) (max_payload version) (omega (arith, half, all)) few in
+    inl (rw (is, whole, short) refl)
 
 -- The last field
 
@@ -122,8 +139,9 @@ pub send_ends : (ws : List (List ℕ)) (flow digits : List ℕ) (rest : List (Li
 send_ends ws flow digits rest n d = send_of-last ws flow rest n ∙ ap (line_sent_by flow) (ap (last payload_of) d
     ∙ last_payload digits)
 
-pub reads_same : (o p : Option Line) (r : Result Line Refusal) → o ≡ p → ReadsRanged p r → ReadsRanged o r
-reads_same o p r e h = rw e h
+pub reads_same : (version : Version) (o p : Option Line) (r : Result Line Refusal) → o ≡ p → ReadsRanged version p r
+    → ReadsRanged version o r
+reads_same version o p r e h = rw e h
 
 -- Whole lines
 
@@ -140,26 +158,30 @@ pub line_by-turn : (ws : List (List ℕ)) → line_by (codes "turn") ws ≡ turn
 unfolding line_by
 line_by-turn ws = refl
 
-pub too_long : (bs : List ℕ) → 20480 < length bs → Err Syntax ≡ reading bs
+pub too_long : (version : Version) (bs : List ℕ) → 20480 < length bs → Err Syntax ≡ reading version bs
 unfolding reading
-too_long bs h = let t : nat_lt 20480 (length bs) ≡ true = grind (arith, nat_tests) in rw t refl
+too_long version bs h = let t : nat_lt 20480 (length bs) ≡ true = grind (arith, nat_tests) in rw t refl
 
-short_reading : (bs : List ℕ) → length bs ≤ 20480 → reading bs ≡ line_or_refusal (line_of (words_of bs))
+short_reading : (version : Version) (bs : List ℕ) → length bs ≤ 20480
+    → reading version bs ≡ line_or_refusal version (line_of (words_of bs))
 unfolding reading
-short_reading bs h = let t : nat_lt 20480 (length bs) ≡ false = grind (arith, nat_tests) in rw t refl
+short_reading version bs h =
+    let t : nat_lt 20480 (length bs) ≡ false = grind (arith, nat_tests) in rw t refl
 
-pub no_words : (bs : List ℕ) → length bs ≤ 20480 → words_of bs ≡ [] → Err Syntax ≡ reading bs
-no_words bs h e = sym (short_reading bs h ∙ ap (λ ws. line_or_refusal (line_of ws)) e)
+pub no_words : (version : Version) (bs : List ℕ) → length bs ≤ 20480 → words_of bs ≡ []
+    → Err Syntax ≡ reading version bs
+no_words version bs h e = sym (short_reading version bs h ∙ ap (λ ws. line_or_refusal version (line_of ws)) e)
 
-pub reads : (bs w : List ℕ) (ws : List (List ℕ)) (r : Result Line Refusal) → length bs ≤ 20480 → words_of bs ≡ w ∷ ws
-    → ReadsRanged (line_by w ws) r → ReadsLine bs r
-reads bs w ws r h e (inl q) = inl (q ∙ sym (short_reading bs h ∙ ap (λ vs. line_or_refusal (line_of vs)) e))
-reads bs w ws r h e (inr none) =
+pub reads : (version : Version) (bs w : List ℕ) (ws : List (List ℕ)) (r : Result Line Refusal) → length bs ≤ 20480
+    → words_of bs ≡ w ∷ ws → ReadsRanged version (line_by w ws) r → ReadsLine version bs r
+reads version bs w ws r h e (inl q) =
+    inl (q ∙ sym (short_reading version bs h ∙ ap (λ vs. line_or_refusal version (line_of vs)) e))
+reads version bs w ws r h e (inr none) =
     inr (
       none.0,
       (
         none.1.0,
-        short_reading bs h ∙ ap (λ vs. line_or_refusal (line_of vs)) e
+        short_reading version bs h ∙ ap (λ vs. line_or_refusal version (line_of vs)) e
             ∙ rw (none.1.1, none.1.2) refl,
         none.1.3,
       ),
@@ -167,15 +189,17 @@ reads bs w ws r h e (inr none) =
 
 -- The readable clauses
 
-pub reads-spelled : (bs : List ℕ) (r : Result Line Refusal) → ReadsLine bs r → IfOk r (λ l. IsReading bs l)
-reads-spelled bs (Ok l) (inl e) = reading-spelling_of bs l (sym e)
-reads-spelled bs (Ok l) (inr none) = let q : Ok l ≡ Err NoMemory = none.0 in cc
-reads-spelled bs (Err e) h = tt
+pub reads-spelled : (version : Version) (bs : List ℕ) (r : Result Line Refusal) → ReadsLine version bs r
+    → IfOk r (λ l. IsReading version bs l)
+reads-spelled version bs (Ok l) (inl e) = reading-spelling_of version bs l (sym e)
+reads-spelled version bs (Ok l) (inr none) = let q : Ok l ≡ Err NoMemory = none.0 in cc
+reads-spelled version bs (Err e) h = tt
 
-pub reads-refused : (bs : List ℕ) (r : Result Line Refusal) → ReadsLine bs r → IfErr r (λ e. IsUnread bs e)
-reads-refused bs (Ok l) h = tt
-reads-refused bs (Err e) (inl q) = reading-refused bs e (sym q)
-reads-refused bs (Err e) (inr none) =
+pub reads-refused : (version : Version) (bs : List ℕ) (r : Result Line Refusal) → ReadsLine version bs r
+    → IfErr r (λ e. IsUnread version bs e)
+reads-refused version bs (Ok l) h = tt
+reads-refused version bs (Err e) (inl q) = reading-refused version bs e (sym q)
+reads-refused version bs (Err e) (inr none) =
     let q : NoMemory ≡ e = cc in
-    let P : Refusal → Type 0 = λ x. IsUnread bs x in
-    subst P q (none.1.0, reading-spelling_of bs none.1.0 none.1.1, none.1.2)
+    let P : Refusal → Type 0 = λ x. IsUnread version bs x in
+    subst P q (none.1.0, reading-spelling_of version bs none.1.0 none.1.1, none.1.2)

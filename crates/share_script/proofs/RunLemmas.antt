@@ -9,12 +9,11 @@ use Rattle.share_model.specs.declared.rates.Rate.{Rate}
 use Rattle.share_model.specs.io.Told.{Told}
 use Rattle.share_model.specs.link.Tariff.{AreInRange}
 use Rattle.share_model.specs.run.Fold.{State, out}
-use Rattle.share_model.proofs.lemmas.run.FoldLaws.{state-empty}
 use Rattle.share_model.proofs.lemmas.run.HeadlineLaws.{headline}
 use Rattle.share_model.specs.run.Sound.{max_life}
 use Rattle.share_model.specs.text.Events.{events_of}
 use Rattle.share_model.proofs.lemmas.text.EventsLaws.{after-state, after-writes, events-may_follow, talk-texts}
-use Rattle.share_model.specs.text.Talk.{Progress, start_of_script, answer, talk, after, lines_of}
+use Rattle.share_model.specs.text.Talk.{Progress, start_of_script, version_of_script, answer, talk, after, lines_of}
 use Rattle.share_model.specs.text.Answering.{Holds}
 use Rattle.share_script.specs.Printing.{SpooledPart}
 use Rattle.share_script.specs.Session.{SessionView, HoldsScript}
@@ -298,18 +297,16 @@ fold_of : (a c : Option (List ℕ)) (engine last : LinkView Told) (script : List
     → IsOneFold a c engine script left last
 fold_of a c engine last script left few range p =
     let lines = lines_of script in
-    let state = after-state engine.life engine.rates start_of_script p.lacks lines in
+    let state = after-state engine.life engine.rates p.lacks lines in
     let writes = after-writes engine.life engine.rates start_of_script p.lacks lines in record {
       reads = p.reads;
       lacks = p.lacks;
       text = p.text;
-      texts = talk-texts engine.life engine.rates start_of_script p.lacks lines;
+      texts = talk-texts engine.life engine.rates p.lacks lines;
       keeps =
-          headline engine.life engine.rates (events_of engine.life engine.rates start_of_script p.lacks lines) _
-          last.live
-          (Some last.writer) few range
-          (events-may_follow engine.life engine.rates start_of_script p.lacks lines range
-          (state-empty engine.life engine.rates)) refl
+          headline (version_of_script lines) engine.life engine.rates
+          (events_of engine.life engine.rates start_of_script p.lacks lines) _ last.live (Some last.writer) few range
+          (events-may_follow engine.life engine.rates p.lacks lines range) refl
           (p.live ∙ ap (λ (s : State). s.live) state)
           (p.bytes ∙ ap out state)
           (p.counts ∙ writes);

@@ -2,6 +2,7 @@
 use Rattle.std.proofs.Common.{◌≡◌, ℕ, true, false, List, ◌∷◌, ◌++◌, Ok, Err, ◌∙◌, ap, cond}
 use Rattle.std.specs.Prelude.{codes}
 use Rattle.share_base.specs.declared.refusal.Refusal.TheVariants.{Range}
+use Rattle.share_base.specs.declared.version.Version.{Version}
 use Rattle.share_model.specs.declared.line.Line.{Line}
 use Rattle.share_model.proofs.lemmas.text.FeedLaws.{lines-written}
 use Rattle.share_model.specs.text.Lines.{spelling_of, reading, is_in_range, IsLine}
@@ -14,8 +15,10 @@ pub written-apart : (l : Line) (rest : List ℕ) → IsLine l
 written-apart l rest line = lines-written l rest line.fields
 
 -- and is read as what was written, where it is in range
-pub read-written : (l : Line) → IsLine l → is_in_range l ≡ true → reading (spelling_of l) ≡ Ok l
-read-written l line r = reading-line l line ∙ ap (λ b. cond b (Ok l) (Err Range)) r
+pub read-written : (version : Version) (l : Line) → IsLine l → is_in_range version l ≡ true
+    → reading version (spelling_of l) ≡ Ok l
+read-written version l line r = reading-line version l line ∙ ap (λ b. cond b (Ok l) (Err Range)) r
 
-pub refused-written : (l : Line) → IsLine l → is_in_range l ≡ false → reading (spelling_of l) ≡ Err Range
-refused-written l line r = reading-line l line ∙ ap (λ b. cond b (Ok l) (Err Range)) r
+pub refused-written : (version : Version) (l : Line) → IsLine l → is_in_range version l ≡ false
+    → reading version (spelling_of l) ≡ Err Range
+refused-written version l line r = reading-line version l line ∙ ap (λ b. cond b (Ok l) (Err Range)) r

@@ -3,11 +3,10 @@ use Rattle.std.proofs.Common.{◌≡◌, ℕ, Bool, false, List, [], ◌∷◌, 
 use mathlib.Core.List.{append_assoc}
 use Rattle.std.proofs.lemmas.List.Elements.{All-append}
 use Rattle.share_model.specs.declared.rates.Rate.{Rate}
-use Rattle.share_model.specs.text.Lines.{reading}
 use Rattle.share_model.specs.text.Talk.{Progress, answer, talk, after, is_feed, lines_of}
 use Rattle.share_script.specs.Script.{NoFeed, Went, IsTextBeginning}
 use Rattle.share_model.proofs.lemmas.text.FeedLaws.{lines-feed}
-use Rattle.share_script.proofs.LineLemmas.{talk_same, after_same}
+use Rattle.share_script.proofs.LineLemmas.{ReadAlike, talk_same, after_same}
 
 pub went_as : (life life' : ℕ) (rates rates' : List Rate) (p : Progress) (ls : List (List ℕ)) (text : List ℕ)
     (q : Progress) (ms : List (List ℕ)) (lacks : List Bool) → life' ≡ life → rates' ≡ rates
@@ -53,7 +52,7 @@ went_line life rates p lack bs text ls lacks e = record {
 }
 
 pub went_cut : (life : ℕ) (rates : List Rate) (p : Progress) (bs cs text : List ℕ) (q : Progress)
-    (ls ms : List (List ℕ)) (lacks : List Bool) → reading bs ≡ reading cs
+    (ls ms : List (List ℕ)) (lacks : List Bool) → ReadAlike bs cs
     → Went life rates p (bs ∷ ls) text q ms lacks → Went life rates p (cs ∷ ls) text q ms lacks
 went_cut life rates p bs cs text q ls ms lacks e w = record {
   more = w.more;
@@ -62,7 +61,7 @@ went_cut life rates p bs cs text q ls ms lacks e w = record {
 }
 
 pub begins_cut : (life : ℕ) (rates : List Rate) (p : Progress) (bs cs text : List ℕ) (ls : List (List ℕ))
-    → reading bs ≡ reading cs → IsTextBeginning life rates p (bs ∷ ls) text
+    → ReadAlike bs cs → IsTextBeginning life rates p (bs ∷ ls) text
     → IsTextBeginning life rates p (cs ∷ ls) text
 begins_cut life rates p bs cs text ls e w =
     record { lacks = w.lacks; tail = w.tail; texts = sym (talk_same life rates p w.lacks bs cs ls e) ∙ w.texts }

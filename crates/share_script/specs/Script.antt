@@ -14,7 +14,7 @@ use Rattle.share_model.specs.io.Told.{Told}
 use Rattle.share_model.specs.io.Calls.{HasRead, Offers, OfferRefused, Called, CallFailed}
 use Rattle.share_model.specs.Headline.{Headline}
 use Rattle.share_model.specs.text.Events.{made_of, events_of, texts_of}
-use Rattle.share_model.specs.text.Talk.{Progress, start_of_script, talk, after, is_feed, lines_of}
+use Rattle.share_model.specs.text.Talk.{Progress, start_of_script, version_of_script, talk, after, is_feed, lines_of}
 use Rattle.share_model.specs.text.Answering.{AnswersBytes}
 use Rattle.share_script.specs.Printing.{Spooled, SpooledPart}
 use Rattle.share_script.specs.Session.{SessionView, HoldsScript}
@@ -39,8 +39,8 @@ pub record Printed (before after_it : Option (List ℕ)) (old : LinkView Told) (
   pub rates : new.rates ≡ old.rates
 
 -- the whole script was read, and the answers to its lines were printed: the texts of the outcomes of the events that
--- the lines make, and each text without an event in its place; and of these events the link and its tape keep the
--- sentence of this project
+-- the lines make, and each text without an event in its place; and of these events, on frames of the version that the
+-- first line chooses, the link and its tape keep the sentence of this project
 pub record IsOneFold (before after_it : Option (List ℕ)) (old : LinkView Told) (script : List ℕ)
     (left : Option (List ℕ))
     (new : LinkView Told) : Type 0 where
@@ -50,10 +50,12 @@ pub record IsOneFold (before after_it : Option (List ℕ)) (old : LinkView Told)
   pub text : Appends before after_it (talk old.life old.rates start_of_script lacks (lines_of script))
   pub texts : talk old.life old.rates start_of_script lacks (lines_of script)
       ≡ texts_of (made_of old.life old.rates start_of_script lacks (lines_of script))
-      (outcomes old.rates empty_state (events_of old.life old.rates start_of_script lacks (lines_of script)))
-  pub keeps : Headline old.life old.rates (events_of old.life old.rates start_of_script lacks (lines_of script))
-      (outcomes old.rates empty_state (events_of old.life old.rates start_of_script lacks (lines_of script))) new.live
-      (Some new.writer)
+      (outcomes old.rates (empty_state (version_of_script (lines_of script)))
+      (events_of old.life old.rates start_of_script lacks (lines_of script)))
+  pub keeps : Headline (version_of_script (lines_of script)) old.life old.rates
+      (events_of old.life old.rates start_of_script lacks (lines_of script))
+      (outcomes old.rates (empty_state (version_of_script (lines_of script)))
+      (events_of old.life old.rates start_of_script lacks (lines_of script))) new.live (Some new.writer)
   pub life : new.life ≡ old.life
   pub rates : new.rates ≡ old.rates
 

@@ -6,6 +6,7 @@ use Rattle.std.specs.Str.{bytes_eq}
 use Rattle.share_base.specs.Body.{unstamped}
 use Rattle.share_base.specs.declared.refusal.Refusal.{Refusal}
 use Rattle.share_base.specs.declared.refusal.Refusal.TheVariants.{NoMemory}
+use Rattle.share_base.specs.declared.version.Version.{Version}
 use Rattle.share_model.specs.declared.line.Line.{Line}
 use Rattle.share_model.specs.declared.line.Line.TheVariants.{Send}
 use Rattle.share_model.specs.text.Lines.{words_of, line_or_refusal, is_in_range, is_send, named_of, numbered_of}
@@ -58,6 +59,6 @@ line_sent_by flow None = None
 line_sent_by flow (Some payload) = Some (Send flow (unstamped payload))
 
 -- the line, if it is in range; or memory was refused for a packet that is
-abbrev pub ReadsRanged : Option Line → Result Line Refusal → Type 0
-ReadsRanged o r = (r ≡ line_or_refusal o)
-    ⊎ ((r ≡ Err NoMemory) × ((l : Line) × (o ≡ Some l) × (is_in_range l ≡ true) × (is_send l ≡ true)))
+abbrev pub ReadsRanged : Version → Option Line → Result Line Refusal → Type 0
+ReadsRanged version o r = (r ≡ line_or_refusal version o)
+    ⊎ ((r ≡ Err NoMemory) × ((l : Line) × (o ≡ Some l) × (is_in_range version l ≡ true) × (is_send l ≡ true)))

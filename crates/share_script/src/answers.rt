@@ -2,7 +2,7 @@
 ghost use Rattle.std.specs.Prelude.{◌≡◌, ◌≤◌, ◌+◌, Bool, length, true, false, IfOk, IfErr, OnOk, MatchResult};
 ghost use Rattle.std.specs.Prelude.{if◌then◌else◌};
 ghost use Rattle.share_base.specs.declared.refusal.Refusal.TheVariants.{Spent, Syntax};
-ghost use Rattle.share_model.specs.declared.line.Line.TheVariants.{Change, Turn as TurnLine};
+ghost use Rattle.share_model.specs.declared.line.Line.TheVariants.{Change, Turn as TurnLine, Audit as AuditLine};
 ghost use Rattle.share_model.specs.io.Calls.{Offers, OfferRefused, Called, CallFailed};
 ghost use Rattle.share_model.specs.io.Printing.{bytes_told};
 ghost use Rattle.share_model.specs.text.Lines.{HasFields, is_in_range};
@@ -18,7 +18,7 @@ use crate::reading::read_line;
 use crate::replies::push_line;
 use crate::script::ScriptFault;
 use crate::spool::{LONGEST, SPOOL, Spool};
-use share_base::{Command, Outcome, Refusal, Reply, Turn};
+use share_base::{Command, Outcome, Refusal, Reply, Turn, Version};
 use share_core::Engine;
 use share_model::{Line, Rates, TellingWriter};
 use share_report::report;
@@ -37,6 +37,7 @@ pub struct Session<W, S: Rates> {
 impl<W, S: Rates> Model for Session<W, S> {
     ghost use Rattle.std.specs.Coded.{codes};
     ghost use Rattle.share_model.specs.stride.Moves.{coded_stride};
+    ghost use Rattle.std.specs.Prelude.{◌≡◌, true};
     ghost use Rattle.share_script.specs.Session.{SessionView};
 
     ghost Value = { SessionView W };
@@ -44,11 +45,14 @@ impl<W, S: Rates> Model for Session<W, S> {
     ghost coded = { Prim.hlevel (codes, coded_stride) };
 
     ghost view = { λ session. record { link = session.engine; first = session.first } };
+
+    ghost invariant = { λ session. session.first ≡ true → session.engine.live.counts.events ≡ 0 };
 }
 
 impl<W, S: Rates> Session<W, S> {
-    /// A script of which no line was answered yet.
+    /// A script of which no line was answered yet, on a link that made no event.
     pub fn new(alloc: Global, engine: Engine<W, S>) -> Session<W, S>
+        requires { engine.live.counts.events ≡ 0 }
         ensures { result ≡ record { link = engine; first = true } }
     {
         Session {
@@ -110,14 +114,15 @@ fn answer_bytes<W: TellingWriter + Drop, S: Rates + Drop>(
     first: bool,
     bytes: &[u8],
 ) -> Result<LineAnswer, ScriptFault>
-    requires { TakesAll W.answers }
+    requires whole { TakesAll W.answers }
+    requires fresh { first ≡ true → engine.old.live.counts.events ≡ 0 }
     ensures says { IfOk result (λ line_answer. AnswersBytes W.told engine.old first bytes.now
         (answer_text engine.new.live line_answer) engine.new) }
     ensures called { OnOk result (Called W.answers engine.old.writer engine.new.writer) }
     ensures fault { IfErr result (λ fault. (fault ≡ ScriptFault.NoMemory)
         × CallFailed W.answers engine.old.writer engine.new.writer) }
 {
-    match read_line(alloc, bytes) {
+    match read_line(alloc, engine.version(), bytes) {
         Ok(line) => answer_line(engine, line, first),
         Err(refusal) => Ok(refusal_answer(unread(refusal, engine.spent()))),
     }
@@ -156,7 +161,8 @@ fn answer_line<W: TellingWriter + Drop, S: Rates + Drop>(
 ) -> Result<LineAnswer, ScriptFault>
     requires whole { TakesAll W.answers }
     requires fields { HasFields line }
-    requires in_range { is_in_range line ≡ true }
+    requires in_range { is_in_range engine.old.live.version line ≡ true }
+    requires fresh { first ≡ true → engine.old.live.counts.events ≡ 0 }
     ensures says { IfOk result (λ line_answer. AnswersLine W.told engine.old first line
         (answer_text engine.new.live line_answer) engine.new) }
     ensures called { OnOk result (Called W.answers engine.old.writer engine.new.writer) }
@@ -171,20 +177,26 @@ fn answer_line<W: TellingWriter + Drop, S: Rates + Drop>(
         Line::Turn(most) => turn(engine, most as u32),
         Line::Torn => Ok(LineAnswer::Outcome(Outcome::Turned(engine.tear()))),
         Line::Report => Ok(LineAnswer::Report),
-        Line::Audit => Ok(audit(first)),
+        Line::Audit(version) => Ok(audit(engine, version, first)),
     }
 }
 
-// As the first line it says what the script is. In another place it is no line.
-fn audit(first: bool) -> LineAnswer
-    ensures { result ≡ (if first then LineAnswer.Nothing
-        else LineAnswer.Outcome (Outcome.Replied (Reply.Refused Refusal.Syntax))) }
+// As the first line it chooses the version of the script. In another place it is no line.
+fn audit<W: TellingWriter + Drop, S: Rates + Drop>(
+    engine: &mut Engine<W, S>,
+    version: Version,
+    first: bool,
+) -> LineAnswer
+    requires { first ≡ true → engine.old.live.counts.events ≡ 0 }
+    ensures says { AnswersLine W.told engine.old first (AuditLine version)
+        (answer_text engine.new.live result) engine.new }
+    ensures called { Called W.answers engine.old.writer engine.new.writer }
 {
-    if first {
-        LineAnswer::Nothing
-    } else {
-        refusal_answer(Refusal::Syntax)
+    if !first {
+        return refusal_answer(Refusal::Syntax);
     }
+    engine.choose(version);
+    LineAnswer::Nothing
 }
 
 fn change<W: TellingWriter + Drop, S: Rates + Drop>(

@@ -2,13 +2,15 @@
 ghost use Rattle.std.specs.Prelude.{◌≡◌, ◌≤◌, ◌*◌, ◌∷◌, ◌&&◌, ℕ, List, codes, length, nat_le, option_map, IfOk, IfErr};
 ghost use Rattle.std.specs.Prelude.{IfSome, if◌then◌else◌};
 ghost use Rattle.share_base.specs.declared.refusal.Refusal.TheVariants.{Syntax};
+ghost use Rattle.share_base.specs.declared.version.Version.{Version};
 ghost use Rattle.share_base.specs.declared.command.Command.{Command};
 ghost use Rattle.share_base.specs.declared.command.Command.TheVariants.{MakeCurrency, RemoveCurrency, RemoveTicket};
 ghost use Rattle.share_base.specs.declared.command.Command.TheVariants.{Unfund, CloseFlow, Hold, Resume};
 ghost use Rattle.share_model.specs.declared.line.Line.TheVariants.{Change};
 ghost use Rattle.share_model.specs.text.Lines.{ReadsLine, IsReading, IsUnread, is_in_range, is_pairs, payload_of};
 ghost use Rattle.share_model.specs.text.Lines.{named_of, numbered_of, mktkt_of, amend_of, fund_of, funding_of, open_of};
-ghost use Rattle.share_model.specs.text.Lines.{send_of, turn_of, torn_of, report_of, audit_of, line_or_refusal};
+ghost use Rattle.share_model.specs.text.Lines.{send_of, turn_of, torn_of, report_of, version_of, audit_of};
+ghost use Rattle.share_model.specs.text.Lines.{line_or_refusal};
 ghost use Rattle.share_model.specs.text.Lines.{line_by};
 ghost use Rattle.share_model.specs.text.Lines.{words_of};
 ghost use Rattle.std.specs.Str.{bytes_eq};
@@ -16,37 +18,37 @@ ghost use Rattle.share_script.specs.Words.{ReadsRanged, short_line_by, rarer_lin
 
 use crate::payload::{decode_behind, is_payload};
 use crate::words::Words;
-use share_base::{Body, Command, HEADER_ROOM, MAX_IN_PLACE, MAX_PAYLOAD, Name, Refusal};
+use share_base::{Body, Command, HEADER_ROOM, MAX_IN_PLACE, Name, Refusal, Version};
 use share_model::{HolderKind, Line};
 use std::alloc::{AllocError, Global};
 
 /// The longest line, in bytes before its line feed.
 pub(crate) const MAX_LINE: usize = 20480;
 
-/// The line that these bytes, without a line feed, spell. `Syntax` where they spell none, `Range` where the payload
-/// of a packet has more than 1490 bytes or the number of a turn is not 1 to 65535, `NoMemory` where the copy of a
-/// payload found none.
-pub fn read_line(alloc: Global, bytes: &[u8]) -> Result<Line, Refusal>
-    ensures reads { ReadsLine bytes.now result }
-    ensures spelled { IfOk result (λ line. IsReading bytes.now line) }
-    ensures refused { IfErr result (λ refusal. IsUnread bytes.now refusal) }
+/// The line that these bytes, without a line feed, spell on a link of this version. `Syntax` where they spell none,
+/// `Range` where frames of the version do not carry the payload of a packet, which has more than 1490 or 9000 bytes, or
+/// the number of a turn is not 1 to 65535, `NoMemory` where the copy of a payload found none.
+pub fn read_line(alloc: Global, version: Version, bytes: &[u8]) -> Result<Line, Refusal>
+    ensures reads { ReadsLine version bytes.now result }
+    ensures spelled { IfOk result (λ line. IsReading version bytes.now line) }
+    ensures refused { IfErr result (λ refusal. IsUnread version bytes.now refusal) }
 {
-    read_bytes(alloc, bytes)
+    read_bytes(alloc, version, bytes)
 }
 
-fn read_bytes(alloc: Global, bytes: &[u8]) -> Result<Line, Refusal>
-    ensures { ReadsLine bytes.now result }
+fn read_bytes(alloc: Global, version: Version, bytes: &[u8]) -> Result<Line, Refusal>
+    ensures { ReadsLine version bytes.now result }
 {
     if bytes.len() > MAX_LINE {
         return Err(Refusal::Syntax);
     }
     if let Some(rest) = after_send(bytes) {
-        return send(alloc, &mut Words::of(rest));
+        return send(alloc, version, &mut Words::of(rest));
     }
     if let Some(rest) = after_turn(bytes) {
-        return line_or_refusal(turn(&mut Words::of(rest)));
+        return line_or_refusal(version, turn(&mut Words::of(rest)));
     }
-    read_any(alloc, bytes)
+    read_any(alloc, version, bytes)
 }
 
 // Whether two words are the same. A loop in place ends soonest, since mostly their first bytes differ.
@@ -85,25 +87,30 @@ fn after_turn(line: &[u8]) -> Option<&[u8]>
 }
 
 // The line that these bytes spell, whichever it is.
-fn read_any(alloc: Global, bytes: &[u8]) -> Result<Line, Refusal>
+fn read_any(alloc: Global, version: Version, bytes: &[u8]) -> Result<Line, Refusal>
     requires { length bytes.now ≤ MAX_LINE }
-    ensures { ReadsLine bytes.now result }
+    ensures { ReadsLine version bytes.now result }
 {
     let mut words = Words::of(bytes);
     match words.next() {
         None => Err(Refusal::Syntax),
-        Some(keyword) => read_words(alloc, keyword, &mut words),
+        Some(keyword) => read_words(alloc, version, keyword, &mut words),
     }
 }
 
 // The line of a keyword and the words after it.
-fn read_words(alloc: Global, keyword: &[u8], words: &mut Words<'_>) -> Result<Line, Refusal>
-    ensures { ReadsRanged (line_by keyword.now words.old) result }
+fn read_words(
+    alloc: Global,
+    version: Version,
+    keyword: &[u8],
+    words: &mut Words<'_>,
+) -> Result<Line, Refusal>
+    ensures { ReadsRanged version (line_by keyword.now words.old) result }
 {
     if is_word(keyword, b"send") {
-        return send(alloc, words);
+        return send(alloc, version, words);
     }
-    line_or_refusal(short_line(keyword, words))
+    line_or_refusal(version, short_line(keyword, words))
 }
 
 // Each arm returns by itself: as one expression, the line is copied once for each `else`.
@@ -164,13 +171,13 @@ fn rarer_line(keyword: &[u8], words: &mut Words<'_>) -> Option<Line>
     None
 }
 
-fn line_or_refusal(line: Option<Line>) -> Result<Line, Refusal>
-    ensures { result ≡ line_or_refusal line }
+fn line_or_refusal(version: Version, line: Option<Line>) -> Result<Line, Refusal>
+    ensures { result ≡ line_or_refusal version line }
 {
     match line {
         None => Err(Refusal::Syntax),
         Some(line) => {
-            if is_in_range(&line) {
+            if is_in_range(version, &line) {
                 Ok(line)
             } else {
                 Err(Refusal::Range)
@@ -179,16 +186,16 @@ fn line_or_refusal(line: Option<Line>) -> Result<Line, Refusal>
     }
 }
 
-fn is_in_range(line: &Line) -> bool
-    ensures { result ≡ is_in_range line.now }
+fn is_in_range(version: Version, line: &Line) -> bool
+    ensures { result ≡ is_in_range version line.now }
 {
     match line {
         Line::Change(_) => true,
-        Line::Send { flow: _, body } => body.as_slice().len() <= MAX_PAYLOAD,
+        Line::Send { flow: _, body } => body.as_slice().len() <= version.payload(),
         Line::Turn(most) => 1 <= *most && *most <= 65535,
         Line::Torn => true,
         Line::Report => true,
-        Line::Audit => true,
+        Line::Audit(_) => true,
     }
 }
 
@@ -218,15 +225,26 @@ fn report(words: &mut Words<'_>) -> Option<Line>
     Some(Line::Report)
 }
 
-// The version is 1, and no other.
 fn audit(words: &mut Words<'_>) -> Option<Line>
     ensures { result ≡ audit_of words.old }
 {
-    let version = words.next()?;
-    if version != b"1".as_slice() || !words.is_end() {
+    let version = version_of(words.next()?)?;
+    if !words.is_end() {
         return None;
     }
-    Some(Line::Audit)
+    Some(Line::Audit(version))
+}
+
+fn version_of(word: &[u8]) -> Option<Version>
+    ensures { result ≡ version_of word.now }
+{
+    if is_word(word, b"1") {
+        return Some(Version::One);
+    }
+    if is_word(word, b"2") {
+        return Some(Version::Two);
+    }
+    None
 }
 
 fn open(words: &mut Words<'_>) -> Option<Line>
@@ -352,8 +370,8 @@ fn funding(kind: HolderKind, ticket: u64, name: Name) -> Command
 }
 
 #[inline(always)]
-fn send(alloc: Global, words: &mut Words<'_>) -> Result<Line, Refusal>
-    ensures { ReadsRanged (send_of words.old) result }
+fn send(alloc: Global, version: Version, words: &mut Words<'_>) -> Result<Line, Refusal>
+    ensures { ReadsRanged version (send_of words.old) result }
 {
     let flow = match words.name() {
         None => return Err(Refusal::Syntax),
@@ -363,15 +381,15 @@ fn send(alloc: Global, words: &mut Words<'_>) -> Result<Line, Refusal>
         None => return Err(Refusal::Syntax),
         Some(digits) => digits,
     };
-    send_line(alloc, flow, digits)
+    send_line(alloc, version, flow, digits)
 }
 
 // The packet whose payload these digits spell.
 #[inline(always)]
-fn send_line(alloc: Global, flow: Name, digits: &[u8]) -> Result<Line, Refusal>
-    ensures { ReadsRanged (line_sent_by flow (payload_of digits.now)) result }
+fn send_line(alloc: Global, version: Version, flow: Name, digits: &[u8]) -> Result<Line, Refusal>
+    ensures { ReadsRanged version (line_sent_by flow (payload_of digits.now)) result }
 {
-    if digits.len() > 2 * MAX_PAYLOAD {
+    if digits.len() > 2 * version.payload() {
         return Err(unread(digits, Refusal::Range));
     }
     if digits.len() <= 2 * MAX_IN_PLACE {
@@ -393,7 +411,7 @@ fn send_line(alloc: Global, flow: Name, digits: &[u8]) -> Result<Line, Refusal>
 #[inline(always)]
 fn sent_in_place(alloc: Global, flow: Name, digits: &[u8]) -> Result<Line, Refusal>
     requires { length digits.now ≤ 2 * MAX_IN_PLACE }
-    ensures { result ≡ line_or_refusal (line_sent_by flow (payload_of digits.now)) }
+    ensures { (version : Version) → result ≡ line_or_refusal version (line_sent_by flow (payload_of digits.now)) }
 {
     let mut bytes = [0; HEADER_ROOM + MAX_IN_PLACE];
     match decode_behind(digits, &mut bytes) {

@@ -1,5 +1,6 @@
 //! Scripts, run from a reader to a writer.
 ghost use Rattle.std.specs.Prelude.{◌≡◌, ◌<◌, ◌^◌, ◌++◌, [], length, Err, IfSome, OnOk, MatchResult};
+ghost use Rattle.share_base.specs.declared.version.Version.TheVariants.{One};
 ghost use Rattle.share_model.specs.io.Calls.{ReadsToEnd, ReadFails, HasRead, Offers, OfferRefused, CallFailed};
 ghost use Rattle.share_model.specs.io.Told.{TapeAnswers};
 ghost use Rattle.share_model.specs.link.Live.{empty_link};
@@ -74,7 +75,8 @@ impl<T: Drop> From<AllocFailed<T>> for ScriptFault {
 }
 
 /// Runs a script on a new link whose tape is empty. Each line is answered by a line of output, but `report` by the
-/// report of the link, and `audit 1` as the first line by nothing. The answers to what one read gave are offered before
+/// report of the link, and `audit 1` or `audit 2` as the first line by nothing: it chooses the version of the script,
+/// which is 1 where its first line is another. The answers to what one read gave are offered before
 /// the next read is made. An interrupted read is made again; at most 2^32 reads are made. The run ends with the input,
 /// or at the first fault. A fault drops the link, and what was printed is then a beginning of the answers to the lines
 /// of what was read.
@@ -87,7 +89,7 @@ pub fn run_script<S: Rates + Drop, I: TellingReader, O: TellingWriter>(
     input: &mut I,
     output: &mut O,
 ) -> Result<Engine<Tape, S>, ScriptFault>
-    requires fresh { engine.live ≡ empty_link }
+    requires fresh { engine.live ≡ empty_link One }
     requires empty { engine.writer ≡ record { bytes = []; counts = [] } }
     ensures fold { IfSome (I.left input.old) (λ script. MatchResult result
         (λ done. IsOneFold (bytes_told (O.told output.old)) (bytes_told (O.told output.new)) engine script

@@ -3,15 +3,18 @@ ghost use Rattle.std.specs.Prelude.{◌≡◌, ◌≤◌, ◌+◌, ◌*◌, ◌+
 ghost use Rattle.std.specs.List.{join_with_byte, list_all};
 ghost use Rattle.share_model.specs.text.Audit.{event_line};
 ghost use Rattle.share_model.specs.text.Lines.{IsName, IsNumber, IsPayload, HasCommandFields, IsLine, before_stamp};
-ghost use Rattle.share_model.specs.text.Lines.{hex, is_byte, command_words, spelling_of};
+ghost use Rattle.share_model.specs.text.Lines.{hex, is_byte, command_words, version_word, spelling_of};
 
 use crate::hex::spell;
 use crate::text::{MAX_DIGITS, ROOM, ShortText, Text};
-use share_base::{Body, Command, Event, MAX_NAME, MAX_PAYLOAD, Name};
+use share_base::{Body, Command, Event, MAX_NAME, MAX_PAYLOAD, Name, Version};
 use share_model::Line;
 
 /// How many bytes the spelling of a line has at most: that of a packet for the longest name.
 pub(crate) const MAX_SPELLED: usize = 4 + 1 + MAX_NAME + 1 + 2 * MAX_PAYLOAD;
+
+/// How many bytes of a payload are spelled at a time.
+const PIECE: usize = 512;
 
 /// More bytes than the spelling of a command has.
 const MAX_COMMAND: usize = 100;
@@ -29,7 +32,19 @@ pub fn push_spelled(text: &mut ShortText, line: &Line)
         Line::Turn(most) => push_numbered(text, "turn", *most),
         Line::Torn => text.push_str("torn"),
         Line::Report => text.push_str("report"),
-        Line::Audit => text.push_str("audit 1"),
+        Line::Audit(version) => push_audit(text, *version),
+    }
+}
+
+// The line of an audit.
+fn push_audit(text: &mut ShortText, version: Version)
+    requires { text.old ≡ [] }
+    ensures bytes { text.new ≡ join_with_byte 32 (codes "audit" ∷ version_word version ∷ []) }
+    ensures few { length text.new ≤ MAX_COMMAND }
+{
+    match version {
+        Version::One => text.push_str("audit 1"),
+        Version::Two => text.push_str("audit 2"),
     }
 }
 
@@ -166,7 +181,22 @@ fn push_hex(text: &mut ShortText, bytes: &[u8])
     ensures few { length text.new ≤ length text.old + 2 * MAX_PAYLOAD }
     ensures all { list_all is_byte bytes.now ≡ true }
 {
-    let mut digits = [0u8; 2 * MAX_PAYLOAD];
-    spell(bytes, &mut digits);
-    text.push(&digits[..2 * bytes.len()]);
+    let mut digits = [0u8; 2 * PIECE];
+    let mut at = 0;
+    while at < bytes.len() {
+        let count = (bytes.len() - at).min(PIECE);
+        push_piece(text, &bytes[at..at + count], &mut digits);
+        at += count;
+    }
+}
+
+// A piece of these bytes, spelled in a buffer first.
+fn push_piece(text: &mut ShortText, piece: &[u8], digits: &mut [u8; 2 * PIECE])
+    requires few { length piece.now ≤ PIECE }
+    requires room { length text.old + 2 * length piece.now ≤ ROOM }
+    ensures bytes { text.new ≡ text.old ++ hex piece.now }
+    ensures long { length text.new ≡ length text.old + 2 * length piece.now }
+{
+    spell(piece, digits);
+    text.push(&digits[..2 * piece.len()]);
 }

@@ -12,8 +12,10 @@ mod cuts;
 mod faults;
 mod lines;
 mod memory;
+mod reading;
 mod reports;
 mod standing;
+mod versions;
 mod writing;
 
 use crate::{ScriptFault, print_bytes, run_script};
@@ -313,15 +315,15 @@ fn largest_payload<S: Rates + Copy>(rt: &impl Abort, alloc: Global, shelf: S) ->
     prints(rt, alloc, shelf, LIFE, &mut input, want.as_slice())
 }
 
-// Sends a payload of zero bytes, and then declares a fault.
+// Sends a payload of zero bytes after these lines, and then declares a fault.
 fn long_line<S: Rates + Copy>(
     rt: &impl Abort,
     alloc: Global,
     shelf: S,
-    row: &(&[u8], usize, &[u8]),
+    row: &(&[u8], &[u8], usize, &[u8]),
 ) -> Result<(), Fail> {
-    let (flow, count, want) = *row;
-    let mut script = Vec::new(alloc);
+    let (lines, flow, count, want) = *row;
+    let mut script = lines.to_vec(alloc)?;
     push_send(&mut script, flow, count)?;
     script.extend_from_slice(b"torn\n")?;
     is_answered(rt, alloc, shelf, LIFE, script.as_slice(), want)
@@ -329,11 +331,11 @@ fn long_line<S: Rates + Copy>(
 
 fn long_lines<S: Rates + Copy>(rt: &impl Abort, alloc: Global, shelf: S) -> Result<(), Fail> {
     // The third line has 20480 bytes, and the fourth 20481.
-    let rows: [(&[u8], usize, &[u8]); 4] = [
-        (b"a", 1491, b"no 4 Range\nidle\nout -\n"),
-        (b"a", 10000, b"no 4 Range\nidle\nout -\n"),
-        (b"ab", 10236, b"no 4 Range\nidle\nout -\n"),
-        (b"a", 10237, b"no 3 Syntax\nidle\nout -\n"),
+    let rows: [(&[u8], &[u8], usize, &[u8]); 4] = [
+        (b"", b"a", 1491, b"no 4 Range\nidle\nout -\n"),
+        (b"", b"a", 10000, b"no 4 Range\nidle\nout -\n"),
+        (b"", b"ab", 10236, b"no 4 Range\nidle\nout -\n"),
+        (b"", b"a", 10237, b"no 3 Syntax\nidle\nout -\n"),
     ];
     for row in &rows {
         long_line(rt, alloc, shelf, row)?;
@@ -352,7 +354,8 @@ fn scripts_are_as_worked<S: Rates + Copy>(
     long_lines(rt, alloc, shelf)?;
     input_that_fails(rt, alloc, shelf)?;
     output_that_fails(rt, alloc, shelf)?;
-    cut_scripts(rt, alloc, shelf)
+    cut_scripts(rt, alloc, shelf)?;
+    versions::all(rt, alloc, shelf)
 }
 
 // A body that makes a shelf is dear to prove, so it makes one call.

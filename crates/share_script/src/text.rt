@@ -5,8 +5,8 @@ use arrayvec::ArrayVec;
 use itoa::Buffer;
 use std::marker::Model;
 
-/// The room for one line or one answer. The longest is the line of a packet, with 3002 bytes and a line feed.
-pub(crate) const ROOM: usize = 3072;
+/// The room for one line or one answer. The longest is the line of a packet, with 18022 bytes and a line feed.
+pub(crate) const ROOM: usize = 18432;
 
 /// How many digits the decimal of a number has at most.
 pub(crate) const MAX_DIGITS: usize = 20;
@@ -32,7 +32,7 @@ pub trait Text {
         ensures few { length (held self.new) ≤ length (held self.old) + MAX_DIGITS };
 }
 
-/// A text of at most 3072 bytes, which takes no memory. A contract sees it as its bytes.
+/// A text of at most 18432 bytes, which takes no memory. A contract sees it as its bytes.
 #[derive(Drop)]
 pub struct ShortText {
     bytes: ArrayVec<u8, ROOM>,
@@ -78,7 +78,7 @@ impl ShortText {
 impl Text for ShortText {
     ghost held = { λ text. text };
 
-    ghost room = { 3072 };
+    ghost room = { 18432 };
 
     fn push_str(&mut self, text: &str) {
         self.push(text.as_bytes());

@@ -22,7 +22,7 @@ pub fn write_line<V: TellingWriter>(line: &Line, output: &mut V) -> Result<(), F
 {
     let mut text = ShortText::new();
     push_spelled(&mut text, line);
-    write_spelled(text, output)
+    write_spelled(&mut text, output)
 }
 
 /// Writes the line that makes an event, as `write_line` does: a command as its line, a packet as `send`, a write as a
@@ -33,15 +33,14 @@ pub fn write_event<V: TellingWriter>(event: &Event, output: &mut V) -> Result<()
 {
     let mut text = ShortText::new();
     push_event(&mut text, event);
-    write_spelled(text, output)
+    write_spelled(&mut text, output)
 }
 
 // The spelling and a line feed.
-fn write_spelled<V: TellingWriter>(text: ShortText, output: &mut V) -> Result<(), Fault>
-    requires { length text ≤ MAX_SPELLED }
-    ensures { WritesText V.told V.answers output.old output.new (text ++ codes "\n") result }
+fn write_spelled<V: TellingWriter>(text: &mut ShortText, output: &mut V) -> Result<(), Fault>
+    requires { length text.old ≤ MAX_SPELLED }
+    ensures { WritesText V.told V.answers output.old output.new (text.old ++ codes "\n") result }
 {
-    let mut text = text;
     text.push_str("\n");
     put(output, text.as_bytes())
 }

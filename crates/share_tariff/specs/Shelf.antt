@@ -1,7 +1,10 @@
 -- What a contract sees of tariffs and of their shelf.
-use Rattle.std.specs.Prelude.{ℕ, Bool, ◌&&◌, List, [], ◌∷◌, map, nat_le}
+use Rattle.std.specs.Prelude.{ℕ, Bool, ◌≤◌, ◌&&◌, List, [], ◌∷◌, map, nat_le}
+use Rattle.std.proofs.Common.{◌∙◌, sym, subst}
+use Rattle.std.proofs.lemmas.List.{length-map}
 use Rattle.share_model.specs.declared.rates.Rate.{Rate}
-use Rattle.share_model.specs.link.Tariff.{AreInRange}
+use Rattle.share_model.specs.link.Tariff.{IsInRange, AreInRange}
+use Rattle.share_model.specs.lists.Each.{Each}
 use Rattle.share_tariff.specs.declared.tariff.Tariff.{Tariff}
 use Rattle.share_tariff.specs.declared.shelf.Shelf.{Shelf}
 
@@ -16,12 +19,15 @@ module _ {A B : Type 0} {C : A → Type 0} {D : B → Type 0} {charge : _} {book
   abbrev pub rates_of : Shelf A B C D charge book → List Rate
   rates_of s = map rate_in s.tariffs.items
 
-  pub in_range_all : (ts : List (Tariff A B C D charge book)) → AreInRange (map rate_in ts)
-  in_range_all [] = tt
-  in_range_all (t ∷ ts) = (t.in_range, in_range_all ts)
+  each_in_range : (ts : List (Tariff A B C D charge book)) → Each IsInRange (map rate_in ts)
+  each_in_range [] = tt
+  each_in_range (t ∷ ts) = (t.in_range, each_in_range ts)
 
   pub rates_in_range : (s : Shelf A B C D charge book) → AreInRange (rates_of s)
-  rates_in_range s = in_range_all s.tariffs.items
+  rates_in_range s = record {
+    each = each_in_range s.tariffs.items;
+    few = subst (λ n. n ≤ 8) (s.tariffs.ok.0 ∙ sym (length-map s.tariffs.items rate_in)) s.few;
+  }
 
 abbrev pub is_shelf_length : ℕ → Bool
 is_shelf_length n = nat_le 1 n && nat_le n 8

@@ -13,13 +13,13 @@ use std::sync::atomic::{AtomicU64, Ordering};
 use std::test::Fail;
 
 /// Counts of bytes whose units are compared.
-const COUNTS: [u32; 5] = [0, 1, 48, 49, 1502];
+const COUNTS: [u32; 6] = [0, 1, 48, 49, 1502, 9017];
 
 /// The units of these counts under the tariff of cell 48 and overhead 16.
-const BY_48: [u64; 5] = [0, 64, 64, 112, 1552];
+const BY_48: [u64; 6] = [0, 64, 64, 112, 1552, 9040];
 
 // Whether the tariff charges these units for the counts, and adds what it should to an account of 7.
-fn charges(tariff: &Tariff, units: [u64; 5]) -> bool {
+fn charges(tariff: &Tariff, units: [u64; 6]) -> bool {
     for (count, wanted) in COUNTS.into_iter().zip(units) {
         if count >= 65536 || tariff.units(count) != wanted {
             return false;
@@ -51,7 +51,7 @@ fn charges_whatever_closures_are_stored(rt: HostRuntime) -> Result<(), Fail> {
 }
 
 // Whether the shelf charges these units for the counts under a tariff, and posts 100 units to an account of 7 so.
-fn shows<S: Rates>(shelf: &S, number: u64, units: [u64; 5], account: u64) -> bool {
+fn shows<S: Rates>(shelf: &S, number: u64, units: [u64; 6], account: u64) -> bool {
     if !shelf.has(number) {
         return false;
     }
@@ -79,10 +79,10 @@ fn shelves_number_their_tariffs(rt: HostRuntime) -> Result<(), Fail> {
 
 fn shows_four(rt: &impl Abort, shelf: &Shelf) {
     for (number, units, account) in [
-        (1, [0, 1, 48, 49, 1502], 107),
+        (1, [0, 1, 48, 49, 1502, 9017], 107),
         (2, BY_48, 207),
-        (3, [0, 1024, 1024, 1024, 2048], 107),
-        (4, [0, 3072, 3072, 3072, 3072], 307),
+        (3, [0, 1024, 1024, 1024, 2048, 9216], 107),
+        (4, [0, 3072, 3072, 3072, 3072, 11264], 307),
     ] {
         assert!(rt; shows(shelf, number, units, account), "tariff {number}");
         assert!(rt;

@@ -9,6 +9,7 @@ use Rattle.share_base.specs.declared.command.Reply.TheVariants.{Refused}
 use Rattle.share_base.specs.declared.refusal.Refusal.{Refusal}
 use Rattle.share_base.specs.declared.refusal.Refusal.TheVariants.{Syntax}
 use Rattle.share_model.specs.declared.line.Line.{Line}
+use Rattle.share_base.specs.declared.version.Version.TheVariants.{Two}
 use Rattle.share_model.specs.declared.line.Line.TheVariants.{Change, Send, Turn, Torn, Report, Audit}
 use Rattle.share_model.specs.text.Lines.{ReadsLine, is_send}
 use Rattle.share_locked.specs.Calls.{CommandMade}
@@ -24,10 +25,10 @@ packet_has_no_place (Send flow payload) is = refl
 packet_has_no_place (Turn most) is = refl
 packet_has_no_place Torn is = refl
 packet_has_no_place Report is = absurd (true≢false (sym is))
-packet_has_no_place Audit is = refl
+packet_has_no_place (Audit version) is = refl
 
 -- a packet has no place, so want of memory for its payload makes no difference
-pub request_read : (bytes : List ℕ) (read : Result Line Refusal) → ReadsLine bytes read → request_of read
+pub request_read : (bytes : List ℕ) (read : Result Line Refusal) → ReadsLine Two bytes read → request_of read
     ≡ request_in bytes
 request_read bytes read (inl same) = ap request_of same
 request_read bytes read (inr none) =

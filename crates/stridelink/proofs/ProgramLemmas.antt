@@ -78,7 +78,7 @@ bytes_of : (a b : Option (List ℕ)) (e new : LinkView Told) (script : List ℕ)
     (whole : IsOneFold a b e script left new)
     → new.writer.bytes ≡ out (after e.life e.rates start_of_script whole.lacks (lines_of script)).state
 bytes_of a b e new script left whole =
-    whole.keeps.bytes ∙ ap out (sym (after-state e.life e.rates start_of_script whole.lacks (lines_of script)))
+    whole.keeps.bytes ∙ ap out (sym (after-state e.life e.rates whole.lacks (lines_of script)))
 
 -- the script was, and the line of the bytes was not printed whole
 most_of : (a b c : Option (List ℕ)) (e new : LinkView Told) (script : List ℕ) (left : Option (List ℕ))

@@ -11,7 +11,7 @@ use Rattle.stridelink.specs.declared.serve.fault.FoundFaults.{FoundFaults}
 
 -- the journal of a recorder
 abbrev pub journal_of : {W : Type 0} → RecorderView W → JournalView
-journal_of r = record { life = r.link.life; entries = r.entries }
+journal_of r = record { life = r.link.life; version = r.link.live.version; entries = r.entries }
 
 -- the faults, and why a link was not settled
 abbrev pub with_want : FoundFaults → WhyUnsettled → FoundFaults

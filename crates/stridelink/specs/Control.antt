@@ -7,6 +7,7 @@ use Rattle.share_base.specs.declared.command.Reply.TheVariants.{Refused}
 use Rattle.share_base.specs.declared.refusal.Refusal.{Refusal}
 use Rattle.share_base.specs.declared.refusal.Refusal.TheVariants.{NoMemory, Syntax}
 use Rattle.share_model.specs.declared.line.Line.{Line}
+use Rattle.share_base.specs.declared.version.Version.TheVariants.{Two}
 use Rattle.share_model.specs.declared.line.Line.TheVariants.{Change, Send, Turn, Torn, Report, Audit}
 use Rattle.share_model.specs.text.Lines.{reading}
 use Rattle.share_model.specs.text.Report.{report}
@@ -24,7 +25,7 @@ request_by (Send flow payload) = NoPlace
 request_by (Turn most) = NoPlace
 request_by Torn = NoPlace
 request_by Report = AsksReport
-request_by Audit = NoPlace
+request_by (Audit version) = NoPlace
 
 abbrev pub request_of : Result Line Refusal → Request
 request_of (Ok l) = request_by l
@@ -32,7 +33,7 @@ request_of (Err refusal) = NoPlace
 
 -- what the bytes of a line ask for; bytes that spell no line, or one out of range, have no place either
 abbrev pub request_in : List ℕ → Request
-request_in bytes = request_of (reading bytes)
+request_in bytes = request_of (reading Two bytes)
 
 -- the clerk, with room for a receipt, made the command in one hold of the lock, and this is the reply
 pub record MadeInHold (W : Type 0) (before : ClerkView) (c : Command) (reply : Reply) (after : ClerkView) : Type 0

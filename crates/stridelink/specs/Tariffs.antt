@@ -4,13 +4,16 @@ use Rattle.share_model.specs.link.Tariff.{AreInRange}
 use Rattle.stridelink.specs.Program.{program_rates}
 
 pub are_in_range : AreInRange program_rates
-are_in_range = (
-  record { some_cell = omega arith; cell = omega arith; overhead = omega arith; price = omega arith },
-  (
+are_in_range = record {
+  each = (
     record { some_cell = omega arith; cell = omega arith; overhead = omega arith; price = omega arith },
     (
       record { some_cell = omega arith; cell = omega arith; overhead = omega arith; price = omega arith },
-      (record { some_cell = omega arith; cell = omega arith; overhead = omega arith; price = omega arith }, tt),
+      (
+        record { some_cell = omega arith; cell = omega arith; overhead = omega arith; price = omega arith },
+        (record { some_cell = omega arith; cell = omega arith; overhead = omega arith; price = omega arith }, tt),
+      ),
     ),
-  ),
-)
+  );
+  few = omega arith;
+}

@@ -27,7 +27,8 @@ Lines of a script, whose words are parted by one space:
   turn BYTES                            the link writes at most so many bytes
   torn                                  the writer is declared failed
   report                                show what the link holds
-  audit 1                               the first line of an audit; no answer
+  audit 1, audit 2                      as the first line: the version of the script,
+                                        which is else 1; no answer
 Words of a line:
   NAME    a letter from a to z, then at most 15 of these, 0 to 9, _ or -;
           the currency base is always there
@@ -35,10 +36,12 @@ Words of a line:
   TICKET  the number of a ticket
   LIMIT   the most packets in the buffer of the flow, 1 to 1024
   TARIFF  1 to 4
-  HEX     a payload of 1 to 1490 bytes, two digits each, 0 to 9 or a to f
+  HEX     a payload of 1 to 1490 bytes, or 9000 in version 2, two digits each,
+          0 to 9 or a to f
   BYTES   1 to 65535
 Tariffs, by which the bytes written of a flow are posted to its account; a frame
-is its packet and 12 bytes more, and is charged the overhead and whole cells:
+is its packet and 12 bytes more, or 17 in version 2, and is charged the overhead
+and whole cells:
   1  cells of 1 byte of 1 unit; 1 for each unit
   2  cells of 48 bytes of 48 units, an overhead of 16 units; 2 for each unit
   3  cells of 1024 bytes of 1024 units; 1 for each unit
@@ -96,10 +99,11 @@ by the report; 'stridelink run --help' tells them. Lines of send, turn, torn and
 audit have no place there: they are answered 'no 3 Syntax'. So is a line of more
 than 20480 bytes. What comes behind the last line feed is dropped.
 An ingress connection brings packets: the length of a flow's name in 1 byte, the
-name, the length of the payload in 2 bytes, the greater first, and the payload. A
-connection whose packet is none, or is cut short, ends.
-The uplink gets the frames: the bytes 4c 01, the number of the flow in 4 bytes, that
-of the packet in 4, the length of the payload in 2, and the payload. Packets of flows
+name, the length of the payload in 2 bytes, the greater first, and the payload of
+1 to 9000 bytes. A connection whose packet is none, or is cut short, ends.
+The uplink gets the frames: the bytes 4c 02, the number of the flow's tariff in 1
+byte, that of the flow in 4, that of the packet in 8, the length of the payload in 2,
+and the payload. Packets of flows
 that are held or have no tickets are not sent: they stay in the report as waiting,
 and are no fault.
 A life lasts for L events: each command that is answered, each packet that came for

@@ -1,5 +1,6 @@
 //! The server: a link over sockets.
 ghost use Rattle.std.specs.Prelude.{◌≡◌, ◌≤◌, [], IfOk, OnOk, true, false, vec_len, vec_capacity};
+ghost use Rattle.share_base.specs.declared.version.Version.TheVariants.{Two};
 ghost use Rattle.share_model.specs.lists.Each.{Each};
 ghost use Rattle.stridelink.specs.Books.{IsAuditKept};
 
@@ -30,6 +31,7 @@ pub use crate::serve::tariffs::PlainTariffs;
 use crate::serve::threads::{Server, run};
 use crate::serve::uplink::{Uplink, Wire};
 use crate::serve::worker::LinkedEnd;
+use share_base::Version;
 use share_core::Engine;
 use share_ingress::{IngressEnd, Intake, queue};
 use share_journal::{Journal, Recorder};
@@ -98,22 +100,24 @@ struct Places<L: LinkBrand> {
     spare_clerks: Vec<Clerk<L>>,
 }
 
-// A recorder of a new link over the uplink.
+// A recorder of a new link of version 2 over the uplink.
 fn recording<S: Rates + Drop>(
     alloc: Global,
     shelf: S,
     journal: Journal,
     uplink: Uplink,
 ) -> Result<Recorder<PlainWriter<Uplink>, S>, ServeFault>
-    ensures { IfOk result (λ r. r.entries ≡ []) }
+    ensures empty { IfOk result (λ r. r.entries ≡ []) }
+    ensures version { IfOk result (λ r. r.link.live.version ≡ Two) }
 {
-    let engine = match Engine::new(alloc, shelf, journal.life(), PlainWriter(uplink)) {
+    let mut engine = match Engine::new(alloc, shelf, journal.life(), PlainWriter(uplink)) {
         Ok(engine) => engine,
         Err(refused) => {
             drop(journal);
             return Err(ServeFault::from(refused));
         }
     };
+    engine.choose(Version::Two);
     match Recorder::new(engine, journal) {
         Ok(recorder) => Ok(recorder),
         Err(back) => {
@@ -132,6 +136,7 @@ fn link_over<S: Rates + Drop>(
     workers: usize,
 ) -> Result<Fresh<S>, ServeFault>
     ensures empty { IfOk result (λ fresh. fresh.recorder.entries ≡ []) }
+    ensures version { IfOk result (λ fresh. fresh.recorder.link.live.version ≡ Two) }
     ensures nothing { IfOk result (λ fresh. fresh.intake.popped ≡ []) }
     ensures linked { IfOk result (λ fresh. Each (λ e. e.link ≡ fresh.intake.link) fresh.ends.items) }
 {
@@ -207,6 +212,7 @@ fn set_up<R: Eprint, S: Rates + Drop>(
     plan: Plan,
 ) -> Result<Setting<S>, ServeFault>
     ensures empty { IfOk result (λ s. s.fresh.recorder.entries ≡ []) }
+    ensures version { IfOk result (λ s. s.fresh.recorder.link.live.version ≡ Two) }
     ensures nothing { IfOk result (λ s. s.fresh.intake.popped ≡ []) }
     ensures linked { IfOk result (λ s. Each (λ e. e.link ≡ s.fresh.intake.link) s.fresh.ends.items) }
 {
@@ -235,10 +241,10 @@ fn set_up<R: Eprint, S: Rates + Drop>(
     }
 }
 
-/// Serves a new link with this journal, which is empty, over these sockets: accepts the control connections and then
-/// the ingress connections, and runs until all have ended and what they brought is sent. Then it settles, keeps the
-/// audit, and writes the report to the output, both even if something went wrong. If a reader is given, its end ends
-/// the connections. The error is the first fault, in the order of `ServeFault`.
+/// Serves a new link of version 2 with this journal, which is empty and of version 2, over these sockets: accepts the
+/// control connections and then the ingress connections, and runs until all have ended and what they brought is sent.
+/// Then it settles, keeps the audit, and writes the report to the output, both even if something went wrong. If a
+/// reader is given, its end ends the connections. The error is the first fault, in the order of `ServeFault`.
 pub fn serve_on<R, S, I, K, O>(
     rt: &R,
     alloc: Global,
@@ -285,6 +291,7 @@ where
     O: TellingWriter,
     L: LinkBrand + Send,
     requires empty { setting.fresh.recorder.entries ≡ [] }
+    requires version { setting.fresh.recorder.link.live.version ≡ Two }
     requires link { setting.fresh.intake.link ≡ L.link }
     requires nothing { setting.fresh.intake.popped ≡ [] }
     requires linked { Each (λ e. e.link ≡ L.link) setting.fresh.ends.items }
@@ -328,6 +335,7 @@ where
     I: Read + Send + Drop + 'static,
     L: LinkBrand + Send,
     requires empty { setting.fresh.recorder.entries ≡ [] }
+    requires version { setting.fresh.recorder.link.live.version ≡ Two }
     requires link { setting.fresh.intake.link ≡ L.link }
     requires nothing { setting.fresh.intake.popped ≡ [] }
     requires linked { Each (λ e. e.link ≡ L.link) setting.fresh.ends.items }

@@ -19,7 +19,7 @@ use std::test::Fail;
 const LIFE: u64 = 65536;
 
 /// Lives, scripts, and what they print.
-const SCRIPTS: [(u64, &[u8], &[u8]); 4] = [
+const SCRIPTS: [(u64, &[u8], &[u8]); 7] = [
     (LIFE, b"", b"out -\n"),
     // The last line has no line feed.
     (
@@ -34,6 +34,26 @@ const SCRIPTS: [(u64, &[u8], &[u8]); 4] = [
         b"open a 4 4\nmktkt 1 base\nfund 1 flow a\nsend a 61\nturn 65535\nclose a\nopen a 4 5\n",
         b"flow 1\nticket 1\nok\npacket 1 1\nwrote 1 1 13 whole\nclosed 1 0 9216\nno 8 NoTariff\n\
         out 4c010000000100000001000161\n",
+    ),
+    // The first line chooses the version, and is no event.
+    (
+        6,
+        b"audit 2\nopen a 4 1\nmktkt 10 base\nfund 1 flow a\nsend a 6869\nturn 65535\nclose a",
+        b"flow 1\nticket 1\nok\npacket 1 1\nwrote 1 1 19 whole\nclosed 1 0 19\n\
+        out 4c020100000001000000000000000100026869\n",
+    ),
+    (
+        LIFE,
+        b"audit 1\nopen a 4 1\nmktkt 10 base\nfund 1 flow a\nsend a 6869\nturn 65535\naudit 2\n",
+        b"flow 1\nticket 1\nok\npacket 1 1\nwrote 1 1 14 whole\nno 3 Syntax\n\
+        out 4c01000000010000000100026869\n",
+    ),
+    // The tariff is told in frames of version 2.
+    (
+        LIFE,
+        b"audit 2\nopen a 4 4\nmktkt 1 base\nfund 1 flow a\nsend a 61\nturn 65535\nclose a\n",
+        b"flow 1\nticket 1\nok\npacket 1 1\nwrote 1 1 18 whole\nclosed 1 0 9216\n\
+        out 4c0204000000010000000000000001000161\n",
     ),
     // A life of two events.
     (
@@ -81,7 +101,7 @@ fn the_last_line_fails<S: Rates + Copy>(
 }
 
 /// Scripts, what a strict run of them prints, and the number and the text of the line that was refused, if one was.
-const STRICT: [(&[u8], &[u8], Option<(u64, &[u8])>); 3] = [
+const STRICT: [(&[u8], &[u8], Option<(u64, &[u8])>); 4] = [
     (
         b"open a 4 1\n\nmktkt 1 base\n",
         b"flow 1\nno 3 Syntax\n",
@@ -93,6 +113,11 @@ const STRICT: [(&[u8], &[u8], Option<(u64, &[u8])>); 3] = [
         Some((3, b"send no 61")),
     ),
     (b"mkcur no\ntorn\n", b"ok\nidle\nout -\n", None),
+    (
+        b"audit 2\ntorn\naudit 2\n",
+        b"idle\nno 3 Syntax\n",
+        Some((3, b"audit 2")),
+    ),
 ];
 
 // A writer that accepts `count` bytes in each of the first hundred calls.

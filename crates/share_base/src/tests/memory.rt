@@ -37,7 +37,7 @@ enum Made {
 }
 
 /// What is made, its payload, and how many requests that takes. A body takes one if its payload and the room before it
-/// have more than 28 bytes, and a parcel has two bodies.
+/// have more than 33 bytes, and a parcel has two bodies.
 const COPIES: [(Made, &[u8], u16); 5] = [
     (Made::Body, b"0123456789abcdef", 0),
     (Made::Body, b"0123456789abcdefg", 1),
@@ -92,7 +92,7 @@ fn payloads_are_copied_once_their_memory_is_found(rt: HostRuntime) {
     for (made, payload, requests) in COPIES {
         copies(&rt, rt.alloc(), made, payload, requests);
     }
-    let longest = [7; 1490];
+    let longest = [7; 9000];
     copies(&rt, rt.alloc(), Made::Body, &longest, 1);
     copies(&rt, rt.alloc(), Made::Parcel, &longest, 2);
 }
@@ -100,7 +100,7 @@ fn payloads_are_copied_once_their_memory_is_found(rt: HostRuntime) {
 // Whether payloads that are refused or short are answered as they should be, and what is made of these is stamped. The
 // vectors hold the room and the payload, and the parcel the payload, of the last two rows of stamps.
 fn are_payloads(alloc: Global, parcel: Parcel, long: Vec<u8>, short: Vec<u8>) -> bool {
-    let refused = body_is(alloc, &[7; 1491], Some(Refusal::Range))
+    let refused = body_is(alloc, &[7; 9001], Some(Refusal::Range))
         && parcel_is(alloc, b"", Some(Refusal::Range));
     let copied = body_is(alloc, b"0123456789abcdef", None)
         && parcel_is(alloc, b"0123456789abcdef", None);

@@ -17,7 +17,7 @@ impl<S: Rates> Link<S> {
     // A packet comes for an open flow.
     fn accept(&mut self, flow: FlowNo, body: Body) -> Reply
         requires living { is_spent self.old ≡ false }
-        requires body { IsBody body.payload }
+        requires body { IsBody self.old.live.version body.payload }
         requires there { IsSome (buffer_of self.old.live.buffers flow) }
         ensures { Stepped (arrive_in self.old.live flow body.payload (buffer_of self.old.live.buffers flow))
             self.old result self.new }
@@ -40,7 +40,7 @@ impl<S: Rates> Link<S> {
     // A packet comes for the flow of the buffer at a place.
     fn accept_at(&mut self, place: &Place, body: Body) -> Reply
         requires living { is_spent self.old ≡ false }
-        requires body { IsBody body.payload }
+        requires body { IsBody self.old.live.version body.payload }
         requires stands { Stands self.old.live.buffers place.now }
         ensures { Stepped
             (arrive_in self.old.live place.now.flow body.payload (buffer_of self.old.live.buffers place.now.flow))
@@ -68,7 +68,7 @@ impl<S: Rates> Link<S> {
     /// A packet comes for the flow of a name. It takes no memory.
     pub fn arrive(&mut self, name: &Name, body: Body) -> Reply
         requires living { is_spent self.old ≡ false }
-        requires body { IsBody body.payload }
+        requires body { IsBody self.old.live.version body.payload }
         ensures { Steps (λ _ l. arrive_step l name.now body.payload) self.old result self.new }
     {
         match self.ledger.flow(*name) {

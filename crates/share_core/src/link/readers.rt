@@ -12,7 +12,7 @@ ghost use Rattle.share_model.specs.stride.Moves.{global_part};
 ghost use Rattle.share_model.specs.stride.Moves.{position as position_of};
 
 use super::Link;
-use share_base::{FlowNo, Name};
+use share_base::{FlowNo, Name, Version};
 use share_model::{GlobalPart, LinkState, Position, Rates, Row, Totals};
 
 impl<S: Rates> Link<S> {
@@ -21,6 +21,13 @@ impl<S: Rates> Link<S> {
         ensures { result ≡ self.now.life }
     {
         self.life
+    }
+
+    /// The version of its frames.
+    pub fn version(&self) -> Version
+        ensures { result ≡ self.now.live.version }
+    {
+        self.version
     }
 
     /// How many events were made. A link is sound after whatever events.
@@ -52,7 +59,7 @@ impl<S: Rates> Link<S> {
     pub fn account(&self, flow: FlowNo) -> Option<u64>
         ensures account { result
             ≡ option_map (λ b. b.account) (find (is_book_of flow) self.now.live.books) }
-        ensures small { IfSome result (λ account. account < 2 ^ 52) }
+        ensures small { IfSome result (λ account. account < 2 ^ 54) }
     {
         let book = self.books.book(flow)?;
         Some(book.account)

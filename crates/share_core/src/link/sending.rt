@@ -6,21 +6,21 @@ ghost use Rattle.share_model.specs.link.Calls.{is_spent, Stepped};
 ghost use Rattle.share_model.specs.link.Turns.{sending_at, sending, rest_of, whole, in_part, wrote_turn, write_step};
 ghost use Rattle.share_model.specs.link.Turns.{fault_step};
 ghost use Rattle.share_model.specs.io.Told.{Fits};
-ghost use Rattle.share_core.specs.NextWrite.{IsNextWriteOf, IsWithinRest, WritesNothing};
+ghost use Rattle.share_core.specs.NextWrite.{IsNextWriteOf, IsHeaderOf, IsWithinRest, WritesNothing};
 ghost use Rattle.share_flows.specs.Places.{Stands};
 
 use super::Link;
 use super::levelling::set_active;
 use crate::next_write::NextWrite;
-use share_base::{FlowNo, Turn};
-use share_frame::{HEADER, header};
+use share_base::{FlowNo, Turn, Version};
+use share_frame::{header, header2};
 use share_model::{Answer, Part, Rates, TellingWriter};
 
 impl<S: Rates> Link<S> {
     // The place at the head packet of a flow.
     fn next_write(&self, flow: FlowNo, out: u32) -> Option<NextWrite>
         ensures { MatchOption result (head_of self.now.live.buffers flow ≡ None) (λ p.
-            IsNextWriteOf (option_map (sending_at out) (head_of self.now.live.buffers flow)) p
+            IsNextWriteOf (option_map (sending_at self.now.live out) (head_of self.now.live.buffers flow)) p
             × Stands self.now.live.buffers p.buffer) }
     {
         let buffer = self.buffers.find(flow)?;
@@ -28,8 +28,9 @@ impl<S: Rates> Link<S> {
         Some(NextWrite {
             buffer,
             seq,
+            tariff: self.books.tariff_at(buffer.at, buffer.flow) as u8,
             out,
-            length: (HEADER + body.as_slice().len()) as u32,
+            length: (self.version.header() + body.as_slice().len()) as u32,
         })
     }
 
@@ -191,10 +192,37 @@ impl<S: Rates> Link<S> {
             × Fits (take most (rest_of s)) result) }
         ensures same { self.new ≡ self.old }
     {
-        let _ = self.spent();
-        let payload = (place.length - HEADER as u32) as u16;
-        let header = header(place.buffer.flow, place.seq, payload);
+        let flow = place.buffer.flow;
+        let payload = (place.length - self.version.header() as u32) as u16;
+        match self.version {
+            Version::One => {
+                let header = header(flow, place.seq, payload);
+                self.offer_under(&header, place, most, writer)
+            }
+            Version::Two => {
+                let header = header2(flow, u64::from(place.seq), place.tariff, payload);
+                self.offer_under(&header, place, most, writer)
+            }
+        }
+    }
+
+    // The same, with the header of the frame.
+    fn offer_under<W: TellingWriter>(
+        &mut self,
+        header: &[u8],
+        place: &NextWrite,
+        most: u32,
+        writer: &mut W,
+    ) -> Answer
+        requires header { IsHeaderOf (sending self.old.live) header.now }
+        requires place { IsNextWriteOf (sending self.old.live) place.now }
+        requires stands { Stands self.old.live.buffers place.now.buffer }
+        ensures answered { IfSome (sending self.old.live)
+            (λ s. W.answers writer.old (take most (rest_of s)) result writer.new
+            × Fits (take most (rest_of s)) result) }
+        ensures same { self.new ≡ self.old }
+    {
         self.buffers
-            .offer_at(&place.buffer, &header, place.out, most, writer)
+            .offer_at(&place.buffer, header, place.out, most, writer)
     }
 }

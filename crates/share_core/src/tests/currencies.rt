@@ -2,7 +2,7 @@
 
 use super::{Call, FRAME, Row, TURN, Wanted, on_a_new_link, play, plays_all};
 use crate::Engine;
-use share_base::{Command, Name, Refusal, Reply, Turn};
+use share_base::{Command, Name, Refusal, Reply, Turn, Version};
 use share_model::{Rates, Scripted};
 use std::alloc::Global;
 use std::process::Abort;
@@ -212,7 +212,8 @@ const CASES: [Case; 4] = [
 
 pub(super) fn all<S: Rates + Copy>(rt: &impl Abort, alloc: Global, shelf: S) {
     for case in CASES {
-        on_a_new_link(rt, alloc, shelf, 65536, &[], super::Case::Funded(case));
+        let case = super::Case::Funded(case);
+        on_a_new_link(rt, alloc, shelf, Version::One, 65536, &[], case);
     }
     let rows = [super::Case::Rows(&INFLATED), super::Case::Rows(&CYCLES)];
     plays_all(rt, alloc, shelf, &rows);

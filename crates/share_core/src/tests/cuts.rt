@@ -1,8 +1,11 @@
-//! One frame of fourteen bytes, cut, interrupted and failed at each of its bytes; full buffers.
+//! One frame of fourteen bytes, and in version 2 of nineteen, cut, interrupted and failed at each of its bytes; full
+//! buffers.
 
-use super::{Call, FRAME, Row, TURN, Wanted, on_a_new_link, play, plays_all};
+use super::{
+    Call, FRAME, FRAME_2, FRAME_2_OF_TARIFF_2, Row, TURN, Wanted, on_a_new_link, play, plays_all,
+};
 use crate::Engine;
-use share_base::{Refusal, Turn};
+use share_base::{Refusal, Turn, Version};
 use share_model::{Answer, Rates, Scripted};
 use std::alloc::Global;
 use std::process::Abort;
@@ -40,14 +43,38 @@ struct Shown {
     out: usize,
 }
 
-fn shows<S: Rates>(rt: &impl Abort, alloc: Global, engine: &mut Engine<Scripted, S>, shown: Shown) {
+// The frame where the flow has this tariff.
+fn frame(version: Version, tariff: u64) -> &'static [u8] {
+    match (version, tariff) {
+        (Version::One, _) => &FRAME,
+        (Version::Two, 1) => &FRAME_2,
+        (Version::Two, _) => &FRAME_2_OF_TARIFF_2,
+    }
+}
+
+// How many bytes it has.
+fn length(version: Version) -> u32 {
+    match version {
+        Version::One => 14,
+        Version::Two => 19,
+    }
+}
+
+fn shows<S: Rates>(
+    rt: &impl Abort,
+    alloc: Global,
+    engine: &mut Engine<Scripted, S>,
+    tariff: u64,
+    shown: Shown,
+) {
     let rows = [
         (Call::Events, Wanted::Number(shown.events)),
         (Call::Account(1), Wanted::Number(shown.account)),
         (Call::Tickets(1), Wanted::Number(shown.tickets)),
     ];
     play(rt, alloc, engine, &rows);
-    assert_eq!(rt; engine.writer().bytes(), &FRAME[..shown.out.min(14)]);
+    let frame = frame(engine.version(), tariff);
+    assert_eq!(rt; Some(engine.writer().bytes()), frame.get(..shown.out));
 }
 
 // What j bytes of the frame cost: by the byte, or one cell of 48 and an overhead of 16 at a price of 2.
@@ -67,6 +94,20 @@ const ALL_OUT: Shown = Shown {
     out: 14,
 };
 
+/// The same in version 2.
+const ALL_OUT_2: Shown = Shown {
+    account: 19,
+    out: 19,
+    ..ALL_OUT
+};
+
+fn all_out(version: Version) -> Shown {
+    match version {
+        Version::One => ALL_OUT,
+        Version::Two => ALL_OUT_2,
+    }
+}
+
 // One turn, of which count bytes are accepted, so that `out` are out.
 fn goes_on<S: Rates>(
     rt: &impl Abort,
@@ -77,9 +118,14 @@ fn goes_on<S: Rates>(
     out: u32,
 ) {
     let events = engine.events().saturating_add(1);
-    if out == 14 {
+    let version = engine.version();
+    if out == length(version) {
         play(rt, alloc, engine, &[(turn, Wanted::Whole(count))]);
-        shows(rt, alloc, engine, Shown { events, ..ALL_OUT });
+        let shown = Shown {
+            events,
+            ..all_out(version)
+        };
+        shows(rt, alloc, engine, 1, shown);
         return;
     }
     play(rt, alloc, engine, &[(turn, Wanted::Part(count))]);
@@ -89,7 +135,7 @@ fn goes_on<S: Rates>(
         tickets: 10,
         out: out as usize,
     };
-    shows(rt, alloc, engine, shown);
+    shows(rt, alloc, engine, 1, shown);
 }
 
 // The frame goes out in pieces of k bytes, of m more, and of the rest.
@@ -100,11 +146,12 @@ fn goes_out_in_pieces<S: Rates>(
     k: u32,
     m: u32,
 ) {
-    let first = k.min(14);
-    let second = m.min(14 - first);
-    let rest = 14 - first - second;
+    let length = length(engine.version());
+    let first = k.min(length);
+    let second = m.min(length - first);
+    let rest = length - first - second;
     get_ready(rt, alloc, engine, 1, 0);
-    for (count, out) in [(first, first), (second, first + second), (rest, 14)] {
+    for (count, out) in [(first, first), (second, first + second), (rest, length)] {
         if count > 0 {
             goes_on(rt, alloc, engine, TURN, count, out);
         }
@@ -118,7 +165,7 @@ fn goes_out_byte_by_byte<S: Rates>(
     engine: &mut Engine<Scripted, S>,
 ) {
     get_ready(rt, alloc, engine, 1, 0);
-    for out in 1..15 {
+    for out in 1..=length(engine.version()) {
         goes_on(rt, alloc, engine, Call::Turn(1), 1, out);
     }
 }
@@ -166,16 +213,16 @@ fn fails<S: Rates>(
         tickets: 10,
         out: at.out as usize,
     };
-    shows(rt, alloc, engine, shown);
+    shows(rt, alloc, engine, at.tariff, shown);
     play(rt, alloc, engine, &BROKEN);
-    shows(rt, alloc, engine, shown);
+    shows(rt, alloc, engine, at.tariff, shown);
     play(rt, alloc, engine, &AFTER_A_FAULT);
     let after = Shown {
         events: shown.events.saturating_add(3),
         tickets: 11,
         ..shown
     };
-    shows(rt, alloc, engine, after);
+    shows(rt, alloc, engine, at.tariff, after);
 }
 
 // After an interruption the link is as it was, and the next turn sends the rest.
@@ -192,17 +239,19 @@ fn is_interrupted<S: Rates>(
         tickets: 10,
         out: at.out as usize,
     };
-    shows(rt, alloc, engine, before);
+    let version = engine.version();
+    let length = length(version);
+    shows(rt, alloc, engine, at.tariff, before);
     play(rt, alloc, engine, &[(TURN, Wanted::Is(Turn::Again))]);
-    shows(rt, alloc, engine, before);
-    let whole = Wanted::Whole(14_u32.saturating_sub(at.out));
+    shows(rt, alloc, engine, at.tariff, before);
+    let whole = Wanted::Whole(length.saturating_sub(at.out));
     play(rt, alloc, engine, &[(TURN, whole)]);
     let after = Shown {
         events: before.events.saturating_add(1),
-        account: cost(at.tariff, 14),
-        ..ALL_OUT
+        account: cost(at.tariff, length),
+        ..all_out(version)
     };
-    shows(rt, alloc, engine, after);
+    shows(rt, alloc, engine, at.tariff, after);
 }
 
 const INTERRUPTED_BETWEEN: [Row; 9] = [
@@ -217,16 +266,36 @@ const INTERRUPTED_BETWEEN: [Row; 9] = [
     (Call::Account(1), Wanted::Number(14)),
 ];
 
+/// The same in version 2.
+const INTERRUPTED_BETWEEN_2: [Row; 9] = [
+    (TURN, Wanted::Part(5)),
+    (Call::Events, Wanted::Number(5)),
+    (Call::Account(1), Wanted::Number(0)),
+    (TURN, Wanted::Is(Turn::Again)),
+    (Call::Events, Wanted::Number(5)),
+    (Call::Account(1), Wanted::Number(0)),
+    (TURN, Wanted::Whole(14)),
+    (Call::Events, Wanted::Number(6)),
+    (Call::Account(1), Wanted::Number(19)),
+];
+
 fn is_interrupted_between_two_pieces<S: Rates>(
     rt: &impl Abort,
     alloc: Global,
     engine: &mut Engine<Scripted, S>,
 ) {
+    let version = engine.version();
     get_ready(rt, alloc, engine, 1, 0);
-    play(rt, alloc, engine, &INTERRUPTED_BETWEEN);
-    shows(rt, alloc, engine, ALL_OUT);
+    match version {
+        Version::One => play(rt, alloc, engine, &INTERRUPTED_BETWEEN),
+        Version::Two => play(rt, alloc, engine, &INTERRUPTED_BETWEEN_2),
+    }
+    shows(rt, alloc, engine, 1, all_out(version));
     let counts = engine.writer().counts(alloc).expect(rt, "ample memory");
-    assert_eq!(rt; counts.as_slice(), [5, 9].as_slice());
+    assert_eq!(rt;
+        counts.as_slice(),
+        [5, length(version).saturating_sub(5) as usize].as_slice()
+    );
 }
 
 /// A packet whose frame is in part counts as held.
@@ -283,8 +352,16 @@ pub(super) fn plays<S: Rates>(
 }
 
 // Plays on a new link over a writer that gives these answers.
-fn cut<S: Rates + Copy>(rt: &impl Abort, alloc: Global, shelf: S, script: &[Answer], case: Case) {
-    on_a_new_link(rt, alloc, shelf, 65536, script, super::Case::Cut(case));
+fn cut<S: Rates + Copy>(
+    rt: &impl Abort,
+    alloc: Global,
+    shelf: S,
+    version: Version,
+    script: &[Answer],
+    case: Case,
+) {
+    let case = super::Case::Cut(case);
+    on_a_new_link(rt, alloc, shelf, version, 65536, script, case);
 }
 
 // Where no byte is out, the first call has the answer, and else the second.
@@ -292,33 +369,43 @@ fn cut_at<S: Rates + Copy>(
     rt: &impl Abort,
     alloc: Global,
     shelf: S,
+    version: Version,
     out: u32,
     answer: Answer,
     case: Case,
 ) {
     if out == 0 {
-        cut(rt, alloc, shelf, &[answer], case);
+        cut(rt, alloc, shelf, version, &[answer], case);
     } else {
         let script = [Answer::Accepted(out as usize), answer];
-        cut(rt, alloc, shelf, &script, case);
+        cut(rt, alloc, shelf, version, &script, case);
     }
 }
 
-fn cut_in_pieces<S: Rates + Copy>(rt: &impl Abort, alloc: Global, shelf: S) {
-    for k in 1..15 {
-        for m in 1..15 {
+fn cut_in_pieces<S: Rates + Copy>(rt: &impl Abort, alloc: Global, shelf: S, version: Version) {
+    let length = length(version);
+    for k in 1..=length {
+        for m in 1..=length {
             let script = [Answer::Accepted(k as usize), Answer::Accepted(m as usize)];
-            cut(rt, alloc, shelf, &script, Case::Pieces(k, m));
+            cut(rt, alloc, shelf, version, &script, Case::Pieces(k, m));
         }
     }
 }
 
-fn cut_by_faults<S: Rates + Copy>(rt: &impl Abort, alloc: Global, shelf: S, at: Standing) {
+fn cut_by_faults<S: Rates + Copy>(
+    rt: &impl Abort,
+    alloc: Global,
+    shelf: S,
+    version: Version,
+    at: Standing,
+) {
+    let out = at.out;
     for (answer, asked) in FAULTS {
-        cut_at(rt, alloc, shelf, at.out, answer, Case::Fault(at, asked));
+        let fault = Case::Fault(at, asked);
+        cut_at(rt, alloc, shelf, version, out, answer, fault);
     }
-    let interruption = Case::Interruption(at);
-    cut_at(rt, alloc, shelf, at.out, Answer::Interrupted, interruption);
+    let (answer, interruption) = (Answer::Interrupted, Case::Interruption(at));
+    cut_at(rt, alloc, shelf, version, out, answer, interruption);
 }
 
 const BETWEEN: [Answer; 3] = [
@@ -327,14 +414,41 @@ const BETWEEN: [Answer; 3] = [
     Answer::Accepted(9),
 ];
 
-pub(super) fn all<S: Rates + Copy>(rt: &impl Abort, alloc: Global, shelf: S) {
-    cut(rt, alloc, shelf, &[], Case::Bytes);
-    cut(rt, alloc, shelf, &BETWEEN, Case::InterruptionBetween);
-    cut_in_pieces(rt, alloc, shelf);
-    for out in 0..14 {
-        cut_by_faults(rt, alloc, shelf, Standing { tariff: 1, out });
-        cut_by_faults(rt, alloc, shelf, Standing { tariff: 2, out });
+/// The same in version 2.
+const BETWEEN_2: [Answer; 3] = [
+    Answer::Accepted(5),
+    Answer::Interrupted,
+    Answer::Accepted(14),
+];
+
+fn cut_everywhere<S: Rates + Copy>(
+    rt: &impl Abort,
+    alloc: Global,
+    shelf: S,
+    version: Version,
+    between: &[Answer],
+) {
+    cut(rt, alloc, shelf, version, &[], Case::Bytes);
+    cut(
+        rt,
+        alloc,
+        shelf,
+        version,
+        between,
+        Case::InterruptionBetween,
+    );
+    cut_in_pieces(rt, alloc, shelf, version);
+    for out in 0..length(version) {
+        for tariff in [1, 2] {
+            let at = Standing { tariff, out };
+            cut_by_faults(rt, alloc, shelf, version, at);
+        }
     }
+}
+
+pub(super) fn all<S: Rates + Copy>(rt: &impl Abort, alloc: Global, shelf: S) {
+    cut_everywhere(rt, alloc, shelf, Version::One, &BETWEEN);
+    cut_everywhere(rt, alloc, shelf, Version::Two, &BETWEEN_2);
     let full = [
         super::Case::Rows(&FULL_IN_PART),
         super::Case::Rows(&FULL_AFTER_A_FAULT),

@@ -2,7 +2,7 @@
 
 use super::{Call, FLOW, Row, TURN, Wanted, on_a_new_link, play};
 use crate::Engine;
-use share_base::{FlowNo, Reply, Turn};
+use share_base::{FlowNo, Reply, Turn, Version};
 use share_model::{Answer, Rates, Scripted};
 use std::alloc::Global;
 use std::process::Abort;
@@ -53,6 +53,30 @@ const FRAMES: &[u8; 78] = b"\x4c\x01\0\0\0\x01\0\0\0\x01\0\x01a\
     \x4c\x01\0\0\0\x02\0\0\0\x02\0\x01b\
     \x4c\x01\0\0\0\x03\0\0\0\x01\0\x01c";
 
+/// The same in version 2, under the third tariff.
+const FRAME_2: usize = 18;
+
+const FRAMES_2: &[u8; 108] = b"\x4c\x02\x03\0\0\0\x01\0\0\0\0\0\0\0\x01\0\x01a\
+    \x4c\x02\x03\0\0\0\x02\0\0\0\0\0\0\0\x01\0\x01b\
+    \x4c\x02\x03\0\0\0\x01\0\0\0\0\0\0\0\x02\0\x01a\
+    \x4c\x02\x03\0\0\0\x01\0\0\0\0\0\0\0\x03\0\x01a\
+    \x4c\x02\x03\0\0\0\x02\0\0\0\0\0\0\0\x02\0\x01b\
+    \x4c\x02\x03\0\0\0\x03\0\0\0\0\0\0\0\x01\0\x01c";
+
+fn length(version: Version) -> u32 {
+    match version {
+        Version::One => FRAME as u32,
+        Version::Two => FRAME_2 as u32,
+    }
+}
+
+fn frames(version: Version) -> &'static [u8] {
+    match version {
+        Version::One => FRAMES,
+        Version::Two => FRAMES_2,
+    }
+}
+
 /// The accounts of the flows before the first frame, after the first one, and so on.
 const ACCOUNTS: [[u64; 3]; 7] = [
     [0, 0, 0],
@@ -79,13 +103,13 @@ const BROKEN: [Row; 2] = [
 ];
 
 // The frame at this place, of which k bytes are accepted.
-fn wrote(rt: &impl Abort, place: usize, k: u32) -> Turn {
+fn wrote(rt: &impl Abort, place: usize, k: u32, whole: bool) -> Turn {
     let (flow, seq) = *ORDER.get(place).expect(rt, "a frame");
     Turn::Wrote {
         flow,
         seq,
         k,
-        whole: k as usize == FRAME,
+        whole,
     }
 }
 
@@ -96,8 +120,9 @@ fn torn(rt: &impl Abort, place: usize, j: u32) -> Turn {
 
 // What the writer and the readers show after a fault. Bytes of a part cost a cell.
 fn shows<S: Rates>(rt: &impl Abort, engine: &Engine<Scripted, S>, case: Case) {
-    let sent = case.frames.saturating_mul(FRAME);
-    let bytes = FRAMES.get(..sent.saturating_add(case.out as usize));
+    let version = engine.version();
+    let sent = case.frames.saturating_mul(length(version) as usize);
+    let bytes = frames(version).get(..sent.saturating_add(case.out as usize));
     assert_eq!(rt; Some(engine.writer().bytes()), bytes);
     let paid = case.frames.saturating_add(usize::from(case.out > 0));
     let accounts = ACCOUNTS.get(paid).expect(rt, "accounts");
@@ -119,12 +144,13 @@ pub(super) fn plays<S: Rates>(
     case: Case,
 ) {
     play(rt, alloc, engine, &READY);
+    let length = length(engine.version());
     for place in 0..case.frames {
-        let whole = Wanted::Is(wrote(rt, place, FRAME as u32));
+        let whole = Wanted::Is(wrote(rt, place, length, true));
         play(rt, alloc, engine, &[(TURN, whole)]);
     }
     if case.out > 0 {
-        let part = Wanted::Is(wrote(rt, case.frames, case.out));
+        let part = Wanted::Is(wrote(rt, case.frames, case.out, false));
         play(rt, alloc, engine, &[(TURN, part)]);
     }
     let torn = Wanted::Is(torn(rt, case.frames, case.out));
@@ -135,8 +161,16 @@ pub(super) fn plays<S: Rates>(
 }
 
 // Over a writer that takes these frames whole, then `out` bytes, and then answers this.
-fn failed<S: Rates + Copy>(rt: &impl Abort, alloc: Global, shelf: S, answer: Answer, case: Case) {
-    let mut script = vec![in alloc; Answer::Accepted(FRAME); case.frames].expect(rt, "memory");
+fn failed<S: Rates + Copy>(
+    rt: &impl Abort,
+    alloc: Global,
+    shelf: S,
+    version: Version,
+    answer: Answer,
+    case: Case,
+) {
+    let whole = Answer::Accepted(length(version) as usize);
+    let mut script = vec![in alloc; whole; case.frames].expect(rt, "memory");
     if case.out > 0 {
         script
             .push(Answer::Accepted(case.out as usize))
@@ -147,6 +181,7 @@ fn failed<S: Rates + Copy>(rt: &impl Abort, alloc: Global, shelf: S, answer: Ans
         rt,
         alloc,
         shelf,
+        version,
         65536,
         script.as_slice(),
         super::Case::Fault(case),
@@ -162,13 +197,18 @@ const FAULTS: [(Answer, Call); 3] = [
 ];
 
 /// The n-th write call fails, or the one after it where this one takes some bytes.
-pub(super) fn all<S: Rates + Copy>(rt: &impl Abort, alloc: Global, shelf: S) {
+fn fail_everywhere<S: Rates + Copy>(rt: &impl Abort, alloc: Global, shelf: S, version: Version) {
     for frames in 0..6 {
-        for out in 0..13 {
+        for out in 0..length(version) {
             for (answer, asked) in FAULTS {
                 let case = Case { frames, out, asked };
-                failed(rt, alloc, shelf, answer, case);
+                failed(rt, alloc, shelf, version, answer, case);
             }
         }
     }
+}
+
+pub(super) fn all<S: Rates + Copy>(rt: &impl Abort, alloc: Global, shelf: S) {
+    fail_everywhere(rt, alloc, shelf, Version::One);
+    fail_everywhere(rt, alloc, shelf, Version::Two);
 }

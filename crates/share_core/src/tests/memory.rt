@@ -6,6 +6,8 @@
 //! count the drops of shelves and writers; the rest is seen over the allocator of `.ci/allocator.c` alone, as
 //! `.ci/memory` runs it.
 
+mod long_payloads;
+
 use super::{Call, FLOW, OTHER, Row, Seen, TURN, Wanted, ask, play};
 use crate::Engine;
 use share_base::{Refusal, Reply, Turn};
@@ -413,6 +415,7 @@ enum Case {
     Packets,
     Spent,
     NoMemory,
+    LongPayloads,
 }
 
 fn plays<S: Rates>(rt: &impl Abort, alloc: Global, engine: &mut HeldEngine<S>, case: Case) {
@@ -420,6 +423,7 @@ fn plays<S: Rates>(rt: &impl Abort, alloc: Global, engine: &mut HeldEngine<S>, c
         Case::Packets => drops_packets(rt, alloc, engine),
         Case::Spent => drops_packets_when_spent(rt, alloc, engine),
         Case::NoMemory => takes_no_memory(rt, alloc, engine),
+        Case::LongPayloads => long_payloads::take_no_memory(rt, alloc, engine),
     }
 }
 
@@ -429,7 +433,13 @@ fn all<S: Rates + Copy>(rt: &impl Abort, alloc: Global, shelf: S) {
     is_refused_memory(rt, alloc, shelf, &tokens);
     gives_its_writer(rt, alloc, shelf, &tokens);
     finds_memory_at_last(rt, alloc, shelf, &tokens);
-    for (case, life) in [(Case::Packets, 64), (Case::Spent, 1), (Case::NoMemory, 64)] {
+    let cases = [
+        (Case::Packets, 64),
+        (Case::Spent, 1),
+        (Case::NoMemory, 64),
+        (Case::LongPayloads, 64),
+    ];
+    for (case, life) in cases {
         let mut engine = tokens.engine(rt, alloc, shelf, life).expect(rt, "a link");
         plays(rt, alloc, &mut engine, case);
         drop(engine);

@@ -3,7 +3,7 @@
 
 use super::{Call, FLOW, Row, TURN, Wanted, on_a_new_link, play};
 use crate::Engine;
-use share_base::Turn;
+use share_base::{Turn, Version};
 use share_model::{Answer, Rates, Scripted};
 use std::alloc::Global;
 use std::process::Abort;
@@ -25,11 +25,29 @@ const FRAMES: [u8; 57] = [
     0x51,
 ];
 
+/// Their frames in version 2, of 33 bytes and of 34.
+const FRAMES_2: [u8; 67] = [
+    0x4c, 0x02, 1, 0, 0, 0, 1, 0, 0, 0, 0, 0, 0, 0, 1, 0, 16, 0x61, 0x62, 0x63, 0x64, 0x65, 0x66,
+    0x67, 0x68, 0x69, 0x6a, 0x6b, 0x6c, 0x6d, 0x6e, 0x6f, 0x70, 0x4c, 0x02, 1, 0, 0, 0, 1, 0, 0, 0,
+    0, 0, 0, 0, 2, 0, 17, 0x41, 0x42, 0x43, 0x44, 0x45, 0x46, 0x47, 0x48, 0x49, 0x4a, 0x4b, 0x4c,
+    0x4d, 0x4e, 0x4f, 0x50, 0x51,
+];
+
+fn frames(version: Version) -> &'static [u8] {
+    match version {
+        Version::One => &FRAMES,
+        Version::Two => &FRAMES_2,
+    }
+}
+
 /// A piece: the number of its packet, how many bytes it has, and whether the frame ends with it.
 type Piece = (u32, u32, bool);
 
 /// Each frame in one piece, its header and its payload.
 const WHOLE: [Piece; 2] = [(1, 28, true), (2, 29, true)];
+
+/// The same in version 2.
+const WHOLE_2: [Piece; 2] = [(1, 33, true), (2, 34, true)];
 
 /// The first frame has pieces in the header, up to its end, and in the payload; the second one in the header, over the
 /// border, and in the payload.
@@ -59,6 +77,41 @@ const PARTS_ACCEPTED: [Answer; 18] = [
     Answer::Accepted(1),
     Answer::Interrupted,
     Answer::Accepted(11),
+    Answer::Interrupted,
+    Answer::Accepted(2),
+    Answer::Interrupted,
+    Answer::Accepted(15),
+    Answer::Interrupted,
+    Answer::Accepted(1),
+];
+
+/// The pieces of the frames of version 2, whose headers have five bytes more.
+const PARTS_2: [Piece; 9] = [
+    (1, 3, false),
+    (1, 14, false),
+    (1, 1, false),
+    (1, 14, false),
+    (1, 1, true),
+    (2, 16, false),
+    (2, 2, false),
+    (2, 15, false),
+    (2, 1, true),
+];
+
+/// The answers of a writer that cuts them so.
+const PARTS_ACCEPTED_2: [Answer; 18] = [
+    Answer::Interrupted,
+    Answer::Accepted(3),
+    Answer::Interrupted,
+    Answer::Accepted(14),
+    Answer::Interrupted,
+    Answer::Accepted(1),
+    Answer::Interrupted,
+    Answer::Accepted(14),
+    Answer::Interrupted,
+    Answer::Accepted(1),
+    Answer::Interrupted,
+    Answer::Accepted(16),
     Answer::Interrupted,
     Answer::Accepted(2),
     Answer::Interrupted,
@@ -122,6 +175,7 @@ pub(super) fn plays<S: Rates>(
     case: Case<'_>,
 ) {
     play(rt, alloc, engine, &READY);
+    let frames = frames(engine.version());
     let mut out = 0_usize;
     for piece in case.pieces {
         let turn = if case.is_cut_by_writer {
@@ -131,9 +185,9 @@ pub(super) fn plays<S: Rates>(
         };
         goes_on(rt, alloc, engine, turn, *piece);
         out = out.saturating_add(piece.1 as usize);
-        assert_eq!(rt; engine.writer().bytes(), &FRAMES[..out.min(57)]);
+        assert_eq!(rt; Some(engine.writer().bytes()), frames.get(..out));
     }
-    assert_eq!(rt; out, 57);
+    assert_eq!(rt; out, frames.len());
     play(rt, alloc, engine, &[(TURN, Wanted::Is(Turn::Idle))]);
 }
 
@@ -142,19 +196,27 @@ fn cut<S: Rates + Copy>(
     rt: &impl Abort,
     alloc: Global,
     shelf: S,
+    version: Version,
     script: &[Answer],
     case: Case<'_>,
 ) {
-    on_a_new_link(rt, alloc, shelf, 65536, script, super::Case::Pieces(case));
+    let case = super::Case::Pieces(case);
+    on_a_new_link(rt, alloc, shelf, version, 65536, script, case);
 }
 
 // By the turns.
-fn cut_by_turns<S: Rates + Copy>(rt: &impl Abort, alloc: Global, shelf: S, pieces: &[Piece]) {
+fn cut_by_turns<S: Rates + Copy>(
+    rt: &impl Abort,
+    alloc: Global,
+    shelf: S,
+    version: Version,
+    pieces: &[Piece],
+) {
     let case = Case {
         pieces,
         is_cut_by_writer: false,
     };
-    cut(rt, alloc, shelf, &ALL_ACCEPTED, case);
+    cut(rt, alloc, shelf, version, &ALL_ACCEPTED, case);
 }
 
 // By the writer.
@@ -162,6 +224,7 @@ fn cut_by_writer<S: Rates + Copy>(
     rt: &impl Abort,
     alloc: Global,
     shelf: S,
+    version: Version,
     script: &[Answer],
     pieces: &[Piece],
 ) {
@@ -169,13 +232,21 @@ fn cut_by_writer<S: Rates + Copy>(
         pieces,
         is_cut_by_writer: true,
     };
-    cut(rt, alloc, shelf, script, case);
+    cut(rt, alloc, shelf, version, script, case);
+}
+
+// The length of the first frame. That of the second one is greater by one.
+fn first_length(version: Version) -> u32 {
+    match version {
+        Version::One => 28,
+        Version::Two => 33,
+    }
 }
 
 // Each frame in two pieces, of which the first has k bytes.
-fn cut_at<S: Rates + Copy>(rt: &impl Abort, alloc: Global, shelf: S, k: u32) {
-    let first = 28_u32.saturating_sub(k);
-    let second = 29_u32.saturating_sub(k);
+fn cut_at<S: Rates + Copy>(rt: &impl Abort, alloc: Global, shelf: S, version: Version, k: u32) {
+    let first = first_length(version).saturating_sub(k);
+    let second = first.saturating_add(1);
     let pieces = [
         (1, k, false),
         (1, first, true),
@@ -192,15 +263,25 @@ fn cut_at<S: Rates + Copy>(rt: &impl Abort, alloc: Global, shelf: S, k: u32) {
         Answer::Interrupted,
         Answer::Accepted(second as usize),
     ];
-    cut_by_turns(rt, alloc, shelf, &pieces);
-    cut_by_writer(rt, alloc, shelf, &script, &pieces);
+    cut_by_turns(rt, alloc, shelf, version, &pieces);
+    cut_by_writer(rt, alloc, shelf, version, &script, &pieces);
+}
+
+fn cut_everywhere<S: Rates + Copy>(rt: &impl Abort, alloc: Global, shelf: S, version: Version) {
+    for k in 1..first_length(version) {
+        cut_at(rt, alloc, shelf, version, k);
+    }
 }
 
 pub(super) fn all<S: Rates + Copy>(rt: &impl Abort, alloc: Global, shelf: S) {
-    cut_by_writer(rt, alloc, shelf, &ALL_ACCEPTED, &WHOLE);
-    cut_by_turns(rt, alloc, shelf, &PARTS);
-    cut_by_writer(rt, alloc, shelf, &PARTS_ACCEPTED, &PARTS);
-    for k in 1..28 {
-        cut_at(rt, alloc, shelf, k);
-    }
+    let one = Version::One;
+    cut_by_writer(rt, alloc, shelf, one, &ALL_ACCEPTED, &WHOLE);
+    cut_by_turns(rt, alloc, shelf, one, &PARTS);
+    cut_by_writer(rt, alloc, shelf, one, &PARTS_ACCEPTED, &PARTS);
+    cut_everywhere(rt, alloc, shelf, one);
+    let two = Version::Two;
+    cut_by_writer(rt, alloc, shelf, two, &ALL_ACCEPTED, &WHOLE_2);
+    cut_by_turns(rt, alloc, shelf, two, &PARTS_2);
+    cut_by_writer(rt, alloc, shelf, two, &PARTS_ACCEPTED_2, &PARTS_2);
+    cut_everywhere(rt, alloc, shelf, two);
 }

@@ -7,7 +7,7 @@ mod funding;
 mod queue;
 mod sending;
 
-use share_base::{FlowNo, Name, Reply};
+use share_base::{FlowNo, Name, Reply, Version};
 use share_model::{Answer, GlobalPart, LinkState, Position, Totals};
 use std::alloc::{AllocError, Global};
 
@@ -93,6 +93,7 @@ pub(crate) struct Told {
 #[derive(Drop)]
 pub(crate) struct Plain {
     alloc: Global,
+    version: Version,
     currencies: Vec<Currency>,
     issued: Vec<Issued>,
     tenants: Vec<Tenant>,
@@ -135,6 +136,7 @@ impl Plain {
     /// A new link over a writer that gives these answers and then accepts all.
     pub(crate) fn new(
         alloc: Global,
+        version: Version,
         base: Name,
         life: u64,
         answers: Vec<Answer>,
@@ -143,6 +145,7 @@ impl Plain {
         currencies.push(made(base))?;
         Ok(Plain {
             alloc,
+            version,
             currencies,
             issued: Vec::new(alloc),
             tenants: Vec::new(alloc),
@@ -189,6 +192,14 @@ impl Plain {
 
     fn tenant(&self, flow: u32) -> Option<&Tenant> {
         self.tenants.get(place_of(flow))
+    }
+
+    /// The number of the tariff of a flow.
+    pub(crate) fn tariff_of(&self, flow: FlowNo) -> u64 {
+        match self.tenant(flow.number()) {
+            Some(tenant) => tenant.tariff,
+            None => 0,
+        }
     }
 
     // The number of the open flow of a name.

@@ -5,11 +5,11 @@ mod frames;
 pub mod worlds;
 
 use super::plain::{Plain, Told};
-use super::{name, scripted};
+use super::{arrive, name, scripted};
 use crate::Engine;
 use draws::{Asked, World};
 use frames::Accepted;
-use share_base::{Body, FlowNo, Name, Outcome, Refusal, Reply, Turn};
+use share_base::{Body, FlowNo, Name, Outcome, Refusal, Reply, Turn, Version};
 use share_model::{Rates, Scripted};
 use std::alloc::{AllocError, Global};
 use std::process::Abort;
@@ -85,11 +85,18 @@ impl Met {
     }
 }
 
-fn begun<S: Rates + Copy>(rt: &impl Abort, alloc: Global, shelf: S, world: &World) -> Pair<S> {
+fn begun<S: Rates + Copy>(
+    rt: &impl Abort,
+    alloc: Global,
+    shelf: S,
+    version: Version,
+    world: &World,
+) -> Pair<S> {
     let mut state = world.seed;
     let answers = draws::answers(alloc, &mut state, world).expect(rt, "memory");
-    let engine = scripted(rt, alloc, shelf, world.life, answers.as_slice());
-    let plain = Plain::new(alloc, name(rt, "base"), world.life, answers).expect(rt, "memory");
+    let engine = scripted(rt, alloc, shelf, version, world.life, answers.as_slice());
+    let base = name(rt, "base");
+    let plain = Plain::new(alloc, version, base, world.life, answers).expect(rt, "memory");
     Pair {
         engine,
         plain,
@@ -107,9 +114,9 @@ fn arrives<S: Rates>(
     payload: &[u8],
 ) -> Result<(Outcome, Outcome), AllocError> {
     let body = Body::new(alloc, payload).expect(rt, "a payload");
-    let ours = pair.engine.arrive(flow, body);
+    let ours = arrive(rt, &mut pair.engine, flow, body);
     let plain = pair.plain.arrive(flow, payload)?;
-    frames::keep(alloc, &mut pair.accepted, &plain, payload)?;
+    frames::keep(alloc, &mut pair.accepted, &pair.plain, &plain, payload)?;
     Ok((Outcome::Replied(ours), Outcome::Replied(plain)))
 }
 
@@ -128,7 +135,8 @@ fn answers<S: Rates>(
             Ok((Outcome::Replied(ours), Outcome::Replied(plain)))
         }
         Asked::Arrive(flow, count) => {
-            let payload = draws::payload(alloc, &mut pair.state, count)?;
+            let version = pair.engine.version();
+            let payload = draws::payload(alloc, &mut pair.state, version, count)?;
             let told = arrives(rt, alloc, pair, flow, payload.as_slice());
             drop(payload);
             told
@@ -301,7 +309,8 @@ fn ended<S: Rates>(
     let met = goes_through(rt, alloc, pair, world)?;
     let bytes = pair.engine.writer().bytes();
     assert!(rt; bytes == pair.plain.bytes(), "the bytes of the run");
-    let whole = frames::are_frames(rt, bytes, pair.accepted.as_slice());
+    let version = pair.engine.version();
+    let whole = frames::are_frames(rt, version, bytes, pair.accepted.as_slice());
     assert_eq!(rt; whole, met.whole, "frames of the run");
     Ok(met)
 }
@@ -310,9 +319,10 @@ fn run<S: Rates + Copy>(
     rt: &impl Abort,
     alloc: Global,
     shelf: S,
+    version: Version,
     world: &World,
 ) -> Result<Met, AllocError> {
-    let mut pair = begun(rt, alloc, shelf, world);
+    let mut pair = begun(rt, alloc, shelf, version, world);
     let met = ended(rt, alloc, &mut pair, world);
     drop(pair);
     met

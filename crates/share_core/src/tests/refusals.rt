@@ -2,7 +2,7 @@
 
 use super::{Call, Row, TURN, Wanted, on_a_new_link, play, plays_all};
 use crate::Engine;
-use share_base::{Refusal, Turn};
+use share_base::{Refusal, Turn, Version};
 use share_model::{Rates, Scripted, Tape};
 use std::alloc::Global;
 use std::process::Abort;
@@ -229,7 +229,7 @@ fn lives_end<S: Rates + Copy>(rt: &impl Abort, alloc: Global, shelf: S) {
             &ENDS_WITH_AN_AMENDED_TICKET,
         ] {
             let case = super::Case::Refused(Case::Life(life, rows));
-            on_a_new_link(rt, alloc, shelf, life as u64, &[], case);
+            on_a_new_link(rt, alloc, shelf, Version::One, life as u64, &[], case);
         }
     }
 }

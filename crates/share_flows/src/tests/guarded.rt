@@ -1,10 +1,11 @@
 //! The calls, on packets of one byte. Each is made only if its contract allows it, and is `None` otherwise.
-ghost use Rattle.std.specs.Prelude.{◌≡◌, ◌<◌, ◌^◌, false, IfSome};
+ghost use Rattle.std.specs.Prelude.{◌≡◌, ◌<◌, ◌^◌, false, length, IfSome, IsTrue};
+ghost use Rattle.share_base.specs.Body.{IsHeaderLength};
 ghost use Rattle.share_model.specs.link.Buffers.{buffer_of, is_full};
 ghost use Rattle.share_flows.specs.Places.{Stands};
 
 use crate::{Buffers, Place};
-use share_base::{Body, FlowNo, HEADER_ROOM, Refusal};
+use share_base::{Body, FlowNo, Refusal, Version};
 
 // The first byte of a payload.
 fn byte_of(body: &Body) -> u8 {
@@ -57,8 +58,15 @@ pub(crate) fn is_framed(buffers: &Buffers, flow: FlowNo, framed: &[u8]) -> bool 
     body.framed() == framed
 }
 
-pub(crate) fn stamp(buffers: &mut Buffers, flow: FlowNo, header: &[u8; HEADER_ROOM]) -> bool {
-    if !buffers.is_busy(flow) {
+// Whether the header of a frame is as long.
+fn is_header(bytes: &[u8]) -> bool
+    ensures { IsTrue result → IsHeaderLength (length bytes.now) }
+{
+    bytes.len() == Version::One.header() || bytes.len() == Version::Two.header()
+}
+
+pub(crate) fn stamp(buffers: &mut Buffers, flow: FlowNo, header: &[u8]) -> bool {
+    if !buffers.is_busy(flow) || !is_header(header) {
         return false;
     }
     buffers.stamp(flow, header);
@@ -66,15 +74,11 @@ pub(crate) fn stamp(buffers: &mut Buffers, flow: FlowNo, header: &[u8; HEADER_RO
 }
 
 // Stamps the head packet at the flow's place, which stays good.
-pub(crate) fn stamp_by_place(
-    buffers: &mut Buffers,
-    flow: FlowNo,
-    header: &[u8; HEADER_ROOM],
-) -> bool {
+pub(crate) fn stamp_by_place(buffers: &mut Buffers, flow: FlowNo, header: &[u8]) -> bool {
     match buffers.find(flow) {
         None => false,
         Some(place) => {
-            if !buffers.is_busy_at(&place) {
+            if !buffers.is_busy_at(&place) || !is_header(header) {
                 return false;
             }
             buffers.stamp_at(&place, header);

@@ -1,9 +1,9 @@
 //! That headers and frames are written and read without memory: no contract sees it. Only the allocator of
 //! `.ci/allocator.c` refuses requests, with which `.ci/memory` runs this test.
 
-use super::{PACKETS, ROWS, is_read_again};
-use crate::{Field, header, read_frame};
-use share_base::FlowNo;
+use super::{PACKETS, PACKETS2, ROWS, ROWS2, is_read_again, is_read_again2};
+use crate::{Field, header, header2, read_frame, read_frame2};
+use share_base::{FlowNo, Version};
 use share_model::allocator::WAS_REFUSED;
 use share_model::asks;
 
@@ -14,13 +14,24 @@ fn are_read() -> bool {
             return false;
         }
     }
-    Field::Len.start() == 10
+    for (bytes, answer) in ROWS2 {
+        if read_frame2(bytes) != answer {
+            return false;
+        }
+    }
+    Field::Len.start(Version::One) == 10
 }
 
 // Whether the header of each packet is read again.
 fn are_read_again() -> bool {
     for (flow, seq, len) in PACKETS {
         if !is_read_again(header(FlowNo(flow), seq, len), flow, seq, len) {
+            return false;
+        }
+    }
+    for (flow, seq, tariff, len) in PACKETS2 {
+        let header = header2(FlowNo(flow), seq, tariff, len);
+        if !is_read_again2(header, flow, seq, tariff, len) {
             return false;
         }
     }

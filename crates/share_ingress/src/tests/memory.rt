@@ -5,6 +5,7 @@ ghost use Rattle.std.specs.Prelude.{◌≡◌};
 ghost use Rattle.share_model.specs.lists.Each.{Each};
 
 use crate::tests::queueing::{taken, takes_one};
+use crate::tests::reading::count;
 use crate::{
     Done, Ended, Gate, IngressEnd, IngressReader, Intake, Job, Next, Offered, Why, WhyNot, queue,
     run_workers,
@@ -148,6 +149,52 @@ fn an_item_is_given_once_memory_for_its_payload_is_found(rt: HostRuntime) {
                 assert!(rt; matches!(reader.next(), Next::Ended(Ended::NoMemory)));
             }
         }
+    }
+    panic!(rt; "there is none for good");
+}
+
+// Records for the flow a, with payloads of 5000 and of 8000 bytes.
+fn two_long(rt: &impl Abort, alloc: Global) -> Vec<u8> {
+    let mut bytes = Vec::new(alloc);
+    for size in [5000, 8000] {
+        let length = bytes.len().saturating_add(size);
+        for byte in [1, 97, (size / 256) as u8, (size % 256) as u8] {
+            assert!(rt; bytes.push(byte).is_ok());
+        }
+        assert!(rt; bytes.resize(length.saturating_add(4), 7).is_ok());
+    }
+    bytes
+}
+
+// A reader of these bytes, at most 1448 a read.
+fn in_short_reads<'a>(
+    rt: &impl Abort,
+    alloc: Global,
+    bytes: &'a [u8],
+) -> IngressReader<ScriptedReader<'a>> {
+    let reads = [Got::Bytes(1448)].repeat(alloc, 16).expect(rt, "memory");
+    IngressReader::new(alloc, ScriptedReader::new(reads, bytes), 100)
+        .ok()
+        .expect(rt, "a reader")
+}
+
+#[test]
+fn long_records_are_read_with_no_memory_but_for_their_payloads(rt: HostRuntime) {
+    let bytes = two_long(&rt, rt.alloc());
+    for request in 1..REQUESTS {
+        let mut reader = in_short_reads(&rt, rt.alloc(), bytes.as_slice());
+        let _no = asks!(rt.alloc(), request);
+        let (items, ended) = count(&mut reader);
+        let was_refused = asks!(rt.alloc(), WAS_REFUSED);
+        drop(reader);
+        if !was_refused {
+            assert_eq!(rt; (items, ended), (2, Ended::End));
+            return;
+        }
+        assert_eq!(rt;
+            (items, ended),
+            (usize::from(request - 1) / 2, Ended::NoMemory)
+        );
     }
     panic!(rt; "there is none for good");
 }

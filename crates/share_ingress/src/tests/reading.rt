@@ -33,7 +33,7 @@ pub fn bytewise<'a>(
 }
 
 /// How many items a reader gives, and how it ends.
-fn count<R: TellingReader>(reader: &mut IngressReader<R>) -> (usize, Ended) {
+pub fn count<R: TellingReader>(reader: &mut IngressReader<R>) -> (usize, Ended) {
     for items in 0..MANY {
         match reader.next() {
             Next::Item { .. } => (),
@@ -49,7 +49,7 @@ fn counts_of(alloc: Global, bytes: &[u8]) -> Option<[(usize, Ended); 2]> {
     let at_once = count(&mut whole);
     drop(whole);
     let one_by_one = bytewise(alloc, bytes, MANY, false).ok()?;
-    let mut drops = IngressReader::new(alloc, one_by_one, 2000).ok()?;
+    let mut drops = IngressReader::new(alloc, one_by_one, 20000).ok()?;
     let by_the_byte = count(&mut drops);
     drop(drops);
     Some([at_once, by_the_byte])
@@ -57,11 +57,12 @@ fn counts_of(alloc: Global, bytes: &[u8]) -> Option<[(usize, Ended); 2]> {
 
 #[test]
 fn streams_end_as_their_fields_say(rt: HostRuntime) {
-    let rows: [(&[u8], usize, Ended); 10] = [
+    let rows: [(&[u8], usize, Ended); 11] = [
         (&[], 0, Ended::End),
         (&[1, 97, 0, 1, 97, 1, 97, 0, 2, 98], 1, Ended::Cut),
         (&[1, 97, 0, 1, 97, 0], 1, Ended::BadRecord),
-        (&[1, 97, 0, 1, 97, 1, 97, 5, 211], 1, Ended::BadRecord),
+        (&[1, 97, 0, 1, 97, 1, 97, 5, 211], 1, Ended::Cut),
+        (&[1, 97, 0, 1, 97, 1, 97, 35, 41], 1, Ended::BadRecord),
         (&[1, 65], 0, Ended::BadRecord),
         (&[17], 0, Ended::BadRecord),
         (&[0], 0, Ended::BadRecord),
@@ -75,13 +76,20 @@ fn streams_end_as_their_fields_say(rt: HostRuntime) {
     }
 }
 
+/// A record of this name, with its length before it, and a payload of 9000 bytes.
+fn longest(alloc: Global, name: &[u8]) -> Result<Vec<u8>, AllocError> {
+    let mut bytes = Vec::new(alloc);
+    bytes.extend_from_slice(name)?;
+    bytes.extend_from_slice(&[35, 40])?;
+    for at in 0..9000u64 {
+        bytes.push((at % 251) as u8)?;
+    }
+    Ok(bytes)
+}
+
 #[test]
 fn the_longest_name_and_payload_are_good(rt: HostRuntime) -> Result<(), Fail> {
-    let mut bytes = Vec::new(rt.alloc());
-    bytes.push(16)?;
-    bytes.extend_from_slice(b"a-name_of_16byte")?;
-    bytes.extend_from_slice(&[5, 210])?;
-    bytes.extend_from_slice(&[0; 1490])?;
+    let bytes = longest(rt.alloc(), b"\x10a-name_of_16byte")?;
     assert_eq!(rt;
         counts_of(rt.alloc(), bytes.as_slice()),
         Some([(1, Ended::End), (1, Ended::End)])
@@ -134,6 +142,40 @@ fn an_item_is_the_name_and_the_payload(rt: HostRuntime) {
     gives(&rt, &mut reader, b"b");
     gives(&rt, &mut reader, b"cd");
     drop(reader);
+}
+
+// Checks that a record for the flow a is given if it is read in two parts, and that it is cut without the second one.
+fn is_read_in_parts(rt: &impl Abort, alloc: Global, record: &[u8], place: usize) {
+    let (first, _) = record.split_at(place.min(record.len()));
+    let mut reads = Vec::new(alloc);
+    assert!(rt; reads.push(Got::Bytes(place)).is_ok());
+    let mut reader = IngressReader::new(alloc, ScriptedReader::new(reads, record), 3)
+        .ok()
+        .expect(rt, "a reader");
+    let (_, payload) = record.split_at(4.min(record.len()));
+    gives(rt, &mut reader, payload);
+    assert_eq!(rt;
+        count(&mut reader),
+        (0, Ended::End),
+        "read in parts at {place}"
+    );
+    drop(reader);
+    let mut reader = IngressReader::new(alloc, PlainReader(first), 2)
+        .ok()
+        .expect(rt, "a reader");
+    assert_eq!(rt; count(&mut reader), (0, Ended::Cut), "cut at {place}");
+    drop(reader);
+}
+
+#[test]
+fn the_longest_record_is_read_in_parts(rt: HostRuntime) -> Result<(), Fail> {
+    let record = longest(rt.alloc(), b"\x01a")?;
+    for hundreds in 0..91 {
+        for more in 1..4 {
+            is_read_in_parts(&rt, rt.alloc(), record.as_slice(), hundreds * 100 + more);
+        }
+    }
+    Ok(())
 }
 
 // Checks how many items a reader of the two records gives and how it ends, and that it ends so again.
@@ -190,7 +232,10 @@ fn an_interrupted_read_is_made_again(rt: HostRuntime) {
 /// How many bytes a read asks for.
 const CHUNK: usize = 65536;
 
-/// Gives a pattern over and over, some 100 MB of it.
+/// So many reads are some 100 MB.
+const LONG: usize = 1600;
+
+/// Gives a pattern over and over, in a number of reads.
 #[derive(Drop)]
 struct Flood {
     /// The pattern, repeated far enough that a chunk can begin at each of its bytes.
@@ -227,7 +272,7 @@ impl TellingReader for Flood {
     }
 }
 
-fn flooded(alloc: Global, pattern: &[u8]) -> Result<Flood, AllocError> {
+fn flooded(alloc: Global, pattern: &[u8], chunks: usize) -> Result<Flood, AllocError> {
     let mut bytes = Vec::new(alloc);
     for _ in 0..CHUNK {
         if bytes.len() < CHUNK.saturating_add(pattern.len()) {
@@ -238,13 +283,19 @@ fn flooded(alloc: Global, pattern: &[u8]) -> Result<Flood, AllocError> {
         bytes,
         pattern: pattern.len(),
         at: 0,
-        chunks: 1600,
+        chunks,
     })
 }
 
 // How the flood of a pattern ends.
-fn flood_ends(rt: &impl Abort, alloc: Global, pattern: &[u8], expected: (usize, Ended)) {
-    let flood = flooded(alloc, pattern).expect(rt, "memory");
+fn flood_ends(
+    rt: &impl Abort,
+    alloc: Global,
+    pattern: &[u8],
+    chunks: usize,
+    expected: (usize, Ended),
+) {
+    let flood = flooded(alloc, pattern, chunks).expect(rt, "memory");
     let mut reader = IngressReader::new(alloc, flood, 1 << 40)
         .ok()
         .expect(rt, "a reader");
@@ -255,7 +306,7 @@ fn flood_ends(rt: &impl Abort, alloc: Global, pattern: &[u8], expected: (usize, 
 #[test]
 fn a_flood_of_garbage_ends_at_its_first_field(rt: HostRuntime) {
     for garbage in [0, 65, 255] {
-        flood_ends(&rt, rt.alloc(), &[garbage], (0, Ended::BadRecord));
+        flood_ends(&rt, rt.alloc(), &[garbage], LONG, (0, Ended::BadRecord));
     }
 }
 
@@ -264,7 +315,16 @@ fn a_flood_of_records_is_read_to_its_end(rt: HostRuntime) -> Result<(), Fail> {
     let mut pattern = Vec::new(rt.alloc());
     pattern.extend_from_slice(&[1, 97, 2, 188])?;
     pattern.extend_from_slice(&[b'x'; 700])?;
-    flood_ends(&rt, rt.alloc(), pattern.as_slice(), (148945, Ended::Cut));
+    flood_ends(
+        &rt,
+        rt.alloc(),
+        pattern.as_slice(),
+        LONG,
+        (148945, Ended::Cut),
+    );
+    drop(pattern);
+    let pattern = longest(rt.alloc(), b"\x01a")?;
+    flood_ends(&rt, rt.alloc(), pattern.as_slice(), 160, (1164, Ended::Cut));
     drop(pattern);
     Ok(())
 }

@@ -3,7 +3,7 @@
 use super::linked;
 use super::runs::Run;
 use crate::{Fault, Journal, Recorder};
-use share_base::Outcome;
+use share_base::{Outcome, Version};
 use share_core::Engine;
 use share_model::{Answer, PlainReader, Rates, Scripted, Tape, TellingWriter};
 use share_script::{run_script, write_reply, write_turn};
@@ -33,7 +33,7 @@ fn is_text(rt: &impl Abort, bytes: &[u8], want: &[u8]) {
 }
 
 // The audit of a journal.
-fn audit_of(rt: &impl Abort, alloc: Global, journal: &Journal) -> Tape {
+pub(super) fn audit_of(rt: &impl Abort, alloc: Global, journal: &Journal) -> Tape {
     let mut text = Tape::new(alloc);
     assert_eq!(rt; journal.audit(&mut text), Ok(()));
     text
@@ -197,13 +197,17 @@ pub(super) fn replays<S: Rates + Copy>(
     drop(replies);
 }
 
-// The audit with its first line at its end.
+// The audit with its first line at its end. That of version 2 stays at its front too, and makes it version 2.
 fn edited(rt: &impl Abort, alloc: Global, journal: &Journal) -> Vec<u8> {
+    let (line, kept) = match journal.version() {
+        Version::One => (b"audit 1\n", 8),
+        Version::Two => (b"audit 2\n", 0),
+    };
     let audit = audit_of(rt, alloc, journal);
-    let events = audit.bytes().get(8..).expect(rt, "a first line");
+    let events = audit.bytes().get(kept..).expect(rt, "a first line");
     let mut script = events.to_vec(alloc).expect(rt, "memory");
     drop(audit);
-    script.extend_from_slice(b"audit 1\n").expect(rt, "memory");
+    script.extend_from_slice(line).expect(rt, "memory");
     script
 }
 

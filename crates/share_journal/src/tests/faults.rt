@@ -1,9 +1,10 @@
-//! A run of six frames of three flows, whose writer fails, is interrupted or takes less at each of its calls.
+//! A run of six frames of three flows, whose writer fails, is interrupted or takes less at each of its calls. Its audit
+//! is run again.
 
 use super::runs::{Call, Row, TURN, Wanted};
-use super::{play, recording, scripted};
+use super::{audits, play, recording, scripted};
 use crate::Recorder;
-use share_base::{Event, FlowNo};
+use share_base::{Event, FlowNo, Version};
 use share_model::{Answer, Rates, Scripted};
 use std::alloc::Global;
 use std::process::Abort;
@@ -31,31 +32,61 @@ const READY: [Row; 15] = [
 /// that the first one is behind the others until it has sent all.
 const ORDER: [(u32, u32); 6] = [(1, 1), (1, 2), (1, 3), (2, 1), (2, 2), (3, 1)];
 
-/// How many bytes a frame has.
-const FRAME: u32 = 13;
+/// The frames of a version: how many bytes each has, their bytes, and the accounts of the flows before the first frame,
+/// after the first one, and so on.
+#[derive(Clone, Copy)]
+struct Frames {
+    version: Version,
+    each: u32,
+    bytes: &'static [u8],
+    accounts: [[u64; 3]; 7],
+}
 
-/// Their bytes.
-const FRAMES: &[u8; 78] = b"\x4c\x01\0\0\0\x01\0\0\0\x01\0\x01a\
-    \x4c\x01\0\0\0\x01\0\0\0\x02\0\x01a\
-    \x4c\x01\0\0\0\x01\0\0\0\x03\0\x01a\
-    \x4c\x01\0\0\0\x02\0\0\0\x01\0\x01b\
-    \x4c\x01\0\0\0\x02\0\0\0\x02\0\x01b\
-    \x4c\x01\0\0\0\x03\0\0\0\x01\0\x01c";
-
-/// The accounts of the flows before the first frame, after the first one, and so on.
-const ACCOUNTS: [[u64; 3]; 7] = [
-    [0, 0, 0],
-    [13, 0, 0],
-    [26, 0, 0],
-    [39, 0, 0],
-    [39, 13, 0],
-    [39, 26, 0],
-    [39, 26, 13],
+const FRAMES: [Frames; 2] = [
+    Frames {
+        version: Version::One,
+        each: 13,
+        bytes: b"\x4c\x01\0\0\0\x01\0\0\0\x01\0\x01a\
+            \x4c\x01\0\0\0\x01\0\0\0\x02\0\x01a\
+            \x4c\x01\0\0\0\x01\0\0\0\x03\0\x01a\
+            \x4c\x01\0\0\0\x02\0\0\0\x01\0\x01b\
+            \x4c\x01\0\0\0\x02\0\0\0\x02\0\x01b\
+            \x4c\x01\0\0\0\x03\0\0\0\x01\0\x01c",
+        accounts: [
+            [0, 0, 0],
+            [13, 0, 0],
+            [26, 0, 0],
+            [39, 0, 0],
+            [39, 13, 0],
+            [39, 26, 0],
+            [39, 26, 13],
+        ],
+    },
+    Frames {
+        version: Version::Two,
+        each: 18,
+        bytes: b"\x4c\x02\x01\0\0\0\x01\0\0\0\0\0\0\0\x01\0\x01a\
+            \x4c\x02\x01\0\0\0\x01\0\0\0\0\0\0\0\x02\0\x01a\
+            \x4c\x02\x01\0\0\0\x01\0\0\0\0\0\0\0\x03\0\x01a\
+            \x4c\x02\x01\0\0\0\x02\0\0\0\0\0\0\0\x01\0\x01b\
+            \x4c\x02\x01\0\0\0\x02\0\0\0\0\0\0\0\x02\0\x01b\
+            \x4c\x02\x01\0\0\0\x03\0\0\0\0\0\0\0\x01\0\x01c",
+        accounts: [
+            [0, 0, 0],
+            [18, 0, 0],
+            [36, 0, 0],
+            [54, 0, 0],
+            [54, 18, 0],
+            [54, 36, 0],
+            [54, 36, 18],
+        ],
+    },
 ];
 
 /// What a writer does once it took some frames whole and then `out` bytes of the next one.
 #[derive(Clone, Copy)]
 struct Case {
+    of: &'static Frames,
     frames: usize,
     out: u32,
     then: Then,
@@ -109,14 +140,15 @@ fn shows<S: Rates>(
     rt: &impl Abort,
     alloc: Global,
     recorder: &Recorder<Scripted, S>,
+    of: &Frames,
     frames: usize,
     paid: u32,
 ) {
     let link = recorder.engine();
-    let sent = frames.saturating_mul(FRAME as usize);
-    let bytes = FRAMES.get(..sent.saturating_add(paid as usize));
+    let sent = frames.saturating_mul(of.each as usize);
+    let bytes = of.bytes.get(..sent.saturating_add(paid as usize));
     assert_eq!(rt; Some(link.writer().bytes()), bytes);
-    let accounts = ACCOUNTS.get(frames).expect(rt, "accounts");
+    let accounts = of.accounts.get(frames).expect(rt, "accounts");
     let next = ORDER.get(frames).map(|frame| frame.0);
     for (flow, account) in [1, 2, 3].iter().zip(accounts) {
         let more = if next == Some(*flow) { paid } else { 0 };
@@ -145,12 +177,12 @@ fn breaks<S: Rates>(
 ) {
     let torn = torn(rt, case.frames, case.out, asked);
     play(rt, alloc, recorder, &[torn]);
-    shows(rt, alloc, recorder, case.frames, case.out);
+    shows(rt, alloc, recorder, case.of, case.frames, case.out);
     let totals = recorder.engine().totals();
     let waiting = 5_u64.saturating_sub(case.frames as u64);
     assert_eq!(rt; (totals.torn, totals.waiting), (1, waiting));
     play(rt, alloc, recorder, &BROKEN);
-    shows(rt, alloc, recorder, case.frames, case.out);
+    shows(rt, alloc, recorder, case.of, case.frames, case.out);
 }
 
 // The rest of the frame at hand is sent, and the frames after it.
@@ -160,13 +192,13 @@ fn goes_on<S: Rates>(
     recorder: &mut Recorder<Scripted, S>,
     case: Case,
 ) {
-    let rest = FRAME.saturating_sub(case.out);
+    let rest = case.of.each.saturating_sub(case.out);
     play(rt, alloc, recorder, &[wrote(rt, case.frames, rest, true)]);
     for place in case.frames.saturating_add(1)..6 {
-        play(rt, alloc, recorder, &[wrote(rt, place, FRAME, true)]);
+        play(rt, alloc, recorder, &[wrote(rt, place, case.of.each, true)]);
     }
     play(rt, alloc, recorder, &[(0, TURN, Wanted::Idle, false)]);
-    shows(rt, alloc, recorder, 6, 0);
+    shows(rt, alloc, recorder, case.of, 6, 0);
 }
 
 fn plays<S: Rates>(
@@ -177,7 +209,7 @@ fn plays<S: Rates>(
 ) {
     play(rt, alloc, recorder, &READY);
     for place in 0..case.frames {
-        play(rt, alloc, recorder, &[wrote(rt, place, FRAME, true)]);
+        play(rt, alloc, recorder, &[wrote(rt, place, case.of.each, true)]);
     }
     if case.out > 0 {
         let part = wrote(rt, case.frames, case.out, false);
@@ -195,7 +227,7 @@ fn plays<S: Rates>(
 
 // The answers of the writer, which then takes all.
 fn answers(rt: &impl Abort, alloc: Global, case: Case) -> Vec<Answer> {
-    let whole = Answer::Accepted(FRAME as usize);
+    let whole = Answer::Accepted(case.of.each as usize);
     let mut answers = vec![in alloc; whole; case.frames].expect(rt, "memory");
     if case.out > 0 {
         let part = Answer::Accepted(case.out as usize);
@@ -215,8 +247,9 @@ fn written<S: Rates + Copy>(rt: &impl Abort, alloc: Global, shelf: S, case: Case
     let answers = answers(rt, alloc, case);
     let writer = scripted(rt, alloc, answers.as_slice());
     drop(answers);
-    let mut recorder = recording(rt, alloc, shelf, 64, writer);
+    let mut recorder = recording(rt, alloc, shelf, case.of.version, 64, writer);
     plays(rt, alloc, &mut recorder, case);
+    audits::replays(rt, alloc, shelf, &recorder, 64);
     drop(recorder);
 }
 
@@ -224,18 +257,37 @@ fn written<S: Rates + Copy>(rt: &impl Abort, alloc: Global, shelf: S, case: Case
 const THEN: [Then; 5] = [
     Then::Fails(Answer::Failed, TURN),
     Then::Fails(Answer::Accepted(0), TURN),
-    Then::Fails(Answer::Accepted(13), Call::Tear),
+    Then::Fails(Answer::Accepted(1), Call::Tear),
     Then::Interrupted,
     Then::GoesOn,
 ];
 
-/// Each frame is cut after each count of bytes.
+// The frame at this place is cut after each count of bytes.
+fn cut_at_each<S: Rates + Copy>(
+    rt: &impl Abort,
+    alloc: Global,
+    shelf: S,
+    of: &'static Frames,
+    frames: usize,
+) {
+    for out in 0..of.each {
+        for then in THEN {
+            let case = Case {
+                of,
+                frames,
+                out,
+                then,
+            };
+            written(rt, alloc, shelf, case);
+        }
+    }
+}
+
+/// Each frame is cut, in each version.
 pub(super) fn all<S: Rates + Copy>(rt: &impl Abort, alloc: Global, shelf: S) {
-    for frames in 0..6 {
-        for out in 0..13 {
-            for then in THEN {
-                written(rt, alloc, shelf, Case { frames, out, then });
-            }
+    for of in &FRAMES {
+        for frames in 0..6 {
+            cut_at_each(rt, alloc, shelf, of, frames);
         }
     }
 }

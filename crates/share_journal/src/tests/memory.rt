@@ -5,11 +5,12 @@
 
 use super::runs::{Call, Row, TURN, Wanted};
 use super::{
-    command_of, compare_last, compare_parts, entries, events, has_two, linked, lives_have_limits,
-    paired, pairing, play, push_two, recording,
+    command_of, compare_last, compare_parts, entries, events, has_two, has_version, journal_as,
+    linked, lives_have_limits, paired, pairing, play, push_two, recording,
 };
 use crate::{Journal, Recorder};
-use share_base::{Outcome, Refusal, Reply};
+use share_base::{Outcome, Refusal, Reply, Version};
+use share_core::Engine;
 use share_model::allocator::{IS_HELD_OTHER, MARK_HELD, REFUSE_EACH, WAS_REFUSED};
 use share_model::{PlainWriter, Rates, asks};
 use std::alloc::Global;
@@ -24,8 +25,14 @@ const REQUESTS: u16 = 64;
 /// A recorder over a writer that takes no memory.
 type Sinking<S> = Recorder<PlainWriter<Sink>, S>;
 
-fn sinking<S: Rates + Copy>(rt: &impl Abort, alloc: Global, shelf: S, life: u64) -> Sinking<S> {
-    recording(rt, alloc, shelf, life, PlainWriter(io::sink()))
+fn sinking<S: Rates + Copy>(
+    rt: &impl Abort,
+    alloc: Global,
+    shelf: S,
+    version: Version,
+    life: u64,
+) -> Sinking<S> {
+    recording(rt, alloc, shelf, version, life, PlainWriter(io::sink()))
 }
 
 // A call makes so many requests: as often it was refused, unless the allocator refuses nothing.
@@ -168,7 +175,7 @@ fn is_done_once_found<S: Rates + Copy>(rt: &impl Abort, alloc: Global, shelf: S,
     let mut refusals = 0;
     for request in 1..REQUESTS {
         let _ = asks!(alloc, MARK_HELD);
-        let mut recorder = sinking(rt, alloc, shelf, 64);
+        let mut recorder = sinking(rt, alloc, shelf, Version::One, 64);
         let refused = is_refused_and_done(rt, alloc, &mut recorder, growth, request);
         drop(recorder);
         assert!(rt; !asks!(alloc, IS_HELD_OTHER), "request {request}");
@@ -189,7 +196,7 @@ const READY: [Row; 5] = [
 ];
 
 /// These calls take no memory. The payloads stand in their place, so that making them takes none either.
-const TAKE_NONE: [Row; 24] = [
+const BROUGHT: [Row; 5] = [
     (2, Call::Back(1, "x"), Wanted::Done, true),
     (2, Call::Fund(2, "a"), Wanted::Done, true),
     (3, Call::Send("a", b"hi"), Wanted::Packet(1), true),
@@ -205,8 +212,40 @@ const TAKE_NONE: [Row; 24] = [
         Wanted::Refused(Refusal::NoFlow),
         true,
     ),
-    (0, Call::Turn(5), Wanted::Part(5), true),
-    (0, TURN, Wanted::Whole(9), true),
+];
+
+/// Nor do these, of each version: the writes of a frame, and the close of its flow.
+#[derive(Clone, Copy)]
+struct Frame {
+    version: Version,
+    other: Version,
+    writes: [Row; 2],
+    close: Row,
+}
+
+const FRAMES: [Frame; 2] = [
+    Frame {
+        version: Version::One,
+        other: Version::Two,
+        writes: [
+            (0, Call::Turn(5), Wanted::Part(5), true),
+            (0, TURN, Wanted::Whole(9), true),
+        ],
+        close: (1, Call::Close("a"), Wanted::Closed(0, 14), true),
+    },
+    Frame {
+        version: Version::Two,
+        other: Version::One,
+        writes: [
+            (0, Call::Turn(5), Wanted::Part(5), true),
+            (0, TURN, Wanted::Whole(14), true),
+        ],
+        close: (1, Call::Close("a"), Wanted::Closed(0, 19), true),
+    },
+];
+
+/// Nor do these, between the writes and the close.
+const TORN: [Row; 14] = [
     (0, TURN, Wanted::Idle, false),
     (0, Call::Tear, Wanted::Idle, false),
     (2, Call::Unfund(2), Wanted::Done, true),
@@ -226,7 +265,10 @@ const TAKE_NONE: [Row; 24] = [
         Wanted::Refused(Refusal::NoTicket),
         true,
     ),
-    (1, Call::Close("a"), Wanted::Closed(0, 14), true),
+];
+
+/// And these, behind it.
+const ENDED: [Row; 2] = [
     (
         1,
         Call::Open("a", 0, 1),
@@ -240,10 +282,19 @@ const TAKE_NONE: [Row; 24] = [
 const SPENT: u64 = 24;
 
 // Calls, readers, and taking apart.
-fn calls_take_none<S: Rates>(rt: &impl Abort, alloc: Global, recorder: &mut Sinking<S>) {
+fn calls_take_none<S: Rates>(
+    rt: &impl Abort,
+    alloc: Global,
+    recorder: &mut Sinking<S>,
+    frame: &Frame,
+) {
     play(rt, alloc, recorder, &READY);
     let _ = asks!(alloc, REFUSE_EACH);
-    play(rt, alloc, recorder, &TAKE_NONE);
+    play(rt, alloc, recorder, &BROUGHT);
+    play(rt, alloc, recorder, &frame.writes);
+    play(rt, alloc, recorder, &TORN);
+    play(rt, alloc, recorder, &[frame.close]);
+    play(rt, alloc, recorder, &ENDED);
     let journal = recorder.journal();
     let shown = journal.entries().len() == 24 && journal.entry(25).is_none();
     let counted = events(recorder) == SPENT && recorder.life() == SPENT;
@@ -251,18 +302,33 @@ fn calls_take_none<S: Rates>(rt: &impl Abort, alloc: Global, recorder: &mut Sink
     assert!(rt; shown && counted && !taken, "a request for memory");
 }
 
-// A link and a journal make a recorder, and come back where their lives differ, without memory.
-fn parts_take_none<S: Rates + Copy>(rt: &impl Abort, alloc: Global, shelf: S) {
-    let engine = linked(rt, alloc, shelf, SPENT, PlainWriter(io::sink()));
-    let journal = Journal::new(alloc, 5).expect(rt, "a journal");
-    let longer = Journal::new(alloc, SPENT).expect(rt, "a journal");
-    let _ = asks!(alloc, REFUSE_EACH);
+// A link that makes no recorder with this journal.
+fn without<S: Rates + Drop>(
+    rt: &impl Abort,
+    engine: Engine<PlainWriter<Sink>, S>,
+    journal: Journal,
+) -> Engine<PlainWriter<Sink>, S> {
     let (engine, journal) = pairing::parts_back(rt, engine, journal);
-    let mut recorder = paired(rt, engine, longer);
-    let taken = asks!(alloc, WAS_REFUSED);
     drop(journal);
-    assert!(rt; !taken, "a request for memory");
-    calls_take_none(rt, alloc, &mut recorder);
+    engine
+}
+
+// A link and a journal make a recorder, and come back where their lives or versions differ, without memory.
+fn parts_take_none<S: Rates + Copy>(rt: &impl Abort, alloc: Global, shelf: S, frame: &Frame) {
+    let mut engine = linked(rt, alloc, shelf, SPENT, PlainWriter(io::sink()));
+    let mut journal = Journal::new(alloc, SPENT).expect(rt, "a journal");
+    let shorter = journal_as(rt, alloc, frame.version, 5);
+    let other = journal_as(rt, alloc, frame.other, SPENT);
+    let _ = asks!(alloc, REFUSE_EACH);
+    engine.choose(frame.version);
+    journal.choose(frame.version);
+    let engine = without(rt, engine, shorter);
+    let engine = without(rt, engine, other);
+    let mut recorder = paired(rt, engine, journal);
+    let is = has_version(recorder.engine(), recorder.journal(), frame.version);
+    let taken = asks!(alloc, WAS_REFUSED);
+    assert!(rt; is && !taken, "a request for memory");
+    calls_take_none(rt, alloc, &mut recorder, frame);
     ends_without_memory(rt, alloc, recorder);
 }
 
@@ -276,62 +342,86 @@ fn ends_without_memory<S: Rates + Copy>(rt: &impl Abort, alloc: Global, recorder
     drop(journal);
 }
 
-/// Too long to stand in the place of a payload.
-const PAYLOAD: [u8; 40] = [b'x'; 40];
+/// A payload that is too long to stand in its place, how many bytes its frame has, and the account of a flow that sent
+/// one frame and 20 bytes of the next one.
+#[derive(Clone, Copy)]
+struct Packet {
+    version: Version,
+    payload: &'static [u8],
+    frame: u32,
+    account: u64,
+}
 
-/// Of these packets one is sent, one is torn, one is dropped, and two are refused.
-const HELD: [Row; 12] = [
-    (1, Call::Open("a", 2, 1), Wanted::Opened, true),
-    (1, Call::MakeTicket(10, "base"), Wanted::Ticket(1), true),
-    (1, Call::Fund(1, "a"), Wanted::Done, true),
-    (1, Call::Send("a", &PAYLOAD), Wanted::Packet(1), true),
-    (1, Call::Send("a", &PAYLOAD), Wanted::Packet(2), true),
-    (
-        1,
-        Call::Send("a", &PAYLOAD),
-        Wanted::Refused(Refusal::BufferFull),
-        true,
-    ),
-    (
-        1,
-        Call::Send("zz", &PAYLOAD),
-        Wanted::Refused(Refusal::NoFlow),
-        true,
-    ),
-    (0, TURN, Wanted::Whole(52), true),
-    (0, Call::Turn(20), Wanted::Wrote(1, 2, 20, false), true),
-    (0, Call::Tear, Wanted::TornOf(1, 2, 20), true),
-    (1, Call::Send("a", &PAYLOAD), Wanted::Packet(3), true),
-    (1, Call::Close("a"), Wanted::Closed(1, 72), true),
+const PACKETS: [Packet; 2] = [
+    Packet {
+        version: Version::One,
+        payload: &[b'x'; 40],
+        frame: 52,
+        account: 72,
+    },
+    Packet {
+        version: Version::Two,
+        payload: &[b'x'; 9000],
+        frame: 9017,
+        account: 9037,
+    },
 ];
 
-const REFUSED: [Row; 1] = [(
-    1,
-    Call::Send("a", &PAYLOAD),
-    Wanted::Refused(Refusal::Spent),
-    false,
-)];
+// Of these packets one is sent, one is torn, one is dropped, and two are refused.
+fn held(packet: Packet) -> [Row; 12] {
+    let send = Call::Send("a", packet.payload);
+    let astray = Call::Send("zz", packet.payload);
+    [
+        (1, Call::Open("a", 2, 1), Wanted::Opened, true),
+        (1, Call::MakeTicket(10, "base"), Wanted::Ticket(1), true),
+        (1, Call::Fund(1, "a"), Wanted::Done, true),
+        (1, send, Wanted::Packet(1), true),
+        (1, send, Wanted::Packet(2), true),
+        (1, send, Wanted::Refused(Refusal::BufferFull), true),
+        (1, astray, Wanted::Refused(Refusal::NoFlow), true),
+        (0, TURN, Wanted::Whole(packet.frame), true),
+        (0, Call::Turn(20), Wanted::Wrote(1, 2, 20, false), true),
+        (0, Call::Tear, Wanted::TornOf(1, 2, 20), true),
+        (1, send, Wanted::Packet(3), true),
+        (1, Call::Close("a"), Wanted::Closed(1, packet.account), true),
+    ]
+}
+
+// A packet that comes in a spent life.
+fn late(packet: Packet) -> Row {
+    (
+        1,
+        Call::Send("a", packet.payload),
+        Wanted::Refused(Refusal::Spent),
+        false,
+    )
+}
 
 // What is held of packets that were recorded is given back with the recorder.
-fn keeps_nothing<S: Rates + Copy>(rt: &impl Abort, alloc: Global, shelf: S) {
+fn keeps_nothing<S: Rates + Copy>(rt: &impl Abort, alloc: Global, shelf: S, packet: Packet) {
     let _ = asks!(alloc, MARK_HELD);
-    let mut recorder = sinking(rt, alloc, shelf, 12);
-    play(rt, alloc, &mut recorder, &HELD);
+    let mut recorder = sinking(rt, alloc, shelf, packet.version, 12);
+    play(rt, alloc, &mut recorder, &held(packet));
     drop(recorder);
     assert!(rt; !asks!(alloc, IS_HELD_OTHER), "a recorder");
 }
 
-fn is_dropped<S: Rates>(rt: &impl Abort, alloc: Global, recorder: &mut Sinking<S>) {
-    play(rt, alloc, recorder, &HELD);
+fn is_dropped<S: Rates>(rt: &impl Abort, alloc: Global, recorder: &mut Sinking<S>, packet: Packet) {
+    play(rt, alloc, recorder, &held(packet));
     let _ = asks!(alloc, MARK_HELD);
-    play(rt, alloc, recorder, &REFUSED);
+    play(rt, alloc, recorder, &[late(packet)]);
     assert!(rt; !asks!(alloc, IS_HELD_OTHER), "a payload");
 }
 
 // A packet that is no event leaves nothing.
-fn keeps_no_refused_packet<S: Rates + Copy>(rt: &impl Abort, alloc: Global, shelf: S) {
-    let mut recorder = sinking(rt, alloc, shelf, 12);
-    is_dropped(rt, alloc, &mut recorder);
+fn keeps_no_refused_packet<S: Rates + Copy>(
+    rt: &impl Abort,
+    alloc: Global,
+    shelf: S,
+    packet: Packet,
+) {
+    let mut recorder = sinking(rt, alloc, shelf, packet.version, 12);
+    is_dropped(rt, alloc, &mut recorder, packet);
     drop(recorder);
 }
 
@@ -342,14 +432,18 @@ fn all<S: Rates + Copy>(rt: &impl Abort, alloc: Global, shelf: S) {
     for growth in ONE_MORE_OF_EACH {
         is_done_once_found(rt, alloc, shelf, growth);
     }
-    let _ = asks!(alloc, MARK_HELD);
-    parts_take_none(rt, alloc, shelf);
-    assert!(rt;
-        !asks!(alloc, IS_HELD_OTHER),
-        "of a recorder without memory"
-    );
-    keeps_nothing(rt, alloc, shelf);
-    keeps_no_refused_packet(rt, alloc, shelf);
+    for frame in &FRAMES {
+        let _ = asks!(alloc, MARK_HELD);
+        parts_take_none(rt, alloc, shelf, frame);
+        assert!(rt;
+            !asks!(alloc, IS_HELD_OTHER),
+            "of a recorder without memory"
+        );
+    }
+    for packet in PACKETS {
+        keeps_nothing(rt, alloc, shelf, packet);
+        keeps_no_refused_packet(rt, alloc, shelf, packet);
+    }
 }
 
 #[test]
@@ -366,9 +460,10 @@ fn takes_no_more(rt: &impl Abort, alloc: Global) {
     let mut journal = Journal::new(alloc, 2).expect(rt, "a journal");
     let _ = asks!(alloc, REFUSE_EACH);
     lives_have_limits(rt, alloc);
+    journal.choose(Version::Two);
     push_two(rt, alloc, &mut journal);
     has_two(rt, &journal);
-    let held = journal.entries().len() == 2;
+    let held = journal.entries().len() == 2 && journal.version() == Version::Two;
     let taken = asks!(alloc, WAS_REFUSED);
     drop(journal);
     assert!(rt; held && !taken, "a request for memory");

@@ -2,18 +2,20 @@
 
 mod draws;
 
-use super::{audits, recording, scripted};
+use super::{audits, bring, recording, scripted};
 use crate::{Journal, Recorder};
 use draws::Draws;
-use share_base::{Command, Event, Outcome, Parcel, Reply, Turn};
+use share_base::{Command, Event, Outcome, Parcel, Reply, Turn, Version};
 use share_model::{Rates, Scripted};
 use std::alloc::Global;
 use std::process::Abort;
 
-/// A run: how many calls are made in which life, which write call fails, and from which step on faults are declared.
+/// A run: how many calls are made in which version and life, which write call fails, and from which step on faults are
+/// declared.
 #[derive(Clone, Copy)]
 struct World {
     seed: u64,
+    version: Version,
     steps: u32,
     life: u64,
     fault: usize,
@@ -138,9 +140,10 @@ fn ask<S: Rates>(
         0 if may_tear => Outcome::Turned(recorder.tear()),
         0..6 => {
             let (worker, flow) = (draws.next() % 4, draws.flow(rt));
-            let payload = draws.payload(rt, alloc);
+            let longest = recorder.engine().version().payload();
+            let payload = draws.payload(rt, alloc, longest);
             let parcel = Parcel::new(alloc, payload.as_slice()).expect(rt, "a payload");
-            Outcome::Replied(recorder.arrive(worker, flow, parcel))
+            Outcome::Replied(bring(rt, recorder, worker, flow, parcel))
         }
         6..11 => Outcome::Turned(recorder.turn(draws.most().max(1))),
         _ => {
@@ -175,7 +178,7 @@ fn run<S: Rates + Copy>(rt: &impl Abort, alloc: Global, shelf: S, world: &World,
     let answers = draws.answers(rt, alloc, world.fault);
     let writer = scripted(rt, alloc, answers.as_slice());
     drop(answers);
-    let mut recorder = recording(rt, alloc, shelf, world.life, writer);
+    let mut recorder = recording(rt, alloc, shelf, world.version, world.life, writer);
     let interrupted = drive(rt, alloc, &mut recorder, &mut draws, world);
     audits::replays(rt, alloc, shelf, &recorder, life);
     let met = met_by(rt, recorder.journal(), interrupted);
@@ -198,6 +201,7 @@ fn has_met(rt: &impl Abort, met: &Met, least: u32, faults: u32) {
 /// A life that is spent.
 const WHOLE_LIFE: World = World {
     seed: 88_172_645_463_325_252,
+    version: Version::One,
     steps: 30000,
     life: 20000,
     fault: usize::MAX,
@@ -214,6 +218,7 @@ fn a_whole_life<S: Rates + Copy>(rt: &impl Abort, alloc: Global, shelf: S) {
 
 const FAILING_WRITER: World = World {
     seed: 362_436_069,
+    version: Version::One,
     steps: 4000,
     life: 65536,
     fault: 400,
@@ -222,14 +227,17 @@ const FAILING_WRITER: World = World {
 
 const DECLARED_FAULT: World = World {
     seed: 521_288_629,
+    version: Version::One,
     steps: 4000,
     life: 65536,
     fault: usize::MAX,
     tear: 1500,
 };
 
-fn faults<S: Rates + Copy>(rt: &impl Abort, alloc: Global, shelf: S) {
+// Runs that come to a fault, in this version.
+fn faults<S: Rates + Copy>(rt: &impl Abort, alloc: Global, shelf: S, version: Version) {
     for world in [FAILING_WRITER, DECLARED_FAULT] {
+        let world = World { version, ..world };
         let met = run(rt, alloc, shelf, &world, 16777216);
         has_met(rt, &met, 5, 1);
         assert!(rt; met.interrupted > 20 && met.after > 300, "{met:?}");
@@ -238,5 +246,6 @@ fn faults<S: Rates + Copy>(rt: &impl Abort, alloc: Global, shelf: S) {
 
 pub(super) fn all<S: Rates + Copy>(rt: &impl Abort, alloc: Global, shelf: S) {
     a_whole_life(rt, alloc, shelf);
-    faults(rt, alloc, shelf);
+    faults(rt, alloc, shelf, Version::One);
+    faults(rt, alloc, shelf, Version::Two);
 }

@@ -1,9 +1,11 @@
 //! Worked runs as tables: calls, what they answer, and what the writer, the journal and its audit are after them.
 
 mod holding;
+mod longer_headers;
 
 use holding::HOLDING;
-use share_base::{FlowNo, Outcome, Refusal, Reply, TicketNo, Turn};
+use longer_headers::{DECLARED_FAULT_IN_HEADER, FAULT_IN_HEADER, FIELD_BY_FIELD};
+use share_base::{FlowNo, Outcome, Refusal, Reply, TicketNo, Turn, Version};
 use share_model::Answer;
 
 const FLOW: FlowNo = FlowNo(1);
@@ -57,10 +59,11 @@ pub(super) enum Wanted {
 /// The number of the clerk or the worker (0 for the link), a call, what it answers, and whether it makes an entry.
 pub(super) type Row = (u64, Call, Wanted, bool);
 
-/// The life, what the writer answers, and the calls; then the bytes that the writer holds, the counts of the calls that
-/// it accepted, how many entries there are, and their audit.
+/// The version, the life, what the writer answers, and the calls; then the bytes that the writer holds, the counts of
+/// the calls that it accepted, how many entries there are, and their audit.
 #[derive(Clone, Copy)]
 pub(super) struct Run {
+    pub(super) version: Version,
     pub(super) life: u64,
     pub(super) answers: &'static [Answer],
     pub(super) rows: &'static [Row],
@@ -123,6 +126,7 @@ fn torn(flow: u32, seq: u32, j: u32) -> Outcome {
 }
 
 const EVERY_KIND: Run = Run {
+    version: Version::One,
     life: 10,
     answers: &[Answer::Accepted(5), Answer::Interrupted],
     rows: &[
@@ -177,6 +181,7 @@ const EVERY_KIND: Run = Run {
 };
 
 const FAULT: Run = Run {
+    version: Version::One,
     life: 16,
     answers: &[Answer::Accepted(5), Answer::Accepted(0)],
     rows: &[
@@ -197,6 +202,7 @@ const FAULT: Run = Run {
 };
 
 const DECLARED_FAULT: Run = Run {
+    version: Version::One,
     life: 16,
     answers: &[],
     rows: &[
@@ -213,6 +219,7 @@ const DECLARED_FAULT: Run = Run {
 };
 
 const ONE_EVENT: Run = Run {
+    version: Version::One,
     life: 1,
     answers: &[],
     rows: &[
@@ -232,6 +239,7 @@ const ONE_EVENT: Run = Run {
 
 /// The example of an audit in the specification.
 const TORN_PACKET: Run = Run {
+    version: Version::One,
     life: 65536,
     answers: &[],
     rows: &[
@@ -253,6 +261,7 @@ const TORN_PACKET: Run = Run {
 /// Each kind of command but those of `HOLDING`, one frame by short writes, and refusals, of which one is the writer's
 /// interruption.
 const EVERY_COMMAND: Run = Run {
+    version: Version::One,
     life: 64,
     answers: &[
         Answer::Accepted(5),
@@ -341,7 +350,7 @@ const EVERY_COMMAND: Run = Run {
         send abcdefghijklmnop 7a\nclose abcdefghijklmnop\n",
 };
 
-pub(super) const RUNS: [Run; 7] = [
+pub(super) const RUNS: [Run; 10] = [
     EVERY_KIND,
     FAULT,
     DECLARED_FAULT,
@@ -349,4 +358,7 @@ pub(super) const RUNS: [Run; 7] = [
     TORN_PACKET,
     EVERY_COMMAND,
     HOLDING,
+    FIELD_BY_FIELD,
+    FAULT_IN_HEADER,
+    DECLARED_FAULT_IN_HEADER,
 ];

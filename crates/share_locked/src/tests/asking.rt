@@ -1,9 +1,10 @@
 //! What a new link and its clerks answer.
 ghost use Rattle.std.specs.Prelude.{◌≡◌, []};
+ghost use Rattle.share_base.specs.declared.version.Version.TheVariants.{Two};
 
 use crate::tests::made::{LONG, commanded, name, queued, recording};
 use crate::{Clerk, LinkBrand, Locked, Receipt};
-use share_base::{Command, Refusal, Reply};
+use share_base::{Command, Refusal, Reply, Version};
 use share_ingress::Intake;
 use share_journal::Recorder;
 use share_model::{Rates, Tape};
@@ -71,6 +72,7 @@ fn tells<T: Abort, S: Rates + Copy, L: LinkBrand>(
     intake: Intake,
 )
     requires empty { recorder.entries ≡ [] }
+    requires version { recorder.link.live.version ≡ Two }
     requires link { intake.link ≡ L.link }
     requires nothing { intake.popped ≡ [] }
 {
@@ -81,7 +83,8 @@ fn tells<T: Abort, S: Rates + Copy, L: LinkBrand>(
     assert!(rt; first.number() == 1);
     let mut second = locked.clerk(alloc).expect(rt, "a clerk");
     keeps_receipts(rt, &mut locked, &mut second);
-    assert!(rt; locked.recorder().journal().len() == 2);
+    let recorder = locked.recorder();
+    assert!(rt; recorder.journal().len() == 2 && recorder.engine().version() == Version::Two);
     drop(first);
     drop(second);
     drop(locked);

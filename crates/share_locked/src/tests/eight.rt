@@ -1,5 +1,6 @@
 //! A link with as many workers and clerks as there may be, which settles.
 ghost use Rattle.std.specs.Prelude.{◌≡◌, []};
+ghost use Rattle.share_base.specs.declared.version.Version.TheVariants.{Two};
 ghost use Rattle.share_model.specs.lists.Each.{Each};
 
 use crate::tests::made::{queued, recording};
@@ -93,7 +94,7 @@ fn is_settled<S: Rates + Copy>(
     assert!(rt; settled.tallies.as_slice() == [3; 8].as_slice());
     assert!(rt; settled.arrivals == 24 && settled.commands == 24);
     assert!(rt; settled.recorder.journal().len() == 72);
-    replays(rt, alloc, shelf, LIFE, &settled.recorder, 312);
+    replays(rt, alloc, shelf, LIFE, &settled.recorder, 432);
 }
 
 // The run ended well, and is settled.
@@ -133,6 +134,7 @@ where
     S: Rates + Copy + Send,
     L: LinkBrand + Send,
     requires empty { recorder.entries ≡ [] }
+    requires version { recorder.link.live.version ≡ Two }
     requires link { intake.link ≡ L.link }
     requires nothing { intake.popped ≡ [] }
     requires ends { Each (λ e. e.link ≡ L.link) ends.items }

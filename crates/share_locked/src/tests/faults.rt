@@ -1,5 +1,6 @@
 //! A running link whose writer fails, is interrupted or takes less, and which is stopped while offers are in its queue.
 ghost use Rattle.std.specs.Prelude.{◌≡◌, []};
+ghost use Rattle.share_base.specs.declared.version.Version.TheVariants.{Two};
 ghost use Rattle.share_model.specs.lists.Each.{Each};
 ghost use Rattle.share_journal.specs.Records.{AcceptedNothing};
 
@@ -15,10 +16,11 @@ use std::process::Abort;
 use std::sync::{Mutex, Wait};
 
 /// How many bytes a frame has.
-const FRAME: usize = 13;
+const FRAME: usize = 18;
 
 /// The two frames of the flow a, which pays by the byte.
-const FRAMES: &[u8; 26] = b"\x4c\x01\0\0\0\x01\0\0\0\x01\0\x01a\x4c\x01\0\0\0\x01\0\0\0\x02\0\x01b";
+const FRAMES: &[u8; 36] = b"\x4c\x02\x01\0\0\0\x01\0\0\0\0\0\0\0\x01\0\x01a\
+    \x4c\x02\x01\0\0\0\x01\0\0\0\0\0\0\0\x02\0\x01b";
 
 /// The entries before the first write: three commands and two packets.
 const BEFORE: usize = 5;
@@ -107,6 +109,7 @@ fn runs<T: Abort + Wait, S: Rates + Copy, L: LinkBrand>(
     wanted: Outcomes,
 )
     requires empty { recorder.entries ≡ [] }
+    requires version { recorder.link.live.version ≡ Two }
     requires link { intake.link ≡ L.link }
     requires nothing { intake.popped ≡ [] }
     requires ends { Each (λ e. e.link ≡ L.link) ends.items }
@@ -169,7 +172,7 @@ fn cut_at<T: Abort + Wait, S: Rates + Copy>(rt: &T, alloc: Global, shelf: S, byt
     let whole = bytes == 0 || bytes == FRAME;
     let drained = Outcomes {
         end: LinkEnd::Drained,
-        bytes: 26,
+        bytes: 36,
         writes: if whole { 2 } else { 3 },
         torn: false,
     };
@@ -184,10 +187,10 @@ fn calls(k: usize) -> usize {
 
 // Each call takes at most k bytes.
 fn shortened_to<T: Abort + Wait, S: Rates + Copy>(rt: &T, alloc: Global, shelf: S, k: usize) {
-    let answers = vec![in alloc; Answer::Accepted(k); 26].expect(rt, "memory");
+    let answers = vec![in alloc; Answer::Accepted(k); 36].expect(rt, "memory");
     let drained = Outcomes {
         end: LinkEnd::Drained,
-        bytes: 26,
+        bytes: 36,
         writes: calls(k).saturating_mul(2),
         torn: false,
     };
@@ -196,10 +199,10 @@ fn shortened_to<T: Abort + Wait, S: Rates + Copy>(rt: &T, alloc: Global, shelf: 
 }
 
 pub(super) fn all<T: Abort + Wait, S: Rates + Copy>(rt: &T, alloc: Global, shelf: S) {
-    for bytes in 0..26 {
+    for bytes in 0..36 {
         cut_at(rt, alloc, shelf, bytes);
     }
-    for k in 1..14 {
+    for k in 1..19 {
         shortened_to(rt, alloc, shelf, k);
     }
 }

@@ -1,5 +1,6 @@
 //! Holds, their ends and amounts that change under the lock: answers, receipts, and a link that ends with a held flow.
 ghost use Rattle.std.specs.Prelude.{◌≡◌, []};
+ghost use Rattle.share_base.specs.declared.version.Version.TheVariants.{Two};
 ghost use Rattle.share_model.specs.lists.Each.{Each};
 
 use crate::tests::made::{
@@ -19,7 +20,7 @@ use std::process::Abort;
 use std::sync::{Mutex, Wait};
 
 /// The frame of the first packet.
-const FRAME: &[u8] = b"\x4c\x01\0\0\0\x01\0\0\0\x01\0\x01a";
+const FRAME: &[u8] = b"\x4c\x02\x01\0\0\0\x01\0\0\0\0\0\0\0\x01\0\x01a";
 
 /// A command, and the number and the reply that it gets.
 type Row = (Command, u64, Reply);
@@ -126,7 +127,7 @@ fn holds<T: Abort + Wait, S: Rates, L: LinkBrand>(
 
 // The rest of the frame goes out, and no more.
 fn sends_the_rest<S: Rates, L: LinkBrand>(rt: &impl Abort, locked: &mut Locked<Tape, S, L>) {
-    assert!(rt; locked.turn(65535) == wrote(8, true));
+    assert!(rt; locked.turn(65535) == wrote(13, true));
     assert!(rt; locked.turn(65535) == Turn::Idle);
 }
 
@@ -190,6 +191,7 @@ fn held_in_mid_frame<T: Abort + Wait, S: Rates + Copy, L: LinkBrand>(
     ends: Vec<IngressEnd>,
 )
     requires empty { recorder.entries ≡ [] }
+    requires version { recorder.link.live.version ≡ Two }
     requires link { intake.link ≡ L.link }
     requires nothing { intake.popped ≡ [] }
     requires ends { Each (λ e. e.link ≡ L.link) ends.items }
@@ -236,6 +238,7 @@ fn held_to_the_end<T: Abort + Wait, S: Rates + Copy, L: LinkBrand>(
     ends: Vec<IngressEnd>,
 )
     requires empty { recorder.entries ≡ [] }
+    requires version { recorder.link.live.version ≡ Two }
     requires link { intake.link ≡ L.link }
     requires nothing { intake.popped ≡ [] }
     requires ends { Each (λ e. e.link ≡ L.link) ends.items }

@@ -1,10 +1,11 @@
 //! New links; and commands, offers and settlings whose answers are known.
 ghost use Rattle.std.specs.Prelude.{◌≡◌, [], IfSome};
+ghost use Rattle.share_base.specs.declared.version.Version.TheVariants.{Two};
 ghost use Rattle.share_model.specs.lists.Each.{Each};
 ghost use Rattle.share_journal.specs.Records.{AcceptedNothing};
 
 use crate::{Clerk, LinkBrand, Locked, Port, Settled, WhyUnsettled, settle};
-use share_base::{Command, FlowNo, Name, Parcel, Reply, TicketNo, Turn};
+use share_base::{Command, FlowNo, Name, Parcel, Reply, TicketNo, Turn, Version};
 use share_core::Engine;
 use share_ingress::{IngressEnd, Intake, Offered, queue};
 use share_journal::{Journal, Recorder};
@@ -16,6 +17,7 @@ use std::sync::Wait;
 /// A life that no example here spends.
 pub(super) const LONG: u64 = 65536;
 
+// A new link of version 2.
 fn linked<W: TellingWriter + Drop, S: Rates + Copy>(
     rt: &impl Abort,
     alloc: Global,
@@ -23,12 +25,15 @@ fn linked<W: TellingWriter + Drop, S: Rates + Copy>(
     life: u64,
     writer: W,
 ) -> Engine<W, S>
-    ensures { result.writer ≡ writer }
+    ensures writer { result.writer ≡ writer }
+    ensures version { result.live.version ≡ Two }
 {
-    Engine::new(alloc, shelf, life, writer).expect(rt, "a link")
+    let mut engine = Engine::new(alloc, shelf, life, writer).expect(rt, "a link");
+    engine.choose(Version::Two);
+    engine
 }
 
-/// A recorder of a new link with this life, over a writer that has accepted nothing.
+/// A recorder of a new link of version 2 with this life, over a writer that has accepted nothing.
 pub(super) fn recording<W: TellingWriter + Drop, S: Rates + Copy>(
     rt: &impl Abort,
     alloc: Global,
@@ -37,13 +42,15 @@ pub(super) fn recording<W: TellingWriter + Drop, S: Rates + Copy>(
     writer: W,
 ) -> Recorder<W, S>
     requires { IfSome (W.told writer) AcceptedNothing }
-    ensures { result.entries ≡ [] }
+    ensures empty { result.entries ≡ [] }
+    ensures version { result.link.live.version ≡ Two }
 {
     let engine = linked(rt, alloc, shelf, life, writer);
-    let journal = Journal::new(alloc, life).expect(rt, "a journal");
+    let mut journal = Journal::new(alloc, life).expect(rt, "a journal");
+    journal.choose(Version::Two);
     match Recorder::new(engine, journal) {
         Ok(recorder) => recorder,
-        Err(_) => panic!(rt; "both are new, and of one life"),
+        Err(_) => panic!(rt; "both are new, and of one life and version"),
     }
 }
 

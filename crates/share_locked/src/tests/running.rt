@@ -1,5 +1,6 @@
 //! A link that is served in a thread of its own.
 ghost use Rattle.std.specs.Prelude.{◌≡◌, []};
+ghost use Rattle.share_base.specs.declared.version.Version.TheVariants.{Two};
 
 use crate::tests::made::{LONG, entries_of, offered, queued, recording};
 use crate::{LinkBrand, LinkEnd, Locked, Port, Stop, serve_while};
@@ -80,6 +81,7 @@ where
     S: Rates + Copy + Send,
     L: LinkBrand + Send,
     requires empty { recorder.entries ≡ [] }
+    requires version { recorder.link.live.version ≡ Two }
     requires link { intake.link ≡ L.link }
     requires nothing { intake.popped ≡ [] }
 {

@@ -1,5 +1,6 @@
 //! Settling: the answers if something is missing or unsent, and if all is there.
 ghost use Rattle.std.specs.Prelude.{◌≡◌, []};
+ghost use Rattle.share_base.specs.declared.version.Version.TheVariants.{Two};
 ghost use Rattle.share_model.specs.lists.Each.{Each};
 
 use crate::tests::made::{
@@ -25,6 +26,7 @@ fn nothing<T: Abort, S: Rates + Copy, L: LinkBrand>(
     ends: Vec<IngressEnd>,
 )
     requires empty { recorder.entries ≡ [] }
+    requires version { recorder.link.live.version ≡ Two }
     requires link { intake.link ≡ L.link }
     requires nothing { intake.popped ≡ [] }
     requires ends { Each (λ e. e.link ≡ L.link) ends.items }
@@ -44,6 +46,7 @@ fn an_end_is_missing<T: Abort, S: Rates + Copy, L: LinkBrand>(
     ends: Vec<IngressEnd>,
 )
     requires empty { recorder.entries ≡ [] }
+    requires version { recorder.link.live.version ≡ Two }
     requires link { intake.link ≡ L.link }
     requires nothing { intake.popped ≡ [] }
     requires ends { Each (λ e. e.link ≡ L.link) ends.items }
@@ -86,6 +89,7 @@ fn a_clerk_is_missing<T: Abort, S: Rates + Copy, L: LinkBrand>(
     ends: Vec<IngressEnd>,
 )
     requires empty { recorder.entries ≡ [] }
+    requires version { recorder.link.live.version ≡ Two }
     requires link { intake.link ≡ L.link }
     requires nothing { intake.popped ≡ [] }
     requires ends { Each (λ e. e.link ≡ L.link) ends.items }
@@ -144,8 +148,11 @@ fn together<L: LinkBrand>(
     both
 }
 
-// Admits the one offer of a queue.
-fn admits_one<T: Abort + Wait, S: Rates, L: LinkBrand>(rt: &T, locked: &mut Locked<Tape, S, L>) {
+/// Admits the one offer of a queue.
+pub(super) fn admits_one<T: Abort + Wait, S: Rates, L: LinkBrand>(
+    rt: &T,
+    locked: &mut Locked<Tape, S, L>,
+) {
     let admitted = Admit::Admitted {
         worker: 1,
         n: 1,
@@ -162,7 +169,7 @@ fn sends_it<S: Rates, L: LinkBrand>(rt: &impl Abort, locked: &mut Locked<Tape, S
     let wrote = Turn::Wrote {
         flow: FlowNo(1),
         seq: 1,
-        k: 13,
+        k: 18,
         whole: true,
     };
     assert!(rt; locked.turn(65535) == wrote);
@@ -178,6 +185,7 @@ fn a_frame_is_unsent<T: Abort + Wait, S: Rates + Copy, L: LinkBrand>(
     ends: Vec<IngressEnd>,
 )
     requires empty { recorder.entries ≡ [] }
+    requires version { recorder.link.live.version ≡ Two }
     requires link { intake.link ≡ L.link }
     requires nothing { intake.popped ≡ [] }
     requires ends { Each (λ e. e.link ≡ L.link) ends.items }
@@ -199,7 +207,7 @@ fn a_frame_is_unsent<T: Abort + Wait, S: Rates + Copy, L: LinkBrand>(
     assert!(rt; ends.len() == 1 && clerks.len() == 1);
     sends_it(rt, &mut locked);
     let recorder = settled(rt, alloc, locked, ends, clerks, (&[1], 1, 3));
-    let frame = b"\x4c\x01\0\0\0\x01\0\0\0\x01\0\x01a";
+    let frame = b"\x4c\x02\x01\0\0\0\x01\0\0\0\0\0\0\0\x01\0\x01a";
     assert!(rt; has(&recorder, 5, frame));
     drop(recorder);
 }

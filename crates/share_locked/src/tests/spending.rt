@@ -1,5 +1,6 @@
 //! A life that is spent while an offer is queued.
 ghost use Rattle.std.specs.Prelude.{◌≡◌, []};
+ghost use Rattle.share_base.specs.declared.version.Version.TheVariants.{Two};
 ghost use Rattle.share_model.specs.lists.Each.{Each};
 
 use crate::tests::made::{
@@ -37,6 +38,7 @@ fn spent<T: Abort + Wait, S: Rates + Copy, L: LinkBrand>(
     ends: Vec<IngressEnd>,
 )
     requires empty { recorder.entries ≡ [] }
+    requires version { recorder.link.live.version ≡ Two }
     requires link { intake.link ≡ L.link }
     requires nothing { intake.popped ≡ [] }
     requires ends { Each (λ e. e.link ≡ L.link) ends.items }

@@ -1,5 +1,6 @@
 //! A link that is stopped while offers are in its queue.
 ghost use Rattle.std.specs.Prelude.{◌≡◌, []};
+ghost use Rattle.share_base.specs.declared.version.Version.TheVariants.{Two};
 ghost use Rattle.share_model.specs.lists.Each.{Each};
 
 use crate::tests::made::{LONG, offering, open_and_fund, queued, recording};
@@ -13,7 +14,7 @@ use std::process::Abort;
 use std::sync::{Mutex, Wait};
 
 /// How many bytes two frames of one byte have.
-const TWO_FRAMES: usize = 26;
+const TWO_FRAMES: usize = 36;
 
 fn written<T: Wait, S: Rates, L: LinkBrand>(rt: &T, port: &Port<Tape, S, L>) -> usize {
     port.lock(rt).recorder().engine().writer().bytes().len()
@@ -36,6 +37,7 @@ fn stopped<T: Abort + Wait, S: Rates + Copy, L: LinkBrand>(
     ends: Vec<IngressEnd>,
 )
     requires empty { recorder.entries ≡ [] }
+    requires version { recorder.link.live.version ≡ Two }
     requires link { intake.link ≡ L.link }
     requires nothing { intake.popped ≡ [] }
     requires ends { Each (λ e. e.link ≡ L.link) ends.items }

@@ -1,5 +1,6 @@
 //! A link that runs with all its threads, and settles.
 ghost use Rattle.std.specs.Prelude.{◌≡◌, []};
+ghost use Rattle.share_base.specs.declared.version.Version.TheVariants.{Two};
 ghost use Rattle.share_model.specs.lists.Each.{Each};
 
 use crate::tests::made::{commanded, name, queued, recording, without_last};
@@ -280,7 +281,7 @@ fn is_settled<S: Rates + Copy>(
     assert!(rt; journal.len() == 14);
     let a = name(rt, "a");
     assert!(rt; place_of(rt, journal, a, 0x61) < place_of(rt, journal, a, 0x62));
-    replays(rt, alloc, shelf, LIFE, &settled.recorder, 39);
+    replays(rt, alloc, shelf, LIFE, &settled.recorder, 54);
 }
 
 // Checks that the run ended well, and is settled.
@@ -321,6 +322,7 @@ where
     S: Rates + Copy + Send,
     L: LinkBrand + Send,
     requires empty { recorder.entries ≡ [] }
+    requires version { recorder.link.live.version ≡ Two }
     requires link { intake.link ≡ L.link }
     requires nothing { intake.popped ≡ [] }
     requires ends { Each (λ e. e.link ≡ L.link) ends.items }

@@ -1,5 +1,6 @@
 //! An offer is queued while the link waits for its writer.
 ghost use Rattle.std.specs.Prelude.{◌≡◌, []};
+ghost use Rattle.share_base.specs.declared.version.Version.TheVariants.{Two};
 
 use crate::tests::made::{LONG, offered, open_and_fund, queued, recording};
 use crate::{Admit, LinkBrand, Locked, Port};
@@ -98,7 +99,7 @@ fn writes<T: Abort + Threads + Wait + Sync, S: Rates, L: LinkBrand>(
     let wrote = Turn::Wrote {
         flow: FlowNo(1),
         seq: 1,
-        k: 13,
+        k: 18,
         whole: true,
     };
     assert!(rt; turned(rt, alloc, port, end, called, word) == wrote);
@@ -120,6 +121,7 @@ fn is_written<T: Abort + Threads + Wait + Sync, S: Rates + Copy, L: LinkBrand>(
     word: &AtomicU64,
 )
     requires empty { recorder.entries ≡ [] }
+    requires version { recorder.link.live.version ≡ Two }
     requires link { intake.link ≡ L.link }
     requires nothing { intake.popped ≡ [] }
 {

@@ -5,6 +5,7 @@ pub mod ChangeLaws
 pub mod CurrencyLaws
 pub mod FlowLaws
 pub mod Held
+pub mod IssueLaws
 pub mod LawsHold
 pub mod Long
 pub mod SettleLaws

@@ -5,4 +5,6 @@ pub mod FieldLaws
 pub mod FrameLaws
 pub mod HoldLaws
 pub mod PayloadLaws
+pub mod TariffLaws
+pub mod VersionLaws
 pub mod TurnLaws

@@ -3,6 +3,7 @@ pub mod BillLaws
 pub mod BoundLaws
 pub mod BytesLaws
 pub mod Cases
+pub mod ChainLaws
 pub mod CostLaws
 pub mod CountLaws
 pub mod FoldLaws
@@ -14,6 +15,7 @@ pub mod Laws
 pub mod NumberLaws
 pub mod PacketLaws
 pub mod QueueLaws
+pub mod ReadingLaws
 pub mod ShareLaws
 pub mod SoundCloseLaws
 pub mod SoundHoldLaws

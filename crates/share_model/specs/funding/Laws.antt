@@ -2,8 +2,8 @@
 use Rattle.std.specs.Prelude.{◌≡◌, ◌≤◌, ◌↔◌, ℕ, suc, true, false, ◌+◌, ◌^◌, min, List, sum_by, bytes_eq, None}
 use Rattle.share_model.specs.declared.funding.Ticket.{Ticket}
 use Rattle.share_model.specs.declared.funding.OpenFlow.{OpenFlow}
-use Rattle.share_model.specs.funding.Graph.{NameBytes, base, Graph, funding, act, is_active, active, val, worth}
-use Rattle.share_model.specs.funding.Graph.{tickets, is_active_flow, chain, chain_within, is_deep}
+use Rattle.share_model.specs.funding.Graph.{NameBytes, base, Graph, denominated_in, funding, act, is_active, active}
+use Rattle.share_model.specs.funding.Graph.{val, worth, tickets, is_active_flow, chain, chain_within, is_deep}
 use Rattle.share_model.specs.funding.Changes.{make_currency, remove_currency, make_ticket, remove_ticket_refusal}
 use Rattle.share_model.specs.funding.Changes.{remove_ticket, fund_currency, add_flow}
 use Rattle.share_model.specs.lists.Each.{Each}
@@ -12,6 +12,10 @@ use Rattle.share_model.specs.funding.Kept.{is_awake, kept_worth, IsCached}
 -- what the tickets that fund a flow are worth together, before the cap
 abbrev pub uncapped_tickets : Graph → ℕ → ℕ
 uncapped_tickets g f = sum_by (worth g 9) (funding g.tickets f)
+
+-- what is issued of a currency: the amounts of all tickets that are denominated in it, active or not
+abbrev pub issued_amount : Graph → NameBytes → ℕ
+issued_amount g c = sum_by (λ (t : Ticket). t.amount) (denominated_in g.tickets c)
 
 -- The tickets that fund all flows are together worth at most the active amount of `base`, before the cap and after it.
 -- While that amount is at most 2^20, the cap lowers no sum.

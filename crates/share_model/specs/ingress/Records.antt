@@ -12,7 +12,7 @@ pub record Item : Type 0 where
   pub name : List ℕ
   pub payload : List ℕ
 
--- a name, and 1 to 1490 bytes
+-- a name, and 1 to 9000 bytes
 pub record IsItem (i : Item) : Type 0 where
   pub name : is_name i.name ≡ true
   pub payload : is_payload_length (length i.payload) ≡ true

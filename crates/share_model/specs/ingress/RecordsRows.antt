@@ -34,12 +34,20 @@ bad_after_one = record {
   ends = bad_name_length 0 [] refl refl;
 }
 
--- the second payload would have 1491 bytes
-too_long_after_one : IsRecords (1 ∷ 97 ∷ 0 ∷ 1 ∷ 97 ∷ 1 ∷ 97 ∷ 5 ∷ 211 ∷ []) (a_item ∷ []) BadRecord
-too_long_after_one = record {
+-- the second payload would have 1491 bytes, of which there is none
+missing_after_one : IsRecords (1 ∷ 97 ∷ 0 ∷ 1 ∷ 97 ∷ 1 ∷ 97 ∷ 5 ∷ 211 ∷ []) (a_item ∷ []) Cut
+missing_after_one = record {
   rest = 1 ∷ 97 ∷ 5 ∷ 211 ∷ [];
   front = record { good = (a_good, tt); bytes = refl };
-  ends = bad_length (codes "a") 5 211 [] refl refl refl;
+  ends = cut_in_payload (codes "a") 5 211 [] refl refl (lit< tt) refl;
+}
+
+-- the second payload would have 9001 bytes
+too_long_after_one : IsRecords (1 ∷ 97 ∷ 0 ∷ 1 ∷ 97 ∷ 1 ∷ 97 ∷ 35 ∷ 41 ∷ []) (a_item ∷ []) BadRecord
+too_long_after_one = record {
+  rest = 1 ∷ 97 ∷ 35 ∷ 41 ∷ [];
+  front = record { good = (a_good, tt); bytes = refl };
+  ends = bad_length (codes "a") 35 41 [] refl refl refl;
 }
 
 none : IsRecords [] [] End

@@ -6,7 +6,6 @@ use Rattle.share_base.specs.declared.command.Reply.TheVariants.{Packet as Packet
 use Rattle.share_model.specs.declared.funding.OpenFlow.{OpenFlow as FlowEntry}
 use Rattle.share_model.specs.link.Books.{is_held}
 use Rattle.share_model.specs.link.Buffers.{Buffer, buffer_of, push_in, is_full}
-use Rattle.share_model.specs.stride.Moves.{next}
 use Rattle.share_model.specs.funding.Graph.{NameBytes}
 use Rattle.share_model.specs.funding.Changes.{flow_named, set_active}
 use Rattle.share_model.specs.link.Live.{Live, with_level_queue, with_one_event}

@@ -19,6 +19,14 @@ account_in (Some b) = b.account
 abbrev pub account_of : List Book → ℕ → ℕ
 account_of books f = account_in (find (is_book_of f) books)
 
+-- the number of a flow's tariff, and 0 if it is not open
+abbrev pub tariff_in : Option Book → ℕ
+tariff_in None = 0
+tariff_in (Some b) = b.tariff
+
+abbrev pub tariff_of : List Book → ℕ → ℕ
+tariff_of books f = tariff_in (find (is_book_of f) books)
+
 -- Holds
 
 -- whether a flow is held: no flow is that is not open

@@ -2,6 +2,8 @@
 use Rattle.std.specs.Prelude.{◌≡◌, ◌<◌, ◌≤◌, ◌^◌, ℕ, Bool, true, List, length, nat_lt}
 use Rattle.std.specs.List.{list_all}
 use Rattle.share_base.specs.Name.{is_name}
+use Rattle.share_base.specs.Version.{max_payload}
+use Rattle.share_base.specs.declared.version.Version.{Version}
 use Rattle.share_base.specs.declared.command.Command.{Command}
 use Rattle.share_base.specs.declared.command.Command.TheVariants.{MakeCurrency, RemoveCurrency, MakeTicket}
 use Rattle.share_base.specs.declared.command.Command.TheVariants.{RemoveTicket, FundCurrency, FundFlow, Unfund}
@@ -16,14 +18,10 @@ IsNumber n = n < 2 ^ 64
 abbrev pub is_byte : ℕ → Bool
 is_byte b = nat_lt b 256
 
--- the longest body of a packet, in bytes
-abbrev pub max_payload : ℕ
-max_payload = 1490
-
--- a body is 1 to 1490 bytes
-pub record IsBody (bs : List ℕ) : Type 0 where
+-- a body is at least one byte, and no more than a frame of the version carries: 1490 or 9000
+pub record IsBody (version : Version) (bs : List ℕ) : Type 0 where
   pub some : 1 ≤ length bs
-  pub few : length bs ≤ max_payload
+  pub few : length bs ≤ max_payload version
   pub bytes : list_all is_byte bs ≡ true
 
 abbrev pub HasCommandFields : Command → Type 0

@@ -3,6 +3,7 @@
 -- the tickets of each flow from scratch.
 use Rattle.std.specs.Prelude.{ℕ, ◌+◌, ◌==◌, Bool, false, List, [], map, Option, None, Some}
 use Rattle.share_base.specs.declared.refusal.Refusal.{Refusal}
+use Rattle.share_base.specs.declared.version.Version.{Version}
 use Rattle.share_base.specs.declared.command.Reply.{Reply}
 use Rattle.share_base.specs.declared.command.Reply.TheVariants.{Refused}
 use Rattle.share_model.specs.declared.link.Book.{Book}
@@ -16,10 +17,11 @@ use Rattle.share_model.specs.funding.Graph.{NameBytes, Graph, empty_graph, ticke
 
 -- The state
 
--- what a link holds: the funding; the queue, of which each open flow is a client; the buffers and the books of the
--- open flows, in order of opening; the frame in part; the open flow whose head packet was torn; whether the link is
--- broken; and the counts
+-- what a link holds: the version of its frames, which no event changes; the funding; the queue, of which each open flow
+-- is a client; the buffers and the books of the open flows, in order of opening; the frame in part; the open flow whose
+-- head packet was torn; whether the link is broken; and the counts
 pub record Live : Type 0 where
+  pub version : Version
   pub graph : Graph
   pub queue : Stride
   pub buffers : List Buffer
@@ -32,8 +34,9 @@ pub record Live : Type 0 where
 abbrev pub no_counts : Counts
 no_counts = record { events = 0; accepted = 0; written = 0; dropped = 0; sent = 0; past = 0 }
 
-abbrev pub empty_link : Live
-empty_link = record {
+abbrev pub empty_link : Version → Live
+empty_link version = record {
+  version = version;
   graph = empty_graph;
   queue = empty_queue;
   buffers = [];

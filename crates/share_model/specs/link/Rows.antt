@@ -11,6 +11,7 @@ use Rattle.share_base.specs.declared.command.Outcome.{Outcome}
 use Rattle.share_base.specs.declared.command.Outcome.TheVariants.{Replied, Turned}
 use Rattle.share_base.specs.declared.command.Event.{Event}
 use Rattle.share_base.specs.declared.command.Event.TheVariants.{Commanded, Arrived, Written, Faulted}
+use Rattle.share_base.specs.declared.version.Version.TheVariants.{One}
 use Rattle.share_model.specs.declared.link.Book.{Book}
 use Rattle.share_model.specs.declared.link.Part.{Part}
 use Rattle.share_model.specs.declared.rates.Rate.{Rate}
@@ -49,7 +50,7 @@ full =
     funded 1 1 ++ Arrived a (unstamped hi) ∷ Arrived a (unstamped hi) ∷ Commanded (CloseFlow a)
     ∷ Arrived a (unstamped hi) ∷ []
 
-full_says : outcomes shelf empty_state full
+full_says : outcomes shelf (empty_state One) full
     ≡ funded_replies ++ Replied (Packet 1 1) ∷ Replied (Refused BufferFull) ∷ Replied (Closed 1 1 0)
     ∷ Replied (Refused NoFlow) ∷ []
 unfolding full funded funded_replies hi shelf a outcomes change_first funding
@@ -63,7 +64,7 @@ refused =
     ∷ Commanded (OpenFlow a 0 9) ∷ Commanded (OpenFlow a 1 9) ∷ Commanded (CloseFlow a) ∷ Commanded (OpenFlow a 1 1)
     ∷ Commanded (OpenFlow a 1 1) ∷ Commanded (CloseFlow a) ∷ Commanded (OpenFlow a 1 1) ∷ []
 
-refused_says : outcomes shelf empty_state refused
+refused_says : outcomes shelf (empty_state One) refused
     ≡ map (λ r. Replied (Refused r)) (Range ∷ Range ∷ NoTicket ∷ Range ∷ NoTariff ∷ NoFlow ∷ []) ++ Replied (Flow 1)
     ∷ Replied (Refused Taken) ∷ Replied (Closed 1 0 0) ∷ Replied (Flow 2) ∷ []
 unfolding refused hi shelf a outcomes
@@ -76,7 +77,7 @@ part_at n = record { flow = 1; out = n }
 
 two_packets : ℕ → Option Part → State
 two_packets tariff part = record {
-  live = record empty_link {
+  live = record (empty_link One) {
     graph = record {
       currencies = [];
       tickets = [];

@@ -1,7 +1,8 @@
 -- Tariffs: the units that a frame is charged, and how an account is posted.
-use Rattle.std.specs.Prelude.{ℕ, ◌+◌, ◌*◌, ◌/◌, ◌≤◌, zero, suc, Bool, ◌&&◌, List, [], ◌∷◌, nat_le, Option, None}
+use Rattle.std.specs.Prelude.{ℕ, ◌+◌, ◌*◌, ◌/◌, ◌≤◌, zero, suc, Bool, ◌&&◌, List, length, nat_le, Option, None}
 use Rattle.std.specs.Prelude.{unwrap_or, slice_get}
 use Rattle.share_model.specs.declared.rates.Rate.{Rate}
+use Rattle.share_model.specs.lists.Each.{Each}
 
 -- nothing for no byte; otherwise the overhead, and whole cells for the bytes
 abbrev pub units_of : Rate → ℕ → ℕ
@@ -30,6 +31,7 @@ pub record IsInRange (r : Rate) : Type 0 where
   pub overhead : r.overhead ≤ 1024
   pub price : r.price ≤ 65535
 
-abbrev pub AreInRange : List Rate → Type 0
-AreInRange [] = Unit {0}
-AreInRange (r ∷ rs) = IsInRange r × AreInRange rs
+-- the tariffs of a shelf: each in range, and at most eight
+pub record AreInRange (rates : List Rate) : Type 0 where
+  pub each : Each IsInRange rates
+  pub few : length rates ≤ 8

@@ -4,6 +4,7 @@ use Rattle.std.specs.Prelude.{◌≡◌, ◌<◌, ◌≤◌, ℕ, false, List, [
 use Rattle.share_base.specs.Body.{IsUnstamped}
 use Rattle.share_base.specs.declared.command.Event.{Event}
 use Rattle.share_base.specs.declared.command.Event.TheVariants.{Commanded, Arrived, Written, Faulted}
+use Rattle.share_base.specs.declared.version.Version.{Version}
 use Rattle.share_model.specs.declared.rates.Rate.{Rate}
 use Rattle.share_model.specs.link.Fields.{IsName, IsBody, HasCommandFields}
 use Rattle.share_model.specs.link.Live.{Live}
@@ -51,7 +52,7 @@ writes_in events = flat_map write_of events
 -- an event that a link may make; nothing is stamped before a payload that comes
 abbrev pub MayCome : Live → Event → Type 0
 MayCome l (Commanded c) = HasCommandFields c
-MayCome l (Arrived flow body) = IsName flow × IsBody body.payload × IsUnstamped body
+MayCome l (Arrived flow body) = IsName flow × IsBody l.version body.payload × IsUnstamped body
 MayCome l (Written k) = IsWrite l k
 MayCome l Faulted = IsFault l
 
@@ -62,5 +63,5 @@ MayFollow life rates s (e ∷ es) =
     (s.live.counts.events < life) × MayCome s.live e × MayFollow life rates (step rates s e) es
 
 -- a list of events that a new link may make one after another
-abbrev pub MayRun : ℕ → List Rate → List Event → Type 0
-MayRun life rates events = MayFollow life rates empty_state events
+abbrev pub MayRun : Version → ℕ → List Rate → List Event → Type 0
+MayRun version life rates events = MayFollow life rates (empty_state version) events

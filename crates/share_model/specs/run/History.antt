@@ -7,11 +7,12 @@ use Rattle.share_base.specs.declared.command.Outcome.{Outcome}
 use Rattle.share_base.specs.declared.command.Outcome.TheVariants.{Replied}
 use Rattle.share_base.specs.declared.command.Event.{Event}
 use Rattle.share_base.specs.declared.command.Event.TheVariants.{Arrived}
+use Rattle.share_base.specs.declared.version.Version.{Version}
 use Rattle.share_model.specs.declared.rates.Rate.{Rate}
 use Rattle.share_model.specs.link.Tariff.{rate_of, units_of}
 use Rattle.share_model.specs.link.Frame.{Packet, FitsFrame, frame}
 use Rattle.share_model.specs.link.Buffers.{Buffer, buffer_of}
-use Rattle.share_model.specs.run.Fold.{Sent, TornFrame, State, step, outcome}
+use Rattle.share_model.specs.run.Fold.{Sent, TornFrame, State, step, outcome, sent_frame}
 use Rattle.share_model.specs.lists.Each.{Each}
 use Rattle.share_model.specs.lists.Rises.{has_number}
 use Rattle.share_model.specs.funding.Graph.{flow_numbers}
@@ -59,8 +60,8 @@ sent_numbers f done = map (λ (d : Sent). d.head.seq) (sent_by f done)
 abbrev pub cost : List Rate → ℕ → ℕ → ℕ
 cost rates tariff n = (rate_of rates tariff).price * units_of (rate_of rates tariff) n
 
-abbrev pub sent_cost : List Rate → Sent → ℕ
-sent_cost rates d = cost rates d.tariff (length (frame d.head))
+abbrev pub sent_cost : Version → List Rate → Sent → ℕ
+sent_cost version rates d = cost rates d.tariff (length (sent_frame version d))
 
 -- a torn frame costs its flow the bytes that are out
 abbrev pub torn_cost : List Rate → (ℕ → Bool) → Option TornFrame → ℕ
@@ -68,12 +69,13 @@ torn_cost rates p None = 0
 torn_cost rates p (Some t) = if p t.head.flow then cost rates t.tariff t.out else 0
 
 -- what the packets of certain flows cost: those that were written whole, and the torn one
-abbrev pub cost_of : List Rate → (ℕ → Bool) → List Sent → Option TornFrame → ℕ
-cost_of rates p done t = sum_by (sent_cost rates) (filter (λ (d : Sent). p d.head.flow) done) + torn_cost rates p t
+abbrev pub cost_of : Version → List Rate → (ℕ → Bool) → List Sent → Option TornFrame → ℕ
+cost_of version rates p done t =
+    sum_by (sent_cost version rates) (filter (λ (d : Sent). p d.head.flow) done) + torn_cost rates p t
 
 -- what a flow's packets cost
 abbrev pub bill : List Rate → State → ℕ → ℕ
-bill rates s f = cost_of rates (nat_eq f) s.done s.torn
+bill rates s f = cost_of s.live.version rates (nat_eq f) s.done s.torn
 
 -- whether a flow is not open; if it has packets, it was closed then
 abbrev pub is_closed : List ℕ → ℕ → Bool
@@ -81,19 +83,24 @@ is_closed flows f = not (has_number f flows)
 
 -- what the packets of closed flows cost
 abbrev pub past_bill : List Rate → State → ℕ
-past_bill rates s = cost_of rates (is_closed (flow_numbers s.live.graph.flows)) s.done s.torn
+past_bill rates s = cost_of s.live.version rates (is_closed (flow_numbers s.live.graph.flows)) s.done s.torn
 
 -- the beginning of a frame, and not the whole
-pub record IsBeginning (x : List ℕ) : Type 0 where
+pub record IsBeginning (version : Version) (x : List ℕ) : Type 0 where
+  pub tariff : ℕ
   pub head : Packet
-  pub fits : FitsFrame head
+  pub fits : FitsFrame version tariff head
   pub at : ℕ
-  pub few : at < length (frame head)
-  pub is : x ≡ take at (frame head)
+  pub few : at < length (frame version tariff head)
+  pub is : x ≡ take at (frame version tariff head)
+
+-- the packet fits a frame, with the number of its flow's tariff
+abbrev pub SentFits : Version → Sent → Type 0
+SentFits version d = FitsFrame version d.tariff d.head
 
 -- bytes that are the frames of these packets, and the beginning of one more
-pub record AreFramesOf (hs : List Packet) (bytes : List ℕ) : Type 0 where
-  pub fits : Each FitsFrame hs
+pub record AreFramesOf (version : Version) (done : List Sent) (bytes : List ℕ) : Type 0 where
+  pub fits : Each (SentFits version) done
   pub rest : List ℕ
-  pub begins : IsBeginning rest
-  pub is : bytes ≡ flat_map frame hs ++ rest
+  pub begins : IsBeginning version rest
+  pub is : bytes ≡ flat_map (sent_frame version) done ++ rest

@@ -3,9 +3,8 @@ use Rattle.std.specs.Prelude.{◌≡◌, ℕ, true, List, [], ◌∷◌, ◌++�
 use Rattle.share_base.specs.declared.command.Event.{Event}
 use Rattle.share_base.specs.declared.command.Event.TheVariants.{Commanded, Arrived, Written, Faulted}
 use Rattle.share_model.specs.declared.rates.Rate.{Rate}
-use Rattle.share_model.specs.link.Frame.{frame}
 use Rattle.share_model.specs.link.Live.{Live}
-use Rattle.share_model.specs.link.Turns.{Sending, sending, is_whole}
+use Rattle.share_model.specs.link.Turns.{Sending, frame_of, sending, is_whole}
 use Rattle.share_model.specs.link.Books.{units_due}
 use Rattle.share_model.specs.run.Fold.{State, step}
 use Rattle.share_model.specs.stride.Moves.{Stride, client}
@@ -20,7 +19,7 @@ charges_for one other rates l f n = charges_in one other l.queue (Charges f (uni
 abbrev pub written_charges : ℕ → ℕ → List Rate → Live → ℕ → Option Sending → List Charge
 written_charges one other rates l k None = []
 written_charges one other rates l k (Some s) =
-    if is_whole s k then charges_for one other rates l s.head.flow (length (frame s.head)) else []
+    if is_whole s k then charges_for one other rates l s.head.flow (length (frame_of s)) else []
 
 -- and at a fault, for those that are out
 abbrev pub fault_charges : ℕ → ℕ → List Rate → Live → Option Sending → List Charge

@@ -8,6 +8,7 @@ use Rattle.std.specs.FinMap as finmap
 use Rattle.std.specs.FinMap.{get}
 use Rattle.share_model.specs.lists.Each.{Each}
 use Rattle.share_model.specs.lists.Rises.{has_number}
+use Rattle.share_base.specs.declared.version.Version.{Version}
 use Rattle.share_model.specs.declared.link.Book.{Book}
 use Rattle.share_model.specs.declared.link.Counts.{Counts}
 use Rattle.share_model.specs.declared.link.Part.{Part}
@@ -15,7 +16,7 @@ use Rattle.share_model.specs.declared.rates.Rate.{Rate}
 use Rattle.share_model.specs.declared.funding.OpenFlow.{OpenFlow}
 use Rattle.share_model.specs.link.Fields.{IsBody}
 use Rattle.share_model.specs.link.Tariff.{rate_at}
-use Rattle.share_model.specs.link.Frame.{Packet, frame}
+use Rattle.share_model.specs.link.Frame.{Packet, frame_length}
 use Rattle.share_model.specs.link.Books.{is_held}
 use Rattle.share_model.specs.link.Buffers.{Buffer, buffer_of, head_of, is_some_packet}
 use Rattle.share_model.specs.link.Totals.{packets_in}
@@ -39,7 +40,7 @@ torn_gone false torn = 0
 pub record CountsAreSound (life : ℕ) (c : Counts) (held gone : ℕ) : Type 0 where
   pub events : c.events ≤ life
   pub accepted : c.accepted ≤ c.events
-  pub sent : c.sent ≤ c.events * 1502
+  pub sent : c.sent ≤ c.events * 9017
   pub balance : c.accepted ≡ c.written + c.dropped + held + gone
 
 -- ---- Funding and flows
@@ -67,22 +68,23 @@ pub record FlowsAreTied (es : List (NameBytes × OpenFlow)) (buffers : List Buff
 abbrev pub max_life : ℕ
 max_life = 2 ^ 24
 
--- the clients are the open flows, an event charges at most 4026 units, and the queue is sound if the life is at most
+-- the clients are the open flows, an event charges at most 11842 units, and the queue is sound if the life is at most
 -- the longest one
 pub record QueueIsSound (life events : ℕ) (flows : List ℕ) (q : Stride) : Type 0 where
   pub clients : (f : ℕ) → is_some (get q.clients f) ≡ has_number f flows
   pub count : finmap.len q.clients ≡ length flows
-  pub clock : q.clock ≤ events * 4026
+  pub clock : q.clock ≤ events * 11842
   pub sound : life ≤ max_life → IsSoundQueue q
 
 -- ---- Buffers and books
 
--- flows and packets are numbered from 1, each accepted packet was an event, and each payload is 1 to 1490 bytes
-pub record IsSoundBuffer (events : ℕ) (b : Buffer) : Type 0 where
+-- flows and packets are numbered from 1, each accepted packet was an event, and frames of the version carry each
+-- payload
+pub record IsSoundBuffer (version : Version) (events : ℕ) (b : Buffer) : Type 0 where
   pub flow : 1 ≤ b.flow
   pub given : length b.packets < b.next
   pub numbers : b.next ≤ events + 1
-  pub payloads : Each IsBody b.packets
+  pub payloads : Each (IsBody version) b.packets
 
 abbrev pub IsOnShelf : List Rate → Book → Type 0
 IsOnShelf rates b = IsTrue (is_some (rate_at rates b.tariff))
@@ -90,23 +92,23 @@ IsOnShelf rates b = IsTrue (is_some (rate_at rates b.tariff))
 abbrev pub accounts_in : List Book → ℕ
 accounts_in books = sum_by (λ (b : Book). b.account) books
 
--- each tariff is on the shelf, and an event posts less than 2^28
+-- each tariff is on the shelf, and an event posts less than 2^30
 pub record BooksAreSound (rates : List Rate) (c : Counts) (books : List Book) : Type 0 where
   pub known : Each (IsOnShelf rates) books
-  pub accounts : c.past + accounts_in books ≤ c.events * (2 ^ 28 - 1)
+  pub accounts : c.past + accounts_in books ≤ c.events * (2 ^ 30 - 1)
 
 -- ---- The frame in part, and the torn packet
 
 -- the flow of the frame in part has a packet, and some of its frame's bytes are out, but not all
-pub record IsSoundPart (buffers : List Buffer) (p : Part) : Type 0 where
+pub record IsSoundPart (version : Version) (buffers : List Buffer) (p : Part) : Type 0 where
   pub head : Packet
   pub found : head_of buffers p.flow ≡ Some head
   pub some : 0 < p.out
-  pub few : p.out < length (frame head)
+  pub few : p.out < frame_length version head
 
-abbrev pub PartIsSound : List Buffer → Option Part → Type 0
-PartIsSound buffers None = Unit {0}
-PartIsSound buffers (Some p) = IsSoundPart buffers p
+abbrev pub PartIsSound : Version → List Buffer → Option Part → Type 0
+PartIsSound version buffers None = Unit {0}
+PartIsSound version buffers (Some p) = IsSoundPart version buffers p
 
 pub record NamesTorn (buffers : List Buffer) (broken : Bool) (f : ℕ) : Type 0 where
   pub broken_is : broken ≡ true
@@ -127,16 +129,16 @@ pub record TornIsSound (buffers : List Buffer) (broken : Bool) (torn : Option �
 
 pub record Sound (life : ℕ) (rates : List Rate) (l : Live) : Type 0 where
   -- a link that made no event holds nothing
-  pub fresh : l.counts.events ≡ 0 → l ≡ empty_link
+  pub fresh : l.counts.events ≡ 0 → l ≡ empty_link l.version
   pub counts : CountsAreSound life l.counts (packets_in l.buffers) (torn_gone l.broken l.torn)
   pub funding : FundingIsSound l.counts.events l.graph
   pub flows : FlowsAreTied l.graph.flows l.buffers l.books
   pub queue : QueueIsSound life l.counts.events (flow_numbers l.graph.flows) l.queue
   -- each open flow competes with exactly its tickets
   pub level : IsLevel l.queue (tickets_of_all l.graph)
-  pub buffers : Each (IsSoundBuffer l.counts.events) l.buffers
+  pub buffers : Each (IsSoundBuffer l.version l.counts.events) l.buffers
   pub books : BooksAreSound rates l.counts l.books
-  pub part : PartIsSound l.buffers l.part
+  pub part : PartIsSound l.version l.buffers l.part
   pub torn : TornIsSound l.buffers l.broken l.torn l.part
 
 -- ---- The whole state

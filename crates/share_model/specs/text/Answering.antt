@@ -1,5 +1,5 @@
 -- What a line of a script came to, on a link that holds what the lines before it left.
-use Rattle.std.specs.Prelude.{◌≡◌, ℕ, Bool, List, Option, IfSome, ⊤, length}
+use Rattle.std.specs.Prelude.{◌≡◌, ℕ, Bool, true, List, Option, IfSome, ⊤, length}
 use Rattle.share_model.specs.declared.line.Line.{Line}
 use Rattle.share_model.specs.declared.writer.Answer.{Answer}
 use Rattle.share_model.specs.declared.writer.Answer.TheVariants.{Accepted, Interrupted, Failed}
@@ -7,10 +7,12 @@ use Rattle.share_model.specs.link.Tariff.{AreInRange}
 use Rattle.share_model.specs.link.View.{LinkView}
 use Rattle.share_model.specs.run.Ends.{IsEndOf, TellsRun}
 use Rattle.share_model.specs.io.Told.{Told}
-use Rattle.share_model.specs.text.Talk.{Progress, is_first, line_answer, answer}
+use Rattle.share_model.specs.text.Talk.{Progress, start_of_script, is_first, line_answer, answer}
 
--- the link holds what the script came to; and if its writer tells bytes and counts, they are the script's
+-- the link holds what the script came to, which before its first line is nothing; and if its writer tells bytes and
+-- counts, they are the script's
 pub record Holds {W : Type 0} (told : W → Option Told) (link : LinkView W) (p : Progress) : Type 0 where
+  pub fresh : is_first p ≡ true → p ≡ start_of_script
   pub ends : IsEndOf link.life link.rates p.state link.live
   pub tells : IfSome (told link.writer) (TellsRun p.state p.writes)
   pub range : AreInRange link.rates

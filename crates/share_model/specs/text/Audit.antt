@@ -4,6 +4,7 @@ use Rattle.std.specs.List.{list_all}
 use Rattle.share_base.specs.declared.command.Event.{Event}
 use Rattle.share_base.specs.declared.command.Event.TheVariants.{Commanded, Arrived, Written, Faulted}
 use Rattle.share_base.specs.declared.command.Outcome.{Outcome}
+use Rattle.share_base.specs.declared.version.Version.{Version}
 use Rattle.share_model.specs.declared.line.Line.{Line}
 use Rattle.share_model.specs.declared.line.Line.TheVariants.{Change, Send, Turn, Torn, Audit}
 use Rattle.share_model.specs.declared.rates.Rate.{Rate}
@@ -20,15 +21,15 @@ event_line (Written k) = Turn k
 event_line Faulted = Torn
 
 -- the line of the version, and then that of each event
-abbrev pub audit_lines : List Event → List Line
-audit_lines events = Audit ∷ map event_line events
+abbrev pub audit_lines : Version → List Event → List Line
+audit_lines version events = Audit version ∷ map event_line events
 
 -- the spelling of a line and its line feed
 abbrev pub written_line : Line → List ℕ
 written_line l = spelling_of l ++ codes "\n"
 
-unfoldable pub audit : List Event → List ℕ
-audit events = flat_map written_line (audit_lines events)
+unfoldable pub audit : Version → List Event → List ℕ
+audit version events = flat_map written_line (audit_lines version events)
 
 -- no line of a script finds that memory is lacking
 abbrev pub IsAmple : List Bool → Type 0

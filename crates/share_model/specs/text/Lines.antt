@@ -21,7 +21,9 @@ use Rattle.share_model.specs.declared.line.HolderKind.{HolderKind}
 use Rattle.share_model.specs.declared.line.HolderKind.TheVariants.{Currency as CurrencyKind, Flow as FlowKind}
 use Rattle.share_model.specs.declared.line.Line.{Line}
 use Rattle.share_model.specs.declared.line.Line.TheVariants.{Change, Send, Turn, Torn, Report, Audit}
-use Rattle.share_model.specs.link.Fields.{max_payload}
+use Rattle.share_base.specs.Version.{max_payload}
+use Rattle.share_base.specs.declared.version.Version.{Version}
+use Rattle.share_base.specs.declared.version.Version.TheVariants.{One, Two}
 pub use Rattle.share_model.specs.link.Fields.{IsName, IsNumber, is_byte, HasCommandFields}
 
 -- Payloads in hexadecimal
@@ -67,13 +69,18 @@ command_words (Hold name) = codes "hold" ∷ name ∷ []
 command_words (Resume name) = codes "resume" ∷ name ∷ []
 command_words (Amend ticket amount) = codes "amend" ∷ decimal ticket ∷ decimal amount ∷ []
 
+-- the word of a version
+abbrev pub version_word : Version → List ℕ
+version_word One = codes "1"
+version_word Two = codes "2"
+
 abbrev pub words : Line → List (List ℕ)
 words (Change c) = command_words c
 words (Send flow body) = codes "send" ∷ flow ∷ hex body.payload ∷ []
 words (Turn most) = codes "turn" ∷ decimal most ∷ []
 words Torn = codes "torn" ∷ []
 words Report = codes "report" ∷ []
-words Audit = codes "audit" ∷ codes "1" ∷ []
+words (Audit version) = codes "audit" ∷ version_word version ∷ []
 
 -- the bytes of a line before its line feed
 abbrev pub spelling_of : Line → List ℕ
@@ -91,7 +98,7 @@ HasFields (Send flow body) = IsName flow × IsPayload body.payload × IsUnstampe
 HasFields (Turn most) = IsNumber most
 HasFields Torn = Unit {0}
 HasFields Report = Unit {0}
-HasFields Audit = Unit {0}
+HasFields (Audit version) = Unit {0}
 
 -- the same line before a stamp: what is stamped is not spelled
 abbrev pub before_stamp : Line → Line
@@ -100,21 +107,21 @@ before_stamp (Send flow body) = Send flow (unstamped body.payload)
 before_stamp (Turn most) = Turn most
 before_stamp Torn = Torn
 before_stamp Report = Report
-before_stamp Audit = Audit
+before_stamp (Audit version) = Audit version
 
 -- a line has at most 20480 bytes
 pub record IsLine (l : Line) : Type 0 where
   pub fields : HasFields l
   pub short : length (spelling_of l) ≤ 20480
 
--- a payload has at most 1490 bytes, and a turn offers 1 to 65535
-abbrev pub is_in_range : Line → Bool
-is_in_range (Change c) = true
-is_in_range (Send flow body) = nat_le (length body.payload) max_payload
-is_in_range (Turn most) = nat_le 1 most && nat_le most 65535
-is_in_range Torn = true
-is_in_range Report = true
-is_in_range Audit = true
+-- a payload has at most 1490 bytes in version 1 and 9000 in version 2, and a turn offers 1 to 65535
+abbrev pub is_in_range : Version → Line → Bool
+is_in_range version (Change c) = true
+is_in_range version (Send flow body) = nat_le (length body.payload) (max_payload version)
+is_in_range version (Turn most) = nat_le 1 most && nat_le most 65535
+is_in_range version Torn = true
+is_in_range version Report = true
+is_in_range version (Audit named) = true
 
 -- What bytes are read as
 
@@ -223,10 +230,17 @@ torn_of ws = line_at_end ws Torn
 abbrev pub report_of : List (List ℕ) → Option Line
 report_of ws = line_at_end ws Report
 
--- the version is 1, and no other
+-- the version is 1 or 2, and no other
+abbrev pub version_of : List ℕ → Option Version
+version_of w =
+    if bytes_eq w (codes "1") then Some One
+    else if bytes_eq w (codes "2") then Some Two
+    else None
+
 abbrev pub audit_of : List (List ℕ) → Option Line
-audit_of [] = None
-audit_of (w ∷ ws) = if bytes_eq w (codes "1") then line_at_end ws Audit else None
+audit_of ws = do
+  version ← field version_of ws
+  line_at_end version.1 (Audit version.0)
 
 unfoldable pub line_by : List ℕ → List (List ℕ) → Option Line
 line_by w ws =
@@ -252,20 +266,21 @@ abbrev pub line_of : List (List ℕ) → Option Line
 line_of [] = None
 line_of (w ∷ ws) = line_by w ws
 
-abbrev pub line_or_refusal : Option Line → Result Line Refusal
-line_or_refusal None = Err Syntax
-line_or_refusal (Some l) = if is_in_range l then Ok l else Err Range
+abbrev pub line_or_refusal : Version → Option Line → Result Line Refusal
+line_or_refusal version None = Err Syntax
+line_or_refusal version (Some l) = if is_in_range version l then Ok l else Err Range
 
--- the line that these bytes spell: Syntax if they spell none, Range if it is out of range
-unfoldable pub reading : List ℕ → Result Line Refusal
-reading bs = if nat_lt 20480 (length bs) then Err Syntax else line_or_refusal (line_of (words_of bs))
+-- the line that these bytes spell in a script of this version: Syntax if they spell none, Range if it is out of range
+unfoldable pub reading : Version → List ℕ → Result Line Refusal
+reading version bs =
+    if nat_lt 20480 (length bs) then Err Syntax else line_or_refusal version (line_of (words_of bs))
 
 -- What a reading answers, said of spellings
 
--- the line is spelled by these bytes and in range
-pub record IsReading (bs : List ℕ) (l : Line) : Type 0 where
+-- the line is spelled by these bytes, and in range in this version
+pub record IsReading (version : Version) (bs : List ℕ) (l : Line) : Type 0 where
   pub line : IsLine l
-  pub in_range : is_in_range l ≡ true
+  pub in_range : is_in_range version l ≡ true
   pub spells : spelling_of l ≡ bs
 
 abbrev pub is_send : Line → Bool
@@ -274,33 +289,35 @@ is_send (Send flow body) = true
 is_send (Turn most) = false
 is_send Torn = false
 is_send Report = false
-is_send Audit = false
+is_send (Audit version) = false
 
 -- Syntax if no line is spelled by these bytes, Range if a line out of range is, NoMemory if a packet in range is
-abbrev pub IsUnread : List ℕ → Refusal → Type 0
-IsUnread bs Syntax = (l : Line) → IsLine l → spelling_of l ≢ bs
-IsUnread bs Range = (l : Line) × IsLine l × (is_in_range l ≡ false) × (spelling_of l ≡ bs)
-IsUnread bs NoMemory = (l : Line) × IsReading bs l × (is_send l ≡ true)
-IsUnread bs Spent = ⊥
-IsUnread bs NoCurrency = ⊥
-IsUnread bs NoTicket = ⊥
-IsUnread bs NoFlow = ⊥
-IsUnread bs NoTariff = ⊥
-IsUnread bs Taken = ⊥
-IsUnread bs Base = ⊥
-IsUnread bs InUse = ⊥
-IsUnread bs Funding = ⊥
-IsUnread bs Unfunded = ⊥
-IsUnread bs Crowded = ⊥
-IsUnread bs Cycle = ⊥
-IsUnread bs Deep = ⊥
-IsUnread bs TableFull = ⊥
-IsUnread bs Sending = ⊥
-IsUnread bs BufferFull = ⊥
-IsUnread bs Broken = ⊥
-IsUnread bs Held = ⊥
-IsUnread bs NotHeld = ⊥
+abbrev pub IsUnread : Version → List ℕ → Refusal → Type 0
+IsUnread version bs Syntax = (l : Line) → IsLine l → spelling_of l ≢ bs
+IsUnread version bs Range = (l : Line) × IsLine l × (is_in_range version l ≡ false) × (spelling_of l ≡ bs)
+IsUnread version bs NoMemory = (l : Line) × IsReading version bs l × (is_send l ≡ true)
+IsUnread version bs Spent = ⊥
+IsUnread version bs NoCurrency = ⊥
+IsUnread version bs NoTicket = ⊥
+IsUnread version bs NoFlow = ⊥
+IsUnread version bs NoTariff = ⊥
+IsUnread version bs Taken = ⊥
+IsUnread version bs Base = ⊥
+IsUnread version bs InUse = ⊥
+IsUnread version bs Funding = ⊥
+IsUnread version bs Unfunded = ⊥
+IsUnread version bs Crowded = ⊥
+IsUnread version bs Cycle = ⊥
+IsUnread version bs Deep = ⊥
+IsUnread version bs TableFull = ⊥
+IsUnread version bs Sending = ⊥
+IsUnread version bs BufferFull = ⊥
+IsUnread version bs Broken = ⊥
+IsUnread version bs Held = ⊥
+IsUnread version bs NotHeld = ⊥
 
 -- a reading that may have found no memory for a payload
-abbrev pub ReadsLine : List ℕ → Result Line Refusal → Type 0
-ReadsLine bs r = (r ≡ reading bs) ⊎ ((r ≡ Err NoMemory) × ((l : Line) × (reading bs ≡ Ok l) × (is_send l ≡ true)))
+abbrev pub ReadsLine : Version → List ℕ → Result Line Refusal → Type 0
+ReadsLine version bs r =
+    (r ≡ reading version bs)
+    ⊎ ((r ≡ Err NoMemory) × ((l : Line) × (reading version bs ≡ Ok l) × (is_send l ≡ true)))

@@ -7,12 +7,13 @@ use Rattle.share_base.specs.declared.refusal.Refusal.TheVariants.{Syntax, Range}
 use Rattle.share_base.specs.declared.command.Command.TheVariants.{MakeCurrency, RemoveCurrency, MakeTicket}
 use Rattle.share_base.specs.declared.command.Command.TheVariants.{RemoveTicket, FundCurrency, FundFlow, Unfund}
 use Rattle.share_base.specs.declared.command.Command.TheVariants.{OpenFlow, CloseFlow}
+use Rattle.share_base.specs.declared.version.Version.TheVariants.{One, Two}
 use Rattle.share_model.specs.declared.line.Line.{Line}
 use Rattle.share_model.specs.declared.line.Line.TheVariants.{Change, Send, Turn, Torn, Report, Audit}
 use Rattle.share_model.specs.text.Lines.{number_of, line_by, reading, spelling_of}
 
 read : List (List ℕ) → List (Result Line Refusal)
-read lines = map reading lines
+read lines = map (reading One) lines
 
 lines_are_read : read (
     codes "open a 4 1" ∷ codes "mktkt 10 base" ∷ codes "fund 1 flow a"
@@ -31,15 +32,17 @@ funding_is_read : read (
 unfolding read reading line_by number_of digits
 funding_is_read = refl
 
-reports_and_audits_are_read : read (codes "report" ∷ codes "audit 1" ∷ []) ≡ Ok Report ∷ Ok Audit ∷ []
+reports_and_audits_are_read : read (codes "report" ∷ codes "audit 1" ∷ codes "audit 2" ∷ [])
+    ≡ Ok Report ∷ Ok (Audit One) ∷ Ok (Audit Two) ∷ []
 unfolding read reading line_by
 reports_and_audits_are_read = refl
 
--- another version, and other spellings of this one
+-- a version that is none, and other spellings of those that are
 other_audits_are_syntax : read (
-    codes "audit" ∷ codes "audit 2" ∷ codes "audit 01" ∷ codes "audit 11" ∷ codes "audit 1 " ∷ codes "audit 1 1"
-    ∷ codes "audit  1" ∷ codes "audit 0" ∷ codes "report 1" ∷ codes "reports" ∷ codes "report " ∷ [])
-    ≡ replicate 11 (Err Syntax)
+    codes "audit" ∷ codes "audit 3" ∷ codes "audit 01" ∷ codes "audit 02" ∷ codes "audit 2 " ∷ codes "audit 11"
+    ∷ codes "audit 1 " ∷ codes "audit 1 1" ∷ codes "audit  1" ∷ codes "audit 0" ∷ codes "report 1" ∷ codes "reports"
+    ∷ codes "report " ∷ [])
+    ≡ replicate 13 (Err Syntax)
 unfolding read reading line_by
 other_audits_are_syntax = refl
 
@@ -70,9 +73,9 @@ lines_are_spelled : map spelling_of (
     Change (OpenFlow (codes "a") 4 1) ∷ Change (FundFlow 1 (codes "a")) ∷ Change (FundCurrency 1 (codes "x"))
     ∷ Change (MakeCurrency (codes "x")) ∷ Change (RemoveCurrency (codes "x")) ∷ Change (RemoveTicket 1)
     ∷ Change (Unfund 1) ∷ Change (CloseFlow (codes "a")) ∷ Send (codes "a") (unstamped (104 ∷ 255 ∷ [])) ∷ Torn
-    ∷ Report ∷ Audit ∷ [])
+    ∷ Report ∷ Audit One ∷ Audit Two ∷ [])
     ≡ codes "open a 4 1" ∷ codes "fund 1 flow a" ∷ codes "fund 1 cur x" ∷ codes "mkcur x" ∷ codes "rmcur x"
     ∷ codes "rmtkt 1" ∷ codes "unfund 1" ∷ codes "close a" ∷ codes "send a 68ff" ∷ codes "torn"
-    ∷ codes "report" ∷ codes "audit 1" ∷ []
+    ∷ codes "report" ∷ codes "audit 1" ∷ codes "audit 2" ∷ []
 unfolding digits
 lines_are_spelled = refl

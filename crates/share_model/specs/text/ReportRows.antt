@@ -2,6 +2,7 @@
 use Rattle.std.specs.Prelude.{◌≡◌, ℕ, pos, List, [], ◌∷◌, ◌++◌, codes, refl}
 use Rattle.std.specs.Fmt.{digits}
 use Rattle.std.proofs.Common.{ap, ◌∙◌, subst}
+use Rattle.share_base.specs.declared.version.Version.TheVariants.{One}
 use Rattle.share_model.specs.declared.link.FlowLine.{FlowLine}
 use Rattle.share_model.specs.declared.link.LinkState.TheVariants.{Free, Torn}
 use Rattle.share_model.specs.declared.link.Standing.TheVariants.{In}
@@ -48,10 +49,10 @@ unfolding zero_report no_totals report_text totals_text total_line at_left at_ri
 no_totals_show = refl
 
 -- the entries of a finite map do not compute, not those of the empty one either
-pub new_link_shows : report empty_link ≡ zero_report
+pub new_link_shows : report (empty_link One) ≡ zero_report
 unfolding no_totals
 new_link_shows =
-    let P : ℕ → Type 0 = λ n. totals empty_link ≡ record no_totals { tickets = n } in
+    let P : ℕ → Type 0 = λ n. totals (empty_link One) ≡ record no_totals { tickets = n } in
     ap (λ t. report_text t []) (subst P total-empty refl) ∙ no_totals_show
 
 -- of one flow, whose only packet was torn after 7 bytes

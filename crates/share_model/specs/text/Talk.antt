@@ -3,6 +3,7 @@
 use Rattle.std.specs.Prelude.{◌≢◌, ℕ, ◌+◌, ◌==◌, Bool, true, false, ◌&&◌, List, [], ◌∷◌, ◌++◌, codes, drop, length, min}
 use Rattle.std.specs.Prelude.{Option, None, Some, Result, Ok, Err, is_none, if◌then◌else◌}
 use Rattle.std.specs.List.{slice_split}
+use Rattle.std.specs.Str.{bytes_eq}
 use Rattle.share_base.specs.Body.{BodyView}
 use Rattle.share_base.specs.declared.refusal.Refusal.{Refusal}
 use Rattle.share_base.specs.declared.refusal.Refusal.TheVariants.{NoMemory, Spent as SpentRefusal, Syntax}
@@ -13,6 +14,8 @@ use Rattle.share_base.specs.declared.command.Turn.TheVariants.{Idle, Broken, Spe
 use Rattle.share_base.specs.declared.command.Event.{Event}
 use Rattle.share_base.specs.declared.command.Event.TheVariants.{Commanded, Arrived, Written, Faulted}
 use Rattle.share_base.specs.declared.command.Outcome.TheVariants.{Replied, Turned}
+use Rattle.share_base.specs.declared.version.Version.{Version}
+use Rattle.share_base.specs.declared.version.Version.TheVariants.{One, Two}
 use Rattle.share_model.specs.declared.line.Line.{Line}
 use Rattle.share_model.specs.declared.line.Line.TheVariants.{Change, Send, Turn as TurnLine, Torn, Report, Audit}
 use Rattle.share_model.specs.declared.rates.Rate.{Rate}
@@ -33,8 +36,9 @@ pub record Progress : Type 0 where
   pub lines : ℕ
   pub writes : List ℕ
 
+-- a script is of version 1 until its first line says another
 abbrev pub start_of_script : Progress
-start_of_script = record { state = empty_state; lines = 0; writes = [] }
+start_of_script = record { state = empty_state One; lines = 0; writes = [] }
 
 -- one more line was answered, without an event
 abbrev pub onward : Progress → Progress
@@ -44,21 +48,30 @@ onward p = record { state = p.state; lines = p.lines + 1; writes = p.writes }
 abbrev pub after_event : List Rate → Progress → Event → Progress
 after_event rates p e = record { state = step rates p.state e; lines = p.lines + 1; writes = p.writes ++ write_of e }
 
--- What a line makes: an event, or a text without one
+-- the first line named the version, and the link is a new one of this version
+abbrev pub with_version : Progress → Version → Progress
+with_version p version = record { state = empty_state version; lines = p.lines + 1; writes = p.writes }
 
-abbrev pub refusal_line : Refusal → Result Event (List ℕ)
-refusal_line e = Err (line_text (Replied (Refused e)))
+-- What a line makes: an event; a text without one; or the choice of the version, which has no text
+
+pub data Made : Type 0 where
+  makes : Event → Made
+  says : List ℕ → Made
+  chooses : Version → Made
+
+abbrev pub refusal_line : Refusal → Made
+refusal_line e = says (line_text (Replied (Refused e)))
 
 -- a turn that was no event
-abbrev pub no_event : Turn → Result Event (List ℕ)
-no_event turn = Err (line_text (Turned turn))
+abbrev pub no_event : Turn → Made
+no_event turn = says (line_text (Turned turn))
 
 abbrev pub is_syntax : Refusal → Bool
 is_syntax Syntax = true
 is_syntax _ = false
 
 -- Syntax is tested before Spent, any other refusal of a reading after it
-abbrev pub unread_event : ℕ → State → Refusal → Result Event (List ℕ)
+abbrev pub unread_event : ℕ → State → Refusal → Made
 unread_event life s e =
     if is_syntax e then refusal_line Syntax
     else if life_is_spent life s.live then refusal_line SpentRefusal
@@ -68,70 +81,73 @@ unread_event life s e =
 abbrev pub finds_none : Bool → List Rate → State → Command → Bool
 finds_none lack rates s c = lack && takes_memory c && is_none (command_refusal rates s.live c)
 
-abbrev pub change_event : ℕ → List Rate → State → Bool → Command → Result Event (List ℕ)
+abbrev pub change_event : ℕ → List Rate → State → Bool → Command → Made
 change_event life rates s lack c =
     if life_is_spent life s.live then refusal_line SpentRefusal
     else if finds_none lack rates s c then refusal_line NoMemory
-    else Ok (Commanded c)
+    else makes (Commanded c)
 
-abbrev pub send_event : ℕ → State → Bool → List ℕ → BodyView → Result Event (List ℕ)
+abbrev pub send_event : ℕ → State → Bool → List ℕ → BodyView → Made
 send_event life s lack flow body =
     if life_is_spent life s.live then refusal_line SpentRefusal
     else if lack then refusal_line NoMemory
-    else Ok (Arrived flow body)
+    else makes (Arrived flow body)
 
 -- the writer accepts all that it is offered
-abbrev pub write_event : ℕ → Option Sending → Result Event (List ℕ)
+abbrev pub write_event : ℕ → Option Sending → Made
 write_event most None = no_event Idle
-write_event most (Some x) = Ok (Written (min most (length (rest_of x))))
+write_event most (Some x) = makes (Written (min most (length (rest_of x))))
 
-abbrev pub fault_event : Option Sending → Result Event (List ℕ)
+abbrev pub fault_event : Option Sending → Made
 fault_event None = no_event Idle
-fault_event (Some x) = Ok Faulted
+fault_event (Some x) = makes Faulted
 
 -- Spent, then Broken
-abbrev pub unless_over : ℕ → State → Result Event (List ℕ) → Result Event (List ℕ)
+abbrev pub unless_over : ℕ → State → Made → Made
 unless_over life s event =
     if life_is_spent life s.live then no_event Spent
     else if s.live.broken then no_event Broken
     else event
 
 -- the report of the link as it is, in a spent life too
-abbrev pub report_event : State → Result Event (List ℕ)
-report_event s = Err (report s.live)
+abbrev pub report_event : State → Made
+report_event s = says (report s.live)
 
--- `audit 1` has no answer if it is the first line, and is Syntax anywhere else
-abbrev pub audit_event : Bool → Result Event (List ℕ)
-audit_event first = if first then Err [] else refusal_line Syntax
+-- as the first line `audit 1` and `audit 2` choose the version of the script; anywhere else they are Syntax
+abbrev pub audit_event : Version → Bool → Made
+audit_event version first = if first then chooses version else refusal_line Syntax
 
 abbrev pub is_first : Progress → Bool
 is_first p = p.lines == 0
 
-abbrev pub line_event : ℕ → List Rate → Progress → Bool → Line → Result Event (List ℕ)
+abbrev pub line_event : ℕ → List Rate → Progress → Bool → Line → Made
 line_event life rates p lack (Change c) = change_event life rates p.state lack c
 line_event life rates p lack (Send flow body) = send_event life p.state lack flow body
 line_event life rates p lack (TurnLine most) = unless_over life p.state (write_event most (sending p.state.live))
 line_event life rates p lack Torn = unless_over life p.state (fault_event (sending p.state.live))
 line_event life rates p lack Report = report_event p.state
-line_event life rates p lack Audit = audit_event (is_first p)
+line_event life rates p lack (Audit version) = audit_event version (is_first p)
 
-abbrev pub read_event : ℕ → List Rate → Progress → Bool → Result Line Refusal → Result Event (List ℕ)
+abbrev pub read_event : ℕ → List Rate → Progress → Bool → Result Line Refusal → Made
 read_event life rates p lack (Ok l) = line_event life rates p lack l
 read_event life rates p lack (Err e) = unread_event life p.state e
 
 -- What a line is answered
 
--- an event is one step, answered with its outcome; a text without an event changes no state
-abbrev pub progress_and_text : List Rate → Progress → Result Event (List ℕ) → Progress × List ℕ
-progress_and_text rates p (Ok e) = (after_event rates p e, line_text (outcome rates p.state e))
-progress_and_text rates p (Err text) = (onward p, text)
+-- an event is one step, answered with its outcome; a text without an event changes no state; a version is chosen
+-- without an answer
+abbrev pub progress_and_text : List Rate → Progress → Made → Progress × List ℕ
+progress_and_text rates p (makes e) = (after_event rates p e, line_text (outcome rates p.state e))
+progress_and_text rates p (says text) = (onward p, text)
+progress_and_text rates p (chooses version) = (with_version p version, [])
 
 abbrev pub line_answer : ℕ → List Rate → Progress → Bool → Line → Progress × List ℕ
 line_answer life rates p lack l = progress_and_text rates p (line_event life rates p lack l)
 
 -- the answer to these bytes as the next line; the flag says whether memory is lacking
 unfoldable pub answer : ℕ → List Rate → Progress → Bool → List ℕ → Progress × List ℕ
-answer life rates p lack bytes = progress_and_text rates p (read_event life rates p lack (reading bytes))
+answer life rates p lack bytes =
+    progress_and_text rates p (read_event life rates p lack (reading p.state.live.version bytes))
 
 -- Whole scripts
 
@@ -167,6 +183,13 @@ without_empty_end (l ∷ m ∷ ls) = l ∷ without_empty_end (m ∷ ls)
 
 abbrev pub lines_of : List ℕ → List (List ℕ)
 lines_of bytes = without_empty_end (slice_split is_feed bytes)
+
+-- The version of a script
+
+-- it is 2 if the first line is `audit 2`, and else 1
+abbrev pub version_of_script : List (List ℕ) → Version
+version_of_script [] = One
+version_of_script (l ∷ ls) = if bytes_eq l (codes "audit 2") then Two else One
 
 -- none of a text's lines says that memory was lacking
 abbrev pub FoundMemory : List ℕ → Type 0

@@ -8,6 +8,7 @@ use Rattle.share_base.specs.Body.{unstamped}
 use Rattle.share_base.specs.declared.command.Command.TheVariants.{MakeCurrency, MakeTicket, FundFlow, OpenFlow}
 use Rattle.share_base.specs.declared.command.Command.TheVariants.{CloseFlow}
 use Rattle.share_base.specs.declared.command.Event.TheVariants.{Commanded, Arrived}
+use Rattle.share_base.specs.declared.version.Version.TheVariants.{Two}
 use Rattle.share_model.specs.declared.rates.Rate.{Rate}
 use Rattle.share_model.specs.lists.Change.{change_first}
 use Rattle.share_model.specs.funding.Graph.{funding}
@@ -15,7 +16,7 @@ use Rattle.share_model.specs.text.Lines.{number_of, line_by, reading}
 use Rattle.share_model.specs.text.ReportRows.{zero_report, new_link_shows}
 use Rattle.share_model.specs.text.Texts.{line_text}
 use Rattle.share_model.specs.text.Events.{made_of, events_of}
-use Rattle.share_model.specs.text.Talk.{start_of_script, answer, talk, lines_of}
+use Rattle.share_model.specs.text.Talk.{start_of_script, answer, talk, after, lines_of}
 
 -- the program's shelf
 shelf : List Rate
@@ -97,10 +98,25 @@ audit_alone_prints : printed [] (codes "audit 1") ≡ []
 unfolding printed shelf talk answer reading line_by
 audit_alone_prints = refl
 
--- the line of an audit counts as a line, so a second one is Syntax; and another version is no line
+-- the line of an audit counts as a line, so a second one is Syntax, of the other version too
 audits_print : printed [] (codes "audit 1\naudit 1\naudit 2\n") ≡ codes "no 3 Syntax\nno 3 Syntax\n"
 unfolding printed shelf talk answer line_text reading line_by digits
 audits_print = refl
+
+audit_of_the_other_prints : printed [] (codes "audit 2\naudit 1\nmkcur x\n") ≡ codes "no 3 Syntax\nok\n"
+unfolding printed shelf talk answer line_text reading line_by digits change_first funding
+audit_of_the_other_prints = refl
+
+-- a version that there is not is a fault of spelling, and so the script is of version 1
+unknown_audit_prints : printed [] (codes "audit 3\nmkcur x\n") ≡ codes "no 3 Syntax\nok\n"
+unfolding printed shelf talk answer line_text reading line_by digits change_first funding
+unknown_audit_prints = refl
+
+-- the link is one of the version that the first line names
+audit_two_chooses : (after 65536 shelf start_of_script [] (lines_of (codes "audit 2\nmkcur x\n"))).state.live.version
+    ≡ Two
+unfolding shelf after answer reading line_by change_first funding
+audit_two_chooses = refl
 
 -- a fault of spelling counts as a line too
 late_audit_prints : printed [] (codes "audit 01\naudit 1\n") ≡ codes "no 3 Syntax\nno 3 Syntax\n"

@@ -212,7 +212,7 @@ fn taking_bytes_is_one_call_with_the_whole_buffer(rt: HostRuntime) -> Result<(),
 
 #[test]
 fn every_error_but_an_interruption_is_a_failure(rt: HostRuntime) {
-    let mut bytes = [b'.'; 1502];
+    let mut bytes = [b'.'; 9017];
     let mut writer = PlainWriter(UNCALLED);
     let mut reader = PlainReader(UNCALLED);
     for kind in FAILURES {

@@ -2,6 +2,7 @@
 mod holding;
 
 use super::Call;
+use share_base::Version;
 
 /// The only packet of a flow is torn after 7 bytes.
 pub const TORN: &[Call] = &[
@@ -211,8 +212,34 @@ const CLOSED_SHOWS: &str = "clock                           13\n\
     flow        2 a                      0    0                 0 out                          0\n\
     end\n";
 
+// Of two frames of version 2 one is whole, and five bytes of the other are out.
+const VERSION_2: &[Call] = &[
+    Call::Choose(Version::Two),
+    Call::Open("a", 4, 1),
+    Call::MakeTicket(10, "base"),
+    Call::Fund(1, "a"),
+    Call::Send("a", b"hi"),
+    Call::Send("a", b"hi"),
+    Call::Turn(65535),
+    Call::Turn(5),
+];
+
+const VERSION_2_SHOWS: &str = "clock                           19\n\
+    accepted                         2\n\
+    written                          1\n\
+    torn                             0\n\
+    waiting                          1\n\
+    dropped                          0\n\
+    bytes                           24\n\
+    past                             0\n\
+    tickets                         10\n\
+    pass                             0\n\
+    link                             1\n\
+    flow        1 a                     10    1                19 in                111991272242\n\
+    end\n";
+
 /// Links by the calls that they were made, and their reports.
-pub fn links() -> [(&'static [Call], &'static str); 10] {
+pub fn links() -> [(&'static [Call], &'static str); 11] {
     [
         (&[], NEW_SHOWS),
         (TORN, TORN_SHOWS),
@@ -224,5 +251,6 @@ pub fn links() -> [(&'static [Call], &'static str); 10] {
         (CLOSED, CLOSED_SHOWS),
         (holding::HELD_IN_PART, holding::HELD_IN_PART_SHOWS),
         (holding::HELD, holding::HELD_SHOWS),
+        (VERSION_2, VERSION_2_SHOWS),
     ]
 }

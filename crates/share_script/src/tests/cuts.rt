@@ -16,50 +16,79 @@ const NONE: &[u8] = b"out -\n";
 /// The answer to what is no line.
 const NO_LINE: &[u8] = b"no 3 Syntax\n";
 
+/// A line, and what its beginnings are answered.
+type Line = (&'static [u8], &'static [Cut]);
+
 /// The lines of one packet, and what their beginnings are answered. A number or a payload may end sooner than was
 /// meant, as may the name of a currency, of which there is none then.
-const LINES: [(&[u8], &[Cut]); 5] = [
-    (
-        b"open a 4 1\n",
-        &[(0, b"", NONE), (1, NO_LINE, NONE), (10, b"flow 1\n", NONE)],
-    ),
-    (
-        b"mktkt 10 base\n",
-        &[
-            (0, b"", NONE),
-            (1, NO_LINE, NONE),
-            (10, b"no 5 NoCurrency\n", NONE),
-            (13, b"ticket 1\n", NONE),
-        ],
-    ),
-    (
-        b"fund 1 flow a\n",
-        &[(0, b"", NONE), (1, NO_LINE, NONE), (13, b"ok\n", NONE)],
-    ),
-    (
-        b"send a 6869\n",
-        &[
-            (0, b"", NONE),
-            (1, NO_LINE, NONE),
-            (9, b"packet 1 1\n", NONE),
-            (10, NO_LINE, NONE),
-            (11, b"packet 1 1\n", NONE),
-        ],
-    ),
-    (
-        b"turn 65535\n",
-        &[
-            (0, b"", NONE),
-            (1, NO_LINE, NONE),
-            (6, b"wrote 1 1 6 part\n", b"out 4c0100000001\n"),
-            (
-                7,
-                b"wrote 1 1 14 whole\n",
-                b"out 4c01000000010000000100026869\n",
-            ),
-        ],
-    ),
-];
+const LINES: [Line; 5] = [OPENED, MADE, FUNDED, SENT, WRITTEN];
+
+/// The same in version 2.
+const LINES_2: [Line; 6] = [AUDITED, OPENED, MADE, FUNDED, SENT, WRITTEN_2];
+
+const OPENED: Line = (
+    b"open a 4 1\n",
+    &[(0, b"", NONE), (1, NO_LINE, NONE), (10, b"flow 1\n", NONE)],
+);
+
+const MADE: Line = (
+    b"mktkt 10 base\n",
+    &[
+        (0, b"", NONE),
+        (1, NO_LINE, NONE),
+        (10, b"no 5 NoCurrency\n", NONE),
+        (13, b"ticket 1\n", NONE),
+    ],
+);
+
+const FUNDED: Line = (
+    b"fund 1 flow a\n",
+    &[(0, b"", NONE), (1, NO_LINE, NONE), (13, b"ok\n", NONE)],
+);
+
+const SENT: Line = (
+    b"send a 6869\n",
+    &[
+        (0, b"", NONE),
+        (1, NO_LINE, NONE),
+        (9, b"packet 1 1\n", NONE),
+        (10, NO_LINE, NONE),
+        (11, b"packet 1 1\n", NONE),
+    ],
+);
+
+const WRITTEN: Line = (
+    b"turn 65535\n",
+    &[
+        (0, b"", NONE),
+        (1, NO_LINE, NONE),
+        (6, b"wrote 1 1 6 part\n", b"out 4c0100000001\n"),
+        (
+            7,
+            b"wrote 1 1 14 whole\n",
+            b"out 4c01000000010000000100026869\n",
+        ),
+    ],
+);
+
+const AUDITED: Line = (
+    b"audit 2\n",
+    &[(0, b"", NONE), (1, NO_LINE, NONE), (7, b"", NONE)],
+);
+
+const WRITTEN_2: Line = (
+    b"turn 65535\n",
+    &[
+        (0, b"", NONE),
+        (1, NO_LINE, NONE),
+        (6, b"wrote 1 1 6 part\n", b"out 4c0201000000\n"),
+        (
+            7,
+            b"wrote 1 1 19 whole\n",
+            b"out 4c020100000001000000000000000100026869\n",
+        ),
+    ],
+);
 
 // The last cut of no more bytes than these.
 fn cut_at(cuts: &[Cut], count: usize) -> Option<Cut> {
@@ -93,13 +122,15 @@ fn line_is_cut<S: Rates + Copy>(
     Ok(())
 }
 
-pub(super) fn cut_scripts<S: Rates + Copy>(
+// Cuts each of these lines, which come one after the other.
+fn cut_script<S: Rates + Copy>(
     rt: &impl Abort,
     alloc: Global,
     shelf: S,
+    script: &[Line],
 ) -> Result<(), Fail> {
     let (mut lines, mut answers) = (Vec::new(alloc), Vec::new(alloc));
-    for (line, cuts) in LINES {
+    for (line, cuts) in script {
         let before = (lines.as_slice(), answers.as_slice());
         line_is_cut(rt, alloc, shelf, before, line, cuts)?;
         lines.extend_from_slice(line)?;
@@ -107,4 +138,13 @@ pub(super) fn cut_scripts<S: Rates + Copy>(
         answers.extend_from_slice(answer)?;
     }
     Ok(())
+}
+
+pub(super) fn cut_scripts<S: Rates + Copy>(
+    rt: &impl Abort,
+    alloc: Global,
+    shelf: S,
+) -> Result<(), Fail> {
+    cut_script(rt, alloc, shelf, &LINES)?;
+    cut_script(rt, alloc, shelf, &LINES_2)
 }

@@ -2,9 +2,11 @@
 //! refused, then its second, and so on, until none is refused. Requests are refused by the allocator of
 //! `.ci/allocator.c` alone, with which `.ci/memory` runs these tests; with any other each run has its memory at once.
 
+mod long_payloads;
+
 use super::{ITS_OUTPUT, LIFE, ONE_PACKET, linewise, print_written, push_zeros};
 use crate::{ScriptFault, read_line, run_script};
-use share_base::Refusal;
+use share_base::{Refusal, Version};
 use share_core::Engine;
 use share_model::allocator::{IS_HELD_OTHER, MARK_HELD, REFUSE_EACH, WAS_REFUSED};
 use share_model::{Got, Line, PlainWriter, Rates, ScriptedReader, Tape, TellingReader, asks};
@@ -35,7 +37,7 @@ const LONG_LINES: [(&[u8], Refusal, Option<Refusal>); 3] = [
 ];
 
 /// Lines that take no memory to be read, one of each kind, and why they are refused.
-const SHORT_LINES: [(&[u8], Option<Refusal>); 16] = [
+const SHORT_LINES: [(&[u8], Option<Refusal>); 17] = [
     (b"send a 6162636465666768696a6b6c6d6e6f70", None),
     (b"mkcur x", None),
     (b"rmcur x", None),
@@ -51,55 +53,84 @@ const SHORT_LINES: [(&[u8], Option<Refusal>); 16] = [
     (b"torn", None),
     (b"report", None),
     (b"audit 1", None),
+    (b"audit 2", None),
     (b"", Some(Refusal::Syntax)),
 ];
 
+/// Both versions.
+const VERSIONS: [Version; 2] = [Version::One, Version::Two];
+
 // Why a line is refused where each request for memory is, and whether one was.
-fn read_without(alloc: Global, line: &[u8]) -> (Option<Refusal>, bool) {
+fn read_without(alloc: Global, version: Version, line: &[u8]) -> (Option<Refusal>, bool) {
     let _no = asks!(alloc, REFUSE_EACH);
-    let read = read_line(alloc, line);
+    let read = read_line(alloc, version, line);
     let was_refused = asks!(alloc, WAS_REFUSED);
     (read.err(), was_refused)
 }
 
-#[test]
-fn only_a_long_packet_takes_memory_to_be_read(rt: HostRuntime) {
+fn takes_memory_only_for_a_long_packet(rt: &impl Abort, alloc: Global, version: Version) {
     for (line, without, with) in LONG_LINES {
-        let (refusal, was_refused) = read_without(rt.alloc(), line);
+        let (refusal, was_refused) = read_without(alloc, version, line);
         let wanted = if was_refused { Some(without) } else { with };
         assert_eq!(rt; refusal, wanted, "{line:?}");
     }
     for (line, wanted) in SHORT_LINES {
-        assert_eq!(rt; read_without(rt.alloc(), line), (wanted, false), "{line:?}");
+        let read = read_without(alloc, version, line);
+        assert_eq!(rt; read, (wanted, false), "{line:?}");
     }
 }
 
-// A payload of more than 1490 bytes is out of range before memory is taken for it.
+#[test]
+fn only_a_long_packet_takes_memory_to_be_read(rt: HostRuntime) {
+    for version in VERSIONS {
+        takes_memory_only_for_a_long_packet(&rt, rt.alloc(), version);
+    }
+}
+
+// A payload of more than 1490 bytes, or in version 2 of more than 9000, is out of range before memory is taken for it.
 #[test]
 fn a_packet_that_is_too_long_takes_no_memory(rt: HostRuntime) -> Result<(), Fail> {
-    let mut line = b"send a ".as_slice().to_vec(rt.alloc())?;
-    push_zeros(&mut line, 1491)?;
-    let read = read_without(rt.alloc(), line.as_slice());
-    assert_eq!(rt; read, (Some(Refusal::Range), false));
+    for (version, count) in [
+        (Version::One, 1491),
+        (Version::One, 9000),
+        (Version::Two, 9001),
+    ] {
+        let mut line = b"send a ".as_slice().to_vec(rt.alloc())?;
+        push_zeros(&mut line, count)?;
+        let read = read_without(rt.alloc(), version, line.as_slice());
+        assert_eq!(rt; read, (Some(Refusal::Range), false), "{count} bytes");
+    }
     Ok(())
 }
 
-#[test]
-fn a_long_packet_is_read_once_its_memory_is_found(rt: HostRuntime) {
+// The line is read as a packet of this payload, once its memory is found.
+fn is_read_at_last(rt: &impl Abort, alloc: Global, version: Version, line: &[u8], payload: &[u8]) {
     for request in 1..REQUESTS {
-        let _no = asks!(rt.alloc(), request);
-        let read = read_line(rt.alloc(), LONG);
-        let was_refused = asks!(rt.alloc(), WAS_REFUSED);
+        let _no = asks!(alloc, request);
+        let read = read_line(alloc, version, line);
+        let was_refused = asks!(alloc, WAS_REFUSED);
         assert_eq!(rt; read.is_err(), was_refused);
         match read {
             Err(refusal) => assert_eq!(rt; refusal, Refusal::NoMemory),
             Ok(line) => {
-                assert!(rt; sends(&line, b"abcdefghijklmnopq"));
+                assert!(rt; sends(&line, payload));
                 return;
             }
         }
     }
     panic!(rt; "there is none for good");
+}
+
+#[test]
+fn a_long_packet_is_read_once_its_memory_is_found(rt: HostRuntime) -> Result<(), Fail> {
+    let alloc = rt.alloc();
+    for version in VERSIONS {
+        is_read_at_last(&rt, alloc, version, LONG, b"abcdefghijklmnopq");
+    }
+    let mut line = b"send a ".as_slice().to_vec(alloc)?;
+    push_zeros(&mut line, 9000)?;
+    is_read_at_last(&rt, alloc, Version::Two, line.as_slice(), &[0; 9000]);
+    Ok(())
 }
 
 // Whether the line sends this payload.
@@ -181,9 +212,10 @@ fn ran<S: Rates + Copy>(
 }
 
 /// A script of which some lines find no memory. Each of its reads gives a line.
-struct Row {
+#[derive(Drop)]
+struct Row<'a> {
     life: u64,
-    script: &'static [u8],
+    script: &'a [u8],
     /// The read that gives the first of these lines, counted from 1, and the read that gives the first line after them;
     /// 0 for the buffers, which are made before the first read.
     reads: (usize, usize),
@@ -194,7 +226,7 @@ struct Row {
     with: &'static [u8],
 }
 
-const ROWS: [Row; 11] = [
+const ROWS: [Row<'static>; 12] = [
     Row {
         life: LIFE,
         script: ONE_PACKET,
@@ -268,6 +300,18 @@ const ROWS: [Row; 11] = [
         with: b"flow 1\nticket 1\nok\npacket 1 1\npacket 1 2\nwrote 1 1 29 whole\n\
             out 4c01000000010000000100116162636465666768696a6b6c6d6e6f7071\n",
     },
+    // Nor does one of version 2.
+    Row {
+        life: LIFE,
+        script: b"audit 2\nopen a 4 1\nmktkt 1 base\nfund 1 flow a\n\
+            send a 6162636465666768696a6b6c6d6e6f7071\nsend a 61\nturn 65535\n",
+        reads: (5, 6),
+        without: b"flow 1\nticket 1\nok\nno 1 NoMemory\npacket 1 1\nwrote 1 1 18 whole\n\
+            out 4c0201000000010000000000000001000161\n",
+        ended: Ok(()),
+        with: b"flow 1\nticket 1\nok\npacket 1 1\npacket 1 2\nwrote 1 1 34 whole\n\
+            out 4c020100000001000000000000000100116162636465666768696a6b6c6d6e6f7071\n",
+    },
     // Want of memory is no event of the life.
     Row {
         life: 3,
@@ -328,7 +372,7 @@ fn plays<S: Rates + Copy>(
     rt: &impl Abort,
     alloc: Global,
     shelf: S,
-    row: &Row,
+    row: &Row<'_>,
     question: u16,
 ) -> bool {
     let mut input = asking_reader(rt, alloc, row.script, row.reads, question);
@@ -350,20 +394,24 @@ fn plays<S: Rates + Copy>(
     was_refused
 }
 
+fn finds_no_memory<S: Rates + Copy>(rt: &impl Abort, alloc: Global, shelf: S, row: &Row<'_>) {
+    let _refused = plays(rt, alloc, shelf, row, REFUSE_EACH);
+    for request in 1..REQUESTS {
+        if !plays(rt, alloc, shelf, row, request) {
+            break;
+        }
+    }
+}
+
 fn a_line_finds_no_memory<S: Rates + Copy>(rt: &impl Abort, alloc: Global, shelf: S) {
     for row in &ROWS {
-        let _refused = plays(rt, alloc, shelf, row, REFUSE_EACH);
-        for request in 1..REQUESTS {
-            if !plays(rt, alloc, shelf, row, request) {
-                break;
-            }
-        }
+        finds_no_memory(rt, alloc, shelf, row);
     }
 }
 
 // The place of the first of these rows, from a place on, which ends and prints so.
 fn place_of(
-    rows: &[Row],
+    rows: &[Row<'_>],
     from: usize,
     ended: Result<(), ScriptFault>,
     text: &[u8],
@@ -400,7 +448,7 @@ fn a_request_is_refused<S: Rates + Copy>(rt: &impl Abort, alloc: Global, shelf: 
 }
 
 /// Four lines that find no memory, and the same lines again.
-const FOUR_LINES: Row = Row {
+const FOUR_LINES: Row<'static> = Row {
     life: LIFE,
     script: b"open a 4 1\nmkcur x\nmktkt 1 base\nsend a 6162636465666768696a6b6c6d6e6f7071\n\
         open a 4 1\nmkcur x\nmktkt 1 base\nfund 1 flow a\n\
@@ -415,7 +463,7 @@ const FOUR_LINES: Row = Row {
 };
 
 /// Lines that take no memory.
-const TAKE_NONE: [Row; 2] = [
+const TAKE_NONE: [Row<'static>; 3] = [
     // On a new link.
     Row {
         life: LIFE,
@@ -440,6 +488,15 @@ const TAKE_NONE: [Row; 2] = [
             no 6 NoTicket\nno 7 NoFlow\nno 10 Base\nno 6 NoTicket\nno 6 NoTicket\nidle\n\
             idle\nno 4 Range\nno 3 Syntax\nno 7 NoFlow\nno 3 Syntax\n\
             no 3 Syntax\nno 9 Taken\nno 4 Range\nno 8 NoTariff\nout -\n",
+    },
+    // On one of version 2.
+    Row {
+        life: LIFE,
+        script: b"audit 2\naudit 2\naudit 1\nturn 0\nsend zz 6162636465666768696a6b6c6d6e6f70\n",
+        reads: (1, usize::MAX),
+        without: b"",
+        ended: Ok(()),
+        with: b"no 3 Syntax\nno 3 Syntax\nno 4 Range\nno 7 NoFlow\nout -\n",
     },
     // The tape, whose room doubles, has room for three more frames of 13 bytes once it holds five.
     Row {
@@ -473,18 +530,23 @@ fn some_take_none<S: Rates + Copy>(rt: &impl Abort, alloc: Global, shelf: S) {
     }
 }
 
-fn scripts_find_no_memory<S: Rates + Copy>(rt: &impl Abort, alloc: Global, shelf: S) {
+fn scripts_find_no_memory<S: Rates + Copy>(
+    rt: &impl Abort,
+    alloc: Global,
+    shelf: S,
+) -> Result<(), Fail> {
     a_line_finds_no_memory(rt, alloc, shelf);
     a_request_is_refused(rt, alloc, shelf);
     let _refused = plays(rt, alloc, shelf, &FOUR_LINES, REFUSE_EACH);
     some_take_none(rt, alloc, shelf);
+    long_payloads::find_no_memory(rt, alloc, shelf)
 }
 
 #[test]
 fn scripts_are_answered_once_their_memory_is_found(rt: HostRuntime) -> Result<(), Fail> {
     let alloc = rt.alloc();
     let shelf = share_tariff::shelf!(alloc, (1, 0, 1));
-    scripts_find_no_memory(&rt, alloc, &shelf);
+    let worked = scripts_find_no_memory(&rt, alloc, &shelf);
     drop(shelf);
-    Ok(())
+    worked
 }

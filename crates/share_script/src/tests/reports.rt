@@ -27,11 +27,7 @@ const SCRIPTS: [(u64, &[u8], &[u8]); 6] = [
         no 3 Syntax\nout -\n",
     ),
     (LIFE, b"audit 1\nmkcur x", b"ok\nout -\n"),
-    (
-        LIFE,
-        b"audit 2\naudit 1\n",
-        b"no 3 Syntax\nno 3 Syntax\nout -\n",
-    ),
+    (LIFE, b"audit 2\naudit 1\n", b"no 3 Syntax\nout -\n"),
     // The audit of a link whose only packet is torn.
     (
         LIFE,

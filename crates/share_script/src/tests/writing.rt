@@ -3,7 +3,7 @@
 mod holding;
 
 use crate::{read_line, write_line, write_reply, write_turn};
-use share_base::{Body, Command, FlowNo, Name, Outcome, Refusal, Reply, TicketNo, Turn};
+use share_base::{Body, Command, FlowNo, Name, Outcome, Refusal, Reply, TicketNo, Turn, Version};
 use share_model::{Answer, Fault, Line, Scripted, Tape, TellingWriter};
 use std::alloc::Global;
 use std::process::Abort;
@@ -78,14 +78,17 @@ fn is_written<T: Written>(
     Ok(())
 }
 
-// The line is written as these bytes, and is read from them as a line that is written so.
+// The line is written as these bytes, and is read from them, in each version, as a line that is written so.
 fn line_is_written(rt: &impl Abort, alloc: Global, line: &Line, want: &[u8]) -> Result<(), Fail> {
     is_written(rt, alloc, line, want)?;
     let Some((_, spelling)) = want.split_last() else {
         return Ok(());
     };
-    let read = read_line(alloc, spelling)?;
-    is_written(rt, alloc, &read, want)
+    for version in [Version::One, Version::Two] {
+        let read = read_line(alloc, version, spelling)?;
+        is_written(rt, alloc, &read, want)?;
+    }
+    Ok(())
 }
 
 fn name(rt: &impl Abort, text: &[u8]) -> Name {
@@ -148,6 +151,16 @@ fn lines_of_flows_are_written(rt: HostRuntime) -> Result<(), Fail> {
 }
 
 #[test]
+fn lines_of_audits_are_written(rt: HostRuntime) -> Result<(), Fail> {
+    let rows: [(Line, &[u8]); 3] = [
+        (Line::Audit(Version::One), b"audit 1\n"),
+        (Line::Audit(Version::Two), b"audit 2\n"),
+        (Line::Report, b"report\n"),
+    ];
+    lines_are_written(&rt, rt.alloc(), &rows)
+}
+
+#[test]
 fn the_longest_line_is_written(rt: HostRuntime) -> Result<(), Fail> {
     let alloc = rt.alloc();
     let line = Line::Send {
@@ -163,6 +176,27 @@ fn the_longest_line_is_written(rt: HostRuntime) -> Result<(), Fail> {
     assert_eq!(rt; write_line(&line, &mut output), Ok(()));
     assert_eq!(rt; output.bytes(), want.as_slice());
     Ok(())
+}
+
+// Too long for version 1.
+#[test]
+fn the_longest_line_of_version_2_is_written(rt: HostRuntime) -> Result<(), Fail> {
+    let alloc = rt.alloc();
+    let line = Line::Send {
+        flow: name(&rt, b"abcdefghijklmnop"),
+        body: Body::new(alloc, &[0xa5; 9000])?,
+    };
+    let mut want = b"send abcdefghijklmnop ".as_slice().to_vec(alloc)?;
+    for _ in 0..9000 {
+        want.extend_from_slice(b"a5")?;
+    }
+    assert_eq!(rt; want.len(), 18022);
+    let short = read_line(alloc, Version::One, want.as_slice()).err();
+    assert_eq!(rt; short, Some(Refusal::Range));
+    let read = read_line(alloc, Version::Two, want.as_slice())?;
+    want.push(b'\n')?;
+    is_written_at_once(&rt, alloc, &line, want.as_slice())?;
+    is_written_at_once(&rt, alloc, &read, want.as_slice())
 }
 
 /// Answers, and their texts.

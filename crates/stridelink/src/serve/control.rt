@@ -4,7 +4,7 @@ ghost use Rattle.share_model.specs.io.Printing.{WritesText};
 ghost use Rattle.share_script.specs.Lines.{IsUnfinished};
 ghost use Rattle.stridelink.specs.Control.{request_of, request_in, Changed, Reported, AnswersRequest};
 
-use share_base::{Command, Refusal, Reply};
+use share_base::{Command, Refusal, Reply, Version};
 use share_locked::{Clerk, LinkBrand, Port};
 use share_model::{
     Fault, Got, Line, PatientWriter, PlainWriter, Rates, TellingReader, TellingWriter, put,
@@ -66,7 +66,7 @@ fn request_of(line: &Result<Line, Refusal>) -> Request
 fn request_in(alloc: Global, bytes: &[u8]) -> Request
     ensures { result ≡ request_in bytes.now }
 {
-    let line = read_line(alloc, bytes);
+    let line = read_line(alloc, Version::Two, bytes);
     request_of(&line)
 }
 

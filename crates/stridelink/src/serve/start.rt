@@ -6,6 +6,7 @@ ghost use Rattle.stridelink.specs.Program.{program_rates};
 use crate::serve::audit::AuditFile;
 use crate::serve::{Plan, ServeFault, Sockets, serve_on};
 use crate::words::{ServeOrders, Word};
+use share_base::Version;
 use share_journal::Journal;
 use share_model::{PatientWriter, PlainWriter, Rates};
 use std::alloc::Global;
@@ -78,8 +79,8 @@ fn audit_file<'a, R: Files>(
     }
 }
 
-// What a run needs, in this order: a journal, the file of the audit, and sockets. At a fault what was made already is
-// dropped by calls, which keeps the proof short.
+// What a run needs, in this order: a journal of version 2, the file of the audit, and sockets. At a fault what was made
+// already is dropped by calls, which keeps the proof short.
 fn prepared<'a, R>(
     rt: &'a R,
     alloc: Global,
@@ -88,9 +89,10 @@ fn prepared<'a, R>(
 where
     R: Net<Listener = TcpListener, Stream = TcpStream> + Files,
 {
-    let Ok(journal) = Journal::new(alloc, orders.life) else {
+    let Ok(mut journal) = Journal::new(alloc, orders.life) else {
         return Err(Unserved::NoMemory);
     };
+    journal.choose(Version::Two);
     let audit = match audit_file(rt, alloc, orders.audit) {
         Ok(audit) => audit,
         Err(fault) => {

@@ -3,7 +3,7 @@
 use crate::serve::Keep;
 use crate::serve::audit::AuditFile;
 use crate::tests::failing::{FailingFiles, Taken};
-use share_base::{Command, Event, Name, Outcome, Reply};
+use share_base::{Command, Event, Name, Outcome, Reply, Version};
 use share_journal::{Entry, Journal, Source};
 use std::alloc::Global;
 use std::fs;
@@ -13,7 +13,7 @@ use std::process::Abort;
 use std::test::Fail;
 
 /// The audit of an empty journal.
-const AUDIT: &str = "audit 1\n";
+const AUDIT: &str = "audit 2\n";
 
 const OLD: &str = "what was there before";
 
@@ -50,6 +50,13 @@ fn holds<R: Files>(rt: &R, path: &str, text: Option<&str>) -> bool {
     }
 }
 
+// An empty journal of version 2.
+fn empty(alloc: Global) -> Result<Journal, Fail> {
+    let mut journal = Journal::new(alloc, 1)?;
+    journal.choose(Version::Two);
+    Ok(journal)
+}
+
 // Checks that the new file takes the name at the end, and the old file stays until then.
 fn takes_the_name<R: Files + Eprint + Abort>(
     rt: &R,
@@ -61,7 +68,7 @@ fn takes_the_name<R: Files + Eprint + Abort>(
         in_folder(alloc, folder, "a")?,
         in_folder(alloc, folder, "a.1")?,
     );
-    let journal = Journal::new(alloc, 1)?;
+    let journal = empty(alloc)?;
     let audit = AuditFile::open(rt, alloc, path.as_str())?;
     assert!(rt; holds(rt, path.as_str(), old), "the old file is not there");
     assert!(rt; holds(rt, beside.as_str(), Some("")), "no file beside");
@@ -81,7 +88,7 @@ fn leaves_the_old<R: Files + Eprint + Abort>(
         in_folder(alloc, folder, "b")?,
         in_folder(alloc, folder, "b.1")?,
     );
-    let journal = Journal::new(alloc, 1)?;
+    let journal = empty(alloc)?;
     fs::write(rt, path.as_str(), OLD)?;
     drop(AuditFile::open(rt, alloc, path.as_str())?);
     assert!(rt; holds(rt, path.as_str(), Some(OLD)), "the old file is lost");
@@ -103,7 +110,7 @@ fn leaves_other_files<R: Files + Eprint + Abort>(
         in_folder(alloc, folder, "c")?,
         in_folder(alloc, folder, "c.1")?,
     );
-    let journal = Journal::new(alloc, 1)?;
+    let journal = empty(alloc)?;
     fs::write(rt, taken.as_str(), OLD)?;
     let audit = AuditFile::open(rt, alloc, path.as_str())?;
     audit.write(&journal)?;
@@ -125,7 +132,7 @@ fn writes_in_place<R: Files + Eprint + Abort>(
         in_folder(alloc, folder, "d")?,
         in_folder(alloc, folder, "e")?,
     );
-    let journal = Journal::new(alloc, 1)?;
+    let journal = empty(alloc)?;
     fs::write(rt, path.as_str(), OLD)?;
     rt.symlink(path.as_str(), link.as_str())?;
     let audit = AuditFile::open(rt, alloc, link.as_str())?;
@@ -173,13 +180,13 @@ const WRITES: [Row; 14] = [
         &[Taken::Most(5), Taken::Most(2), NONE, NONE],
         true,
         false,
-        "audit 1",
+        "audit 2",
     ),
     (
         &[INTERRUPTED, Taken::Most(7), FULL, FULL],
         true,
         false,
-        "audit 1",
+        "audit 2",
     ),
     (&[Taken::Most(3), FULL], true, false, AUDIT),
     (&[Taken::Most(3)], false, false, AUDIT),
@@ -195,6 +202,7 @@ const LONG: u64 = 9000;
 fn long_journal(rt: &impl Abort, alloc: Global) -> Journal {
     let name = Name::read(b"x").expect(rt, "a name");
     let mut journal = Journal::new(alloc, LONG).expect(rt, "a journal");
+    journal.choose(Version::Two);
     for _ in 0..LONG {
         if journal.len() < journal.life() {
             journal.push(Entry {
@@ -317,13 +325,7 @@ fn files_of_audits(rt: HostRuntime) -> Result<(), Fail> {
     leaves_the_old(&rt, alloc, folder.as_str())?;
     leaves_other_files(&rt, alloc, folder.as_str())?;
     writes_in_place(&rt, alloc, folder.as_str())?;
-    faults_are_told(
-        &rt,
-        alloc,
-        folder.as_str(),
-        Journal::new(alloc, 1)?,
-        &WRITES,
-    )?;
+    faults_are_told(&rt, alloc, folder.as_str(), empty(alloc)?, &WRITES)?;
     faults_are_told(
         &rt,
         alloc,

@@ -1,9 +1,11 @@
 //! The answers on control connections.
 ghost use Rattle.std.specs.Prelude.{◌≡◌, ◌≤◌, [], length};
+ghost use Rattle.share_base.specs.declared.version.Version.TheVariants.{Two};
 
 use crate::serve::PlainTariffs;
 use crate::serve::control::{Attended, How, attend};
 use crate::tests::failing::{Taken, Taking};
+use share_base::Version;
 use share_core::Engine;
 use share_ingress::{IngressEnd, Intake, queue};
 use share_journal::{Journal, Recorder};
@@ -23,13 +25,20 @@ const LIFE: u64 = 100;
 
 /// What comes on a connection, with a bar after what one read gives, and two bars where a read is interrupted; what is
 /// written, with a bar after what one write call takes; and how many commands are made.
-const CONVERSATIONS: [(&[u8], &[u8], usize); 10] = [
+const CONVERSATIONS: [(&[u8], &[u8], usize); 12] = [
     (b"", b"", 0),
     (b"nonsense\n", b"no 3 Syntax\n|", 0),
     (
         b"turn 1\nsend a 61\ntorn\naudit 1\n\nturn 0\n",
         b"no 3 Syntax\nno 3 Syntax\nno 3 Syntax\nno 3 Syntax\nno 3 Syntax\nno 3 Syntax\n|",
         0,
+    ),
+    // The first line chooses no version here.
+    (b"audit 2\nmkcur x\n", b"no 3 Syntax\nok\n|", 1),
+    (
+        b"audit 1\n|mkcur x\n|audit 2\n",
+        b"no 3 Syntax\n|ok\n|no 3 Syntax\n|",
+        1,
     ),
     (
         b"report\n",
@@ -339,6 +348,7 @@ where
     S: Rates + Drop,
     L: LinkBrand,
     requires empty { recorder.entries ≡ [] }
+    requires version { recorder.link.live.version ≡ Two }
     requires link { intake.link ≡ L.link }
     requires nothing { intake.popped ≡ [] }
 {
@@ -370,6 +380,26 @@ where
     (how, receipts)
 }
 
+// A recorder of a new link of version 2.
+fn recording<S: Rates + Drop>(
+    rt: &impl Abort,
+    alloc: Global,
+    shelf: S,
+    life: u64,
+) -> Recorder<Tape, S>
+    ensures empty { result.entries ≡ [] }
+    ensures version { result.link.live.version ≡ Two }
+{
+    let mut engine = Engine::new(alloc, shelf, life, Tape::new(alloc)).expect(rt, "a link");
+    engine.choose(Version::Two);
+    let mut journal = Journal::new(alloc, life).expect(rt, "a journal");
+    journal.choose(Version::Two);
+    let Ok(recorder) = Recorder::new(engine, journal) else {
+        panic!(rt; "the link and its journal are not new");
+    };
+    recorder
+}
+
 // Answers a connection to a new link.
 fn answered<T: Wait + Abort, S: Rates + Drop>(
     rt: &T,
@@ -378,11 +408,7 @@ fn answered<T: Wait + Abort, S: Rates + Drop>(
     asked: Asked<'_>,
     written: &mut Vec<u8>,
 ) -> (How, usize) {
-    let engine = Engine::new(alloc, shelf, asked.life, Tape::new(alloc)).expect(rt, "a link");
-    let journal = Journal::new(alloc, asked.life).expect(rt, "a journal");
-    let Ok(recorder) = Recorder::new(engine, journal) else {
-        panic!(rt; "the link and its journal are not new");
-    };
+    let recorder = recording(rt, alloc, shelf, asked.life);
     let (intake, ends) = queue(alloc, 1, 1).expect(rt, "a queue");
     drop::<Vec<IngressEnd>>(ends);
     attended::<T, S, Brand>(rt, alloc, recorder, intake, asked, written)
@@ -471,23 +497,42 @@ fn short_writes_go_on<T: Wait + Abort, S: Rates + Copy>(rt: &T, alloc: Global, s
     }
 }
 
-// Checks that a line of more than 20480 bytes has no place, and the line after it has its own answer.
-fn over_long_lines_have_no_place<T: Wait + Abort, S: Rates + Copy>(
+// Checks that a line which begins so and has this many more bytes has no place, and the line after it has its own
+// answer.
+fn has_no_place<T: Wait + Abort, S: Rates + Copy>(
+    rt: &T,
+    alloc: Global,
+    shelf: S,
+    beginning: &[u8],
+    more: usize,
+) -> Result<(), Fail> {
+    let mut lines = Vec::from_slice(alloc, beginning)?;
+    for _ in 0..more {
+        lines.push(b'6')?;
+    }
+    lines.extend_from_slice(b"\nmkcur x\n".as_slice())?;
+    let mut written = Vec::new(alloc);
+    let asked = whole(lines.as_slice());
+    let ended = answered(rt, alloc, shelf, asked, &mut written);
+    let right = ended == (How::End, 1) && written.as_slice() == b"no 3 Syntax\nok\n|".as_slice();
+    assert!(rt; right, "{more} bytes more");
+    Ok(())
+}
+
+/// How many digits of a packet a line has: those of 1 byte, of as many bytes as a frame of each version carries and of
+/// one more; as many as a line of 20480 bytes has room for; and more than that.
+const DIGITS: [usize; 8] = [2, 2980, 2982, 18000, 18002, 20472, 20474, 40000];
+
+// Checks that neither a packet, however long, nor a line of more than 20480 bytes has a place.
+fn packets_and_over_long_lines_have_no_place<T: Wait + Abort, S: Rates + Copy>(
     rt: &T,
     alloc: Global,
     shelf: S,
 ) -> Result<(), Fail> {
-    let mut long = Vec::new(alloc);
-    for _ in 0..20481 {
-        long.push(b'x')?;
+    for digits in DIGITS {
+        has_no_place(rt, alloc, shelf, b"send a ", digits)?;
     }
-    long.extend_from_slice(b"\nmkcur x\n".as_slice())?;
-    let mut written = Vec::new(alloc);
-    let asked = whole(long.as_slice());
-    let (how, receipts) = answered(rt, alloc, shelf, asked, &mut written);
-    assert_eq!(rt; (how, receipts), (How::End, 1));
-    assert_eq!(rt; written.as_slice(), b"no 3 Syntax\nok\n|".as_slice());
-    Ok(())
+    has_no_place(rt, alloc, shelf, b"", 20481)
 }
 
 // Checks that only changes are answered with a spent life, and have no receipts.
@@ -534,7 +579,7 @@ fn answers_are_written_outside_of_holds<T: Wait + Abort, S: Rates + Copy>(
 fn lines_of_control_connections(rt: HostRuntime) -> Result<(), Fail> {
     let alloc = rt.alloc();
     are_answered(&rt, alloc, PlainTariffs)?;
-    over_long_lines_have_no_place(&rt, alloc, PlainTariffs)?;
+    packets_and_over_long_lines_have_no_place(&rt, alloc, PlainTariffs)?;
     spent_lives_are_told(&rt, alloc, PlainTariffs)?;
     answers_are_written_outside_of_holds(&rt, alloc, PlainTariffs)?;
     cut_lines_are_no_lines(&rt, alloc, PlainTariffs);

@@ -1,6 +1,7 @@
 //! Servers with both ends of their connections in one process.
 
 use crate::serve::{Keep, PlainTariffs, Plan, ServeFault, Sockets, serve_on};
+use share_base::Version;
 use share_core::Engine;
 use share_journal::Journal;
 use share_model::{PlainReader, Rates, Tape};
@@ -27,15 +28,24 @@ const ANSWERED: &[u8] = b"flow 1\nticket 1\nok\n";
 /// The record of the ingress connection, and its frame.
 const RECORD: &[u8] = &[1, 0x61, 0, 1, 0x61];
 
-const FRAME: &[u8] = &[0x4c, 1, 0, 0, 0, 1, 0, 0, 0, 1, 0, 1, 0x61];
+const FRAME: &[u8; 18] = b"\x4c\x02\x01\0\0\0\x01\0\0\0\0\0\0\0\x01\0\x01\x61";
+
+/// A payload as long as a frame carries, the bytes before it in its record, and those before it in its frame.
+const LONG_PAYLOAD: [u8; 9000] = [0x61; 9000];
+
+const LONG_RECORD: &[u8] = &[1, 0x61, 0x23, 0x28];
+
+const LONG_HEADER: &[u8; 17] = b"\x4c\x02\x01\0\0\0\x01\0\0\0\0\0\0\0\x01\x23\x28";
 
 /// A line and a record that are cut.
 const CUT_LINE: &[u8] = b"mkcur x";
 
 const CUT_RECORD: &[u8] = &[1, 0x61, 0, 2, 0x62];
 
-/// The audit of those lines and that record.
-const AUDIT: &str = "audit 1\nopen a 4 1\nmktkt 1 base\nfund 1 flow a\nsend a 61\nturn 13\n";
+/// The audit of those lines and that record, and its beginning, which is also that of another record's.
+const AUDIT: &str = "audit 2\nopen a 4 1\nmktkt 1 base\nfund 1 flow a\nsend a 61\nturn 18\n";
+
+const AUDIT_BEGINS: &str = "audit 2\nopen a 4 1\nmktkt 1 base\nfund 1 flow a\nsend a 61";
 
 /// How many bytes the report of a link with one flow has, and at which of them it tells the state of the link.
 const REPORT: usize = 482;
@@ -55,6 +65,8 @@ const PATIENCE: u64 = 20;
 enum Play {
     /// As they should.
     Whole,
+    /// So too, and the packet is as long as a frame carries.
+    Long,
     /// The control connection ends in a line, and the ingress connection in a record.
     Cut,
     /// The peer closes the uplink before any packet.
@@ -142,17 +154,43 @@ fn send_until_torn<T: Wait>(rt: &T, asking: &TcpStream, sending: &TcpStream) -> 
     false
 }
 
+// Sends the record of one packet.
+fn send_record(play: Play, sending: &TcpStream) -> bool {
+    let mut sending = sending;
+    if play == Play::Long {
+        sending.write_all(LONG_RECORD).is_ok() && sending.write_all(&LONG_PAYLOAD).is_ok()
+    } else {
+        sending.write_all(RECORD).is_ok()
+    }
+}
+
+// Whether these bytes are the frame of the long packet.
+fn is_long_frame(bytes: &[u8]) -> bool {
+    bytes.strip_prefix(LONG_HEADER) == Some(LONG_PAYLOAD.as_slice())
+}
+
+// Whether the stream gives the frame of the packet.
+fn gives_frame(play: Play, stream: &TcpStream) -> bool {
+    let mut stream = stream;
+    if play == Play::Long {
+        let mut frame = [0u8; 9017];
+        stream.read_exact(&mut frame).is_ok() && is_long_frame(&frame)
+    } else {
+        gives(stream, FRAME)
+    }
+}
+
 // Sends one packet, and says whether the peer got its frame, and nothing else.
 fn send_one(play: Play, asking: &TcpStream, sending: TcpStream, peer: &TcpStream) -> bool {
     let mut sending = sending;
     let mut asking = asking;
-    let mut is_sent = sending.write_all(RECORD).is_ok();
+    let mut is_sent = send_record(play, &sending);
     if play == Play::Cut {
         is_sent &= sending.write_all(CUT_RECORD).is_ok() && asking.write_all(CUT_LINE).is_ok();
     }
     drop(sending);
     let _ = asking.shutdown(Shutdown::Write);
-    is_sent && gives(peer, FRAME) && read_bytes(peer, 1) == [0; 64]
+    is_sent && gives_frame(play, peer) && read_bytes(peer, 1) == [0; 64]
 }
 
 // Plays the clients, and says whether they got what is wanted.
@@ -198,17 +236,48 @@ fn link_of<S: Rates + Copy>(
 
 // Whether these are a beginning of the frames of packets that are all alike.
 fn begin_frames(bytes: &[u8]) -> bool {
-    let mut frame = [0x4c, 1, 0, 0, 0, 1, 0, 0, 0, 0, 0, 1, 0x61];
-    for (number, piece) in bytes.chunks(13).enumerate() {
+    let mut frame = *FRAME;
+    for (number, piece) in bytes.chunks(18).enumerate() {
         let Ok(before) = u8::try_from(number) else {
             return false;
         };
-        frame[9] = before.saturating_add(1);
+        frame[14] = before.saturating_add(1);
         if !frame.starts_with(piece) {
             return false;
         }
     }
     true
+}
+
+// Whether the audit is that of the packet. How many write calls took a long frame is the system's choice.
+fn is_audit(play: Play, audit: &[u8]) -> bool {
+    let Some(rest) = audit.strip_prefix(AUDIT_BEGINS.as_bytes()) else {
+        return false;
+    };
+    match &play {
+        Play::Whole => audit == AUDIT.as_bytes(),
+        Play::Cut => audit == AUDIT.as_bytes(),
+        Play::Long => is_long_line(rest),
+        Play::Torn => rest.starts_with(b"\n"),
+    }
+}
+
+// Whether the rest of the packet's line is that of the long packet.
+fn is_long_line(rest: &[u8]) -> bool {
+    let Some(end) = rest.iter().position(|byte| *byte == b'\n') else {
+        return false;
+    };
+    end == 17998 && rest[..end].chunks(2).all(|pair| pair == b"61".as_slice())
+}
+
+// Whether these are the bytes of the frames; or, if the uplink was torn, a beginning of them.
+fn are_frames(play: Play, bytes: &[u8]) -> bool {
+    match &play {
+        Play::Whole => bytes == FRAME.as_slice(),
+        Play::Cut => bytes == FRAME.as_slice(),
+        Play::Long => is_long_frame(bytes),
+        Play::Torn => begin_frames(bytes),
+    }
 }
 
 // Checks that a report is that of the link which its audit gives as a script, with these bytes; or, if the uplink was
@@ -229,12 +298,8 @@ fn audit_gives_the_link<S: Rates + Copy>(
         "another report than the audit's"
     );
     assert!(rt; engine.broken() == (play == Play::Torn), "after {play:?}");
-    if play == Play::Torn {
-        assert!(rt; begin_frames(engine.writer().bytes()), "other frames");
-    } else {
-        assert!(rt; engine.writer().bytes() == FRAME, "another frame");
-        assert!(rt; audit == AUDIT.as_bytes(), "another audit");
-    }
+    assert!(rt; are_frames(play, engine.writer().bytes()), "other frames");
+    assert!(rt; is_audit(play, audit), "another audit");
     drop(shown);
     drop(engine);
 }
@@ -249,6 +314,26 @@ fn address(rt: &impl Abort, listener: &TcpListener) -> SocketAddr {
     listener.local_addr().ok().expect(rt, "an address")
 }
 
+// The sockets of a server, the addresses of its clients, and the peer of its uplink.
+fn open_sockets<T>(rt: &T) -> (Sockets, SocketAddr, SocketAddr, TcpStream)
+where
+    T: Net<Listener = TcpListener, Stream = TcpStream> + Abort,
+{
+    let (ingress, control, peers) = (listener(rt), listener(rt), listener(rt));
+    let uplink = TcpStream::connect(rt, address(rt, &peers))
+        .ok()
+        .expect(rt, "an uplink");
+    let (peer, _) = peers.accept().ok().expect(rt, "a peer");
+    drop(peers);
+    let (asked, given) = (address(rt, &control), address(rt, &ingress));
+    let sockets = Sockets {
+        ingress,
+        control,
+        uplink,
+    };
+    (sockets, asked, given, peer)
+}
+
 // The sockets of a server, and a thread that plays its clients and the peer of its uplink.
 fn sockets<T>(rt: &T, play: Play) -> (Sockets, JoinHandle<bool>)
 where
@@ -261,13 +346,7 @@ where
         + Drop
         + 'static,
 {
-    let (ingress, control, peers) = (listener(rt), listener(rt), listener(rt));
-    let uplink = TcpStream::connect(rt, address(rt, &peers))
-        .ok()
-        .expect(rt, "an uplink");
-    let (peer, _) = peers.accept().ok().expect(rt, "a peer");
-    drop(peers);
-    let (asked, given) = (address(rt, &control), address(rt, &ingress));
+    let (sockets, asked, given, peer) = open_sockets(rt);
     let own = *rt;
     let clients = thread::spawn(rt, move || {
         let peer = peer;
@@ -275,11 +354,6 @@ where
     })
     .ok()
     .expect(rt, "a thread");
-    let sockets = Sockets {
-        ingress,
-        control,
-        uplink,
-    };
     (sockets, clients)
 }
 
@@ -290,6 +364,42 @@ fn wanted(play: Play) -> Result<(), ServeFault> {
     } else {
         Ok(())
     }
+}
+
+// An empty journal of this version.
+fn journal_of(rt: &impl Abort, alloc: Global, version: Version) -> Journal {
+    let mut journal = Journal::new(alloc, LIFE).expect(rt, "a journal");
+    journal.choose(version);
+    journal
+}
+
+// Serves one connection of each kind.
+fn serve<T, S>(
+    rt: &T,
+    alloc: Global,
+    shelf: S,
+    journal: Journal,
+    sockets: Sockets,
+    audit: &mut Tape,
+    report: &mut Tape,
+) -> Result<(), ServeFault>
+where
+    T: Threads + Wait + Clock + Eprint + Copy + Send + Sync + Drop + 'static,
+    S: Rates + Send + Drop,
+{
+    let plan = Plan {
+        workers: 1,
+        clerks: 1,
+        is_verbose: false,
+    };
+    let keep = InMemory { tape: audit };
+    let until = Some(Deadline {
+        rt: *rt,
+        parker: Parker::new(),
+    });
+    serve_on(
+        rt, alloc, shelf, journal, sockets, plan, until, keep, report,
+    )
 }
 
 fn is_served<T, S, A>(rt: &T, alloc: Global, shelf: S, again: A, play: Play)
@@ -308,31 +418,11 @@ where
     S: Rates + Send + Drop,
     A: Rates + Copy,
 {
-    let plan = Plan {
-        workers: 1,
-        clerks: 1,
-        is_verbose: false,
-    };
     let (sockets, clients) = sockets(rt, play);
-    let journal = Journal::new(alloc, LIFE).expect(rt, "a journal");
+    let journal = journal_of(rt, alloc, Version::Two);
     let mut audit = Tape::new(alloc);
     let mut report = Tape::new(alloc);
-    let keep = InMemory { tape: &mut audit };
-    let until = Some(Deadline {
-        rt: *rt,
-        parker: Parker::new(),
-    });
-    let served = serve_on(
-        rt,
-        alloc,
-        shelf,
-        journal,
-        sockets,
-        plan,
-        until,
-        keep,
-        &mut report,
-    );
+    let served = serve(rt, alloc, shelf, journal, sockets, &mut audit, &mut report);
     assert!(rt; served == wanted(play), "after {play:?}");
     assert!(rt;
         clients.join(rt),
@@ -343,11 +433,41 @@ where
     drop(report);
 }
 
+// A journal of version 1 is none of a link that is served, and nothing is kept or shown.
+fn is_refused<T, S>(rt: &T, alloc: Global, shelf: S)
+where
+    T: Net<Listener = TcpListener, Stream = TcpStream>
+        + Threads
+        + Wait
+        + Clock
+        + Eprint
+        + Abort
+        + Copy
+        + Send
+        + Sync
+        + Drop
+        + 'static,
+    S: Rates + Send + Drop,
+{
+    let (sockets, _, _, peer) = open_sockets(rt);
+    let journal = journal_of(rt, alloc, Version::One);
+    let mut audit = Tape::new(alloc);
+    let mut report = Tape::new(alloc);
+    let served = serve(rt, alloc, shelf, journal, sockets, &mut audit, &mut report);
+    assert!(rt; served == Err(ServeFault::Mismatch), "it was served");
+    let none = audit.bytes().is_empty() && report.bytes().is_empty();
+    assert!(rt; none, "something was kept or shown");
+    drop(peer);
+    drop(audit);
+    drop(report);
+}
+
 #[test]
 fn served(rt: HostRuntime) -> Result<(), Fail> {
     let alloc = rt.alloc();
-    for play in [Play::Whole, Play::Cut, Play::Torn] {
+    for play in [Play::Whole, Play::Long, Play::Cut, Play::Torn] {
         is_served(&rt, alloc, PlainTariffs, PlainTariffs, play);
     }
+    is_refused(&rt, alloc, PlainTariffs);
     Ok(())
 }

@@ -1,7 +1,7 @@
 //! Arrivals, turns and faults of the plain link.
 
-use super::{Packet, Plain, Started, place_of};
-use share_base::{FlowNo, Name, Refusal, Reply, Turn};
+use super::{Packet, Plain, Started, Tenant, place_of};
+use share_base::{FlowNo, Name, Refusal, Reply, Turn, Version};
 use share_model::Answer;
 use std::alloc::{AllocError, Global};
 
@@ -31,11 +31,22 @@ fn units(number: u64, count: usize) -> u64 {
     overhead.saturating_add(cell.saturating_mul(cells))
 }
 
-fn frame(alloc: Global, flow: u32, packet: &Packet) -> Result<Vec<u8>, AllocError> {
+fn frame_1(alloc: Global, flow: u32, packet: &Packet) -> Result<Vec<u8>, AllocError> {
     let length = u16::try_from(packet.payload.len()).unwrap_or(0);
     let mut bytes = Vec::from_slice(alloc, &[0x4c, 1])?;
     bytes.extend_from_slice(flow.to_be_bytes().as_slice())?;
     bytes.extend_from_slice(packet.seq.to_be_bytes().as_slice())?;
+    bytes.extend_from_slice(length.to_be_bytes().as_slice())?;
+    bytes.extend_from_slice(packet.payload.as_slice())?;
+    Ok(bytes)
+}
+
+fn frame_2(alloc: Global, flow: u32, tariff: u64, packet: &Packet) -> Result<Vec<u8>, AllocError> {
+    let length = u16::try_from(packet.payload.len()).unwrap_or(0);
+    let tariff = u8::try_from(tariff).unwrap_or(0);
+    let mut bytes = Vec::from_slice(alloc, &[0x4c, 2, tariff])?;
+    bytes.extend_from_slice(flow.to_be_bytes().as_slice())?;
+    bytes.extend_from_slice(u64::from(packet.seq).to_be_bytes().as_slice())?;
     bytes.extend_from_slice(length.to_be_bytes().as_slice())?;
     bytes.extend_from_slice(packet.payload.as_slice())?;
     Ok(bytes)
@@ -163,6 +174,14 @@ impl Plain {
         }
     }
 
+    fn frame(&self, tenant: &Tenant, packet: &Packet) -> Result<Vec<u8>, AllocError> {
+        let flow = tenant.number;
+        match self.version {
+            Version::One => frame_1(self.alloc, flow, packet),
+            Version::Two => frame_2(self.alloc, flow, tenant.tariff, packet),
+        }
+    }
+
     // The packet whose frame a write goes on with: its number, and the frame.
     fn head(&self, flow: u32) -> Result<Option<(u32, Vec<u8>)>, AllocError> {
         let Some(tenant) = self.tenant(flow) else {
@@ -170,7 +189,7 @@ impl Plain {
         };
         match tenant.packets.first() {
             None => Ok(None),
-            Some(packet) => Ok(Some((packet.seq, frame(self.alloc, flow, packet)?))),
+            Some(packet) => Ok(Some((packet.seq, self.frame(tenant, packet)?))),
         }
     }
 

@@ -1,7 +1,7 @@
 //! What is drawn: the answers of the writer, events, and payloads.
 
 use crate::tests::name;
-use share_base::{Command, Name};
+use share_base::{Command, Name, Version};
 use share_model::Answer;
 use std::alloc::{AllocError, Global};
 use std::process::Abort;
@@ -37,7 +37,7 @@ pub(super) struct World {
 #[derive(Clone, Copy, Debug)]
 pub(super) enum Asked {
     Command(Command),
-    /// A packet comes, with a payload of this many bytes.
+    /// A packet comes, with a payload of this many bytes, or in version 2 of more.
     Arrive(Name, usize),
     Turn(u32),
     Tear,
@@ -73,12 +73,24 @@ pub(super) fn answers(
     Ok(answers)
 }
 
-pub(super) fn payload(alloc: Global, state: &mut u64, count: usize) -> Result<Vec<u8>, AllocError> {
+/// A payload of this many bytes. In version 2 a longer one has seven times as many, up to the most, so that as much is
+/// drawn in both versions and the same events come after it.
+pub(super) fn payload(
+    alloc: Global,
+    state: &mut u64,
+    version: Version,
+    count: usize,
+) -> Result<Vec<u8>, AllocError> {
     let mut bytes = Vec::new(alloc);
     for _ in 0..count {
         bytes.push((next(state) & 0xff) as u8)?;
     }
-    Ok(bytes)
+    if version == Version::One || count <= 40 {
+        return Ok(bytes);
+    }
+    let mut many = bytes.as_slice().repeat(alloc, 7)?;
+    many.truncate(version.payload());
+    Ok(many)
 }
 
 // The k-th of many names: the letter, and two digits.

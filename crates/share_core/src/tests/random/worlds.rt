@@ -2,7 +2,7 @@
 
 use super::draws::World;
 use super::{Met, bit_of, run};
-use share_base::Refusal;
+use share_base::{Refusal, Version};
 use share_model::Rates;
 use std::alloc::Global;
 use std::process::Abort;
@@ -260,14 +260,28 @@ fn meets(rt: &impl Abort, met: &Met, wanted: &Wanted) {
     );
 }
 
-/// Runs through all worlds, of at least 50,000 events together.
-pub fn all<S: Rates + Copy>(rt: &impl Abort, alloc: Global, shelf: S) -> Result<(), Fail> {
+// Runs through all worlds, with this many steps more in each, of at least 50,000 events together.
+fn of_version<S: Rates + Copy>(
+    rt: &impl Abort,
+    alloc: Global,
+    shelf: S,
+    version: Version,
+    more: u32,
+) -> Result<(), Fail> {
     let mut events: u64 = 0;
     for (world, wanted) in &WORLDS {
-        let met = run(rt, alloc, shelf, world)?;
+        let steps = world.steps.saturating_add(more);
+        let world = World { steps, ..*world };
+        let met = run(rt, alloc, shelf, version, &world)?;
         meets(rt, &met, wanted);
         events = events.saturating_add(met.events);
     }
     assert!(rt; events >= 50_000, "{events} events");
     Ok(())
+}
+
+/// Runs through all worlds, in each version. Fewer frames of version 2 are sent by the same draws.
+pub fn all<S: Rates + Copy>(rt: &impl Abort, alloc: Global, shelf: S) -> Result<(), Fail> {
+    of_version(rt, alloc, shelf, Version::One, 0)?;
+    of_version(rt, alloc, shelf, Version::Two, 200)
 }

@@ -12,5 +12,5 @@ returns g c =
     subst (λ (n : ℕ). n ≤ max_life) (ap (λ (s : LinkView g.row.W.Denot). s.life) c.engine.ensures.link)
     c.events.ensures.life in
     let was = c.journal.ensures.run in
-    headline _ _ _ _ _ _ few was.range was.may (sym was.replies_are) (sym was.ends.live)
+    headline _ _ _ _ _ _ _ few was.range was.may (sym was.replies_are) (sym was.ends.live)
     (told_bytes _ _ _ _ refl was.tells) (told_counts _ _ _ was.tells)

@@ -58,10 +58,13 @@ impl Draws {
         answers
     }
 
-    /// 1 to 1490 bytes.
-    pub(super) fn payload(&mut self, rt: &impl Abort, alloc: Global) -> Vec<u8> {
+    /// 1 to 40 bytes, or as many as a frame carries at most.
+    pub(super) fn payload(&mut self, rt: &impl Abort, alloc: Global, longest: usize) -> Vec<u8> {
         let k = self.next();
-        let count = if k % 64 == 0 { 1490 } else { 1 + k % 40 };
+        let count = match k % 64 {
+            0 => longest as u64,
+            _ => 1 + k % 40,
+        };
         let mut bytes = Vec::new(alloc);
         for _ in 0..count {
             bytes.push((self.next() & 0xff) as u8).expect(rt, "memory");

@@ -1,11 +1,12 @@
 //! A run that holds and resumes a flow, and amends a ticket.
 
 use super::{Call, Run, TURN, Wanted};
-use share_base::Refusal;
+use share_base::{Refusal, Version};
 
 /// Each of the three commands, done and refused. A packet waits for the end of a hold; the rest of its frame does not
 /// wait for that of the next one.
 pub(super) const HOLDING: Run = Run {
+    version: Version::One,
     life: 64,
     answers: &[],
     rows: &[

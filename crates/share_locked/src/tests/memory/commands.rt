@@ -1,5 +1,6 @@
 //! The commands that take memory, made by themselves and under the lock.
 ghost use Rattle.std.specs.Prelude.{◌≡◌, []};
+ghost use Rattle.share_base.specs.declared.version.Version.TheVariants.{Two};
 
 use super::{REQUESTS, Shown, Sinking, Writer, shown, were_made};
 use crate::tests::asking::make_x;
@@ -132,6 +133,7 @@ fn is_refused_and_done<T: Abort + Wait, S: Rates + Copy, L: LinkBrand>(
     requests: (u16, u16),
 ) -> (bool, bool)
     requires empty { recorder.entries ≡ [] }
+    requires version { recorder.link.live.version ≡ Two }
     requires link { intake.link ≡ L.link }
     requires nothing { intake.popped ≡ [] }
 {

@@ -1,5 +1,6 @@
 //! Clerks that get ready, reports, and clerks that are made.
 ghost use Rattle.std.specs.Prelude.{◌≡◌, []};
+ghost use Rattle.share_base.specs.declared.version.Version.TheVariants.{Two};
 
 use super::{REQUESTS, Sinking, Writer, were_made};
 use crate::tests::asking::{ZERO, make_x};
@@ -102,6 +103,7 @@ pub(super) fn finds_memory<T: Abort, S: Rates + Copy, L: LinkBrand>(
     intake: Intake,
 )
     requires empty { recorder.entries ≡ [] }
+    requires version { recorder.link.live.version ≡ Two }
     requires link { intake.link ≡ L.link }
     requires nothing { intake.popped ≡ [] }
 {

@@ -1,5 +1,6 @@
 //! What links hold, which is given back with them, and their settling.
 ghost use Rattle.std.specs.Prelude.{◌≡◌, []};
+ghost use Rattle.share_base.specs.declared.version.Version.TheVariants.{Two};
 ghost use Rattle.share_model.specs.lists.Each.{Each};
 
 use super::{Sinking, Writer, shown};
@@ -19,7 +20,7 @@ use std::process::Abort;
 use std::sync::Wait;
 
 /// Too long to stand in the place of a payload.
-const PAYLOAD: &[u8] = &[b'x'; 40];
+const PAYLOAD: &[u8] = &[b'x'; 9000];
 
 // Of two long packets one is recorded and sent, and one is left in the queue.
 fn leaves_one<T: Abort + Wait, S: Rates + Copy, L: LinkBrand>(
@@ -30,6 +31,7 @@ fn leaves_one<T: Abort + Wait, S: Rates + Copy, L: LinkBrand>(
     end: &mut IngressEnd,
 )
     requires empty { recorder.entries ≡ [] }
+    requires version { recorder.link.live.version ≡ Two }
     requires link { intake.link ≡ L.link }
     requires nothing { intake.popped ≡ [] }
 {
@@ -40,7 +42,7 @@ fn leaves_one<T: Abort + Wait, S: Rates + Copy, L: LinkBrand>(
     assert!(rt; offered(rt, alloc, end, PAYLOAD) == Some(2));
     assert!(rt; offered(rt, alloc, end, PAYLOAD).is_none());
     assert!(rt; matches!(locked.admit(rt), Admit::Admitted { n: 1, .. }));
-    assert!(rt; matches!(locked.turn(65535), Turn::Wrote { k: 52, .. }));
+    assert!(rt; matches!(locked.turn(65535), Turn::Wrote { k: 9017, .. }));
     drop(clerk);
     drop(locked);
 }
@@ -89,6 +91,7 @@ fn settles_once_found<T: Abort + Wait, S: Rates + Copy, L: LinkBrand>(
     ends: Vec<IngressEnd>,
 )
     requires empty { recorder.entries ≡ [] }
+    requires version { recorder.link.live.version ≡ Two }
     requires link { intake.link ≡ L.link }
     requires nothing { intake.popped ≡ [] }
     requires ends { Each (λ e. e.link ≡ L.link) ends.items }
@@ -98,7 +101,7 @@ fn settles_once_found<T: Abort + Wait, S: Rates + Copy, L: LinkBrand>(
     open_and_fund(rt, &mut locked, &mut clerk);
     let ends = offering::<T, L>(rt, alloc, ends, PAYLOAD, Some(1));
     assert!(rt; matches!(locked.admit(rt), Admit::Admitted { n: 1, .. }));
-    assert!(rt; matches!(locked.turn(65535), Turn::Wrote { k: 52, .. }));
+    assert!(rt; matches!(locked.turn(65535), Turn::Wrote { k: 9017, .. }));
     let clerks = one(rt, alloc, clerk);
     if refuses(alloc) {
         is_settled_then(rt, alloc, locked, ends, clerks);

@@ -1,5 +1,6 @@
 //! The calls that take no memory.
 ghost use Rattle.std.specs.Prelude.{◌≡◌, []};
+ghost use Rattle.share_base.specs.declared.version.Version.TheVariants.{Two};
 
 use super::commands::Made;
 use super::{Sinking, Writer};
@@ -63,7 +64,7 @@ fn goes_on<T: Abort + Wait, S: Rates, L: LinkBrand>(
     assert!(rt; offered(rt, alloc, end, b"a") == Some(1));
     assert!(rt; matches!(locked.admit(rt), Admit::Admitted { n: 1, .. }));
     assert!(rt; locked.admit(rt) == Admit::Empty);
-    assert!(rt; matches!(locked.turn(65535), Turn::Wrote { k: 13, .. }));
+    assert!(rt; matches!(locked.turn(65535), Turn::Wrote { k: 18, .. }));
     assert!(rt; locked.turn(65535) == Turn::Idle);
     let mut number = 23_u64;
     for command in funding(rt) {
@@ -72,7 +73,7 @@ fn goes_on<T: Abort + Wait, S: Rates, L: LinkBrand>(
             Command::CloseFlow(_) => Reply::Closed {
                 flow: FlowNo(1),
                 dropped: 0,
-                account: 13,
+                account: 18,
             },
             _ => Reply::Done,
         };
@@ -90,6 +91,7 @@ pub(super) fn takes_no_memory<T: Abort + Wait, S: Rates + Copy, L: LinkBrand>(
     end: &mut IngressEnd,
 )
     requires empty { recorder.entries ≡ [] }
+    requires version { recorder.link.live.version ≡ Two }
     requires link { intake.link ≡ L.link }
     requires nothing { intake.popped ≡ [] }
 {

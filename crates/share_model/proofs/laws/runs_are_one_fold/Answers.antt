@@ -4,5 +4,5 @@ use Rattle.share_model.proofs.lemmas.run.HeadlineLaws.{headline}
 use Rattle.share_model.proofs.laws.runs_are_one_fold.Goals as goal
 
 pub returns : goal.returns
-returns c = λ life rates events told few range may bytes counts.
-    headline life rates events _ _ (Some told) few range may refl refl bytes counts
+returns c = λ version life rates events told few range may bytes counts.
+    headline version life rates events _ _ (Some told) few range may refl refl bytes counts

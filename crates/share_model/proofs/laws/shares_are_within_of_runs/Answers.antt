@@ -5,5 +5,5 @@ use Rattle.share_model.proofs.laws.shares_are_within_of_runs.Goals as goal
 
 pub returns : goal.returns
 returns c =
-    λ life rates events range may. shares-within (run rates events).live.graph
-    (run-sound life rates events range may).live.funding.kept.sound
+    λ version life rates events range may. shares-within (run version rates events).live.graph
+    (run-sound version life rates events range may).live.funding.kept.sound

@@ -15,6 +15,7 @@ use Rattle.share_base.specs.declared.command.Reply.TheVariants.{Packet as Packet
 use Rattle.share_base.specs.declared.command.Outcome.TheVariants.{Replied}
 use Rattle.share_base.specs.declared.command.Event.{Event}
 use Rattle.share_base.specs.declared.command.Event.TheVariants.{Commanded, Arrived, Written, Faulted}
+use Rattle.share_base.specs.declared.version.Version.{Version}
 use Rattle.share_model.specs.declared.rates.Rate.{Rate}
 use Rattle.share_model.specs.declared.funding.OpenFlow.{OpenFlow as FlowEntry}
 use Rattle.share_model.specs.lists.Rises.{has_number}
@@ -214,7 +215,7 @@ sent_more done d f =
 accepted_whole : {life : ℕ} {rates : List Rate} {l : Live} → Sound life rates l → (f : ℕ) (hs : List Packet)
     (done : List Sent) (snd : Sending) (k : ℕ) → sending l ≡ Some snd → AreAccepted f hs l done
     → (b : Bool) → nat_eq f snd.head.flow ≡ b
-    → AreAccepted f hs (whole rates l snd k) (done ++ sent_of l snd ∷ [])
+    → AreAccepted f hs (whole rates l snd k) (done ++ sent_of snd ∷ [])
 accepted_whole {l = l} sound f hs done snd k is was true test =
     let g = snd.head.flow in
     let same : f ≡ g = eqb-true f g test in
@@ -229,7 +230,7 @@ accepted_whole {l = l} sound f hs done snd k is was true test =
           ∙ (ap (λ hs. packets_of f (sent_packets done) ++ hs) (was.held stands ∙ sym taken)
           ∙ (sym (append_assoc (packets_of f (sent_packets done)) (snd.head ∷ []) (held_packets (pop_in l.buffers g) f))
           ∙ ap (λ hs. hs ++ held_packets (pop_in l.buffers g) f)
-          (sym (sent_more done (sent_of l snd) f
+          (sym (sent_more done (sent_of snd) f
           ∙ ap (λ b. packets_of f (sent_packets done) ++ (if b then snd.head ∷ [] else [])) test))));
       held = λ _. refl;
       fresh = λ above. absurd (omega (arith, head-given sound g (sending-head sound is)));
@@ -241,7 +242,7 @@ accepted_whole {l = l} sound f hs done snd k is was false test =
       split =
           was.split
           ∙ ap (λ hs. hs ++ was.rest)
-          (sym (sent_more done (sent_of l snd) f
+          (sym (sent_more done (sent_of snd) f
           ∙ (ap (λ b. packets_of f (sent_packets done) ++ (if b then snd.head ∷ [] else [])) test
           ∙ append-nil (packets_of f (sent_packets done)))));
       held =
@@ -304,29 +305,31 @@ accepted_after {rates = rates} s (e ∷ es) range sound may f hs was =
     (accepted_after (step rates s e) es range (state-step range sound may.0 e may.1) may.2 f
     (hs ++ packets_of f first) (accepted_step sound e may.1 f hs was))
 
-none_accepted : (f : ℕ) → AreAccepted f [] empty_state.live empty_state.done
-none_accepted f = record { rest = []; split = refl; held = λ stands. cc; fresh = λ _. refl }
+none_accepted : (version : Version) (f : ℕ) → AreAccepted f [] (empty_state version).live (empty_state version).done
+none_accepted version f = record { rest = []; split = refl; held = λ stands. cc; fresh = λ _. refl }
 
-run_accepted : (life : ℕ) (rates : List Rate) (es : List Event) → AreInRange rates
-    → MayFollow life rates empty_state es → (f : ℕ)
-    → AreAccepted f (packets_of f (accepted_packets rates empty_state es)) (run rates es).live (run rates es).done
-run_accepted life rates es range may f =
-    accepted_after empty_state es range (state-empty life rates) may f [] (none_accepted f)
+run_accepted : (version : Version) (life : ℕ) (rates : List Rate) (es : List Event) → AreInRange rates
+    → MayFollow life rates (empty_state version) es → (f : ℕ)
+    → AreAccepted f (packets_of f (accepted_packets rates (empty_state version) es)) (run version rates es).live
+    (run version rates es).done
+run_accepted version life rates es range may f =
+    accepted_after (empty_state version) es range (state-empty version life rates) may f [] (none_accepted version f)
 
 -- in every run the packets that an open flow accepted are, in order, those written whole of it and those in its buffer
-pub run-accepted_packets : (life : ℕ) (rates : List Rate) (es : List Event) → AreInRange rates
-    → MayFollow life rates empty_state es → (f : ℕ)
-    → has_number f (flow_numbers (run rates es).live.graph.flows) ≡ true
-    → packets_of f (accepted_packets rates empty_state es)
-    ≡ packets_of f (sent_packets (run rates es).done) ++ held_packets (run rates es).live.buffers f
-run-accepted_packets life rates es range may f stands =
-    let all = run_accepted life rates es range may f in
-    all.split ∙ ap (λ hs. packets_of f (sent_packets (run rates es).done) ++ hs) (all.held stands)
+pub run-accepted_packets : (version : Version) (life : ℕ) (rates : List Rate) (es : List Event) → AreInRange rates
+    → MayFollow life rates (empty_state version) es → (f : ℕ)
+    → has_number f (flow_numbers (run version rates es).live.graph.flows) ≡ true
+    → packets_of f (accepted_packets rates (empty_state version) es)
+    ≡ packets_of f (sent_packets (run version rates es).done) ++ held_packets (run version rates es).live.buffers f
+run-accepted_packets version life rates es range may f stands =
+    let all = run_accepted version life rates es range may f in
+    all.split ∙ ap (λ hs. packets_of f (sent_packets (run version rates es).done) ++ hs) (all.held stands)
 
 -- and those written whole of any flow are the first of those that it accepted
-pub run-sent_first : (life : ℕ) (rates : List Rate) (es : List Event) → AreInRange rates
-    → MayFollow life rates empty_state es → (f : ℕ)
+pub run-sent_first : (version : Version) (life : ℕ) (rates : List Rate) (es : List Event) → AreInRange rates
+    → MayFollow life rates (empty_state version) es → (f : ℕ)
     → (rest : List Packet)
-    × (packets_of f (accepted_packets rates empty_state es) ≡ packets_of f (sent_packets (run rates es).done) ++ rest)
-run-sent_first life rates es range may f =
-    let all = run_accepted life rates es range may f in (all.rest, all.split)
+    × (packets_of f (accepted_packets rates (empty_state version) es)
+    ≡ packets_of f (sent_packets (run version rates es).done) ++ rest)
+run-sent_first version life rates es range may f =
+    let all = run_accepted version life rates es range may f in (all.rest, all.split)

@@ -10,6 +10,7 @@ use Rattle.std.proofs.lemmas.Bool.{eqb-true, eqb-false, ne_eqb}
 use Rattle.std.proofs.lemmas.List.Folds.{find-append}
 use Rattle.std.proofs.lemmas.Option.{same_Some}
 use Rattle.share_base.specs.declared.command.Event.{Event}
+use Rattle.share_base.specs.declared.version.Version.{Version}
 use Rattle.share_model.specs.declared.funding.OpenFlow.{OpenFlow}
 use Rattle.share_model.specs.declared.link.Book.{Book}
 use Rattle.share_model.specs.declared.rates.Rate.{Rate}
@@ -23,24 +24,25 @@ use Rattle.share_model.proofs.lemmas.lists.RemoveLaws.{has_number-remove_other}
 use Rattle.share_model.specs.funding.Graph.{NameBytes, flow_numbers}
 use Rattle.share_model.specs.funding.Changes.{add_flow}
 use Rattle.share_model.specs.link.Tariff.{AreInRange}
-use Rattle.share_model.specs.link.Frame.{frame}
 use Rattle.share_model.specs.link.Buffers.{pop_in, is_busy}
 use Rattle.share_model.proofs.lemmas.link.BufferLaws.{numbers-with_activity}
 use Rattle.share_model.specs.link.Commands.{IsClosable}
-use Rattle.share_model.specs.link.Turns.{Sending}
-use Rattle.share_model.specs.link.Books.{is_book_of, account_in, new_book, units_by, units_due, with_units}
+use Rattle.share_model.specs.link.Turns.{Sending, frame_of}
+use Rattle.share_model.specs.link.Books.{is_book_of, account_in, new_book, tariff_in, tariff_of, units_by, units_due}
+use Rattle.share_model.specs.link.Books.{with_units}
 use Rattle.share_model.specs.link.Books.{books_with_units, is_held}
 use Rattle.share_model.proofs.lemmas.link.HoldLaws.{account-with_hold}
 use Rattle.share_model.specs.link.Commands.{open_flow, close_flow}
 use Rattle.share_model.specs.link.Turns.{whole, torn_link}
-use Rattle.share_model.specs.run.Fold.{Sent, State, empty_state, tariff_in, tariff_of, torn_by, run}
+use Rattle.share_model.specs.run.Fold.{Sent, State, empty_state, torn_by, run}
 use Rattle.share_model.specs.run.Events.{Sends, MayFollow}
 use Rattle.share_model.specs.run.Sound.{SoundState}
-use Rattle.share_model.proofs.lemmas.run.SoundLaws.{sending-head, head-given, head-stands, sound-numbered}
+use Rattle.share_model.proofs.lemmas.run.SoundLaws.{sending-head, sending-tariff, head-given, head-stands}
+use Rattle.share_model.proofs.lemmas.run.SoundLaws.{sound-numbered}
 use Rattle.share_model.proofs.lemmas.run.SoundStepLaws.{numbers-added}
 use Rattle.share_model.proofs.lemmas.run.SoundCloseLaws.{numbers-without}
 use Rattle.share_model.proofs.lemmas.run.TornLaws.{torn-none}
-use Rattle.share_model.proofs.lemmas.run.BytesLaws.{sent_of}
+use Rattle.share_model.proofs.lemmas.run.BytesLaws.{sent_of, frame_of-sending}
 use Rattle.share_model.proofs.lemmas.run.Cases.{StepCases, run-cases}
 use Rattle.share_model.proofs.lemmas.run.CostLaws.{AreGivenFlows, given_more, bill_none, IsSplit, cost-same, cost-split}
 use Rattle.share_model.proofs.lemmas.run.CostLaws.{sent_more}
@@ -80,12 +82,13 @@ not_given_yet g next below = ne_eqb g next (below_self g next below)
 
 -- a flow that is opened has cost nothing, open or not
 opened_past : (rates : List Rate) (s : State) (name : NameBytes) → AreGivenFlows s.live.graph.next_flow s.done s.torn
-    → cost_of rates (is_closed (flow_numbers (add_flow s.live.graph name).flows)) s.done s.torn ≡ past_bill rates s
+    → cost_of s.live.version rates (is_closed (flow_numbers (add_flow s.live.graph name).flows)) s.done s.torn
+    ≡ past_bill rates s
 opened_past rates s name given =
     let next = s.live.graph.next_flow in
     let ns = flow_numbers s.live.graph.flows in
-    ap (λ ms. cost_of rates (is_closed ms) s.done s.torn) (numbers-added s.live.graph name)
-    ∙ cost-same rates next (is_closed (ns ++ next ∷ [])) (is_closed ns)
+    ap (λ ms. cost_of s.live.version rates (is_closed ms) s.done s.torn) (numbers-added s.live.graph name)
+    ∙ cost-same s.live.version rates next (is_closed (ns ++ next ∷ [])) (is_closed ns)
     (λ g below. ap not (has_number-last next g ns ∙ ap (λ b. b || has_number g ns) (not_given_yet g next below)))
     s.done s.torn given
 
@@ -174,9 +177,9 @@ closed_billed life rates s sound was f may =
             account_billed rates s f (find (is_book_of f) s.live.books) refl
                 (is_some-find_number (λ (b : Book). b.flow) f s.live.books
                 ∙ (ap (has_number f) booked ∙ may.stands)) was,
-            cost-split rates (is_closed (remove_key (nat_eq f) ns)) (is_closed ns) (nat_eq f)
+            cost-split s.live.version rates (is_closed (remove_key (nat_eq f) ns)) (is_closed ns) (nat_eq f)
                 (closed_split next f ns rises may.stands) s.done s.torn,
-            ap (λ ms. cost_of rates (is_closed ms) s.done s.torn) (numbers-without f s.live.graph.flows),
+            ap (λ ms. cost_of s.live.version rates (is_closed ms) s.done s.torn) (numbers-without f s.live.graph.flows),
           );
     }
 
@@ -204,38 +207,47 @@ bill_more a t x = omega arith
 -- a packet of an open flow costs no closed one
 finished_past : (rates : List Rate) (s : State) (snd : Sending)
     → has_number snd.head.flow (flow_numbers s.live.graph.flows) ≡ true
-    → cost_of rates (is_closed (flow_numbers s.live.graph.flows)) (s.done ++ sent_of s.live snd ∷ []) s.torn
+    → cost_of s.live.version rates (is_closed (flow_numbers s.live.graph.flows)) (s.done ++ sent_of snd ∷ []) s.torn
     ≡ past_bill rates s
 finished_past rates s snd stands =
     let p = is_closed (flow_numbers s.live.graph.flows) in
-    let none : (if p snd.head.flow then sent_cost rates (sent_of s.live snd) else 0) ≡ 0
-    = ap (λ b. if not b then sent_cost rates (sent_of s.live snd) else 0) stands in
+    let none : (if p snd.head.flow then sent_cost s.live.version rates (sent_of snd) else 0) ≡ 0
+    = ap (λ b. if not b then sent_cost s.live.version rates (sent_of snd) else 0) stands in
     ap (λ n. n + torn_cost rates p s.torn)
-    (sent_more rates p s.done (sent_of s.live snd)
-    ∙ (ap (λ n. sum_by (sent_cost rates) (filter (λ (d : Sent). p d.head.flow) s.done) + n) none
-    ∙ add-zero (sum_by (sent_cost rates) (filter (λ (d : Sent). p d.head.flow) s.done))))
+    (sent_more s.live.version rates p s.done (sent_of snd)
+    ∙ (ap (λ n. sum_by (sent_cost s.live.version rates) (filter (λ (d : Sent). p d.head.flow) s.done) + n) none
+    ∙ add-zero (sum_by (sent_cost s.live.version rates) (filter (λ (d : Sent). p d.head.flow) s.done))))
+
+-- what is posted for a whole frame is what its packet costs
+whole_cost : (life : ℕ) (rates : List Rate) (s : State) (snd : Sending) → SoundState life rates s → Sends s.live snd
+    → cost rates (tariff_of s.live.books snd.head.flow) (length (frame_of snd))
+    ≡ sent_cost s.live.version rates (sent_of snd)
+whole_cost life rates s snd sound sends =
+    ap (λ t. cost rates t (length (frame_of snd))) (sym (sending-tariff sound.live sends.is))
+    ∙ ap (λ bytes. cost rates snd.tariff (length bytes)) (sym (frame_of-sending sound.live sends.is))
 
 finished_billed : (life : ℕ) (rates : List Rate) (s : State) → SoundState life rates s → IsBilled rates s
     → (snd : Sending) (k : ℕ) → Sends s.live snd → IsBilled rates
-    (record { live = whole rates s.live snd k; done = s.done ++ sent_of s.live snd ∷ []; torn = s.torn })
+    (record { live = whole rates s.live snd k; done = s.done ++ sent_of snd ∷ []; torn = s.torn })
 finished_billed life rates s sound was snd k sends = record {
   given = record {
     sent =
-        each-append (λ (d : Sent). d.head.flow < s.live.graph.next_flow) s.done (sent_of s.live snd ∷ []) was.given.sent
-        (each-one (λ (d : Sent). d.head.flow < s.live.graph.next_flow) (sent_of s.live snd)
+        each-append (λ (d : Sent). d.head.flow < s.live.graph.next_flow) s.done (sent_of snd ∷ []) was.given.sent
+        (each-one (λ (d : Sent). d.head.flow < s.live.graph.next_flow) (sent_of snd)
         (head-given sound.live snd.head.flow (sending-head sound.live sends.is)));
     torn = was.given.torn;
   };
   billed =
-      λ f b found. posted_account rates s.live.books snd.head.flow (length (frame snd.head)) f (bill rates s f) b
+      λ f b found. posted_account rates s.live.books snd.head.flow (length (frame_of snd)) f (bill rates s f) b
       (was.billed f) found (nat_eq f snd.head.flow) refl
-      ∙ (bill_more (sum_by (sent_cost rates) (sent_by f s.done)) (torn_cost rates (nat_eq f) s.torn)
-      (if nat_eq f snd.head.flow then sent_cost rates (sent_of s.live snd) else 0)
+      ∙ (ap (λ n. bill rates s f + (if nat_eq f snd.head.flow then n else 0)) (whole_cost life rates s snd sound sends)
+      ∙ bill_more (sum_by (sent_cost s.live.version rates) (sent_by f s.done)) (torn_cost rates (nat_eq f) s.torn)
+      (if nat_eq f snd.head.flow then sent_cost s.live.version rates (sent_of snd) else 0)
       ∙ ap (λ m. m + torn_cost rates (nat_eq f) s.torn)
-      (sym (sent_more rates (nat_eq f) s.done (sent_of s.live snd))));
+      (sym (sent_more s.live.version rates (nat_eq f) s.done (sent_of snd))));
   past =
       was.past
-      ∙ sym (ap (λ ms. cost_of rates (is_closed ms) (s.done ++ sent_of s.live snd ∷ []) s.torn)
+      ∙ sym (ap (λ ms. cost_of s.live.version rates (is_closed ms) (s.done ++ sent_of snd ∷ []) s.torn)
       (numbers-with_activity snd.head.flow
       (is_busy (pop_in s.live.buffers snd.head.flow) snd.head.flow && not (is_held s.live.books snd.head.flow))
       s.live.graph.flows)
@@ -244,7 +256,7 @@ finished_billed life rates s sound was snd k sends = record {
 
 tore_billed : (life : ℕ) (rates : List Rate) (s : State) → SoundState life rates s → IsBilled rates s → (snd : Sending)
     → Sends s.live snd
-    → IsBilled rates (record { live = torn_link rates s.live snd; done = s.done; torn = Some (torn_by s.live snd) })
+    → IsBilled rates (record { live = torn_link rates s.live snd; done = s.done; torn = Some (torn_by snd) })
 tore_billed life rates s sound was snd sends =
     let p = is_closed (flow_numbers s.live.graph.flows) in
     record {
@@ -256,17 +268,19 @@ tore_billed life rates s sound was snd sends =
       billed =
           λ f b found. posted_account rates s.live.books snd.head.flow snd.out f (bill rates s f) b (was.billed f) found
           (nat_eq f snd.head.flow) refl
-          ∙ (ap (λ t. (sum_by (sent_cost rates) (sent_by f s.done) + torn_cost rates (nat_eq f) t)
-          + (if nat_eq f snd.head.flow then cost rates (tariff_of s.live.books snd.head.flow) snd.out else 0))
+          ∙ (ap (λ t. bill rates s f + (if nat_eq f snd.head.flow then cost rates t snd.out else 0))
+          (sym (sending-tariff sound.live sends.is))
+          ∙ ap (λ t. (sum_by (sent_cost s.live.version rates) (sent_by f s.done) + torn_cost rates (nat_eq f) t)
+          + (if nat_eq f snd.head.flow then cost rates snd.tariff snd.out else 0))
           (torn-none s.live s.torn sends.unbroken sound.torn)
           ∙ ap (λ m. m
-          + (if nat_eq f snd.head.flow then cost rates (tariff_of s.live.books snd.head.flow) snd.out else 0))
-          (add-zero (sum_by (sent_cost rates) (sent_by f s.done))));
+          + (if nat_eq f snd.head.flow then cost rates snd.tariff snd.out else 0))
+          (add-zero (sum_by (sent_cost s.live.version rates) (sent_by f s.done))));
       past =
           was.past
-          ∙ ap (λ n. sum_by (sent_cost rates) (filter (λ (d : Sent). p d.head.flow) s.done) + n)
+          ∙ ap (λ n. sum_by (sent_cost s.live.version rates) (filter (λ (d : Sent). p d.head.flow) s.done) + n)
           (ap (torn_cost rates p) (torn-none s.live s.torn sends.unbroken sound.torn)
-          ∙ sym (ap (λ b. if not b then cost rates (tariff_of s.live.books snd.head.flow) snd.out else 0)
+          ∙ sym (ap (λ b. if not b then cost rates snd.tariff snd.out else 0)
           (head-stands sound.live snd.head.flow (sending-head sound.live sends.is))));
     }
 
@@ -286,7 +300,9 @@ billed_cases life rates s sound below was = record {
         billed = was.billed;
         past =
             was.past
-            ∙ ap (λ (es : List (NameBytes × OpenFlow)). cost_of rates (is_closed (flow_numbers es)) s.done s.torn)
+            ∙ ap
+            (λ (es : List (NameBytes × OpenFlow)).
+            cost_of s.live.version rates (is_closed (flow_numbers es)) s.done s.torn)
             (sym funded.flows);
       };
   opened = λ name limit tariff allowed. opened_billed rates s name limit tariff was;
@@ -297,7 +313,7 @@ billed_cases life rates s sound below was = record {
         (sym (account-with_hold s.live.books g f held) ∙ ap (option_map (λ b. b.account)) found) (was.billed f);
     past =
         was.past
-        ∙ ap (λ ms. cost_of rates (is_closed ms) s.done s.torn)
+        ∙ ap (λ ms. cost_of s.live.version rates (is_closed ms) s.done s.torn)
         (sym (numbers-with_activity g (is_busy s.live.buffers g && not held) s.live.graph.flows));
   };
   accepted = λ f body short b found. record {
@@ -305,7 +321,7 @@ billed_cases life rates s sound below was = record {
     billed = was.billed;
     past =
         was.past
-        ∙ ap (λ ms. cost_of rates (is_closed ms) s.done s.torn)
+        ∙ ap (λ ms. cost_of s.live.version rates (is_closed ms) s.done s.torn)
         (sym (numbers-with_activity f (not (is_held s.live.books f)) s.live.graph.flows));
   };
   finished = λ snd k sends whole. finished_billed life rates s sound was snd k sends;
@@ -313,19 +329,21 @@ billed_cases life rates s sound below was = record {
   tore = λ snd sends. tore_billed life rates s sound was snd sends;
 }
 
-pub billed_empty : (rates : List Rate) → IsBilled rates empty_state
-billed_empty rates =
+pub billed_empty : (version : Version) (rates : List Rate) → IsBilled rates (empty_state version)
+billed_empty version rates =
     record { given = record { sent = tt; torn = tt }; billed = λ f b found. no_book b found; past = refl }
 
 -- in every run the account of a flow is what its packets cost
-pub run-billed : (life : ℕ) (rates : List Rate) (es : List Event) → AreInRange rates
-    → MayFollow life rates empty_state es → (f : ℕ) (b : Book) → find (is_book_of f) (run rates es).live.books ≡ Some b
-    → b.account ≡ bill rates (run rates es) f
-run-billed life rates es range may =
-    (run-cases (IsBilled rates) life rates range (billed_cases life rates) (billed_empty rates) es may).billed
+pub run-billed : (version : Version) (life : ℕ) (rates : List Rate) (es : List Event) → AreInRange rates
+    → MayFollow life rates (empty_state version) es → (f : ℕ) (b : Book)
+    → find (is_book_of f) (run version rates es).live.books ≡ Some b
+    → b.account ≡ bill rates (run version rates es) f
+run-billed version life rates es range may =
+    (run-cases (IsBilled rates) life rates range (billed_cases life rates) (billed_empty version rates) es may).billed
 
 -- and what closed flows had on their accounts is what their packets cost
-pub run-past : (life : ℕ) (rates : List Rate) (es : List Event) → AreInRange rates
-    → MayFollow life rates empty_state es → (run rates es).live.counts.past ≡ past_bill rates (run rates es)
-run-past life rates es range may =
-    (run-cases (IsBilled rates) life rates range (billed_cases life rates) (billed_empty rates) es may).past
+pub run-past : (version : Version) (life : ℕ) (rates : List Rate) (es : List Event) → AreInRange rates
+    → MayFollow life rates (empty_state version) es
+    → (run version rates es).live.counts.past ≡ past_bill rates (run version rates es)
+run-past version life rates es range may =
+    (run-cases (IsBilled rates) life rates range (billed_cases life rates) (billed_empty version rates) es may).past

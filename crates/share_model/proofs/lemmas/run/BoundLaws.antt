@@ -5,6 +5,7 @@ use Rattle.std.proofs.Common.{ap, arith}
 use Rattle.std.proofs.Math.Nat.{mul-le-mul_left}
 use Rattle.std.proofs.lemmas.Int.{ints}
 use Rattle.share_base.specs.declared.command.Event.{Event}
+use Rattle.share_base.specs.declared.version.Version.{Version}
 use Rattle.share_model.specs.declared.link.Book.{Book}
 use Rattle.share_model.specs.declared.rates.Rate.{Rate}
 use Rattle.share_model.specs.declared.stride.Client.{Client}
@@ -27,26 +28,30 @@ use Rattle.share_model.proofs.lemmas.run.FoldLaws.{run-sound}
 pub level-stays : (l : Live) → IsLevel l.queue (tickets_of_all l.graph) → with_level_queue l ≡ l
 level-stays l level = ap (λ q. record l { queue = q }) (level_stays l.queue (tickets_of_all l.graph) level)
 
-pub run-level : (life : ℕ) (rates : List Rate) (es : List Event) → AreInRange rates
-    → MayFollow life rates empty_state es
-    → IsLevel (run rates es).live.queue (tickets_of_all (run rates es).live.graph)
-run-level life rates es range may = (run-sound life rates es range may).live.level
+pub run-level : (version : Version) (life : ℕ) (rates : List Rate) (es : List Event) → AreInRange rates
+    → MayFollow life rates (empty_state version) es
+    → IsLevel (run version rates es).live.queue (tickets_of_all (run version rates es).live.graph)
+run-level version life rates es range may = (run-sound version life rates es range may).live.level
 
-pub run-with_level_queue : (life : ℕ) (rates : List Rate) (es : List Event) → AreInRange rates
-    → MayFollow life rates empty_state es → with_level_queue (run rates es).live ≡ (run rates es).live
-run-with_level_queue life rates es range may = level-stays (run rates es).live (run-level life rates es range may)
+pub run-with_level_queue : (version : Version) (life : ℕ) (rates : List Rate) (es : List Event) → AreInRange rates
+    → MayFollow life rates (empty_state version) es
+    → with_level_queue (run version rates es).live ≡ (run version rates es).live
+run-with_level_queue version life rates es range may =
+    level-stays (run version rates es).live (run-level version life rates es range may)
 
 -- Bounds
 
-clock_short : (life events clock : ℕ) → life ≤ max_life → events ≤ life → clock ≤ events * 4026 → clock < 2 ^ 36
+clock_short : (life events clock : ℕ) → life ≤ max_life → events ≤ life → clock ≤ events * 11842 → clock < 2 ^ 38
 clock_short life events clock short few within = omega arith
 
--- fewer than 2^36 units are charged in a life
-pub run-clock : (life : ℕ) (rates : List Rate) (es : List Event) → life ≤ max_life → AreInRange rates
-    → MayFollow life rates empty_state es → (run rates es).live.queue.clock < 2 ^ 36
-run-clock life rates es short range may =
-    let sound = (run-sound life rates es range may).live in
-    clock_short life (run rates es).live.counts.events (run rates es).live.queue.clock short sound.counts.events
+-- fewer than 2^38 units are charged in a life
+pub run-clock : (version : Version) (life : ℕ) (rates : List Rate) (es : List Event) → life ≤ max_life
+    → AreInRange rates
+    → MayFollow life rates (empty_state version) es → (run version rates es).live.queue.clock < 2 ^ 38
+run-clock version life rates es short range may =
+    let sound = (run-sound version life rates es range may).live in
+    clock_short life (run version rates es).live.counts.events (run version rates es).live.queue.clock short
+    sound.counts.events
     sound.queue.clock
 
 near_bounded : (s : Stride) (c : Client) → IsBounded s.pass s.last s.clock c → s.last ≤ s.clock → IsNearGlobalPass s c
@@ -56,30 +61,36 @@ near_bounded s c bounded time =
     omega (arith, ints, more, bounded.above, bounded.below)
 
 -- no pass is far from the global one
-pub run-near : (life : ℕ) (rates : List Rate) (es : List Event) → life ≤ max_life → AreInRange rates
-    → MayFollow life rates empty_state es → (f : ℕ) (c : Client) → get (run rates es).live.queue.clients f ≡ Some c
-    → IsNearGlobalPass (run rates es).live.queue c
-run-near life rates es short range may f c found =
-    let sound : IsSound (run rates es).live.queue = (run-sound life rates es range may).live.queue.sound short in
-    near_bounded (run rates es).live.queue c (sound.clients f c found) sound.time
+pub run-near : (version : Version) (life : ℕ) (rates : List Rate) (es : List Event) → life ≤ max_life → AreInRange rates
+    → MayFollow life rates (empty_state version) es → (f : ℕ) (c : Client)
+    → get (run version rates es).live.queue.clients f ≡ Some c
+    → IsNearGlobalPass (run version rates es).live.queue c
+run-near version life rates es short range may f c found =
+    let sound : IsSound (run version rates es).live.queue =
+    (run-sound version life rates es range may).live.queue.sound short in
+    near_bounded (run version rates es).live.queue c (sound.clients f c found) sound.time
 
-account_short : (life events account : ℕ) → life ≤ max_life → events ≤ life → account ≤ events * (2 ^ 28 - 1)
-    → account < 2 ^ 52
+account_short : (life events account : ℕ) → life ≤ max_life → events ≤ life → account ≤ events * (2 ^ 30 - 1)
+    → account < 2 ^ 54
 account_short life events account short few within = omega arith
 
--- accounts stay below 2^52
-pub run-account : (life : ℕ) (rates : List Rate) (es : List Event) → life ≤ max_life → AreInRange rates
-    → MayFollow life rates empty_state es → (f : ℕ) (b : Book) → find (is_book_of f) (run rates es).live.books ≡ Some b
-    → b.account < 2 ^ 52
-run-account life rates es short range may f b found =
-    let sound = (run-sound life rates es range may).live in
-    account_short life (run rates es).live.counts.events b.account short sound.counts.events
+-- accounts stay below 2^54
+pub run-account : (version : Version) (life : ℕ) (rates : List Rate) (es : List Event) → life ≤ max_life
+    → AreInRange rates
+    → MayFollow life rates (empty_state version) es → (f : ℕ) (b : Book)
+    → find (is_book_of f) (run version rates es).live.books ≡ Some b
+    → b.account < 2 ^ 54
+run-account version life rates es short range may f b found =
+    let sound = (run-sound version life rates es range may).live in
+    account_short life (run version rates es).live.counts.events b.account short sound.counts.events
     (book-account sound f found)
 
 -- and so do those of closed flows together
-pub run-past_short : (life : ℕ) (rates : List Rate) (es : List Event) → life ≤ max_life → AreInRange rates
-    → MayFollow life rates empty_state es → (run rates es).live.counts.past < 2 ^ 52
-run-past_short life rates es short range may =
-    let sound = (run-sound life rates es range may).live in
-    account_short life (run rates es).live.counts.events (run rates es).live.counts.past short sound.counts.events
+pub run-past_short : (version : Version) (life : ℕ) (rates : List Rate) (es : List Event) → life ≤ max_life
+    → AreInRange rates
+    → MayFollow life rates (empty_state version) es → (run version rates es).live.counts.past < 2 ^ 54
+run-past_short version life rates es short range may =
+    let sound = (run-sound version life rates es range may).live in
+    account_short life (run version rates es).live.counts.events (run version rates es).live.counts.past short
+    sound.counts.events
     (omega (arith, sound.books.accounts))

@@ -9,11 +9,11 @@ use Rattle.share_base.specs.declared.command.Reply.{Reply}
 use Rattle.share_base.specs.declared.command.Reply.TheVariants.{Packet, Refused}
 use Rattle.share_base.specs.declared.command.Event.{Event}
 use Rattle.share_base.specs.declared.command.Event.TheVariants.{Commanded, Arrived, Written, Faulted}
+use Rattle.share_base.specs.declared.version.Version.{Version}
 use Rattle.share_model.specs.declared.rates.Rate.{Rate}
 use Rattle.share_model.specs.declared.funding.OpenFlow.{OpenFlow as FlowEntry}
 use Rattle.share_model.specs.link.Fields.{IsBody}
 use Rattle.share_model.specs.link.Tariff.{AreInRange}
-use Rattle.share_model.specs.link.Frame.{frame}
 use Rattle.share_model.specs.link.Buffers.{Buffer, buffer_of, is_full}
 use Rattle.share_model.specs.funding.Graph.{NameBytes, Graph}
 use Rattle.share_model.specs.funding.Changes.{flow_named}
@@ -27,7 +27,7 @@ use Rattle.share_model.specs.funding.Graph.{flow_numbers}
 use Rattle.share_model.specs.lists.Rises.{has_number}
 use Rattle.share_model.specs.link.Arrivals.{accept, arrive_in}
 use Rattle.share_model.specs.link.Arrivals.{arrive_by, arrive_step}
-use Rattle.share_model.specs.link.Turns.{is_whole}
+use Rattle.share_model.specs.link.Turns.{frame_of, is_whole}
 use Rattle.share_model.specs.link.Turns.{whole, in_part, torn_link}
 use Rattle.share_model.specs.run.Fold.{Sent, TornFrame, State, empty_state, torn_by, step, state_after, run}
 use Rattle.share_model.specs.run.Events.{Sends, MayCome, MayFollow}
@@ -46,14 +46,15 @@ pub record StepCases (P : State → Type 0) (rates : List Rate) (s : State) : Ty
       → P (record { live = close_flow s.live f; done = s.done; torn = s.torn })
   pub held : (f : ℕ) (held : Bool) → has_number f (flow_numbers s.live.graph.flows) ≡ true
       → P (record { live = hold_flow s.live f held; done = s.done; torn = s.torn })
-  pub accepted : (f : ℕ) (body : List ℕ) → IsBody body → (b : Buffer) → buffer_of s.live.buffers f ≡ Some b
+  pub accepted : (f : ℕ) (body : List ℕ) → IsBody s.live.version body → (b : Buffer)
+      → buffer_of s.live.buffers f ≡ Some b
       → P (record { live = accept s.live f body; done = s.done; torn = s.torn })
-  pub finished : (snd : Sending) (k : ℕ) → Sends s.live snd → snd.out + k ≡ length (frame snd.head)
-      → P (record { live = whole rates s.live snd k; done = s.done ++ sent_of s.live snd ∷ []; torn = s.torn })
+  pub finished : (snd : Sending) (k : ℕ) → Sends s.live snd → snd.out + k ≡ length (frame_of snd)
+      → P (record { live = whole rates s.live snd k; done = s.done ++ sent_of snd ∷ []; torn = s.torn })
   pub begun : (snd : Sending) (k : ℕ) → Sends s.live snd
       → P (record { live = in_part s.live snd k; done = s.done; torn = s.torn })
   pub tore : (snd : Sending) → Sends s.live snd
-      → P (record { live = torn_link rates s.live snd; done = s.done; torn = Some (torn_by s.live snd) })
+      → P (record { live = torn_link rates s.live snd; done = s.done; torn = Some (torn_by snd) })
 
 -- what two laws keep is kept together
 pub both-cases : (P Q : State → Type 0) (rates : List Rate) (s : State) → StepCases P rates s → StepCases Q rates s
@@ -82,7 +83,7 @@ command_case P rates s cases c =
     cases.funded cases.opened cases.closed cases.held
 
 arrive_in_case : (P : State → Type 0) (rates : List Rate) (s : State) → StepCases P rates s → (f : ℕ) (body : List ℕ)
-    → IsBody body → (o : Option Buffer) → buffer_of s.live.buffers f ≡ o
+    → IsBody s.live.version body → (o : Option Buffer) → buffer_of s.live.buffers f ≡ o
     → P (record { live = (arrive_in s.live f body o).0; done = s.done; torn = s.torn })
 arrive_in_case P rates s cases f body short None found = cases.refused
 arrive_in_case P rates s cases f body short (Some b) found =
@@ -90,7 +91,8 @@ arrive_in_case P rates s cases f body short (Some b) found =
     (λ (d : Live × Reply). P (record { live = d.0; done = s.done; torn = s.torn })) (λ _. cases.refused)
     (λ _. cases.accepted f body short b found)
 
-arrive_case : (P : State → Type 0) (rates : List Rate) (s : State) → StepCases P rates s → (body : List ℕ) → IsBody body
+arrive_case : (P : State → Type 0) (rates : List Rate) (s : State) → StepCases P rates s → (body : List ℕ)
+    → IsBody s.live.version body
     → (o : Option FlowEntry) → P (record { live = (arrive_by s.live body o).0; done = s.done; torn = s.torn })
 arrive_case P rates s cases body short None = cases.refused
 arrive_case P rates s cases body short (Some e) =
@@ -99,7 +101,7 @@ arrive_case P rates s cases body short (Some e) =
 write_case : (P : State → Type 0) (rates : List Rate) (s : State) → StepCases P rates s → (snd : Sending) (k : ℕ)
     → Sends s.live snd → (b : Bool) → is_whole snd k ≡ b → P (written_as rates s snd k b)
 write_case P rates s cases snd k sends true test =
-    cases.finished snd k sends (eqb-true (snd.out + k) (length (frame snd.head)) test)
+    cases.finished snd k sends (eqb-true (snd.out + k) (length (frame_of snd)) test)
 write_case P rates s cases snd k sends false test =
     at_done P (in_part s.live snd k) s.done s.torn (cases.begun snd k sends)
 
@@ -117,7 +119,7 @@ step-cases P rates s (Written k) may cases =
     (write_case P rates s cases may.frame k may.sends (is_whole may.frame k) refl)
 step-cases P rates s Faulted may cases =
     subst P (sym (step-failed rates s may.frame may.sends.is))
-    (at_done P (torn_link rates s.live may.frame) s.done (Some (torn_by s.live may.frame))
+    (at_done P (torn_link rates s.live may.frame) s.done (Some (torn_by may.frame))
     (cases.tore may.frame may.sends))
 
 module _ (P : State → Type 0) (life : ℕ) (rates : List Rate) (range : AreInRange rates)
@@ -132,5 +134,7 @@ module _ (P : State → Type 0) (life : ℕ) (rates : List Rate) (range : AreInR
       (step-cases P rates s e may.1 (keeps s sound may.0 was)) may.2
 
   -- and of every run, if it holds of the empty state
-  pub run-cases : P empty_state → (es : List Event) → MayFollow life rates empty_state es → P (run rates es)
-  run-cases first es may = after-cases es empty_state (state-empty life rates) first may
+  pub run-cases : {version : Version} → P (empty_state version) → (es : List Event)
+      → MayFollow life rates (empty_state version) es → P (run version rates es)
+  run-cases {version = version} first es may =
+      after-cases es (empty_state version) (state-empty version life rates) first may

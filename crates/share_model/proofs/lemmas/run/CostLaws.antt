@@ -6,6 +6,7 @@ use Rattle.std.proofs.lemmas.Bool.{cond-false, ne_eqb}
 use Rattle.std.proofs.lemmas.List.Elements.{filter-append}
 use Rattle.std.proofs.lemmas.List.Sums.{sum_by-append, sum_by-cons}
 use Rattle.std.proofs.Math.Nat.{zero-add}
+use Rattle.share_base.specs.declared.version.Version.{Version}
 use Rattle.share_model.specs.declared.rates.Rate.{Rate}
 use Rattle.share_model.specs.lists.Each.{Each}
 use Rattle.share_model.proofs.lemmas.lists.Laws.{each_map}
@@ -57,8 +58,8 @@ nothing_due a b x y = omega arith
 
 pub bill_none : (rates : List Rate) (s : State) (f : ℕ) → AreGivenFlows f s.done s.torn → bill rates s f ≡ 0
 bill_none rates s f given =
-    nothing_due (sum_by (sent_cost rates) (sent_by f s.done)) (torn_cost rates (nat_eq f) s.torn)
-    (ap (sum_by (sent_cost rates)) (sent_none f s.done given.sent)) (torn_none rates f s.torn given.torn)
+    nothing_due (sum_by (sent_cost s.live.version rates) (sent_by f s.done)) (torn_cost rates (nat_eq f) s.torn)
+    (ap (sum_by (sent_cost s.live.version rates)) (sent_none f s.done given.sent)) (torn_none rates f s.torn given.torn)
 
 -- two choices that agree on the flows that were given cost the same
 sent_same : (rates : List Rate) (limit : ℕ) (p q : ℕ → Bool) → ((g : ℕ) → g < limit → p g ≡ q g) → (done : List Sent)
@@ -76,37 +77,38 @@ torn_same rates limit p q same None given = refl
 torn_same rates limit p q same (Some t) given =
     ap (λ b. if b then cost rates t.tariff t.out else 0) (same t.head.flow given)
 
-pub cost-same : (rates : List Rate) (limit : ℕ) (p q : ℕ → Bool) → ((g : ℕ) → g < limit → p g ≡ q g)
+pub cost-same : (version : Version) (rates : List Rate) (limit : ℕ) (p q : ℕ → Bool) → ((g : ℕ) → g < limit → p g ≡ q g)
     → (done : List Sent) (t : Option TornFrame) → AreGivenFlows limit done t
-    → cost_of rates p done t ≡ cost_of rates q done t
-cost-same rates limit p q same done t given =
-    ap (λ ds. sum_by (sent_cost rates) ds + torn_cost rates p t) (sent_same rates limit p q same done given.sent)
-    ∙ ap (λ n. sum_by (sent_cost rates) (filter (λ (d : Sent). q d.head.flow) done) + n)
+    → cost_of version rates p done t ≡ cost_of version rates q done t
+cost-same version rates limit p q same done t given =
+    ap (λ ds. sum_by (sent_cost version rates) ds + torn_cost rates p t)
+    (sent_same rates limit p q same done given.sent)
+    ∙ ap (λ n. sum_by (sent_cost version rates) (filter (λ (d : Sent). q d.head.flow) done) + n)
     (torn_same rates limit p q same t given.torn)
 
 -- each flow of the first choice is of just one of the others
 abbrev pub IsSplit : (ℕ → Bool) → (ℕ → Bool) → (ℕ → Bool) → Type 0
 IsSplit p q r = (g n : ℕ) → (if p g then n else 0) ≡ (if q g then n else 0) + (if r g then n else 0)
 
-sum_kept : (rates : List Rate) (d : Sent) (ds : List Sent) (b : Bool)
-    → sum_by (sent_cost rates) (if b then d ∷ ds else ds)
-    ≡ (if b then sent_cost rates d else 0) + sum_by (sent_cost rates) ds
-sum_kept rates d ds true = sum_by-cons (sent_cost rates) d ds
-sum_kept rates d ds false = omega arith
+sum_kept : (version : Version) (rates : List Rate) (d : Sent) (ds : List Sent) (b : Bool)
+    → sum_by (sent_cost version rates) (if b then d ∷ ds else ds)
+    ≡ (if b then sent_cost version rates d else 0) + sum_by (sent_cost version rates) ds
+sum_kept version rates d ds true = sum_by-cons (sent_cost version rates) d ds
+sum_kept version rates d ds false = omega arith
 
-sent_split : (rates : List Rate) (p q r : ℕ → Bool) → IsSplit p q r → (done : List Sent)
-    → sum_by (sent_cost rates) (filter (λ (d : Sent). p d.head.flow) done)
-    ≡ sum_by (sent_cost rates) (filter (λ (d : Sent). q d.head.flow) done)
-    + sum_by (sent_cost rates) (filter (λ (d : Sent). r d.head.flow) done)
-sent_split rates p q r split [] = refl
-sent_split rates p q r split (d ∷ done) =
+sent_split : (version : Version) (rates : List Rate) (p q r : ℕ → Bool) → IsSplit p q r → (done : List Sent)
+    → sum_by (sent_cost version rates) (filter (λ (d : Sent). p d.head.flow) done)
+    ≡ sum_by (sent_cost version rates) (filter (λ (d : Sent). q d.head.flow) done)
+    + sum_by (sent_cost version rates) (filter (λ (d : Sent). r d.head.flow) done)
+sent_split version rates p q r split [] = refl
+sent_split version rates p q r split (d ∷ done) =
     omega (
       arith,
-      sent_split rates p q r split done,
-      split d.head.flow (sent_cost rates d),
-      sum_kept rates d (filter (λ (d : Sent). p d.head.flow) done) (p d.head.flow),
-      sum_kept rates d (filter (λ (d : Sent). q d.head.flow) done) (q d.head.flow),
-      sum_kept rates d (filter (λ (d : Sent). r d.head.flow) done) (r d.head.flow),
+      sent_split version rates p q r split done,
+      split d.head.flow (sent_cost version rates d),
+      sum_kept version rates d (filter (λ (d : Sent). p d.head.flow) done) (p d.head.flow),
+      sum_kept version rates d (filter (λ (d : Sent). q d.head.flow) done) (q d.head.flow),
+      sum_kept version rates d (filter (λ (d : Sent). r d.head.flow) done) (r d.head.flow),
     )
 
 torn_split : (rates : List Rate) (p q r : ℕ → Bool) → IsSplit p q r → (t : Option TornFrame)
@@ -114,24 +116,25 @@ torn_split : (rates : List Rate) (p q r : ℕ → Bool) → IsSplit p q r → (t
 torn_split rates p q r split None = refl
 torn_split rates p q r split (Some t) = split t.head.flow (cost rates t.tariff t.out)
 
-pub cost-split : (rates : List Rate) (p q r : ℕ → Bool) → IsSplit p q r → (done : List Sent) (t : Option TornFrame)
-    → cost_of rates p done t ≡ cost_of rates q done t + cost_of rates r done t
-cost-split rates p q r split done t =
-    omega (arith, sent_split rates p q r split done, torn_split rates p q r split t)
+pub cost-split : (version : Version) (rates : List Rate) (p q r : ℕ → Bool) → IsSplit p q r
+    → (done : List Sent) (t : Option TornFrame)
+    → cost_of version rates p done t ≡ cost_of version rates q done t + cost_of version rates r done t
+cost-split version rates p q r split done t =
+    omega (arith, sent_split version rates p q r split done, torn_split rates p q r split t)
 
-one_kept : (rates : List Rate) (d : Sent) (b : Bool)
-    → sum_by (sent_cost rates) (if b then d ∷ [] else []) ≡ (if b then sent_cost rates d else 0)
-one_kept rates d true = zero-add (sent_cost rates d)
-one_kept rates d false = refl
+one_kept : (version : Version) (rates : List Rate) (d : Sent) (b : Bool)
+    → sum_by (sent_cost version rates) (if b then d ∷ [] else []) ≡ (if b then sent_cost version rates d else 0)
+one_kept version rates d true = zero-add (sent_cost version rates d)
+one_kept version rates d false = refl
 
 -- one more packet
-pub sent_more : (rates : List Rate) (p : ℕ → Bool) (done : List Sent) (d : Sent)
-    → sum_by (sent_cost rates) (filter (λ (d : Sent). p d.head.flow) (done ++ d ∷ []))
-    ≡ sum_by (sent_cost rates) (filter (λ (d : Sent). p d.head.flow) done)
-    + (if p d.head.flow then sent_cost rates d else 0)
-sent_more rates p done d =
-    ap (sum_by (sent_cost rates)) (filter-append (λ (d : Sent). p d.head.flow) done (d ∷ []))
-    ∙ (sum_by-append (sent_cost rates) (filter (λ (d : Sent). p d.head.flow) done)
+pub sent_more : (version : Version) (rates : List Rate) (p : ℕ → Bool) (done : List Sent) (d : Sent)
+    → sum_by (sent_cost version rates) (filter (λ (d : Sent). p d.head.flow) (done ++ d ∷ []))
+    ≡ sum_by (sent_cost version rates) (filter (λ (d : Sent). p d.head.flow) done)
+    + (if p d.head.flow then sent_cost version rates d else 0)
+sent_more version rates p done d =
+    ap (sum_by (sent_cost version rates)) (filter-append (λ (d : Sent). p d.head.flow) done (d ∷ []))
+    ∙ (sum_by-append (sent_cost version rates) (filter (λ (d : Sent). p d.head.flow) done)
     (filter (λ (d : Sent). p d.head.flow) (d ∷ []))
-    ∙ ap (λ m. sum_by (sent_cost rates) (filter (λ (d : Sent). p d.head.flow) done) + m)
-    (one_kept rates d (p d.head.flow)))
+    ∙ ap (λ m. sum_by (sent_cost version rates) (filter (λ (d : Sent). p d.head.flow) done) + m)
+    (one_kept version rates d (p d.head.flow)))

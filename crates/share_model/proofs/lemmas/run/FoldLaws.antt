@@ -13,6 +13,7 @@ use Rattle.share_base.specs.declared.command.Event.{Event}
 use Rattle.share_base.specs.declared.command.Event.TheVariants.{Commanded, Arrived, Written, Faulted}
 use Rattle.share_base.specs.declared.command.Turn.{Turn}
 use Rattle.share_base.specs.declared.command.Turn.TheVariants.{Wrote}
+use Rattle.share_base.specs.declared.version.Version.{Version}
 use Rattle.share_model.specs.declared.rates.Rate.{Rate}
 use Rattle.share_model.specs.declared.funding.OpenFlow.{OpenFlow as FlowEntry}
 use Rattle.share_model.specs.link.Fields.{IsBody}
@@ -46,9 +47,10 @@ use Rattle.share_model.proofs.lemmas.run.BytesLaws.{step-written, written_as}
 done_kept : (done : List Sent) (n m : ℕ) → length done ≡ n → m ≡ n → length (done ++ []) ≡ m
 done_kept done n m was same = rw (append-nil done) (was ∙ sym same)
 
-pub state-empty : (life : ℕ) (rates : List Rate) → SoundState life rates empty_state
+pub state-empty : (version : Version) (life : ℕ) (rates : List Rate) → SoundState life rates (empty_state version)
 unfolding out sending
-state-empty life rates = record { live = sound-empty life rates; done = refl; sent = refl; torn = (refl, refl) }
+state-empty version life rates =
+    record { live = sound-empty version life rates; done = refl; sent = refl; torn = (refl, refl) }
 
 state_kept : (life : ℕ) (rates : List Rate) (s : State) (l' : Live) → SoundState life rates s → KeepsFrames s.live l'
     → Sound life rates l' → TornIsTold l' s.torn
@@ -67,7 +69,7 @@ state-commanded {life = life} {rates = rates} {s = s} was few c =
     (sound-commanded was.live few c) (torn-commanded was.live c s.torn was.torn)
 
 pub state-arrived : {life : ℕ} {rates : List Rate} {s : State} → SoundState life rates s → s.live.counts.events < life
-    → (name : NameBytes) (body : BodyView) → IsBody body.payload
+    → (name : NameBytes) (body : BodyView) → IsBody s.live.version body.payload
     → SoundState life rates (step rates s (Arrived name body))
 state-arrived {life = life} {rates = rates} {s = s} was few name body short =
     state_kept life rates s (arrive_step s.live name body.payload).0 was (keeps-arrived was.live name body.payload)
@@ -91,7 +93,7 @@ write_torn rates l s k None unbroken was =
 
 done_count : (rates : List Rate) (s : State) (snd : Sending) (k : ℕ) → length s.done ≡ s.live.counts.written
     → (b : Bool) → length (written_as rates s snd k b).done ≡ (written_as rates s snd k b).live.counts.written
-done_count rates s snd k was true = rw (length-append s.done (sent_of s.live snd ∷ [])) (omega arith)
+done_count rates s snd k was true = rw (length-append s.done (sent_of snd ∷ [])) (omega arith)
 done_count rates s snd k was false = done_kept s.done s.live.counts.written s.live.counts.written was refl
 
 written_length : (bytes rest : List ℕ) (sent sent' k : ℕ) → length bytes ≡ sent → k ≤ length rest → sent' ≡ sent + k
@@ -272,15 +274,18 @@ unfolding MayFollow
 may_follow-head life rates s e es may = (may.0, may.1)
 
 -- what holds of every run of a link
-pub run-sound : (life : ℕ) (rates : List Rate) (es : List Event) → AreInRange rates
-    → MayFollow life rates empty_state es → SoundState life rates (run rates es)
-run-sound life rates es range may = state-after life rates empty_state es range (state-empty life rates) may
+pub run-sound : (version : Version) (life : ℕ) (rates : List Rate) (es : List Event) → AreInRange rates
+    → MayFollow life rates (empty_state version) es → SoundState life rates (run version rates es)
+run-sound version life rates es range may =
+    state-after life rates (empty_state version) es range (state-empty version life rates) may
 
 -- one more event adds its bytes to those of the run
-pub run-bytes : (life : ℕ) (rates : List Rate) (es : List Event) (e : Event) → AreInRange rates
-    → MayFollow life rates empty_state (es ++ e ∷ [])
-    → out (run rates (es ++ e ∷ [])) ≡ out (run rates es) ++ event_bytes (run rates es).live e
-run-bytes life rates es e range may =
-    ap out (state_after-last rates empty_state es e)
-    ∙ out-step (run-sound life rates es range (may_follow-front life rates empty_state es (e ∷ []) may)) e
-    (may_follow-head life rates (run rates es) e [] (may_follow-back life rates empty_state es (e ∷ []) may)).1
+pub run-bytes : (version : Version) (life : ℕ) (rates : List Rate) (es : List Event) (e : Event) → AreInRange rates
+    → MayFollow life rates (empty_state version) (es ++ e ∷ [])
+    → out (run version rates (es ++ e ∷ [])) ≡ out (run version rates es) ++ event_bytes (run version rates es).live e
+run-bytes version life rates es e range may =
+    ap out (state_after-last rates (empty_state version) es e)
+    ∙ out-step
+    (run-sound version life rates es range (may_follow-front life rates (empty_state version) es (e ∷ []) may)) e
+    (may_follow-head life rates (run version rates es) e []
+    (may_follow-back life rates (empty_state version) es (e ∷ []) may)).1

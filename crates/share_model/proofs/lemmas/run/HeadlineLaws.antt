@@ -6,15 +6,16 @@ use Rattle.std.proofs.lemmas.Option.{same_Some}
 use Rattle.share_base.specs.declared.command.Event.{Event}
 use Rattle.share_base.specs.declared.command.Event.TheVariants.{Commanded, Arrived, Written, Faulted}
 use Rattle.share_base.specs.declared.command.Outcome.{Outcome}
+use Rattle.share_base.specs.declared.version.Version.{Version}
 use Rattle.share_model.specs.declared.link.Part.{Part}
 use Rattle.share_model.specs.declared.rates.Rate.{Rate}
 use Rattle.share_model.specs.io.Told.{Told}
 use Rattle.share_model.proofs.lemmas.link.BufferLaws.{head_of-flow}
-use Rattle.share_model.specs.link.Buffers.{Buffer, head_of}
+use Rattle.share_model.specs.link.Buffers.{head_of}
 use Rattle.share_model.specs.link.Frame.{Packet}
 use Rattle.share_model.specs.link.Live.{Live, tickets_of_all}
 use Rattle.share_model.specs.link.Turns.{Sending, sending, sending_at, sending_by}
-use Rattle.share_model.specs.link.Books.{is_book_of}
+use Rattle.share_model.specs.link.Books.{is_book_of, tariff_of}
 use Rattle.share_model.specs.link.Tariff.{AreInRange}
 use Rattle.share_model.proofs.lemmas.run.BillLaws.{run-billed, run-past}
 use Rattle.share_model.proofs.lemmas.run.BoundLaws.{run-level}
@@ -32,35 +33,44 @@ use Rattle.share_model.proofs.lemmas.run.SoundLaws.{sending-head}
 use Rattle.share_model.specs.stride.Level.{IsLevel}
 use Rattle.share_model.specs.stride.Moves.{IsNext, next}
 use Rattle.share_model.proofs.lemmas.stride.NextLaws.{IsNext-next}
-use Rattle.share_model.specs.Headline.{IsBegun, IsNextFrame, Writes, Fails, Headline}
+use Rattle.share_model.specs.Headline.{CarriesHead, IsBegun, IsNextFrame, Writes, Fails, Headline}
 
 -- What is sent is the next frame
 
--- what is sent is a frame of this flow, of which `at` bytes are out
-record IsMade (f at : ℕ) (s : Sending) : Type 0 where
+-- what is sent is a frame of the link's version, of this flow under its tariff, of which `at` bytes are out
+record IsMade (l : Live) (f at : ℕ) (s : Sending) : Type 0 where
   flow : s.head.flow ≡ f
+  version : s.version ≡ l.version
+  tariff : s.tariff ≡ tariff_of l.books s.head.flow
   after : s.out ≡ at
 
-made_from : (bs : List Buffer) (f at : ℕ) (o : Option Packet) (s : Sending) → head_of bs f ≡ o
-    → option_map (sending_at at) o ≡ Some s → IsMade f at s
-made_from bs f at None s found is = cc
-made_from bs f at (Some h) s found is =
-    let same : sending_at at h ≡ s = same_Some (sending_at at h) s is in
+made_from : (l : Live) (f at : ℕ) (o : Option Packet) (s : Sending) → head_of l.buffers f ≡ o
+    → option_map (sending_at l at) o ≡ Some s → IsMade l f at s
+made_from l f at None s found is = cc
+made_from l f at (Some h) s found is =
+    let same : sending_at l at h ≡ s = same_Some (sending_at l at h) s is in
     record {
-      flow = ap (λ (s : Sending). s.head.flow) (sym same) ∙ head_of-flow bs f h found;
+      flow = ap (λ (s : Sending). s.head.flow) (sym same) ∙ head_of-flow l.buffers f h found;
+      version = ap (λ (s : Sending). s.version) (sym same);
+      tariff =
+          ap (λ (s : Sending). s.tariff) (sym same) ∙ ap (λ (s : Sending). tariff_of l.books s.head.flow) same;
       after = ap (λ (s : Sending). s.out) (sym same);
     }
 
+carries : (l : Live) (f at : ℕ) (s : Sending) → head_of l.buffers s.head.flow ≡ Some s.head → IsMade l f at s
+    → CarriesHead l s
+carries l f at s head made = record { version = made.version; tariff = made.tariff; head = head }
+
 begun_by : (l : Live) (s : Sending) → head_of l.buffers s.head.flow ≡ Some s.head → (o : Option ℕ)
-    → next l.queue.clients ≡ o → option_map (sending_at 0) (option_and_then (head_of l.buffers) o) ≡ Some s
+    → next l.queue.clients ≡ o → option_map (sending_at l 0) (option_and_then (head_of l.buffers) o) ≡ Some s
     → IsBegun l s
 begun_by l s head None found is = cc
 begun_by l s head (Some f) found is =
-    let made : IsMade f 0 s = made_from l.buffers f 0 (head_of l.buffers f) s refl is in
+    let made : IsMade l f 0 s = made_from l f 0 (head_of l.buffers f) s refl is in
     record {
       least =
           subst (λ o. IsNext l.queue.clients o) (found ∙ ap Some (sym made.flow)) (IsNext-next l.queue.clients);
-      head = head;
+      carries = carries l f 0 s head made;
       first = made.after;
     }
 
@@ -68,8 +78,8 @@ next_by : (l : Live) (s : Sending) → head_of l.buffers s.head.flow ≡ Some s.
     → sending_by l o ≡ Some s → IsNextFrame l o s
 next_by l s head None is = begun_by l s head (next l.queue.clients) refl is
 next_by l s head (Some p) is =
-    let made : IsMade p.flow p.out s = made_from l.buffers p.flow p.out (head_of l.buffers p.flow) s refl is in
-    record { flow = made.flow; head = head; after = made.after }
+    let made : IsMade l p.flow p.out s = made_from l p.flow p.out (head_of l.buffers p.flow) s refl is in
+    record { flow = made.flow; carries = carries l p.flow p.out s head made; after = made.after }
 
 sending-next : {life : ℕ} {rates : List Rate} {l : Live} {s : Sending} → Sound life rates l → sending l ≡ Some s
     → IsNextFrame l l.part s
@@ -79,50 +89,57 @@ sending-next {l = l} {s = s} sound is = next_by l s (sending-head sound is) l.pa
 -- What events may follow at a moment of a run
 
 -- the rest of a run may come at each of its moments, whose state is sound
-record IsMoment (life : ℕ) (rates : List Rate) (before after : List Event) : Type 0 where
-  sound : SoundState life rates (run rates before)
-  may : MayFollow life rates (run rates before) after
+record IsMoment (version : Version) (life : ℕ) (rates : List Rate) (before after : List Event) : Type 0 where
+  sound : SoundState life rates (run version rates before)
+  may : MayFollow life rates (run version rates before) after
 
-moment : (life : ℕ) (rates : List Rate) (events before after : List Event) → AreInRange rates
-    → MayFollow life rates empty_state events → events ≡ before ++ after → IsMoment life rates before after
-moment life rates events before after range may parts =
-    let all : MayFollow life rates empty_state (before ++ after) =
-    subst (λ es. MayFollow life rates empty_state es) parts may in
+moment : (version : Version) (life : ℕ) (rates : List Rate) (events before after : List Event) → AreInRange rates
+    → MayFollow life rates (empty_state version) events → events ≡ before ++ after
+    → IsMoment version life rates before after
+moment version life rates events before after range may parts =
+    let all : MayFollow life rates (empty_state version) (before ++ after) =
+    subst (λ es. MayFollow life rates (empty_state version) es) parts may in
     record {
-      sound = run-sound life rates before range (may_follow-front life rates empty_state before after all);
-      may = may_follow-back life rates empty_state before after all;
+      sound = run-sound version life rates before range
+          (may_follow-front life rates (empty_state version) before after all);
+      may = may_follow-back life rates (empty_state version) before after all;
     }
 
-front_may : (life : ℕ) (rates : List Rate) (events before after : List Event) → MayFollow life rates empty_state events
-    → events ≡ before ++ after → MayFollow life rates empty_state before
-front_may life rates events before after may parts =
-    may_follow-front life rates empty_state before after (subst (λ es. MayFollow life rates empty_state es) parts may)
+front_may : (version : Version) (life : ℕ) (rates : List Rate) (events before after : List Event)
+    → MayFollow life rates (empty_state version) events
+    → events ≡ before ++ after → MayFollow life rates (empty_state version) before
+front_may version life rates events before after may parts =
+    may_follow-front life rates (empty_state version) before after
+    (subst (λ es. MayFollow life rates (empty_state version) es) parts may)
 
 -- A write
 
-writes_by : (life : ℕ) (rates : List Rate) (before : List Event) (k : ℕ) → AreInRange rates
-    → SoundState life rates (run rates before) → MayFollow life rates empty_state (before ++ Written k ∷ [])
-    → IsWrite (run rates before).live k → Writes (run rates before) (run rates (before ++ Written k ∷ [])) k
-writes_by life rates before k range sound may write = record {
+writes_by : (version : Version) (life : ℕ) (rates : List Rate) (before : List Event) (k : ℕ) → AreInRange rates
+    → SoundState life rates (run version rates before)
+    → MayFollow life rates (empty_state version) (before ++ Written k ∷ [])
+    → IsWrite (run version rates before).live k
+    → Writes (run version rates before) (run version rates (before ++ Written k ∷ [])) k
+writes_by version life rates before k range sound may write = record {
   frame = write.frame;
   next = sending-next sound.live write.sends.is;
   some = write.some;
   fits = write.fits;
   bytes =
-      run-bytes life rates before (Written k) range may
-      ∙ ap (λ o. out (run rates before) ++ bytes_by k o) write.sends.is;
+      run-bytes version life rates before (Written k) range may
+      ∙ ap (λ o. out (run version rates before) ++ bytes_by k o) write.sends.is;
 }
 
-run-writes : (life : ℕ) (rates : List Rate) (events before after : List Event) (k : ℕ) → AreInRange rates
-    → MayFollow life rates empty_state events → events ≡ before ++ Written k ∷ after
-    → Writes (run rates before) (run rates (before ++ Written k ∷ [])) k
-run-writes life rates events before after k range may parts =
-    let at = moment life rates events before (Written k ∷ after) range may parts in
-    let came = may_follow-head life rates (run rates before) (Written k) after at.may in
-    writes_by life rates before k range at.sound
-    (may_follow-append life rates empty_state before (Written k ∷ [])
-    (front_may life rates events before (Written k ∷ after) may parts)
-    (may_follow-one life rates (run rates before) (Written k) came.0 came.1)) came.1
+run-writes : (version : Version) (life : ℕ) (rates : List Rate) (events before after : List Event) (k : ℕ)
+    → AreInRange rates
+    → MayFollow life rates (empty_state version) events → events ≡ before ++ Written k ∷ after
+    → Writes (run version rates before) (run version rates (before ++ Written k ∷ [])) k
+run-writes version life rates events before after k range may parts =
+    let at = moment version life rates events before (Written k ∷ after) range may parts in
+    let came = may_follow-head life rates (run version rates before) (Written k) after at.may in
+    writes_by version life rates before k range at.sound
+    (may_follow-append life rates (empty_state version) before (Written k ∷ [])
+    (front_may version life rates events before (Written k ∷ after) may parts)
+    (may_follow-one life rates (run version rates before) (Written k) came.0 came.1)) came.1
 
 -- A fault
 
@@ -160,42 +177,43 @@ fails_by life rates s after range was may =
           ∙ out-failed was failed.sends.unbroken failed.sends.is;
     }
 
-run-fails : (life : ℕ) (rates : List Rate) (events before after : List Event) → AreInRange rates
-    → MayFollow life rates empty_state events → events ≡ before ++ Faulted ∷ after
-    → Fails (run rates before) (run rates events)
-run-fails life rates events before after range may parts =
-    let at = moment life rates events before (Faulted ∷ after) range may parts in
-    subst (Fails (run rates before))
-    (sym (ap (run rates) parts ∙ state_after-append rates empty_state before (Faulted ∷ after)))
-    (fails_by life rates (run rates before) after range at.sound at.may)
+run-fails : (version : Version) (life : ℕ) (rates : List Rate) (events before after : List Event) → AreInRange rates
+    → MayFollow life rates (empty_state version) events → events ≡ before ++ Faulted ∷ after
+    → Fails (run version rates before) (run version rates events)
+run-fails version life rates events before after range may parts =
+    let at = moment version life rates events before (Faulted ∷ after) range may parts in
+    subst (Fails (run version rates before))
+    (sym (ap (run version rates) parts ∙ state_after-append rates (empty_state version) before (Faulted ∷ after)))
+    (fails_by life rates (run version rates before) after range at.sound at.may)
 
 -- The sentence
 
-run-tickets : (life : ℕ) (rates : List Rate) (events before after : List Event) → AreInRange rates
-    → MayFollow life rates empty_state events → events ≡ before ++ after
-    → IsLevel (run rates before).live.queue (tickets_of_all (run rates before).live.graph)
-run-tickets life rates events before after range may parts =
-    run-level life rates before range (front_may life rates events before after may parts)
+run-tickets : (version : Version) (life : ℕ) (rates : List Rate) (events before after : List Event) → AreInRange rates
+    → MayFollow life rates (empty_state version) events → events ≡ before ++ after
+    → IsLevel (run version rates before).live.queue (tickets_of_all (run version rates before).live.graph)
+run-tickets version life rates events before after range may parts =
+    run-level version life rates before range (front_may version life rates events before after may parts)
 
 -- for every list of events that a link may make, whatever it answered and holds as the fold says
-pub headline : (life : ℕ) (rates : List Rate) (events : List Event) (replies : List Outcome) (l : Live)
-    (told : Option Told) → life ≤ max_life → AreInRange rates → MayFollow life rates empty_state events
-    → replies ≡ outcomes rates empty_state events → l ≡ (run rates events).live
-    → IfSome told (λ t. t.bytes ≡ out (run rates events))
+pub headline : (version : Version) (life : ℕ) (rates : List Rate) (events : List Event) (replies : List Outcome)
+    (l : Live)
+    (told : Option Told) → life ≤ max_life → AreInRange rates → MayFollow life rates (empty_state version) events
+    → replies ≡ outcomes rates (empty_state version) events → l ≡ (run version rates events).live
+    → IfSome told (λ t. t.bytes ≡ out (run version rates events))
     → IfSome told (λ t. filter (nat_lt 0) t.counts ≡ writes_in events)
-    → Headline life rates events replies l told
-headline life rates events replies l told few range may replies_are holds bytes counts = record {
+    → Headline version life rates events replies l told
+headline version life rates events replies l told few range may replies_are holds bytes counts = record {
   follow = may;
   replies_are = replies_are;
   holds = holds;
   accounts =
-      λ flow book found. run-billed life rates events range may flow book
+      λ flow book found. run-billed version life rates events range may flow book
       (ap (λ (l : Live). find (is_book_of flow) l.books) (sym holds) ∙ found);
-  past = ap (λ (l : Live). l.counts.past) holds ∙ run-past life rates events range may;
+  past = ap (λ (l : Live). l.counts.past) holds ∙ run-past version life rates events range may;
   bytes = bytes;
   counts = counts;
-  frames = run-frames life rates events (omega (arith, few)) range may;
-  writes = λ before after k parts. run-writes life rates events before after k range may parts;
-  fault = λ before after parts. run-fails life rates events before after range may parts;
-  tickets = λ before after parts. run-tickets life rates events before after range may parts;
+  frames = run-frames version life rates events (omega (arith, few)) range may;
+  writes = λ before after k parts. run-writes version life rates events before after k range may parts;
+  fault = λ before after parts. run-fails version life rates events before after range may parts;
+  tickets = λ before after parts. run-tickets version life rates events before after range may parts;
 }

@@ -312,7 +312,8 @@ module _ {W : Type 0} (told : W → Option Told) (old : LinkView W) (reply : Rep
   command-asked c fields (inl did) = asked_no_memory did.living did.reply_is did.unchanged
   command-asked c fields (inr did) = command_by c fields (is_spent old) refl did
 
-  arrive_ran : (name : NameBytes) (body : BodyView) → IsName name × IsBody body.payload × IsUnstamped body
+  arrive_ran : (name : NameBytes) (body : BodyView)
+      → IsName name × IsBody old.live.version body.payload × IsUnstamped body
       → is_spent old ≡ false → Stepped (arrive_step old.live name body.payload) old reply new
       → Ran told old (Arrived name body ∷ []) (Replied reply ∷ []) new
   arrive_ran name body fields living did = ran_one told old new (Arrived name body) (Replied reply) range
@@ -328,7 +329,8 @@ module _ {W : Type 0} (told : W → Option Told) (old : LinkView W) (reply : Rep
       (λ s before end was. tells_kept (told old.writer) (told new.writer) s
       (step old.rates s (Arrived name body)) before (ap told did.rest.writer) (out-arrived end.sound name body) was)
 
-  arrive_by : (name : NameBytes) (body : BodyView) → IsName name × IsBody body.payload × IsUnstamped body
+  arrive_by : (name : NameBytes) (body : BodyView)
+      → IsName name × IsBody old.live.version body.payload × IsUnstamped body
       → (t : Bool) → is_spent old ≡ t
       → MatchBool t ((reply ≡ Refused SpentRefusal) × (new ≡ old))
       (Stepped (arrive_step old.live name body.payload) old reply new)
@@ -337,7 +339,8 @@ module _ {W : Type 0} (told : W → Option Told) (old : LinkView W) (reply : Rep
   arrive_by name body fields false living did = asked_made living (arrive_ran name body fields living did)
 
   -- an arrival
-  pub arrive-asked : (name : NameBytes) (body : BodyView) → IsName name × IsBody body.payload × IsUnstamped body
+  pub arrive-asked : (name : NameBytes) (body : BodyView)
+      → IsName name × IsBody old.live.version body.payload × IsUnstamped body
       → Steps (λ rates l. arrive_step l name body.payload) old reply new
       → AskedOutcome told old (Arrived name body) reply new
   arrive-asked name body fields did = arrive_by name body fields (is_spent old) refl did

@@ -8,6 +8,7 @@ use Rattle.std.proofs.lemmas.List.{append-nil, map-append}
 use Rattle.std.proofs.lemmas.List.Elements.{filter-append}
 use Rattle.std.proofs.lemmas.List.Folds.{find-append}
 use Rattle.share_base.specs.declared.command.Event.{Event}
+use Rattle.share_base.specs.declared.version.Version.{Version}
 use Rattle.share_model.specs.declared.rates.Rate.{Rate}
 use Rattle.share_model.specs.link.Tariff.{AreInRange}
 use Rattle.share_model.specs.link.Frame.{Packet}
@@ -177,31 +178,33 @@ numbered_cases life rates s sound billed was = record {
   finished =
       λ snd k sends whole. record {
         numbered = λ f. popped_numbers s.live.buffers snd.head
-            (sent_of s.live snd).tariff s.done (sending-head sound.live sends.is) f (was.numbered f)
+            (sent_of snd).tariff s.done (sending-head sound.live sends.is) f (was.numbered f)
             (nat_eq f snd.head.flow) refl;
       };
   begun = λ snd k sends. record { numbered = was.numbered };
   tore = λ snd sends. record { numbered = was.numbered };
 }
 
-numbered_empty : HasRisingNumbers empty_state
+numbered_empty : (version : Version) → HasRisingNumbers (empty_state version)
 unfolding Rises
-numbered_empty = record { numbered = λ f. (0, tt) }
+numbered_empty version = record { numbered = λ f. (0, tt) }
 
-run_numbered : (life : ℕ) (rates : List Rate) (es : List Event) → AreInRange rates → MayFollow life rates empty_state es
-    → HasRisingNumbers (run rates es)
-run_numbered life rates es range may =
+run_numbered : (version : Version) (life : ℕ) (rates : List Rate) (es : List Event) → AreInRange rates
+    → MayFollow life rates (empty_state version) es
+    → HasRisingNumbers (run version rates es)
+run_numbered version life rates es range may =
     (run-cases (λ s. IsBilled rates s × HasRisingNumbers s) life rates range
     (λ s sound below was. both-cases (IsBilled rates) HasRisingNumbers rates s
     (billed_cases life rates s sound below was.0)
-    (numbered_cases life rates s sound was.0 was.1)) (billed_empty rates, numbered_empty) es may).1
+    (numbered_cases life rates s sound was.0 was.1)) (billed_empty version rates, numbered_empty version) es may).1
 
 -- in every run the numbers that a flow sent rise
-pub run-numbers : (life : ℕ) (rates : List Rate) (es : List Event) → AreInRange rates
-    → MayFollow life rates empty_state es → (f : ℕ) → (limit : ℕ) × Rises limit (sent_numbers f (run rates es).done)
-run-numbers life rates es range may f =
-    numbers_rise (buffer_of (run rates es).live.buffers f) (sent_numbers f (run rates es).done)
-    ((run_numbered life rates es range may).numbered f)
+pub run-numbers : (version : Version) (life : ℕ) (rates : List Rate) (es : List Event) → AreInRange rates
+    → MayFollow life rates (empty_state version) es → (f : ℕ)
+    → (limit : ℕ) × Rises limit (sent_numbers f (run version rates es).done)
+run-numbers version life rates es range may f =
+    numbers_rise (buffer_of (run version rates es).live.buffers f) (sent_numbers f (run version rates es).done)
+    ((run_numbered version life rates es range may).numbered f)
 
 none_above : (n m : ℕ) (ns : List ℕ) → n ≡ m → Each (λ k. m < k) ns → filter (nat_eq n) ns ≡ []
 none_above n m [] same above = refl
@@ -223,9 +226,10 @@ rises-once limit n [] rises = omega arith
 rises-once limit n (m ∷ ns) rises = once_by n m ns (nat_eq n m) refl rises.1 (rises-once limit n ns rises.2)
 
 -- no packet of a run was sent twice
-pub run-once : (life : ℕ) (rates : List Rate) (es : List Event) → AreInRange rates → MayFollow life rates empty_state es
-    → (f n : ℕ) → length (filter (nat_eq n) (sent_numbers f (run rates es).done)) ≤ 1
-run-once life rates es range may f n =
-    let rises : (limit : ℕ) × Rises limit (sent_numbers f (run rates es).done)
-    = run-numbers life rates es range may f in
-    rises-once rises.0 n (sent_numbers f (run rates es).done) rises.1
+pub run-once : (version : Version) (life : ℕ) (rates : List Rate) (es : List Event) → AreInRange rates
+    → MayFollow life rates (empty_state version) es
+    → (f n : ℕ) → length (filter (nat_eq n) (sent_numbers f (run version rates es).done)) ≤ 1
+run-once version life rates es range may f n =
+    let rises : (limit : ℕ) × Rises limit (sent_numbers f (run version rates es).done)
+    = run-numbers version life rates es range may f in
+    rises-once rises.0 n (sent_numbers f (run version rates es).done) rises.1

@@ -2,6 +2,7 @@
 use Rattle.std.specs.Prelude.{◌≡◌, ◌+◌, ◌-◌, ℕ, Bool, true, false, List, Option, None, Some, is_some}
 use Rattle.std.proofs.Common.{ap, sym, ◌∙◌, subst, arith, inl, inr}
 use Rattle.share_base.specs.declared.command.Event.{Event}
+use Rattle.share_base.specs.declared.version.Version.{Version}
 use Rattle.share_model.specs.declared.rates.Rate.{Rate}
 use Rattle.share_model.specs.lists.Rises.{has_number}
 use Rattle.share_model.proofs.lemmas.lists.Laws.{is_some-find_number}
@@ -36,11 +37,12 @@ packets-kept {l = l} sound =
     sound.counts.balance
 
 -- in every run
-pub run-waiting : (life : ℕ) (rates : List Rate) (es : List Event) → AreInRange rates
-    → MayFollow life rates empty_state es → (run rates es).live.counts.accepted
-    ≡ (run rates es).live.counts.written + torn_count (run rates es).live.broken + waiting (run rates es).live
-    + (run rates es).live.counts.dropped
-run-waiting life rates es range may = packets-kept (run-sound life rates es range may).live
+pub run-waiting : (version : Version) (life : ℕ) (rates : List Rate) (es : List Event) → AreInRange rates
+    → MayFollow life rates (empty_state version) es → (run version rates es).live.counts.accepted
+    ≡ (run version rates es).live.counts.written + torn_count (run version rates es).live.broken
+    + waiting (run version rates es).live
+    + (run version rates es).live.counts.dropped
+run-waiting version life rates es range may = packets-kept (run-sound version life rates es range may).live
 
 -- The torn packet
 
@@ -49,10 +51,11 @@ told_broken l None told = told.0
 told_broken l (Some t) told = told.broken
 
 -- in every run a packet is torn if and only if the link is broken
-pub run-broken : (life : ℕ) (rates : List Rate) (es : List Event) → AreInRange rates
-    → MayFollow life rates empty_state es → (run rates es).live.broken ≡ is_some (run rates es).torn
-run-broken life rates es range may =
-    told_broken (run rates es).live (run rates es).torn (run-sound life rates es range may).torn
+pub run-broken : (version : Version) (life : ℕ) (rates : List Rate) (es : List Event) → AreInRange rates
+    → MayFollow life rates (empty_state version) es
+    → (run version rates es).live.broken ≡ is_some (run version rates es).torn
+run-broken version life rates es range may =
+    told_broken (run version rates es).live (run version rates es).torn (run-sound version life rates es range may).torn
 
 -- a flow is open if it has a buffer
 open_buffer : {life : ℕ} {rates : List Rate} {l : Live} → Sound life rates l → (f : ℕ)
@@ -69,12 +72,15 @@ head_stands {l = l} t sound torn stands = elim torn.place [
 ]
 
 -- in every run the torn packet is the head of its flow while that is open, and the link names the flow
-pub run-torn : (life : ℕ) (rates : List Rate) (es : List Event) → AreInRange rates → MayFollow life rates empty_state es
-    → (t : TornFrame) → (run rates es).torn ≡ Some t
-    → has_number t.head.flow (flow_numbers (run rates es).live.graph.flows) ≡ true
-    → (head_of (run rates es).live.buffers t.head.flow ≡ Some t.head) × ((run rates es).live.torn ≡ Some t.head.flow)
-run-torn life rates es range may t is stands =
-    let sound : SoundState life rates (run rates es) = run-sound life rates es range may in
-    let torn : IsTornFrame (run rates es).live t = subst (TornIsTold (run rates es).live) is sound.torn in
+pub run-torn : (version : Version) (life : ℕ) (rates : List Rate) (es : List Event) → AreInRange rates
+    → MayFollow life rates (empty_state version) es
+    → (t : TornFrame) → (run version rates es).torn ≡ Some t
+    → has_number t.head.flow (flow_numbers (run version rates es).live.graph.flows) ≡ true
+    → (head_of (run version rates es).live.buffers t.head.flow ≡ Some t.head)
+    × ((run version rates es).live.torn ≡ Some t.head.flow)
+run-torn version life rates es range may t is stands =
+    let sound : SoundState life rates (run version rates es) = run-sound version life rates es range may in
+    let torn : IsTornFrame (run version rates es).live t =
+    subst (TornIsTold (run version rates es).live) is sound.torn in
     let head = head_stands t sound.live torn stands in
     (head.head, head.named)

@@ -201,7 +201,7 @@ queue-closed {flows = flows} {q = q} limit f stands rises was =
 
 -- a charge of an open flow
 pub queue-after_charge : {life events : ℕ} {flows : List ℕ} {q : Stride} → (f units : ℕ) → has_number f flows ≡ true
-    → events < life → units ≤ 4026 → QueueIsSound life events flows q
+    → events < life → units ≤ 11842 → QueueIsSound life events flows q
     → QueueIsSound life (events + 1) flows (charge q f units)
 queue-after_charge {events = events} {flows = flows} {q = q} f units stands below few was =
     let there : IsSome (get q.clients f) = was.clients f ∙ stands in

@@ -5,17 +5,21 @@ use Rattle.std.specs.Prelude.{nat_eq, Option, None, Some, option_map, option_and
 use Rattle.std.proofs.Common.{refl, ap, sym, ◌∙◌, subst, inl, inr}
 use Rattle.std.proofs.lemmas.Bool.{cases_eq, cond_both, eqb-true, eq-eqb}
 use Rattle.std.proofs.lemmas.Option.{same_Some}
+use Rattle.share_base.specs.declared.command.Command.{Command}
 use Rattle.share_base.specs.declared.command.Event.{Event}
 use Rattle.share_base.specs.declared.command.Event.TheVariants.{Commanded, Arrived, Written, Faulted}
+use Rattle.share_base.specs.declared.version.Version.{Version}
 use Rattle.share_model.specs.declared.link.Part.{Part}
 use Rattle.share_model.specs.declared.rates.Rate.{Rate}
 use Rattle.share_model.specs.declared.stride.Client.{Client}
 use Rattle.share_model.specs.link.Tariff.{AreInRange}
-use Rattle.share_model.specs.link.Frame.{Packet, frame}
-use Rattle.share_model.specs.link.Buffers.{Buffer, head_of}
+use Rattle.share_model.specs.link.Frame.{Packet}
+use Rattle.share_model.specs.link.Buffers.{head_of}
 use Rattle.share_model.proofs.lemmas.link.BufferLaws.{head_of-flow}
+use Rattle.share_model.specs.funding.Graph.{NameBytes}
+use Rattle.share_model.specs.link.Fields.{IsBody}
 use Rattle.share_model.specs.link.Live.{Live}
-use Rattle.share_model.specs.link.Turns.{Sending, sending_at, sending_by, sending, is_whole}
+use Rattle.share_model.specs.link.Turns.{Sending, frame_of, sending_at, sending_by, sending, is_whole}
 use Rattle.share_model.specs.link.Commands.{is_part_of}
 use Rattle.share_model.specs.link.Books.{units_due}
 use Rattle.share_model.specs.link.Commands.{command_step}
@@ -39,20 +43,20 @@ use Rattle.share_model.proofs.lemmas.run.KeptClientLaws.{client-arrived}
 use Rattle.share_model.specs.run.Shares.{event_charges, written_charges, fault_charges, stretch_charges}
 use Rattle.share_model.specs.run.Shares.{charges_for, Compete, KeepCompeting}
 
-abbrev pass_of : Live → ℕ → ℤ
+abbrev pub pass_of : Live → ℕ → ℤ
 pass_of l f = (client l.queue f).pass
 
 -- if a frame of `one` is in part, its pass is at most that of `other`
-abbrev IsAhead : ℕ → ℕ → Live → Type 0
+abbrev pub IsAhead : ℕ → ℕ → Live → Type 0
 IsAhead one other l = is_part_of one l.part ≡ true → pass_of l one ≤ℤ pass_of l other
 
 -- The flow that is sent
 
-head_flow : (bs : List Buffer) (f out : ℕ) (o : Option Packet) (s : Sending) → head_of bs f ≡ o
-    → option_map (sending_at out) o ≡ Some s → s.head.flow ≡ f
-head_flow bs f out None s found is = cc
-head_flow bs f out (Some h) s found is =
-    ap (λ (s : Sending). s.head.flow) (sym (same_Some (sending_at out h) s is)) ∙ head_of-flow bs f h found
+head_flow : (l : Live) (f out : ℕ) (o : Option Packet) (s : Sending) → head_of l.buffers f ≡ o
+    → option_map (sending_at l out) o ≡ Some s → s.head.flow ≡ f
+head_flow l f out None s found is = cc
+head_flow l f out (Some h) s found is =
+    ap (λ (s : Sending). s.head.flow) (sym (same_Some (sending_at l out h) s is)) ∙ head_of-flow l.buffers f h found
 
 next_least : {life : ℕ} {rates : List Rate} {l : Live} → Sound life rates l → (one other : ℕ)
     → (client l.queue other).competes ≡ true → IsNextFlow l.queue.clients one → pass_of l one ≤ℤ pass_of l other
@@ -65,10 +69,10 @@ next_least {l = l} sound one other competes first =
 
 next_by : {life : ℕ} {rates : List Rate} {l : Live} {s : Sending} → Sound life rates l → (one other : ℕ)
     → (client l.queue other).competes ≡ true → s.head.flow ≡ one → (o : Option ℕ) → next l.queue.clients ≡ o
-    → option_map (sending_at 0) (option_and_then (head_of l.buffers) o) ≡ Some s → pass_of l one ≤ℤ pass_of l other
+    → option_map (sending_at l 0) (option_and_then (head_of l.buffers) o) ≡ Some s → pass_of l one ≤ℤ pass_of l other
 next_by sound one other competes flow None found is = cc
 next_by {l = l} {s = s} sound one other competes flow (Some f) found is =
-    let same : f ≡ one = sym (head_flow l.buffers f 0 (head_of l.buffers f) s refl is) ∙ flow in
+    let same : f ≡ one = sym (head_flow l f 0 (head_of l.buffers f) s refl is) ∙ flow in
     next_least sound one other competes
     (subst (λ o. IsNext l.queue.clients o) (found ∙ ap Some same) (IsNext-next l.queue.clients))
 
@@ -79,7 +83,7 @@ sent_by : {life : ℕ} {rates : List Rate} {l : Live} {s : Sending} → Sound li
 sent_by {l = l} sound one other competes flow None ahead is =
     next_by sound one other competes flow (next l.queue.clients) refl is
 sent_by {l = l} {s = s} sound one other competes flow (Some p) ahead is =
-    ahead (eq-eqb one p.flow (sym flow ∙ head_flow l.buffers p.flow p.out (head_of l.buffers p.flow) s refl is))
+    ahead (eq-eqb one p.flow (sym flow ∙ head_flow l p.flow p.out (head_of l.buffers p.flow) s refl is))
 
 -- `one` is sent only while its pass is at most that of `other`
 sending_least : {life : ℕ} {rates : List Rate} {l : Live} {s : Sending} → Sound life rates l → (one other : ℕ)
@@ -92,7 +96,7 @@ sending_least {l = l} sound one other competes ahead is flow =
 -- What an event charges the two
 
 -- from the passes p and r to these, with these charges; a frame is in part after it only if nothing was charged
-data WentBy (one : ℕ) (p r p' r' : ℤ) (part : Option Part) (charges : List Charge) : Type 0 where
+pub data WentBy (one : ℕ) (p r p' r' : ℤ) (part : Option Part) (charges : List Charge) : Type 0 where
   went_kept : charges ≡ [] → p' ≡ p → r' ≡ r → (is_part_of one part ≡ true → p ≤ℤ r)
       → WentBy one p r p' r' part charges
   went_one : (n : ℕ) → charges ≡ One n ∷ [] → p ≤ℤ r → p' ≡ p +ℤ pos n → r' ≡ r → part ≡ None
@@ -100,19 +104,23 @@ data WentBy (one : ℕ) (p r p' r' : ℤ) (part : Option Part) (charges : List C
   went_other : (n : ℕ) → charges ≡ Other n ∷ [] → p' ≡ p → r' ≡ r +ℤ pos n → part ≡ None
       → WentBy one p r p' r' part charges
 
-abbrev WentTogether : ℕ → ℕ → Live → Live → List Charge → Type 0
+abbrev pub WentTogether : ℕ → ℕ → Live → Live → List Charge → Type 0
 WentTogether one other l l' charges =
     WentBy one (pass_of l one) (pass_of l other) (pass_of l' one) (pass_of l' other) l'.part charges
 
 no_part : {A : Type 0} (one : ℕ) (part : Option Part) → part ≡ None → is_part_of one part ≡ true → A
 no_part one part none here = let t : false ≡ true = sym (ap (is_part_of one) none) ∙ here in cc
 
-went_ahead : {one : ℕ} {p r p' r' : ℤ} {part : Option Part} {charges : List Charge}
+-- this holds where no frame is in part, and after each event
+pub ahead-unparted : (one other : ℕ) (l : Live) → l.part ≡ None → IsAhead one other l
+ahead-unparted one other l none = no_part one l.part none
+
+pub ahead-went : {one : ℕ} {p r p' r' : ℤ} {part : Option Part} {charges : List Charge}
     → WentBy one p r p' r' part charges → is_part_of one part ≡ true → p' ≤ℤ r'
-went_ahead {p = p} {r' = r'} (went_kept none same_p same_r ahead) here =
+ahead-went {p = p} {r' = r'} (went_kept none same_p same_r ahead) here =
     subst (λ (x : ℤ). x ≤ℤ r') (sym same_p) (subst (λ (y : ℤ). p ≤ℤ y) (sym same_r) (ahead here))
-went_ahead {one = one} {part = part} (went_one n is least p_is r_is none) here = no_part one part none here
-went_ahead {one = one} {part = part} (went_other n is p_is r_is none) here = no_part one part none here
+ahead-went {one = one} {part = part} (went_one n is least p_is r_is none) here = no_part one part none here
+ahead-went {one = one} {part = part} (went_other n is p_is r_is none) here = no_part one part none here
 
 went_least : {one : ℕ} {p r p' r' : ℤ} {part : Option Part} {charges : List Charge} (rest : List Charge)
     → WentBy one p r p' r' part charges → ChargesLeast p' r' rest → ChargesLeast p r (charges ++ rest)
@@ -181,19 +189,34 @@ charge_same q g units f =
 
 module _ (life : ℕ) (rates : List Rate) (one other a b : ℕ) (l : Live) (apart : one ≢ other)
     (sound : Sound life rates l) (was : Compete one other a b l.queue) (ahead : IsAhead one other l) where
-  -- an event that charges nobody and leaves the frame in part
-  stays_went : (l' : Live) → client l'.queue one ≡ client l.queue one → client l'.queue other ≡ client l.queue other
-      → l'.part ≡ l.part → WentTogether one other l l' []
-  stays_went l' first second part =
+  -- nobody is charged, and the frame in part stays
+  pub went-stayed : (l' : Live) → client l'.queue one ≡ client l.queue one
+      → client l'.queue other ≡ client l.queue other → l'.part ≡ l.part → WentTogether one other l l' []
+  went-stayed l' first second part =
       went_kept refl (ap (λ (c : Client). c.pass) first) (ap (λ (c : Client). c.pass) second)
       (λ here. ahead (sym (ap (is_part_of one) part) ∙ here))
 
+  pub went-commanded : l.counts.events < life → (c : Command)
+      → Compete one other a b (command_step rates l c).0.queue → WentTogether one other l (command_step rates l c).0 []
+  went-commanded few c now =
+      let after = sound-commanded sound few c in
+      went-stayed (command_step rates l c).0 (client-commanded sound one a was.first c after now.first)
+      (client-commanded sound other b was.second c after now.second) (keeps-commanded sound c).part
+
+  pub went-arrived : l.counts.events < life → (name : NameBytes) (body : List ℕ) → IsBody l.version body
+      → Compete one other a b (arrive_step l name body).0.queue
+      → WentTogether one other l (arrive_step l name body).0 []
+  went-arrived few name body short now =
+      let after = sound-arrived sound few name body short in
+      went-stayed (arrive_step l name body).0 (client-arrived sound one a was.first name body after now.first)
+      (client-arrived sound other b was.second name body after now.second) (keeps-arrived sound name body).part
+
   whole_went : (s : Sending) (k : ℕ) → sending l ≡ Some s → Sound life rates (whole rates l s k)
       → Compete one other a b (whole rates l s k).queue
-      → WentTogether one other l (whole rates l s k) (charges_for one other rates l s.head.flow (length (frame s.head)))
+      → WentTogether one other l (whole rates l s k) (charges_for one other rates l s.head.flow (length (frame_of s)))
   whole_went s k is after now =
       let g = s.head.flow in
-      let units = units_due rates l.books g (length (frame s.head)) in
+      let units = units_due rates l.books g (length (frame_of s)) in
       let kept_one = charge_same l.queue g units one in
       let kept_other = charge_same l.queue g units other in
       charge_went one other l.queue g units (pass_of (whole rates l s k) one) (pass_of (whole rates l s k) other) None
@@ -208,18 +231,19 @@ module _ (life : ℕ) (rates : List Rate) (one other a b : ℕ) (l : Live) (apar
       was.second
       after now.second)) refl
 
-  written_went : (s : Sending) (k : ℕ) → sending l ≡ Some s → (t : Bool) → Sound life rates (write_as rates l s k t).0
+  pub went-written : (s : Sending) (k : ℕ) → sending l ≡ Some s → (t : Bool)
+      → Sound life rates (write_as rates l s k t).0
       → Compete one other a b (write_as rates l s k t).0.queue
       → WentTogether one other l (write_as rates l s k t).0
-      (if t then charges_for one other rates l s.head.flow (length (frame s.head)) else [])
-  written_went s k is true after now = whole_went s k is after now
-  written_went s k is false after now =
+      (if t then charges_for one other rates l s.head.flow (length (frame_of s)) else [])
+  went-written s k is true after now = whole_went s k is after now
+  went-written s k is false after now =
       went_kept refl refl refl
       (λ here. sending_least sound one other was.second.competes ahead is (sym (eqb-true one s.head.flow here)))
 
-  torn_went : (s : Sending) → sending l ≡ Some s
+  pub went-torn : (s : Sending) → sending l ≡ Some s
       → WentTogether one other l (torn_link rates l s) (charges_for one other rates l s.head.flow s.out)
-  torn_went s is =
+  went-torn s is =
       charge_went one other l.queue s.head.flow (units_due rates l.books s.head.flow s.out) _ _ None apart
       was.first.competes was.second.competes (sending_least sound one other was.second.competes ahead is) refl refl refl
 
@@ -229,16 +253,9 @@ step_went : {life : ℕ} {rates : List Rate} (s : State) (e : Event) (one other 
     → IsAhead one other s.live
     → WentTogether one other s.live (step rates s e).live (event_charges one other rates s.live e)
 step_went {life = life} {rates = rates} s (Commanded c) one other a b range sound few may apart was now ahead =
-    let after = sound-commanded sound.live few c in
-    stays_went life rates one other a b s.live apart sound.live was ahead (command_step rates s.live c).0
-    (client-commanded sound.live one a was.first c after now.first)
-    (client-commanded sound.live other b was.second c after now.second) (keeps-commanded sound.live c).part
+    went-commanded life rates one other a b s.live apart sound.live was ahead few c now
 step_went {life = life} {rates = rates} s (Arrived name body) one other a b range sound few may apart was now ahead =
-    let after = sound-arrived sound.live few name body.payload may.1 in
-    stays_went life rates one other a b s.live apart sound.live was ahead (arrive_step s.live name body.payload).0
-    (client-arrived sound.live one a was.first name body.payload after now.first)
-    (client-arrived sound.live other b was.second name body.payload after now.second) (keeps-arrived sound.live name
-    body.payload).part
+    went-arrived life rates one other a b s.live apart sound.live was ahead few name body.payload may.1 now
 step_went {life = life} {rates = rates} s (Written k) one other a b range sound few may apart was now ahead =
     let snd = may.frame in
     let is = may.sends.is in
@@ -248,7 +265,7 @@ step_went {life = life} {rates = rates} s (Written k) one other a b range sound 
     (sym stepped)
     (subst (λ cs. WentTogether one other s.live (write_as rates s.live snd k (is_whole snd k)).0 cs)
     (sym (ap (written_charges one other rates s.live k) is))
-    (written_went life rates one other a b s.live apart sound.live was ahead snd k is (is_whole snd k)
+    (went-written life rates one other a b s.live apart sound.live was ahead snd k is (is_whole snd k)
     (subst (Sound life rates) stepped after)
     (subst (λ (l' : Live). Compete one other a b l'.queue) stepped now)))
 step_went {life = life} {rates = rates} s Faulted one other a b range sound few may apart was now ahead =
@@ -258,7 +275,7 @@ step_went {life = life} {rates = rates} s Faulted one other a b range sound few 
     (sym (ap (λ (n : State). n.live) (step-failed rates s snd is)))
     (subst (λ cs. WentTogether one other s.live (torn_link rates s.live snd) cs)
     (sym (ap (fault_charges one other rates s.live) is))
-    (torn_went life rates one other a b s.live apart sound.live was ahead snd is))
+    (went-torn life rates one other a b s.live apart sound.live was ahead snd is))
 
 -- Stretches of events
 
@@ -280,17 +297,20 @@ least_after {rates = rates} one other a b range apart s (e ∷ es) sound may kee
     (keeps_first one other a b rates (step rates s e) es keep.1) ahead in
     went_least (stretch_charges one other rates (step rates s e) es) went
     (least_after one other a b range apart (step rates s e) es (state-step range sound may.0 e may.1) may.2 keep.1
-    (went_ahead went))
+    (ahead-went went))
 
 -- in every run
-pub run-shares : (life : ℕ) (rates : List Rate) (before es : List Event) (one other a b : ℕ) → AreInRange rates
-    → MayFollow life rates empty_state (before ++ es) → one ≢ other → (run rates before).live.part ≡ None
-    → KeepCompeting one other a b rates (run rates before) es
-    → IsWithinShare (client (run rates before).live.queue one).pass (client (run rates before).live.queue other).pass
-    (stretch_charges one other rates (run rates before) es)
-run-shares life rates before es one other a b range may apart none keep =
-    let s = run rates before in
+pub run-shares : (version : Version) (life : ℕ) (rates : List Rate) (before es : List Event) (one other a b : ℕ)
+    → AreInRange rates
+    → MayFollow life rates (empty_state version) (before ++ es) → one ≢ other
+    → (run version rates before).live.part ≡ None
+    → KeepCompeting one other a b rates (run version rates before) es
+    → IsWithinShare (client (run version rates before).live.queue one).pass
+    (client (run version rates before).live.queue other).pass
+    (stretch_charges one other rates (run version rates before) es)
+run-shares version life rates before es one other a b range may apart none keep =
+    let s = run version rates before in
     shares_stay_close (pass_of s.live one) (pass_of s.live other) (stretch_charges one other rates s es)
     (least_after one other a b range apart s es
-    (run-sound life rates before range (may_follow-front life rates empty_state before es may))
-    (may_follow-back life rates empty_state before es may) keep (no_part one s.live.part none))
+    (run-sound version life rates before range (may_follow-front life rates (empty_state version) before es may))
+    (may_follow-back life rates (empty_state version) before es may) keep (ahead-unparted one other s.live none))

@@ -4,6 +4,7 @@ use Rattle.std.specs.Prelude.{if◌then◌else◌}
 use Rattle.std.specs.Set.{remove_key}
 use Rattle.std.proofs.Common.{refl, ap, sym, ◌∙◌, subst, arith}
 use Rattle.share_base.specs.declared.command.Command.{Command}
+use Rattle.share_base.specs.declared.version.Version.{Version}
 use Rattle.share_model.specs.declared.funding.OpenFlow.{OpenFlow as FlowEntry}
 use Rattle.share_model.specs.declared.link.Book.{Book}
 use Rattle.share_model.specs.declared.link.Part.{Part}
@@ -66,10 +67,10 @@ flows_closed limit f {es = es} {bs = bs} {books = books} was rises = record {
       ∙ sym (stay_held limit f bs books (subst (Rises limit) (sym was.buffered) rises));
 }
 
-part_closed : (bs : List Buffer) (f : ℕ) (o : Option Part) → is_part_of f o ≡ false → PartIsSound bs o
-    → PartIsSound (close_in bs f) o
-part_closed bs f None unsent was = tt
-part_closed bs f (Some p) unsent was = record {
+part_closed : (v : Version) (bs : List Buffer) (f : ℕ) (o : Option Part) → is_part_of f o ≡ false
+    → PartIsSound v bs o → PartIsSound v (close_in bs f) o
+part_closed v bs f None unsent was = tt
+part_closed v bs f (Some p) unsent was = record {
   head = was.head;
   found = head_of-closed_other bs f p.flow (other_way f p.flow unsent) ∙ was.found;
   some = was.some;
@@ -113,13 +114,13 @@ sound-close_flow {life = life} {rates = rates} {l = l} was few f may = sound-wit
       (sym (numbers-without f l.graph.flows))
       (queue-closed l.graph.next_flow f may.stands (sound-numbered was) was.queue);
   buffers =
-      Each-remove (IsSoundBuffer (l.counts.events + 1)) (is_buffer_of f) l.buffers
-      (buffers-later l.counts.events l.buffers was.buffers);
+      Each-remove (IsSoundBuffer l.version (l.counts.events + 1)) (is_buffer_of f) l.buffers
+      (buffers-later l.version l.counts.events l.buffers was.buffers);
   books = record {
     known = Each-remove (IsOnShelf rates) (is_book_of f) l.books was.books.known;
     accounts = omega (arith, was.books.accounts, accounts-close_in l.books f);
   };
-  part = part_closed l.buffers f l.part may.unsent was.part;
+  part = part_closed l.version l.buffers f l.part may.unsent was.part;
   torn = record {
     named = torn_closed l.buffers l.broken f l.torn was.torn.named;
     unparted = was.torn.unparted;

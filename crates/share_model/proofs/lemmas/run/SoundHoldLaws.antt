@@ -89,7 +89,7 @@ sound-hold_flow {life = life} {rates = rates} {l = l} was few f held stands = so
   queue =
       subst (λ ns. QueueIsSound life (l.counts.events + 1) ns l.queue)
       (sym (numbers-with_activity f (is_busy l.buffers f && not held) l.graph.flows)) (queue-later was.queue);
-  buffers = buffers-later l.counts.events l.buffers was.buffers;
+  buffers = buffers-later l.version l.counts.events l.buffers was.buffers;
   books = record {
     known =
         each-change_first (IsOnShelf rates) (IsOnShelf rates) (is_book_of f) (with_hold held) (λ b k. k) (λ b k. k)

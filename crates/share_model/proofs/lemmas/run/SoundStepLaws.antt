@@ -9,6 +9,7 @@ use Rattle.std.proofs.lemmas.List.Sums.{sum_by-append}
 use Rattle.share_base.specs.declared.command.Reply.{Reply}
 use Rattle.share_base.specs.declared.command.Reply.TheVariants.{Packet as PacketReply, Refused}
 use Rattle.share_base.specs.declared.refusal.Refusal.TheVariants.{Range, NoTariff, Taken, TableFull, BufferFull}
+use Rattle.share_base.specs.declared.version.Version.{Version}
 use Rattle.share_model.specs.declared.link.Book.{Book}
 use Rattle.share_model.specs.declared.link.Counts.{Counts}
 use Rattle.share_model.specs.declared.link.Part.{Part}
@@ -58,9 +59,9 @@ pub record Unlevelled (life : ℕ) (rates : List Rate) (l : Live) : Type 0 where
   pub funding : FundingIsSound l.counts.events l.graph
   pub flows : FlowsAreTied l.graph.flows l.buffers l.books
   pub queue : QueueIsSound life l.counts.events (flow_numbers l.graph.flows) l.queue
-  pub buffers : Each (IsSoundBuffer l.counts.events) l.buffers
+  pub buffers : Each (IsSoundBuffer l.version l.counts.events) l.buffers
   pub books : BooksAreSound rates l.counts l.books
-  pub part : PartIsSound l.buffers l.part
+  pub part : PartIsSound l.version l.buffers l.part
   pub torn : TornIsSound l.buffers l.broken l.torn l.part
 
 kept_numbered : {events : ℕ} {g : Graph} → FundingIsSound events g → Rises g.next_flow (flow_numbers g.flows)
@@ -93,17 +94,19 @@ funding-later was = record {
   next_flow = omega (arith, was.next_flow);
 }
 
-buffer_later : (n : ℕ) (b : Buffer) → IsSoundBuffer n b → IsSoundBuffer (n + 1) b
-buffer_later n b was = record { flow = was.flow; given = was.given; numbers = omega arith; payloads = was.payloads }
+buffer_later : (v : Version) (n : ℕ) (b : Buffer) → IsSoundBuffer v n b → IsSoundBuffer v (n + 1) b
+buffer_later v n b was = record { flow = was.flow; given = was.given; numbers = omega arith; payloads = was.payloads }
 
-pub buffers-later : (n : ℕ) (bs : List Buffer) → Each (IsSoundBuffer n) bs → Each (IsSoundBuffer (n + 1)) bs
-buffers-later n bs was = each_map (IsSoundBuffer n) (IsSoundBuffer (n + 1)) (buffer_later n) bs was
+pub buffers-later : (v : Version) (n : ℕ) (bs : List Buffer) → Each (IsSoundBuffer v n) bs
+    → Each (IsSoundBuffer v (n + 1)) bs
+buffers-later v n bs was = each_map (IsSoundBuffer v n) (IsSoundBuffer v (n + 1)) (buffer_later v n) bs was
 
-pub buffers-changed : (n : ℕ) (f : ℕ) (change : Buffer → Buffer) (bs : List Buffer)
-    → ((b : Buffer) → IsSoundBuffer n b → IsSoundBuffer (n + 1) (change b)) → Each (IsSoundBuffer n) bs
-    → Each (IsSoundBuffer (n + 1)) (change_first (is_buffer_of f) change bs)
-buffers-changed n f change bs changes was =
-    each-change_first (IsSoundBuffer n) (IsSoundBuffer (n + 1)) (is_buffer_of f) change (buffer_later n) changes bs was
+pub buffers-changed : (v : Version) (n : ℕ) (f : ℕ) (change : Buffer → Buffer) (bs : List Buffer)
+    → ((b : Buffer) → IsSoundBuffer v n b → IsSoundBuffer v (n + 1) (change b)) → Each (IsSoundBuffer v n) bs
+    → Each (IsSoundBuffer v (n + 1)) (change_first (is_buffer_of f) change bs)
+buffers-changed v n f change bs changes was =
+    each-change_first (IsSoundBuffer v n) (IsSoundBuffer v (n + 1)) (is_buffer_of f) change (buffer_later v n) changes
+    bs was
 
 pub books-later : {rates : List Rate} {c : Counts} {books : List Book} → BooksAreSound rates c books
     → BooksAreSound rates (record c { events = c.events + 1 }) books
@@ -119,7 +122,7 @@ sound-with_one_event {l = l} was few = record {
   flows = was.flows;
   queue = queue-later was.queue;
   level = was.level;
-  buffers = buffers-later l.counts.events l.buffers was.buffers;
+  buffers = buffers-later l.version l.counts.events l.buffers was.buffers;
   books = books-later was.books;
   part = was.part;
   torn = was.torn;
@@ -141,7 +144,7 @@ sound-with_graph {life = life} {l = l} was few g funded = sound-with_level_queue
   queue =
       subst (λ (es : List (NameBytes × FlowEntry)). QueueIsSound life (l.counts.events + 1) (flow_numbers es) l.queue)
       (sym funded.flows) (queue-later was.queue);
-  buffers = buffers-later l.counts.events l.buffers was.buffers;
+  buffers = buffers-later l.version l.counts.events l.buffers was.buffers;
   books = books-later was.books;
   part = was.part;
   torn = was.torn;
@@ -153,9 +156,10 @@ map_last : {A B : Type 0} (f : A → B) (xs : List A) (x : A) (ys : List B) → 
     → map f (xs ++ x ∷ []) ≡ ys ++ f x ∷ []
 map_last f xs x ys same = map-append f xs (x ∷ []) ∙ ap (λ zs. zs ++ f x ∷ []) same
 
-part_opened : (bs : List Buffer) (g limit : ℕ) (o : Option Part) → PartIsSound bs o → PartIsSound (open_in bs g limit) o
-part_opened bs g limit None was = tt
-part_opened bs g limit (Some p) was = record {
+part_opened : (v : Version) (bs : List Buffer) (g limit : ℕ) (o : Option Part) → PartIsSound v bs o
+    → PartIsSound v (open_in bs g limit) o
+part_opened v bs g limit None was = tt
+part_opened v bs g limit (Some p) was = record {
   head = was.head;
   found = head_of-open_in bs g limit p.flow was.head was.found;
   some = was.some;
@@ -171,8 +175,8 @@ torn_opened bs broken g limit (Some f) was = record {
   found = head_of-open_in bs g limit f was.head was.found;
 }
 
-new_buffer_sound : (n f limit : ℕ) → 1 ≤ f → IsSoundBuffer n (new_buffer f limit)
-new_buffer_sound n f limit some = record { flow = some; given = omega arith; numbers = omega arith; payloads = tt }
+new_buffer_sound : (v : Version) (n f limit : ℕ) → 1 ≤ f → IsSoundBuffer v n (new_buffer f limit)
+new_buffer_sound v n f limit some = record { flow = some; given = omega arith; numbers = omega arith; payloads = tt }
 
 pub numbers-added : (g : Graph) (name : NameBytes)
     → flow_numbers (add_flow g name).flows ≡ flow_numbers g.flows ++ g.next_flow ∷ []
@@ -257,12 +261,12 @@ sound-open_flow {life = life} {rates = rates} {l = l} was few name limit tariff 
           subst (λ ns. QueueIsSound life (l.counts.events + 1) ns (add l.queue next)) (sym (numbers-added l.graph name))
           (queue-added next fresh space was.queue);
       buffers =
-          each-append (IsSoundBuffer (l.counts.events + 1)) l.buffers (new_buffer next limit ∷ [])
-          (buffers-later l.counts.events l.buffers was.buffers)
-          (each-one (IsSoundBuffer (l.counts.events + 1)) (new_buffer next limit)
-          (new_buffer_sound (l.counts.events + 1) next limit (sound-some_flow was)));
+          each-append (IsSoundBuffer l.version (l.counts.events + 1)) l.buffers (new_buffer next limit ∷ [])
+          (buffers-later l.version l.counts.events l.buffers was.buffers)
+          (each-one (IsSoundBuffer l.version (l.counts.events + 1)) (new_buffer next limit)
+          (new_buffer_sound l.version (l.counts.events + 1) next limit (sound-some_flow was)));
       books = books_opened next tariff may.known was.books;
-      part = part_opened l.buffers next limit l.part was.part;
+      part = part_opened l.version l.buffers next limit l.part was.part;
       torn = record {
         named = torn_opened l.buffers l.broken next limit l.torn was.torn.named;
         unparted = was.torn.unparted;
@@ -271,23 +275,23 @@ sound-open_flow {life = life} {rates = rates} {l = l} was few name limit tariff 
 
 -- Arrivals
 
-with_packet_sound : (n : ℕ) (body : List ℕ) → IsBody body → (b : Buffer) → IsSoundBuffer n b
-    → IsSoundBuffer (n + 1) (with_packet body b)
-with_packet_sound n body is b was = record {
+with_packet_sound : (v : Version) (n : ℕ) (body : List ℕ) → IsBody v body → (b : Buffer) → IsSoundBuffer v n b
+    → IsSoundBuffer v (n + 1) (with_packet body b)
+with_packet_sound v n body is b was = record {
   flow = was.flow;
   given = omega (arith, length-append b.packets (body ∷ []), was.given);
   numbers = omega arith;
-  payloads = each-append IsBody b.packets (body ∷ []) was.payloads (each-one IsBody body is);
+  payloads = each-append (IsBody v) b.packets (body ∷ []) was.payloads (each-one (IsBody v) body is);
 }
 
 is_some_last : (ps : List (List ℕ)) (body : List ℕ) → is_some_packet (ps ++ body ∷ []) ≡ true
 is_some_last [] body = refl
 is_some_last (p ∷ ps) body = refl
 
-part_pushed : (bs : List Buffer) (g : ℕ) (body : List ℕ) (o : Option Part) → PartIsSound bs o
-    → PartIsSound (push_in bs g body) o
-part_pushed bs g body None was = tt
-part_pushed bs g body (Some p) was = record {
+part_pushed : (v : Version) (bs : List Buffer) (g : ℕ) (body : List ℕ) (o : Option Part) → PartIsSound v bs o
+    → PartIsSound v (push_in bs g body) o
+part_pushed v bs g body None was = tt
+part_pushed v bs g body (Some p) was = record {
   head = was.head;
   found = head_of-push_in bs g body p.flow was.head was.found;
   some = was.some;
@@ -323,7 +327,7 @@ pub found-own : (bs : List Buffer) (f : ℕ) (b : Buffer) → buffer_of bs f ≡
 found-own bs f b found = sym (eqb-true f b.flow (find-holds (is_buffer_of f) bs b found))
 
 pub sound-accept : {life : ℕ} {rates : List Rate} {l : Live} → Sound life rates l → l.counts.events < life
-    → (f : ℕ) (body : List ℕ) → IsBody body → (b : Buffer) → buffer_of l.buffers f ≡ Some b
+    → (f : ℕ) (body : List ℕ) → IsBody l.version body → (b : Buffer) → buffer_of l.buffers f ≡ Some b
     → Sound life rates (accept l f body)
 sound-accept {life = life} {l = l} was few f body short b found = sound-with_level_queue (record {
   some = omega arith;
@@ -347,10 +351,11 @@ sound-accept {life = life} {l = l} was few f body short b found = sound-with_lev
       subst (λ ns. QueueIsSound life (l.counts.events + 1) ns l.queue)
       (sym (numbers-with_activity f (not (is_held l.books f)) l.graph.flows)) (queue-later was.queue);
   buffers =
-      buffers-changed l.counts.events f (with_packet body) l.buffers (with_packet_sound l.counts.events body short)
+      buffers-changed l.version l.counts.events f (with_packet body) l.buffers
+      (with_packet_sound l.version l.counts.events body short)
       was.buffers;
   books = record { known = was.books.known; accounts = omega (arith, was.books.accounts) };
-  part = part_pushed l.buffers f body l.part was.part;
+  part = part_pushed l.version l.buffers f body l.part was.part;
   torn = record {
     named = torn_pushed l.buffers l.broken f body l.torn was.torn.named;
     unparted = was.torn.unparted;
@@ -358,7 +363,7 @@ sound-accept {life = life} {l = l} was few f body short b found = sound-with_lev
 })
 
 arrive_in_sound : (life : ℕ) (rates : List Rate) (l : Live) → Sound life rates l → l.counts.events < life
-    → (f : ℕ) (body : List ℕ) → IsBody body → (o : Option Buffer) → buffer_of l.buffers f ≡ o
+    → (f : ℕ) (body : List ℕ) → IsBody l.version body → (o : Option Buffer) → buffer_of l.buffers f ≡ o
     → Sound life rates (arrive_in l f body o).0
 arrive_in_sound life rates l was few f body short None found = sound-with_one_event was few
 arrive_in_sound life rates l was few f body short (Some b) found =
@@ -367,18 +372,18 @@ arrive_in_sound life rates l was few f body short (Some b) found =
     (λ _. sound-accept was few f body short b found)
 
 arrive_by_sound : (life : ℕ) (rates : List Rate) (l : Live) → Sound life rates l → l.counts.events < life
-    → (body : List ℕ) → IsBody body → (o : Option FlowEntry) → Sound life rates (arrive_by l body o).0
+    → (body : List ℕ) → IsBody l.version body → (o : Option FlowEntry) → Sound life rates (arrive_by l body o).0
 arrive_by_sound life rates l was few body short None = sound-with_one_event was few
 arrive_by_sound life rates l was few body short (Some e) =
     arrive_in_sound life rates l was few e.number body short (buffer_of l.buffers e.number) refl
 
 pub sound-arrived : {life : ℕ} {rates : List Rate} {l : Live} → Sound life rates l → l.counts.events < life
-    → (name : NameBytes) (body : List ℕ) → IsBody body → Sound life rates (arrive_step l name body).0
+    → (name : NameBytes) (body : List ℕ) → IsBody l.version body → Sound life rates (arrive_step l name body).0
 sound-arrived {life = life} {rates = rates} {l = l} was few name body short =
     arrive_by_sound life rates l was few body short (flow_named l.graph name)
 
-pub sound-empty : (life : ℕ) (rates : List Rate) → Sound life rates empty_link
-sound-empty life rates = record {
+pub sound-empty : (version : Version) (life : ℕ) (rates : List Rate) → Sound life rates (empty_link version)
+sound-empty version life rates = record {
   fresh = λ _. refl;
   counts = record { events = omega arith; accepted = omega arith; sent = omega arith; balance = refl };
   funding = record { kept = kept-empty; next_ticket = omega arith; next_flow = omega arith };

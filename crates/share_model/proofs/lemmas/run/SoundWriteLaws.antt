@@ -5,12 +5,12 @@ use Rattle.std.proofs.Common.{refl, ap, sym, ◌∙◌, subst, arith, length-dro
 use Rattle.std.proofs.lemmas.Bool.{cond_both, eqb-false, both_ways}
 use Rattle.share_base.specs.declared.command.Turn.{Turn}
 use Rattle.share_base.specs.declared.command.Turn.TheVariants.{Wrote}
+use Rattle.share_base.specs.declared.version.Version.{Version}
 use Rattle.share_model.specs.declared.link.Book.{Book}
 use Rattle.share_model.specs.declared.link.Counts.{Counts}
 use Rattle.share_model.specs.declared.rates.Rate.{Rate}
 use Rattle.share_model.specs.link.Fields.{IsBody}
 use Rattle.share_model.specs.link.Tariff.{AreInRange}
-use Rattle.share_model.specs.link.Frame.{frame}
 use Rattle.share_model.specs.link.Buffers.{Buffer, is_buffer_of, buffer_of, head_of, without_head, pop_in}
 use Rattle.share_model.specs.link.Buffers.{is_some_packet, holds_packet, is_busy}
 use Rattle.share_model.proofs.lemmas.link.BufferLaws.{flows-pop_in, numbers-with_activity, fillings, fillings-same}
@@ -18,7 +18,7 @@ use Rattle.share_model.proofs.lemmas.link.BufferLaws.{buffer_flows}
 use Rattle.share_model.proofs.lemmas.link.HoldLaws.{is_held-posted}
 use Rattle.share_model.proofs.lemmas.funding.FlowLaws.{kept-set_active}
 use Rattle.share_model.specs.link.Live.{Live}
-use Rattle.share_model.specs.link.Turns.{Sending, sending, rest_of}
+use Rattle.share_model.specs.link.Turns.{Sending, frame_of, sending, rest_of}
 use Rattle.share_model.specs.link.Books.{is_book_of, units_due, with_units}
 use Rattle.share_model.specs.link.Books.{books_with_units, is_held}
 use Rattle.share_model.specs.link.Turns.{is_whole, in_part, whole, torn_link, write_step, fault_step}
@@ -32,7 +32,7 @@ use Rattle.share_model.proofs.lemmas.run.CountLaws.{packets_in-pop_in}
 use Rattle.share_model.proofs.lemmas.run.QueueLaws.{queue-later, queue-after_charge, level-after_charge}
 use Rattle.share_model.proofs.lemmas.run.SoundLaws.{units_due-few, books_with_units-few_more, rest-short, sending-few}
 use Rattle.share_model.proofs.lemmas.run.SoundLaws.{sending-head, sound-numbered}
-use Rattle.share_model.proofs.lemmas.run.SoundLaws.{sending-short, head-stands}
+use Rattle.share_model.proofs.lemmas.run.SoundLaws.{sending-length, sending-short, head-stands}
 use Rattle.share_model.proofs.lemmas.run.SoundStepLaws.{sound-with_level_queue, funding-later, buffers-later}
 use Rattle.share_model.proofs.lemmas.run.SoundStepLaws.{buffers-changed}
 use Rattle.share_model.proofs.lemmas.run.SoundStepLaws.{flows-changed, found-own}
@@ -41,7 +41,7 @@ use Rattle.share_model.proofs.lemmas.run.SoundStepLaws.{flows-changed, found-own
 
 -- books of which one was posted for these units
 books_posted : {rates : List Rate} {c : Counts} {books : List Book} (f units : ℕ) (now : Counts) → AreInRange rates
-    → units ≤ 4026 → now.past ≡ c.past → now.events ≡ c.events + 1 → BooksAreSound rates c books
+    → units ≤ 11842 → now.past ≡ c.past → now.events ≡ c.events + 1 → BooksAreSound rates c books
     → BooksAreSound rates now (books_with_units rates books f units)
 books_posted {rates = rates} {books = books} f units now range few past events was = record {
   known =
@@ -50,12 +50,12 @@ books_posted {rates = rates} {books = books} f units now range few past events w
   accounts = omega (arith, was.accounts, books_with_units-few_more rates f units books range few);
 }
 
-popped_sound : (n : ℕ) (b : Buffer) → IsSoundBuffer n b → IsSoundBuffer (n + 1) (without_head b)
-popped_sound n b was = record {
+popped_sound : (v : Version) (n : ℕ) (b : Buffer) → IsSoundBuffer v n b → IsSoundBuffer v (n + 1) (without_head b)
+popped_sound v n b was = record {
   flow = was.flow;
   given = omega (arith, length-drop 1 b.packets, was.given);
   numbers = omega arith;
-  payloads = each-drop_one IsBody b.packets was.payloads;
+  payloads = each-drop_one (IsBody v) b.packets was.payloads;
 }
 
 booked_posted : (rates : List Rate) (bs : List Book) (f units : ℕ)
@@ -84,13 +84,13 @@ untorn bs bs' broken None unbroken was = tt
 untorn bs bs' broken (Some f) unbroken was = absurd (both_ways broken unbroken was.broken_is)
 
 pub sound-whole : {life : ℕ} {rates : List Rate} {l : Live} {s : Sending} → AreInRange rates → Sound life rates l
-    → l.counts.events < life → l.broken ≡ false → sending l ≡ Some s → (k : ℕ) → k ≤ length (frame s.head)
+    → l.counts.events < life → l.broken ≡ false → sending l ≡ Some s → (k : ℕ) → k ≤ length (frame_of s)
     → Sound life rates (whole rates l s k)
 sound-whole {life = life} {rates = rates} {l = l} {s = s} range was few unbroken is k fits =
     let f = s.head.flow in
     let head : head_of l.buffers f ≡ Some s.head = sending-head was is in
-    let units = units_due rates l.books f (length (frame s.head)) in
-    let cheap : units ≤ 4026 = units_due-few rates l.books f (length (frame s.head)) range (sending-short was is) in
+    let units = units_due rates l.books f (length (frame_of s)) in
+    let cheap : units ≤ 11842 = units_due-few rates l.books f (length (frame_of s)) range (sending-short was is) in
     let awake = is_busy (pop_in l.buffers f) f && not (is_held l.books f) in
     let tied =
     flows-changed l.graph.next_flow f awake without_head was.flows (sound-numbered was) (flows-pop_in l.buffers f)
@@ -119,7 +119,8 @@ sound-whole {life = life} {rates = rates} {l = l} {s = s} range was few unbroken
           (sym (numbers-with_activity f awake l.graph.flows))
           (queue-after_charge f units (head-stands was f head) few cheap was.queue);
       buffers =
-          buffers-changed l.counts.events f without_head l.buffers (popped_sound l.counts.events) was.buffers;
+          buffers-changed l.version l.counts.events f without_head l.buffers (popped_sound l.version l.counts.events)
+          was.buffers;
       books = books_posted f units (whole rates l s k).counts range cheap refl refl was.books;
       part = tt;
       torn = record {
@@ -130,7 +131,7 @@ sound-whole {life = life} {rates = rates} {l = l} {s = s} range was few unbroken
 
 pub sound-in_part : {life : ℕ} {rates : List Rate} {l : Live} {s : Sending} → Sound life rates l
     → l.counts.events < life → l.broken ≡ false → sending l ≡ Some s → (k : ℕ) → 0 < k
-    → s.out + k < length (frame s.head) → Sound life rates (in_part l s k)
+    → s.out + k < length (frame_of s) → Sound life rates (in_part l s k)
 sound-in_part {l = l} {s = s} was few unbroken is k some fits = record {
   fresh = λ none. absurd (omega (arith, none));
   counts = record {
@@ -143,9 +144,14 @@ sound-in_part {l = l} {s = s} was few unbroken is k some fits = record {
   flows = was.flows;
   queue = queue-later was.queue;
   level = was.level;
-  buffers = buffers-later l.counts.events l.buffers was.buffers;
+  buffers = buffers-later l.version l.counts.events l.buffers was.buffers;
   books = record { known = was.books.known; accounts = omega (arith, was.books.accounts) };
-  part = record { head = s.head; found = sending-head was is; some = omega arith; few = fits };
+  part = record {
+    head = s.head;
+    found = sending-head was is;
+    some = omega arith;
+    few = omega (arith, fits, sending-length was is);
+  };
   torn = record {
     named = was.torn.named;
     unparted = λ broken. absurd (both_ways l.broken unbroken broken);
@@ -163,7 +169,7 @@ sound-written {life = life} {rates = rates} {l = l} {s = s} range was few unbrok
     (in_part l s k, Wrote s.head.flow s.head.seq k false) (λ (d : Live × Turn). Sound life rates d.0)
     (λ _. sound-whole range was few unbroken is k (omega (arith, rest-short was is)))
     (λ part. sound-in_part was few unbroken is k some
-    (not_whole (s.out + k) (length (frame s.head)) part (omega (arith, rest-short was is))))
+    (not_whole (s.out + k) (length (frame_of s)) part (omega (arith, rest-short was is))))
 
 -- Faults
 
@@ -177,7 +183,7 @@ sound-failed {rates = rates} {l = l} {s = s} range was few unbroken is =
     let f = s.head.flow in
     let head : head_of l.buffers f ≡ Some s.head = sending-head was is in
     let units = units_due rates l.books f s.out in
-    let cheap : units ≤ 4026 =
+    let cheap : units ≤ 11842 =
     units_due-few rates l.books f s.out range (omega (arith, sending-few was is, sending-short was is)) in
     record {
       fresh = λ none. absurd (omega (arith, none));
@@ -195,7 +201,7 @@ sound-failed {rates = rates} {l = l} {s = s} range was few unbroken is =
       };
       queue = queue-after_charge f units (head-stands was f head) few cheap was.queue;
       level = level-after_charge l.queue f units (tickets_of_all l.graph) was.level;
-      buffers = buffers-later l.counts.events l.buffers was.buffers;
+      buffers = buffers-later l.version l.counts.events l.buffers was.buffers;
       books = books_posted f units (torn_link rates l s).counts range cheap refl refl was.books;
       part = tt;
       torn = record {

@@ -15,6 +15,7 @@ use Rattle.share_base.specs.Name.{is_name_byte}
 use Rattle.share_base.specs.declared.command.Command.TheVariants.{MakeCurrency, RemoveCurrency, MakeTicket}
 use Rattle.share_base.specs.declared.command.Command.TheVariants.{RemoveTicket, FundCurrency, FundFlow, Unfund}
 use Rattle.share_base.specs.declared.command.Command.TheVariants.{OpenFlow, CloseFlow, Hold, Resume, Amend}
+use Rattle.share_base.specs.declared.version.Version.TheVariants.{One, Two}
 use Rattle.share_model.specs.declared.line.Line.{Line}
 use Rattle.share_model.specs.declared.line.Line.TheVariants.{Change, Send, Turn, Torn, Report, Audit}
 use Rattle.share_model.specs.lists.Each.{Each}
@@ -92,7 +93,8 @@ seen-spelling_of (Send flow body) h =
 seen-spelling_of (Turn most) h = seen-decimal most h
 seen-spelling_of Torn h = refl
 seen-spelling_of Report h = refl
-seen-spelling_of Audit h = refl
+seen-spelling_of (Audit One) h = refl
+seen-spelling_of (Audit Two) h = refl
 
 -- Lines that are written
 

@@ -11,6 +11,7 @@ use Rattle.std.proofs.lemmas.List.Elements.{All-cons}
 use Rattle.share_base.specs.declared.refusal.Refusal.{Refusal}
 use Rattle.share_base.specs.declared.refusal.Refusal.TheVariants.{NoMemory}
 use Rattle.share_base.specs.declared.command.Event.{Event}
+use Rattle.share_base.specs.declared.version.Version.{Version}
 use Rattle.share_base.specs.declared.command.Event.TheVariants.{Commanded, Arrived}
 use Rattle.share_model.specs.declared.line.Line.{Line}
 use Rattle.share_model.specs.declared.line.Line.TheVariants.{Change, Send, Turn, Torn, Report, Audit}
@@ -23,7 +24,8 @@ use Rattle.share_model.specs.lists.Each.{Each}
 use Rattle.share_model.proofs.lemmas.text.FeedLaws.{lines-feed}
 use Rattle.share_model.specs.text.Lines.{reading}
 use Rattle.share_model.specs.text.Report.{report, report_text, totals_text, flow_line, flow_shown}
-use Rattle.share_model.specs.text.Talk.{Progress, refusal_line, is_syntax, finds_none, line_event, read_event}
+use Rattle.share_model.specs.text.Talk.{Progress, Made, makes, says, chooses, refusal_line, is_syntax, finds_none}
+use Rattle.share_model.specs.text.Talk.{line_event, read_event}
 use Rattle.share_model.specs.text.Talk.{progress_and_text}
 use Rattle.share_model.specs.text.Talk.{unless_over, write_event, fault_event, audit_event, is_first, answer}
 use Rattle.share_model.specs.text.Talk.{first_flag, talk, after, is_feed, lines_of, FoundMemory}
@@ -83,9 +85,10 @@ later_found text rest (is_ended bs ended) found =
     (subst FoundMemory (ap (λ t. t ++ rest) ended ∙ append_assoc bs (10 ∷ []) rest) found)
 
 -- the texts without an event are whole lines, and so are the others
-abbrev AreLines : Result Event (List ℕ) → Type 0
-AreLines (Ok e) = Unit {0}
-AreLines (Err text) = IsLines text
+abbrev AreLines : Made → Type 0
+AreLines (makes e) = Unit {0}
+AreLines (says text) = IsLines text
+AreLines (chooses version) = Unit {0}
 
 line_whole : (o : _) → IsLines (line_text o)
 unfolding line_text
@@ -97,12 +100,13 @@ report_whole l =
     let front = totals_text (totals l) ++ flat_map flow_line (map (flow_shown l) l.graph.flows) in
     is_ended (front ++ codes "end") (sym (append_assoc front (codes "end") (10 ∷ [])))
 
-answered_whole : (rates : List Rate) (p : Progress) (r : Result Event (List ℕ)) → AreLines r
+answered_whole : (rates : List Rate) (p : Progress) (r : Made) → AreLines r
     → IsLines (progress_and_text rates p r).1
-answered_whole rates p (Ok e) whole = line_whole _
-answered_whole rates p (Err text) whole = whole
+answered_whole rates p (makes e) whole = line_whole _
+answered_whole rates p (says text) whole = whole
+answered_whole rates p (chooses version) whole = is_nothing refl
 
-either_whole : (t : Bool) (r s : Result Event (List ℕ)) → AreLines r → AreLines s → AreLines (cond t r s)
+either_whole : (t : Bool) (r s : Made) → AreLines r → AreLines s → AreLines (cond t r s)
 either_whole true r s one other = one
 either_whole false r s one other = other
 
@@ -114,12 +118,12 @@ fault_whole : (o : _) → AreLines (fault_event o)
 fault_whole None = line_whole _
 fault_whole (Some x) = tt
 
-audit_whole : (first : Bool) → AreLines (audit_event first)
-audit_whole true = is_nothing refl
-audit_whole false = line_whole _
+audit_whole : (version : Version) (first : Bool) → AreLines (audit_event version first)
+audit_whole version true = tt
+audit_whole version false = line_whole _
 
 module _ (life : ℕ) (rates : List Rate) (p : Progress) where
-  over_whole : (r : Result Event (List ℕ)) → AreLines r → AreLines (unless_over life p.state r)
+  over_whole : (r : Made) → AreLines r → AreLines (unless_over life p.state r)
   over_whole r whole =
       either_whole (life_is_spent life p.state.live) _ _ (line_whole _)
       (either_whole p.state.live.broken _ _ (line_whole _) whole)
@@ -133,7 +137,7 @@ module _ (life : ℕ) (rates : List Rate) (p : Progress) where
   line_event_whole lack (Turn most) = over_whole _ (write_whole most (sending p.state.live))
   line_event_whole lack Torn = over_whole _ (fault_whole (sending p.state.live))
   line_event_whole lack Report = report_whole p.state.live
-  line_event_whole lack Audit = audit_whole (is_first p)
+  line_event_whole lack (Audit version) = audit_whole version (is_first p)
 
   event_whole : (lack : Bool) (r : Result Line Refusal) → AreLines (read_event life rates p lack r)
   event_whole lack (Ok l) = line_event_whole lack l
@@ -144,19 +148,19 @@ module _ (life : ℕ) (rates : List Rate) (p : Progress) where
   -- A flag that matters shows in the answer
 
   -- the same as if memory was found, or the answer that it was not
-  abbrev IsTold : Result Event (List ℕ) → Result Event (List ℕ) → Type 0
+  abbrev IsTold : Made → Made → Type 0
   IsTold lacking found = (lacking ≡ found) ⊎ (lacking ≡ refusal_line NoMemory)
 
   change_told : (over takes none : Bool) (spent : List ℕ) (e : Event)
-      → IsTold (cond over (Err spent) (cond (takes && none) (refusal_line NoMemory) (Ok e)))
-      (cond over (Err spent) (Ok e))
+      → IsTold (cond over (says spent) (cond (takes && none) (refusal_line NoMemory) (makes e)))
+      (cond over (says spent) (makes e))
   change_told true takes none spent e = inl refl
   change_told false false none spent e = inl refl
   change_told false true false spent e = inl refl
   change_told false true true spent e = inr refl
 
   send_told : (over : Bool) (spent : List ℕ) (e : Event)
-      → IsTold (cond over (Err spent) (refusal_line NoMemory)) (cond over (Err spent) (Ok e))
+      → IsTold (cond over (says spent) (refusal_line NoMemory)) (cond over (says spent) (makes e))
   send_told true spent e = inl refl
   send_told false spent e = inr refl
 
@@ -168,14 +172,14 @@ module _ (life : ℕ) (rates : List Rate) (p : Progress) where
   line_told (Turn most) = inl refl
   line_told Torn = inl refl
   line_told Report = inl refl
-  line_told Audit = inl refl
+  line_told (Audit version) = inl refl
 
   event_told : (r : Result Line Refusal) → IsTold (read_event life rates p true r) (read_event life rates p false r)
   event_told (Ok l) = line_told l
   event_told (Err e) = inl refl
 
   -- that answer is a line of the text
-  told_found : (lacking found : Result Event (List ℕ)) (rest : List ℕ) → IsTold lacking found
+  told_found : (lacking found : Made) (rest : List ℕ) → IsTold lacking found
       → FoundMemory ((progress_and_text rates p lacking).1 ++ rest) → lacking ≡ found
   unfolding line_text digits
   told_found lacking found rest (inl same) none = same
@@ -203,9 +207,10 @@ first_found : (life : ℕ) (rates : List Rate) (p : Progress) (lack : Bool) (l r
     → FoundMemory ((answer life rates p lack l).1 ++ rest) → FoundFirst life rates p lack l rest
 unfolding answer
 first_found life rates p lack l rest none = record {
-  same = ap (progress_and_text rates p) (flag_found life rates p lack (reading l) rest none);
+  same = ap (progress_and_text rates p) (flag_found life rates p lack (reading p.state.live.version l) rest none);
   later =
-      later_found _ rest (answered_whole rates p _ (event_whole life rates p lack (reading l))) none;
+      later_found _ rest
+      (answered_whole rates p _ (event_whole life rates p lack (reading p.state.live.version l))) none;
 }
 
 -- the script is answered as one that finds memory for each of its lines, and comes to the same

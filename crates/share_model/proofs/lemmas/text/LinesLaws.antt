@@ -13,6 +13,8 @@ use Rattle.share_base.specs.declared.command.Command.{Command}
 use Rattle.share_base.specs.declared.command.Command.TheVariants.{MakeCurrency, RemoveCurrency, MakeTicket}
 use Rattle.share_base.specs.declared.command.Command.TheVariants.{RemoveTicket, FundCurrency, FundFlow, Unfund}
 use Rattle.share_base.specs.declared.command.Command.TheVariants.{OpenFlow, CloseFlow, Hold, Resume, Amend}
+use Rattle.share_base.specs.declared.version.Version.{Version}
+use Rattle.share_base.specs.declared.version.Version.TheVariants.{One, Two}
 use Rattle.share_model.specs.declared.line.Line.{Line}
 use Rattle.share_model.specs.declared.line.Line.TheVariants.{Change, Send, Turn, Torn, Report, Audit}
 use Rattle.share_model.specs.text.Lines.{hex, words, spelling_of}
@@ -96,7 +98,8 @@ line_of-words (Send flow body) h = send_of-words flow body h.0 h.1 h.2
 line_of-words (Turn most) h = turn_of-words most h
 line_of-words Torn h = refl
 line_of-words Report h = refl
-line_of-words Audit h = refl
+line_of-words (Audit One) h = refl
+line_of-words (Audit Two) h = refl
 
 words_of-spelling_of : (l : Line) → HasFields l → words_of (spelling_of l) ≡ words l
 words_of-spelling_of (Change (MakeCurrency name)) h =
@@ -132,16 +135,19 @@ words_of-spelling_of (Turn most) h = words_of-join _ _ (no_space-name_bytes (cod
     (no_space-decimal _ h, tt)
 words_of-spelling_of Torn h = words_of-join _ _ (no_space-name_bytes (codes "torn") refl) tt
 words_of-spelling_of Report h = words_of-join _ _ (no_space-name_bytes (codes "report") refl) tt
-words_of-spelling_of Audit h =
+words_of-spelling_of (Audit One) h =
     words_of-join _ _ (no_space-name_bytes (codes "audit") refl) (no_space-name_bytes (codes "1") refl, tt)
+words_of-spelling_of (Audit Two) h =
+    words_of-join _ _ (no_space-name_bytes (codes "audit") refl) (no_space-name_bytes (codes "2") refl, tt)
 
 short-test : (n : ℕ) → n ≤ 20480 → nat_lt 20480 n ≡ false
 short-test n h = grind (arith, nat_tests)
 
 -- a line is read from its spelling; the answer is Range if it is out of range
-pub reading-line : (l : Line) → IsLine l → reading (spelling_of l) ≡ line_or_refusal (Some l)
+pub reading-line : (version : Version) (l : Line) → IsLine l
+    → reading version (spelling_of l) ≡ line_or_refusal version (Some l)
 unfolding reading
-reading-line l h = rw (short-test _ h.short, words_of-spelling_of l h.fields, line_of-words l h.fields) refl
+reading-line version l h = rw (short-test _ h.short, words_of-spelling_of l h.fields, line_of-words l h.fields) refl
 
 -- What a reading answers
 
@@ -156,57 +162,70 @@ spelled_of bs l short e =
     let same : spelling_of l ≡ bs = ap (join_with_byte 32) s.0 ∙ join-words_of bs in
     (record { fields = s.1; short = rw same (long-test _ short) }, same)
 
-reading_by : (bs : List ℕ) (l m : Line) → IsLine m → spelling_of m ≡ bs → (b : Bool) → is_in_range m ≡ b
-    → cond b (Ok m) (Err Range) ≡ Ok l → IsReading bs l
-reading_by bs l m line same true r e =
+reading_by : (version : Version) (bs : List ℕ) (l m : Line) → IsLine m → spelling_of m ≡ bs → (b : Bool)
+    → is_in_range version m ≡ b
+    → cond b (Ok m) (Err Range) ≡ Ok l → IsReading version bs l
+reading_by version bs l m line same true r e =
     let q : m ≡ l = cc in
-    let P : Line → Type 0 = λ x. IsReading bs x in
+    let P : Line → Type 0 = λ x. IsReading version bs x in
     subst P q (record { line = line; in_range = r; spells = same })
-reading_by bs l m line same false r e = cc
+reading_by version bs l m line same false r e = cc
 
-spells_by : (bs : List ℕ) (l : Line) (long : Bool) (o : Option Line) → nat_lt 20480 (length bs) ≡ long
-    → line_of (words_of bs) ≡ o → cond long (Err Syntax) (line_or_refusal o) ≡ Ok l → IsReading bs l
-spells_by bs l true o hl ho e = cc
-spells_by bs l false None hl ho e = cc
-spells_by bs l false (Some m) hl ho e = let s = spelled_of bs m hl ho in reading_by bs l m s.0 s.1 _ refl e
+spells_by : (version : Version) (bs : List ℕ) (l : Line) (long : Bool) (o : Option Line)
+    → nat_lt 20480 (length bs) ≡ long
+    → line_of (words_of bs) ≡ o → cond long (Err Syntax) (line_or_refusal version o) ≡ Ok l → IsReading version bs l
+spells_by version bs l true o hl ho e = cc
+spells_by version bs l false None hl ho e = cc
+spells_by version bs l false (Some m) hl ho e =
+    let s = spelled_of bs m hl ho in reading_by version bs l m s.0 s.1 _ refl e
 
 -- a line is read only from its spelling, and only in range
-pub reading-spelling_of : (bs : List ℕ) (l : Line) → reading bs ≡ Ok l → IsReading bs l
+pub reading-spelling_of : (version : Version) (bs : List ℕ) (l : Line) → reading version bs ≡ Ok l
+    → IsReading version bs l
 unfolding reading
-reading-spelling_of bs l e = spells_by bs l _ _ refl refl e
+reading-spelling_of version bs l e = spells_by version bs l _ _ refl refl e
 
 -- Syntax, or Range of a line that is out of range
-data Unread (bs : List ℕ) (e : Refusal) : Type 0 where
-  syntax_fault : e ≡ Syntax → Unread bs e
-  range_fault : e ≡ Range → (l : Line) × IsLine l × (is_in_range l ≡ false) × (spelling_of l ≡ bs) → Unread bs e
+data Unread (version : Version) (bs : List ℕ) (e : Refusal) : Type 0 where
+  syntax_fault : e ≡ Syntax → Unread version bs e
+  range_fault : e ≡ Range → (l : Line) × IsLine l × (is_in_range version l ≡ false) × (spelling_of l ≡ bs)
+      → Unread version bs e
 
-unranged_by : (bs : List ℕ) (m : Line) (r : Refusal) → IsLine m → spelling_of m ≡ bs → (b : Bool) → is_in_range m ≡ b
-    → cond b (Ok m) (Err Range) ≡ Err r → Unread bs r
-unranged_by bs m r line same true q e = cc
-unranged_by bs m r line same false q e = range_fault (cc) (m, line, q, same)
+unranged_by : (version : Version) (bs : List ℕ) (m : Line) (r : Refusal) → IsLine m → spelling_of m ≡ bs
+    → (b : Bool) → is_in_range version m ≡ b
+    → cond b (Ok m) (Err Range) ≡ Err r → Unread version bs r
+unranged_by version bs m r line same true q e = cc
+unranged_by version bs m r line same false q e = range_fault (cc) (m, line, q, same)
 
-unread_by : (bs : List ℕ) (r : Refusal) (long : Bool) (o : Option Line) → nat_lt 20480 (length bs) ≡ long
-    → line_of (words_of bs) ≡ o → cond long (Err Syntax) (line_or_refusal o) ≡ Err r → Unread bs r
-unread_by bs r true o hl ho e = syntax_fault cc
-unread_by bs r false None hl ho e = syntax_fault cc
-unread_by bs r false (Some m) hl ho e = let s = spelled_of bs m hl ho in unranged_by bs m r s.0 s.1 _ refl e
+unread_by : (version : Version) (bs : List ℕ) (r : Refusal) (long : Bool) (o : Option Line)
+    → nat_lt 20480 (length bs) ≡ long
+    → line_of (words_of bs) ≡ o → cond long (Err Syntax) (line_or_refusal version o) ≡ Err r → Unread version bs r
+unread_by version bs r true o hl ho e = syntax_fault cc
+unread_by version bs r false None hl ho e = syntax_fault cc
+unread_by version bs r false (Some m) hl ho e =
+    let s = spelled_of bs m hl ho in unranged_by version bs m r s.0 s.1 _ refl e
 
-unread : (bs : List ℕ) (r : Refusal) → reading bs ≡ Err r → Unread bs r
+unread : (version : Version) (bs : List ℕ) (r : Refusal) → reading version bs ≡ Err r → Unread version bs r
 unfolding reading
-unread bs r e = unread_by bs r _ _ refl refl e
+unread version bs r e = unread_by version bs r _ _ refl refl e
 
-not_syntax : (l : Line) (b : Bool) → is_in_range l ≡ b → cond b (Ok l) (Err Range) ≡ Err Syntax → ⊥
-not_syntax l true r e = cc
-not_syntax l false r e = cc
+not_syntax : (version : Version) (l : Line) (b : Bool) → is_in_range version l ≡ b
+    → cond b (Ok l) (Err Range) ≡ Err Syntax → ⊥
+not_syntax version l true r e = cc
+not_syntax version l false r e = cc
 
-no_line : (bs : List ℕ) → reading bs ≡ Err Syntax → (l : Line) → IsLine l → spelling_of l ≢ bs
-no_line bs e l line same =
-    let given : line_or_refusal (Some l) ≡ Err Syntax = sym (reading-line l line) ∙ ap reading same ∙ e in
-    not_syntax l _ refl given
+no_line : (version : Version) (bs : List ℕ) → reading version bs ≡ Err Syntax → (l : Line) → IsLine l
+    → spelling_of l ≢ bs
+no_line version bs e l line same =
+    let given : line_or_refusal version (Some l) ≡ Err Syntax =
+    sym (reading-line version l line) ∙ ap (reading version) same ∙ e in
+    not_syntax version l _ refl given
 
 -- Syntax if and only if no line is spelled by these bytes, Range if a line out of range is
-pub reading-refused : (bs : List ℕ) (r : Refusal) → reading bs ≡ Err r → IsUnread bs r
-reading-refused bs r e = elim (unread bs r e) [
-  | syntax_fault q ↦ let P : Refusal → Type 0 = λ x. IsUnread bs x in subst P (sym q) (no_line bs (e ∙ ap Err q))
-  | range_fault q found ↦ let P : Refusal → Type 0 = λ x. IsUnread bs x in subst P (sym q) found
+pub reading-refused : (version : Version) (bs : List ℕ) (r : Refusal) → reading version bs ≡ Err r
+    → IsUnread version bs r
+reading-refused version bs r e = elim (unread version bs r e) [
+  | syntax_fault q ↦
+      let P : Refusal → Type 0 = λ x. IsUnread version bs x in subst P (sym q) (no_line version bs (e ∙ ap Err q))
+  | range_fault q found ↦ let P : Refusal → Type 0 = λ x. IsUnread version bs x in subst P (sym q) found
 ]

@@ -11,9 +11,8 @@ use Rattle.share_base.specs.declared.command.Event.TheVariants.{Written}
 use Rattle.share_model.specs.declared.rates.Rate.{Rate}
 use Rattle.share_model.specs.declared.writer.Answer.{Answer}
 use Rattle.share_model.specs.declared.writer.Answer.TheVariants.{Accepted, Interrupted, Failed}
-use Rattle.share_model.specs.link.Frame.{frame}
 use Rattle.share_model.specs.link.Live.{Live}
-use Rattle.share_model.specs.link.Turns.{Sending, sending, rest_of, is_whole, whole, in_part, write_step}
+use Rattle.share_model.specs.link.Turns.{Sending, frame_of, sending, rest_of, is_whole, whole, in_part, write_step}
 use Rattle.share_model.specs.link.View.{LinkView}
 use Rattle.share_model.specs.link.Calls.{is_spent, step_by_answer, OffersSome, TurnCall}
 use Rattle.share_model.proofs.lemmas.run.Laws.{turn_events, turn_outcomes}
@@ -54,7 +53,7 @@ pub rest-some : {life : ℕ} {rates : List Rate} {l : Live} (x : Sending)
     → Sound life rates l → sending l ≡ Some x → 0 < length (rest_of x)
 rest-some x sound is =
     let few = sending-few sound is in
-    omega (arith, length-drop x.out (frame x.head), few)
+    omega (arith, length-drop x.out (frame_of x), few)
 
 not_zero : (k : ℕ) → 0 < k → (k == 0) ≡ false
 not_zero k h = grind (arith, nat_tests)

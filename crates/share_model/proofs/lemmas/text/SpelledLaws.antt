@@ -7,13 +7,15 @@ use Rattle.share_base.specs.declared.command.Command.{Command}
 use Rattle.share_base.specs.declared.command.Command.TheVariants.{MakeCurrency, RemoveCurrency}
 use Rattle.share_base.specs.declared.command.Command.TheVariants.{RemoveTicket, Unfund}
 use Rattle.share_base.specs.declared.command.Command.TheVariants.{CloseFlow, Hold, Resume}
+use Rattle.share_base.specs.declared.version.Version.{Version}
+use Rattle.share_base.specs.declared.version.Version.TheVariants.{One, Two}
 use Rattle.share_model.specs.declared.line.HolderKind.{HolderKind}
 use Rattle.share_model.specs.declared.line.HolderKind.TheVariants.{Currency as CurrencyKind, Flow as FlowKind}
 use Rattle.share_model.specs.declared.line.Line.{Line}
-use Rattle.share_model.specs.declared.line.Line.TheVariants.{Change, Audit}
+use Rattle.share_model.specs.declared.line.Line.TheVariants.{Change}
 use Rattle.share_model.specs.text.Lines.{hex, words, IsName, IsNumber, IsPayload, HasFields, HasCommandFields}
 use Rattle.share_model.specs.text.Lines.{name_of, number_of, payload_of, field, with_rest, ◌>>=◌}
-use Rattle.share_model.specs.text.Lines.{kind_of, funding_of, line_at_end}
+use Rattle.share_model.specs.text.Lines.{kind_of, version_word, version_of, funding_of, line_at_end}
 use Rattle.share_model.specs.text.Lines.{named_of, numbered_of, mktkt_of, amend_of, fund_of, open_of}
 use Rattle.share_model.specs.text.Lines.{send_of, turn_of, torn_of, report_of, audit_of, line_by, line_of}
 use Rattle.share_model.proofs.lemmas.text.WordLaws.{name_of-only, number_of-only, payload_of-only}
@@ -59,17 +61,21 @@ abbrev kind_word : HolderKind → List ℕ
 kind_word CurrencyKind = codes "cur"
 kind_word FlowKind = codes "flow"
 
-kind_by : (w : List ℕ) (kind : HolderKind) (cur flow : Bool) → bytes_eq w (codes "cur") ≡ cur
-    → bytes_eq w (codes "flow") ≡ flow
-    → cond cur (Some CurrencyKind) (cond flow (Some FlowKind) None) ≡ Some kind → w ≡ kind_word kind
-kind_by w CurrencyKind true flow is_cur is_flow e = (bytes_eq-Decides w (codes "cur")).0 is_cur
-kind_by w FlowKind true flow is_cur is_flow e = cc
-kind_by w FlowKind false true is_cur is_flow e = (bytes_eq-Decides w (codes "flow")).0 is_flow
-kind_by w CurrencyKind false true is_cur is_flow e = cc
-kind_by w kind false false is_cur is_flow e = cc
+-- a word that is read as one of two values by their words
+one_of_two : {A : Type 0} (word : A → List ℕ) (x y value : A) (w : List ℕ) (is_x is_y : Bool)
+    → bytes_eq w (word x) ≡ is_x → bytes_eq w (word y) ≡ is_y
+    → cond is_x (Some x) (cond is_y (Some y) None) ≡ Some value → w ≡ word value
+one_of_two word x y value w true is_y first second e =
+    let same : x ≡ value = cc in (bytes_eq-Decides w (word x)).0 first ∙ ap word same
+one_of_two word x y value w false true first second e =
+    let same : y ≡ value = cc in (bytes_eq-Decides w (word y)).0 second ∙ ap word same
+one_of_two word x y value w false false first second e = cc
 
 kind_of-only : (w : List ℕ) (kind : HolderKind) → kind_of w ≡ Some kind → w ≡ kind_word kind
-kind_of-only w kind e = kind_by w kind _ _ refl refl e
+kind_of-only w kind e = one_of_two kind_word CurrencyKind FlowKind kind w _ _ refl refl e
+
+version_of-only : (w : List ℕ) (version : Version) → version_of w ≡ Some version → w ≡ version_word version
+version_of-only w version e = one_of_two version_word One Two version w _ _ refl refl e
 
 took_name : (ws : List (List ℕ)) (p : List ℕ × List (List ℕ)) → field name_of ws ≡ Some p
     → IsName p.0 × (ws ≡ p.0 ∷ p.1)
@@ -96,6 +102,11 @@ took_kind : (ws : List (List ℕ)) (p : HolderKind × List (List ℕ)) → field
     → ws ≡ kind_word p.0 ∷ p.1
 took_kind ws p e =
     let t = took kind_of ws p e in t.begins ∙ ap (λ (w : List ℕ). w ∷ p.1) (kind_of-only _ _ t.reads)
+
+took_version : (ws : List (List ℕ)) (p : Version × List (List ℕ)) → field version_of ws ≡ Some p
+    → ws ≡ version_word p.0 ∷ p.1
+took_version ws p e =
+    let t = took version_of ws p e in t.begins ∙ ap (λ (w : List ℕ). w ∷ p.1) (version_of-only _ _ t.reads)
 
 -- words before words
 before : (w : List ℕ) (ws vs xs : List (List ℕ)) → ws ≡ w ∷ vs → vs ≡ xs → ws ≡ w ∷ xs
@@ -204,17 +215,11 @@ torn_of-only ws l e = let z = line_at_end-only _ _ _ e in are_words _ ws _ l _ r
 report_of-only : (ws : List (List ℕ)) (l : Line) → report_of ws ≡ Some l → AreWords (codes "report" ∷ ws) l
 report_of-only ws l e = let z = line_at_end-only _ _ _ e in are_words _ ws _ l _ refl tt z.0 z.1
 
-audit_by : (w : List ℕ) (ws : List (List ℕ)) (l : Line) (b : Bool) → bytes_eq w (codes "1") ≡ b
-    → cond b (line_at_end ws Audit) None ≡ Some l → AreWords (codes "audit" ∷ w ∷ ws) l
-audit_by w ws l true one e =
-    let z = line_at_end-only _ _ _ e in
-    let is : w ≡ codes "1" = (bytes_eq-Decides w (codes "1")).0 one in
-    are_words _ (w ∷ ws) _ l _ refl tt (before _ _ _ _ (ap (λ v. v ∷ ws) is) z.0) z.1
-audit_by w ws l false one e = cc
-
 audit_of-only : (ws : List (List ℕ)) (l : Line) → audit_of ws ≡ Some l → AreWords (codes "audit" ∷ ws) l
-audit_of-only [] l e = cc
-audit_of-only (w ∷ ws) l e = audit_by w ws l _ refl e
+audit_of-only ws l e =
+    let n = bound _ _ _ e in
+    let z = line_at_end-only _ _ _ n.then in
+    are_words _ ws _ l _ refl tt (before _ _ _ _ (took_version ws n.value n.first) z.0) z.1
 
 -- a word that is this keyword, before words that its reader takes; or another word
 by_keyword : (w k : List ℕ) (ws : List (List ℕ)) (x y : Option Line) (l : Line) → (x ≡ Some l → AreWords (k ∷ ws) l)

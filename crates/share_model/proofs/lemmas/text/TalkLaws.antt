@@ -1,6 +1,6 @@
 -- Where a link holds the state that a script left, and its writer that state's bytes, each line goes on with both.
-use Rattle.std.specs.Prelude.{◌≡◌, ◌+◌, ℕ, Bool, true, false, List, [], ◌∷◌, ◌++◌, Option, Some}
-use Rattle.std.specs.Prelude.{IfSome, Result, Ok, Err, MatchBool, if◌then◌else◌, refl}
+use Rattle.std.specs.Prelude.{◌≡◌, ◌+◌, ℕ, Bool, true, false, List, [], ◌∷◌, ◌++◌, Option, None, Some}
+use Rattle.std.specs.Prelude.{◌==◌, IfSome, Result, Ok, Err, MatchBool, if◌then◌else◌, refl}
 use Rattle.std.proofs.Common.{ap, sym, ◌∙◌, subst, arith, inl, inr, cond}
 use Rattle.share_base.specs.Body.{BodyView, IsUnstamped}
 use Rattle.share_base.specs.declared.refusal.Refusal.{Refusal}
@@ -12,6 +12,8 @@ use Rattle.share_base.specs.declared.command.Outcome.{Outcome}
 use Rattle.share_base.specs.declared.command.Outcome.TheVariants.{Replied}
 use Rattle.share_base.specs.declared.command.Event.{Event}
 use Rattle.share_base.specs.declared.command.Event.TheVariants.{Commanded, Arrived}
+use Rattle.share_base.specs.declared.version.Version.{Version}
+use Rattle.share_base.specs.declared.version.Version.TheVariants.{One}
 use Rattle.share_model.specs.declared.line.Line.{Line}
 use Rattle.share_model.specs.declared.line.Line.TheVariants.{Change, Send, Report, Audit}
 use Rattle.share_model.specs.declared.rates.Rate.{Rate}
@@ -31,13 +33,14 @@ use Rattle.share_model.proofs.lemmas.run.Laws.{Ran, AskedOutcome, asked_spent, a
 use Rattle.share_model.proofs.lemmas.run.Laws.{command-asked, arrive-asked}
 use Rattle.share_model.specs.run.Sound.{Sound}
 use Rattle.share_model.specs.run.Events.{writes_in}
-use Rattle.share_model.proofs.lemmas.text.EventsLaws.{progress_and_text-writes}
+use Rattle.share_model.proofs.lemmas.text.EventsLaws.{progress_and_text-writes, later_line}
 use Rattle.share_model.specs.text.Lines.{reading}
 use Rattle.share_model.specs.text.Report.{report}
 use Rattle.share_model.specs.text.Answering.{Holds, IsAnswerBy, AnswersLine, AnswersBytes}
-use Rattle.share_model.specs.text.Talk.{Progress, refusal_line, is_syntax, change_event, send_event, report_event}
+use Rattle.share_model.specs.text.Talk.{Progress, Made, makes, says, refusal_line, is_syntax, change_event}
+use Rattle.share_model.specs.text.Talk.{send_event, report_event}
 use Rattle.share_model.specs.text.Talk.{audit_event, is_first, read_event, progress_and_text, answer, start_of_script}
-use Rattle.share_model.specs.text.Talk.{onward}
+use Rattle.share_model.specs.text.Talk.{onward, with_version}
 use Rattle.share_model.specs.text.Texts.{line_text}
 
 -- Outcomes
@@ -61,6 +64,10 @@ no_step old new next reply more living same false e did =
     let y : new.live.counts.events ≡ old.live.counts.events = ap (λ n. n.live.counts.events) same in
     absurd (omega arith)
 
+-- behind a line no line is the first
+not_first : {P : Type 0} (n : ℕ) → (n + 1 == 0) ≡ true → P
+not_first n first = let q : false ≡ true = sym (later_line n) ∙ first in cc
+
 module _ {W : Type 0} (told : W → Option Told) where
   pub sound_of : (link : LinkView W) (p : Progress) → Holds told link p → Sound link.life link.rates link.live
   sound_of link p h = subst (λ (l : Live). Sound link.life link.rates l) h.ends.live h.ends.sound.live
@@ -68,44 +75,49 @@ module _ {W : Type 0} (told : W → Option Told) where
   -- The two ways on
 
   held_on : (old : LinkView W) (p : Progress) → Holds told old p → Holds told old (onward p)
-  held_on old p h = record { ends = h.ends; tells = h.tells; range = h.range }
+  held_on old p h =
+      record { fresh = λ first. not_first p.lines first; ends = h.ends; tells = h.tells; range = h.range }
 
   -- the line was answered without an event
-  pub stayed : (event : Bool → Result Event (List ℕ)) (old new : LinkView W) (p : Progress) (text : List ℕ)
+  pub stayed : (event : Bool → Made) (old new : LinkView W) (p : Progress) (text : List ℕ)
       (lack : Bool)
-      → Holds told old p → new ≡ old → event lack ≡ Err text
+      → Holds told old p → new ≡ old → event lack ≡ says text
       → IsAnswerBy told (λ lack. progress_and_text old.rates p (event lack)) old text new
   stayed event old new p text lack h same e = record {
     lack = lack;
     text_is = ap (λ r. (progress_and_text old.rates p r).1) (sym e);
     holds =
         let P : LinkView W → Type 0 = λ n. Holds told n (progress_and_text old.rates p (event lack)).0 in
-        let Q : Result Event (List ℕ) → Type 0 = λ r. Holds told old (progress_and_text old.rates p r).0 in
+        let Q : Made → Type 0 = λ r. Holds told old (progress_and_text old.rates p r).0 in
         subst P (sym same) (subst Q (sym e) (held_on old p h));
     life = ap (λ (n : LinkView W). n.life) same;
     rates = ap (λ (n : LinkView W). n.rates) same;
   }
 
   -- the line made an event
-  pub went_on : (event : Bool → Result Event (List ℕ)) (old new : LinkView W) (p : Progress) (e : Event) (o : Outcome)
+  pub went_on : (event : Bool → Made) (old new : LinkView W) (p : Progress) (e : Event) (o : Outcome)
       (lack : Bool)
-      → Holds told old p → Ran told old (e ∷ []) (o ∷ []) new → event lack ≡ Ok e
+      → Holds told old p → Ran told old (e ∷ []) (o ∷ []) new → event lack ≡ makes e
       → IsAnswerBy told (λ lack. progress_and_text old.rates p (event lack)) old (line_text o) new
   went_on event old new p e o lack h ran is =
       let next : State = (progress_and_text old.rates p (event lack)).0.state in
-      let counts = sym (progress_and_text-writes old.rates p (Ok e))
+      let counts = sym (progress_and_text-writes old.rates p (makes e))
       ∙ ap (λ r. (progress_and_text old.rates p r).0.writes) (sym is) in
       let state = state_after-one old.rates p.state e ∙ ap (λ r. (progress_and_text old.rates p r).0.state) (sym is) in
       let P : State → Type 0 = λ t. IsEndOf old.life old.rates t new.live in
       let Q : State → Type 0 = λ t. IfSome (told new.writer) (TellsRun t (p.writes ++ writes_in (e ∷ []))) in
       let R : List ℕ → Type 0 = λ ks. IfSome (told new.writer) (TellsRun next ks) in
       let E : ℕ → Type 0 = λ n. IsEndOf n old.rates next new.live in
-      let F : List Rate → Type 0 = λ r. IsEndOf new.life r next new.live in record {
+      let F : List Rate → Type 0 = λ r. IsEndOf new.life r next new.live in
+      let next_of : Made → Progress = λ r. (progress_and_text old.rates p r).0 in
+      let G : Made → Type 0 = λ r. is_first (next_of r) ≡ true → next_of r ≡ start_of_script
+      in record {
         lack = lack;
         text_is =
             ap line_text (one_outcome old.rates p.state e o (ran.outcomes_are p.state h.ends))
             ∙ ap (λ r. (progress_and_text old.rates p r).1) (sym is);
         holds = record {
+          fresh = subst G (sym is) (λ first. not_first p.lines first);
           ends = subst F (sym ran.rates) (subst E (sym ran.life) (subst P state (ran.ends p.state h.ends)));
           tells = subst R counts (subst Q state (ran.tells p.state p.writes h.ends h.tells));
           range = subst AreInRange (sym ran.rates) h.range;
@@ -166,7 +178,7 @@ module _ {W : Type 0} (told : W → Option Told) where
       false h ran (rw over refl)
 
   pub send-says : (old new : LinkView W) (first : Bool) (flow : List ℕ) (body : BodyView) (reply : Reply)
-      → IsName flow × IsBody body.payload × IsUnstamped body
+      → IsName flow × IsBody old.live.version body.payload × IsUnstamped body
       → Steps (λ rates l. arrive_step l flow body.payload) old reply new
       → AnswersLine told old first (Send flow body) (line_text (Replied reply)) new
   send-says old new first flow body reply fields did p h place =
@@ -178,37 +190,77 @@ module _ {W : Type 0} (told : W → Option Told) where
   pub report-says : (old : LinkView W) (first : Bool) → AnswersLine told old first Report (report old.live) old
   report-says old first p h place =
       stayed (λ lack. report_event p.state) old old p (report old.live) false h refl
-      (ap (λ (l : Live). Err (report l)) h.ends.live)
+      (ap (λ (l : Live). says (report l)) h.ends.live)
 
-  -- the line `audit 1` has no answer if it is the first, and is Syntax anywhere else
-  pub audit-says : (old : LinkView W) (first : Bool) (text : List ℕ) → audit_event first ≡ Err text
-      → AnswersLine told old first Audit text old
-  audit-says old first text given p h place =
-      stayed (λ lack. audit_event (is_first p)) old old p text false h refl (ap audit_event place ∙ given)
+  -- the line of an audit is Syntax behind the first
+  pub audit-refused : (old : LinkView W) (version : Version)
+      → AnswersLine told old false (Audit version) (line_text (Replied (Refused Syntax))) old
+  audit-refused old version p h place =
+      stayed (λ lack. audit_event version (is_first p)) old old p (line_text (Replied (Refused Syntax))) false h refl
+      (ap (audit_event version) place)
+
+  chosen_tells : (old : LinkView W) (p : Progress) (version : Version) → Holds told old p → is_first p ≡ true
+      → (t : Option Told) → t ≡ told old.writer → IfSome t (TellsRun (empty_state version) p.writes)
+  unfolding out sending
+  chosen_tells old p version h first None is = tt
+  chosen_tells old p version h first (Some t) is =
+      let P : Progress → Type 0 = λ q. TellsRun q.state p.writes t in
+      let Q : Option Told → Type 0 = λ o. IfSome o (TellsRun p.state p.writes) in
+      let was = subst P (h.fresh first) (subst Q (sym is) h.tells) in
+      record { bytes = was.bytes; counts = was.counts }
+
+  -- as the first it makes the link a new one of its version, and has no answer
+  pub audit-says : (old new : LinkView W) (version : Version)
+      → new ≡ record old { live = empty_link version } → AnswersLine told old true (Audit version) [] new
+  audit-says old new version is p h first =
+      let made = λ (b : Bool). progress_and_text old.rates p (audit_event version b) in
+      let P : LinkView W → Type 0 = λ n. Holds told n (with_version p version) in
+      let Q : Bool → Type 0 = λ b. Holds told new (made b).0 in
+      record {
+        lack = false;
+        text_is = ap (λ b. (made b).1) (sym first);
+        holds =
+            subst Q (sym first)
+            (subst P (sym is)
+            (record {
+              fresh = λ again. not_first p.lines again;
+              ends = record { live = refl; sound = state-empty version old.life old.rates };
+              tells = chosen_tells old p version h first (told old.writer) refl;
+              range = h.range;
+            }));
+        life = ap (λ (n : LinkView W). n.life) is;
+        rates = ap (λ (n : LinkView W). n.rates) is;
+      }
 
   -- Whole lines
 
+  read_as : (old : LinkView W) (p : Progress) (bytes : List ℕ) → Holds told old p
+      → reading p.state.live.version bytes ≡ reading old.live.version bytes
+  read_as old p bytes h = ap (λ (l : Live). reading l.version bytes) h.ends.live
+
   -- a line that was read is answered as that line
   pub line-says : (old new : LinkView W) (first : Bool) (bytes : List ℕ) (l : Line) (text : List ℕ)
-      → reading bytes ≡ Ok l → AnswersLine told old first l text new → AnswersBytes told old first bytes text new
+      → reading old.live.version bytes ≡ Ok l → AnswersLine told old first l text new
+      → AnswersBytes told old first bytes text new
   unfolding answer
-  line-says old new first bytes l text is says p h place =
+  line-says old new first bytes l text is said p h place =
       let event = λ (r : Result Line Refusal) (lack : Bool). read_event old.life old.rates p lack r in
       let P = λ (r : Result Line Refusal). IsAnswerBy told (λ b. progress_and_text old.rates p (event r b)) old text new
       in
-      subst P (sym is) (says p h place)
+      subst P (sym (read_as old p bytes h ∙ is)) (said p h place)
 
   -- a line that is answered before the link is asked changes nothing
   unasked_says : (old : LinkView W) (bytes : List ℕ) (p : Progress) (text : List ℕ) (lack : Bool)
-      → Holds told old p → read_event old.life old.rates p lack (reading bytes) ≡ Err text
+      → Holds told old p → read_event old.life old.rates p lack (reading old.live.version bytes) ≡ says text
       → IsAnswerBy told (λ lack. answer old.life old.rates p lack bytes) old text old
   unfolding answer
   unasked_says old bytes p text lack h is =
-      stayed (λ lack. read_event old.life old.rates p lack (reading bytes)) old old p text lack h refl is
+      stayed (λ lack. read_event old.life old.rates p lack (reading p.state.live.version bytes)) old old p text lack h
+      refl (ap (read_event old.life old.rates p lack) (read_as old p bytes h) ∙ is)
 
   -- a line that was not read changes nothing
-  pub unread-says : (old : LinkView W) (first : Bool) (bytes : List ℕ) (e : Refusal) (r : Refusal) → reading bytes
-      ≡ Err e
+  pub unread-says : (old : LinkView W) (first : Bool) (bytes : List ℕ) (e : Refusal) (r : Refusal)
+      → reading old.live.version bytes ≡ Err e
       → r ≡ (if is_syntax e then Syntax else if is_spent old then SpentRefusal else e)
       → AnswersBytes told old first bytes (line_text (Replied (Refused r))) old
   unread-says old first bytes e r is given p h place =
@@ -226,7 +278,8 @@ module _ {W : Type 0} (told : W → Option Told) where
 
   -- a packet that found no memory changes nothing
   pub no_memory-says : (old : LinkView W) (first : Bool) (bytes flow : List ℕ) (body : BodyView) (r : Refusal)
-      → reading bytes ≡ Ok (Send flow body) → r ≡ (if is_spent old then SpentRefusal else NoMemory)
+      → reading old.live.version bytes ≡ Ok (Send flow body)
+      → r ≡ (if is_spent old then SpentRefusal else NoMemory)
       → AnswersBytes told old first bytes (line_text (Replied (Refused r))) old
   no_memory-says old first bytes flow body r is given p h place =
       unasked_says old bytes p (line_text (Replied (Refused r))) true h
@@ -240,13 +293,14 @@ module _ {W : Type 0} (told : W → Option Told) where
 
 -- The first state
 
-pub holds-empty : (link : LinkView Told) → AreInRange link.rates → link.live ≡ empty_link
+pub holds-empty : (link : LinkView Told) → AreInRange link.rates → link.live ≡ empty_link One
     → link.writer ≡ record { bytes = []; counts = [] } → Holds Some link start_of_script
 unfolding out sending
 holds-empty link range new empty = record {
-  ends = record { live = sym new; sound = state-empty link.life link.rates };
+  fresh = λ first. refl;
+  ends = record { live = sym new; sound = state-empty One link.life link.rates };
   tells =
-      let P : Told → Type 0 = λ t. TellsRun empty_state [] t in
+      let P : Told → Type 0 = λ t. TellsRun (empty_state One) [] t in
       subst P (sym empty) (record { bytes = refl; counts = refl });
   range = range;
 }

@@ -1,7 +1,7 @@
 -- Turns and declared faults of a script: where a link holds the state that a script left, and its writer that state's
 -- bytes, each goes on with both.
 use Rattle.std.specs.Prelude.{◌≡◌, ◌≢◌, ◌≤◌, ℕ, Bool, true, false, List, [], ◌∷◌, length, min, Option}
-use Rattle.std.specs.Prelude.{None, Some, Result, Ok, MatchBool, refl}
+use Rattle.std.specs.Prelude.{None, Some, MatchBool, refl}
 use Rattle.std.proofs.Common.{ap, sym, ◌∙◌, subst, cond}
 use Rattle.share_base.specs.declared.command.Turn.{Turn}
 use Rattle.share_base.specs.declared.command.Turn.TheVariants.{Torn, Idle, Broken, Spent}
@@ -23,7 +23,8 @@ use Rattle.share_model.specs.run.Sound.{Sound}
 use Rattle.share_model.proofs.lemmas.text.OfferLaws.{TurnTook, was_spent, was_broken, was_idle, wrote_all, was_torn}
 use Rattle.share_model.proofs.lemmas.text.OfferLaws.{turn-took}
 use Rattle.share_model.specs.text.Answering.{Holds, IsAnswerBy, AnswersLine, TakesAll}
-use Rattle.share_model.specs.text.Talk.{Progress, no_event, write_event, fault_event, unless_over, progress_and_text}
+use Rattle.share_model.specs.text.Talk.{Progress, Made, makes, no_event, write_event, fault_event, unless_over}
+use Rattle.share_model.specs.text.Talk.{progress_and_text}
 use Rattle.share_model.proofs.lemmas.text.TalkLaws.{sound_of, stayed, went_on, spent_is}
 use Rattle.share_model.specs.text.Texts.{line_text}
 
@@ -51,12 +52,12 @@ module _ {W : Type 0} (told : W → Option Told) where
   broken_is old p b h e = ap (λ (l : Live). l.broken) h.ends.live ∙ e
 
   -- the turn made this event, or was answered so without one, unless the life was over or the link broken
-  abbrev SaidTurn : LinkView W → Progress → Result Event (List ℕ) → Turn → LinkView W → Type 0
+  abbrev SaidTurn : LinkView W → Progress → Made → Turn → LinkView W → Type 0
   SaidTurn old p event turn new =
       IsAnswerBy told (λ lack. progress_and_text old.rates p (unless_over old.life p.state event)) old
       (line_text (Turned turn)) new
 
-  turn_over : (old new : LinkView W) (p : Progress) (event : Result Event (List ℕ)) (turn : Turn) → Holds told old p
+  turn_over : (old new : LinkView W) (p : Progress) (event : Made) (turn : Turn) → Holds told old p
       → is_spent old ≡ true → turn ≡ Spent → new ≡ old → SaidTurn old p event turn new
   turn_over old new p event turn h spent is same =
       stayed told (λ lack. unless_over old.life p.state event) old new p (line_text (Turned turn)) false h same
@@ -64,7 +65,7 @@ module _ {W : Type 0} (told : W → Option Told) where
       (spent_is told old p true h spent)
       ∙ ap no_event (sym is))
 
-  turn_broken : (old new : LinkView W) (p : Progress) (event : Result Event (List ℕ)) (turn : Turn) → Holds told old p
+  turn_broken : (old new : LinkView W) (p : Progress) (event : Made) (turn : Turn) → Holds told old p
       → is_spent old ≡ false → old.live.broken ≡ true → turn ≡ Broken → new ≡ old → SaidTurn old p event turn new
   turn_broken old new p event turn h living broken is same =
       stayed told (λ lack. unless_over old.life p.state event) old new p (line_text (Turned turn)) false h same
@@ -72,30 +73,30 @@ module _ {W : Type 0} (told : W → Option Told) where
       event (spent_is told old p false h living) (broken_is old p true h broken)
       ∙ ap no_event (sym is))
 
-  event_is : (old : LinkView W) (p : Progress) (event is : Result Event (List ℕ)) → Holds told old p
+  event_is : (old : LinkView W) (p : Progress) (event is : Made) → Holds told old p
       → is_spent old ≡ false → old.live.broken ≡ false → event ≡ is → unless_over old.life p.state event ≡ is
   event_is old p event is h living unbroken e =
       third_of_three (life_is_spent old.life p.state.live) p.state.live.broken (no_event Spent) (no_event Broken) event
       (spent_is told old p false h living) (broken_is old p false h unbroken)
       ∙ e
 
-  turn_idle : (old new : LinkView W) (p : Progress) (event : Result Event (List ℕ)) (turn : Turn) → Holds told old p
+  turn_idle : (old new : LinkView W) (p : Progress) (event : Made) (turn : Turn) → Holds told old p
       → is_spent old ≡ false → old.live.broken ≡ false → event ≡ no_event Idle → turn ≡ Idle → new ≡ old
       → SaidTurn old p event turn new
   turn_idle old new p event turn h living unbroken none is same =
       stayed told (λ lack. unless_over old.life p.state event) old new p (line_text (Turned turn)) false h same
       (event_is old p event _ h living unbroken (none ∙ ap no_event (sym is)))
 
-  turn_made : (old new : LinkView W) (p : Progress) (event : Result Event (List ℕ)) (turn : Turn) (e : Event)
+  turn_made : (old new : LinkView W) (p : Progress) (event : Made) (turn : Turn) (e : Event)
       → Holds told old p
-      → is_spent old ≡ false → old.live.broken ≡ false → event ≡ Ok e
+      → is_spent old ≡ false → old.live.broken ≡ false → event ≡ makes e
       → turn_events turn ≡ e ∷ [] → turn_outcomes turn ≡ Turned turn ∷ []
       → Ran told old (turn_events turn) (turn_outcomes turn) new → SaidTurn old p event turn new
   turn_made old new p event turn e h living unbroken made events outcomes ran =
       let P : List Event → Type 0 = λ es. Ran told old es (turn_outcomes turn) new in
       let Q : List Outcome → Type 0 = λ os. Ran told old (e ∷ []) os new in
       went_on told (λ lack. unless_over old.life p.state event) old new p e (Turned turn) false h
-      (subst Q outcomes (subst P events ran)) (event_is old p event (Ok e) h living unbroken made)
+      (subst Q outcomes (subst P events ran)) (event_is old p event (makes e) h living unbroken made)
 
   torn_sending : (old new : LinkView W) (turn : Turn) (p : Progress) → Holds told old p
       → Ran told old (turn_events turn) (turn_outcomes turn) new

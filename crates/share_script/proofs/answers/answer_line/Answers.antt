@@ -1,9 +1,9 @@
 use Rattle.std.proofs.Common.{subst}
 use Rattle.share_model.specs.io.Calls.{no_call}
 use Rattle.share_model.specs.text.Lines.{HasFields}
-use Rattle.share_model.proofs.lemmas.text.TalkLaws.{send-says, report-says, audit-says}
+use Rattle.share_model.proofs.lemmas.text.TalkLaws.{send-says, report-says}
 use Rattle.share_model.proofs.lemmas.text.TurnTalkLaws.{torn-says}
-use Rattle.share_script.proofs.AnswerLemmas.{as_said, audit_answer}
+use Rattle.share_script.proofs.AnswerLemmas.{as_said}
 use Rattle.share_script.proofs.CallLemmas.{arrive-called, tear-called}
 use Rattle.share_script.proofs.answers.answer_line.Goals as goal
 
@@ -34,12 +34,10 @@ returns-in-Report-clause-says g c =
 
 pub returns-in-Audit-clause-says : goal.returns-in-Audit-clause-says
 returns-in-Audit-clause-says g c =
-    as_said _ c.args.engine.now c.args.engine.now c.args.first c.args.line _ _ c.in-Audit.is
-    (audit-says _ c.args.engine.now c.args.first _
-    (audit_answer c.args.engine.now.live c.args.first c.audit.result c.audit.ensures))
+    as_said _ c.args.engine.now c.audit.new.engine c.args.first c.args.line _ _ c.in-Audit.is c.audit.ensures.says
 
 pub returns-in-Report-clause-called : goal.returns-in-Report-clause-called
 returns-in-Report-clause-called g c = no_call
 
 pub returns-in-Audit-clause-called : goal.returns-in-Audit-clause-called
-returns-in-Audit-clause-called g c = no_call
+returns-in-Audit-clause-called g c = c.audit.ensures.called

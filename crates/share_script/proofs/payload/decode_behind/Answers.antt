@@ -6,13 +6,13 @@ use Rattle.share_model.specs.text.Lines.{payload_of}
 use Rattle.share_script.proofs.payload.decode_behind.Goals as goal
 
 -- what is written behind the first bytes, up to the end, is what is behind them
-behind : (bytes written : List ℕ) → 12 ≤ length bytes
-    → drop 12 (take 12 bytes ++ (written ++ drop (length bytes - 12) (drop 12 bytes))) ≡ written
+behind : (bytes written : List ℕ) → 17 ≤ length bytes
+    → drop 17 (take 17 bytes ++ (written ++ drop (length bytes - 17) (drop 17 bytes))) ≡ written
 behind bytes written room =
-    let rest = drop (length bytes - 12) (drop 12 bytes) in
-    let none : rest ≡ [] = drop_all (length bytes - 12) (drop 12 bytes) (rw (length-drop 12 bytes) (omega arith)) in
-    ap (λ n. drop n (take 12 bytes ++ (written ++ rest))) (sym (length-take-le 12 bytes room))
-    ∙ drop-append_seam (take 12 bytes) (written ++ rest)
+    let rest = drop (length bytes - 17) (drop 17 bytes) in
+    let none : rest ≡ [] = drop_all (length bytes - 17) (drop 17 bytes) (rw (length-drop 17 bytes) (omega arith)) in
+    ap (λ n. drop n (take 17 bytes ++ (written ++ rest))) (sym (length-take-le 17 bytes room))
+    ∙ drop-append_seam (take 17 bytes) (written ++ rest)
     ∙ ap (λ bs. written ++ bs) none
     ∙ append-nil written
 

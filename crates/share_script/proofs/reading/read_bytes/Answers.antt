@@ -4,15 +4,16 @@ use Rattle.share_script.proofs.ReadingLemmas.{too_long, reads, reads_same, line_
 use Rattle.share_script.proofs.reading.read_bytes.Goals as goal
 
 pub returns-then-bytes-gt-MAX_LINE : goal.returns-then-bytes-gt-MAX_LINE
-returns-then-bytes-gt-MAX_LINE c = inl (too_long c.args.bytes.now (omega arith))
+returns-then-bytes-gt-MAX_LINE c = inl (too_long c.args.version c.args.bytes.now (omega arith))
 
 pub returns-in-Some : goal.returns-in-Some
 returns-in-Some c =
-    reads c.args.bytes.now (codes "send") _ _ (omega arith) c.in-Some.ensures
-    (reads_same _ _ _ (line_by-send (codes "send") _ refl ∙ ap send_of (sym c.of.ensures)) c.send.ensures)
+    reads c.args.version c.args.bytes.now (codes "send") _ _ (omega arith) c.in-Some.ensures
+    (reads_same _ _ _ _ (line_by-send (codes "send") _ refl ∙ ap send_of (sym c.of.ensures)) c.send.ensures)
 
 pub returns-in-Some-after_turn : goal.returns-in-Some-after_turn
 returns-in-Some-after_turn c =
-    reads c.args.bytes.now (codes "turn") _ _ (omega arith) c.in-Some-after_turn.ensures
-    (reads_same _ _ _ (line_by-turn _) (inl (c.line_or_refusal.ensures ∙ ap line_or_refusal (c.turn.ensures
+    reads c.args.version c.args.bytes.now (codes "turn") _ _ (omega arith) c.in-Some-after_turn.ensures
+    (reads_same _ _ _ _ (line_by-turn _)
+    (inl (c.line_or_refusal.ensures ∙ ap (line_or_refusal c.args.version) (c.turn.ensures
     ∙ ap turn_of c.of-in-Some-after_turn.ensures))))

@@ -5,11 +5,11 @@ use Rattle.share_script.proofs.reading.read_words.Goals as goal
 
 pub returns-then-is_word : goal.returns-then-is_word
 returns-then-is_word c =
-    reads_same _ _ _
+    reads_same _ _ _ _
     (line_by-send c.args.keyword.now c.args.words.now (sym c.is_word.ensures ∙ c.if-is_word.true)) c.send.ensures
 
 pub returns : goal.returns
 returns c =
-    reads_same _ _ _
+    reads_same _ _ _ _
     (line_by-short c.args.keyword.now c.args.words.now (sym c.is_word.ensures ∙ c.if-is_word.false))
-    (inl (c.line_or_refusal.ensures ∙ ap line_or_refusal c.short_line.ensures))
+    (inl (c.line_or_refusal.ensures ∙ ap (line_or_refusal c.args.version) c.short_line.ensures))

@@ -11,7 +11,7 @@ returns-in_err-answer_and_print-clause-printed g c =
     let line : c.as_slice.result.now ≡ take 20481 (c.args.pending.now.carry ++ c.args.piece.now) = c.as_slice.ensures
     ∙ c.add.ensures in
     rw p.1 (part_same _ _ _ _ c.args.session.now c.as_slice.result.now (c.args.pending.now.carry ++ c.args.piece.now)
-    (ap reading line ∙ reading_cut (c.args.pending.now.carry ++ c.args.piece.now))
+    (λ version. ap (reading version) line ∙ reading_cut (c.args.pending.now.carry ++ c.args.piece.now) version)
     c.in_err-answer_and_print.ensures.printed)
 
 pub returns-clause-printed : goal.returns-clause-printed
@@ -19,5 +19,5 @@ returns-clause-printed g c =
     let line : c.as_slice.result.now ≡ take 20481 (c.args.pending.now.carry ++ c.args.piece.now) = c.as_slice.ensures
     ∙ c.add.ensures in
     printed_same _ _ _ _ _ c.args.session.now c.as_slice.result.now (c.args.pending.now.carry ++ c.args.piece.now) _
-    (ap reading line ∙ reading_cut (c.args.pending.now.carry ++ c.args.piece.now))
+    (λ version. ap (reading version) line ∙ reading_cut (c.args.pending.now.carry ++ c.args.piece.now) version)
     c.in_ok-answer_and_print.ensures.printed

@@ -2,7 +2,7 @@
 
 use super::{is_written, lines_are_written, name};
 use crate::read_line;
-use share_base::{Command, Outcome, Refusal, Reply};
+use share_base::{Command, Outcome, Refusal, Reply, Version};
 use share_model::Line;
 use std::alloc::Global;
 use std::test::Fail;
@@ -35,11 +35,16 @@ fn lines_of_holds_and_amounts_are_written(rt: HostRuntime) -> Result<(), Fail> {
     lines_are_written(&rt, rt.alloc(), &rows)
 }
 
-// Whether the line is read as this command or, if there is none, is refused as `Syntax`.
-fn is_read(alloc: Global, line: &[u8], command: Option<Command>) -> bool {
-    let answer = read_line(alloc, line);
+// Whether the line is read, in both versions, as this command or, if there is none, is refused as `Syntax`.
+fn is_read(alloc: Global, line: &[u8], command: &Option<Command>) -> bool {
+    is_read_as_of(alloc, Version::One, line, command)
+        && is_read_as_of(alloc, Version::Two, line, command)
+}
+
+fn is_read_as_of(alloc: Global, version: Version, line: &[u8], command: &Option<Command>) -> bool {
+    let answer = read_line(alloc, version, line);
     match &answer {
-        Ok(Line::Change(read)) => Some(*read) == command,
+        Ok(Line::Change(read)) => Some(*read) == *command,
         Ok(_) => false,
         Err(refusal) => *refusal == Refusal::Syntax && command.is_none(),
     }
@@ -75,7 +80,7 @@ fn lines_of_holds_and_amounts_are_read(rt: HostRuntime) {
         ),
     ];
     for (line, command) in rows {
-        assert!(rt; is_read(rt.alloc(), line, Some(command)), "{line:?}");
+        assert!(rt; is_read(rt.alloc(), line, &Some(command)), "{line:?}");
     }
 }
 
@@ -112,7 +117,7 @@ const MISSPELLED: [&[u8]; 26] = [
 #[test]
 fn misspelled_holds_and_amounts_are_no_lines(rt: HostRuntime) {
     for line in MISSPELLED {
-        assert!(rt; is_read(rt.alloc(), line, None), "{line:?}");
+        assert!(rt; is_read(rt.alloc(), line, &None), "{line:?}");
     }
 }
 

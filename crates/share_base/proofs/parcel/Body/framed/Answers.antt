@@ -4,14 +4,14 @@ use Rattle.share_base.specs.Body.{framed_bytes}
 use Rattle.share_base.proofs.parcel.Body.framed.Goals as goal
 
 -- the bytes from the first stamped one on are those that are stamped and the payload
-stamped_and_payload : (s : ℕ) (bytes : List ℕ) → s ≤ 12
-    → take (length bytes - (12 - s)) (drop (12 - s) bytes) ≡ take s (drop (12 - s) bytes) ++ drop 12 bytes
+stamped_and_payload : (s : ℕ) (bytes : List ℕ) → s ≤ 17
+    → take (length bytes - (17 - s)) (drop (17 - s) bytes) ≡ take s (drop (17 - s) bytes) ++ drop 17 bytes
 stamped_and_payload s bytes few =
-    let room : 12 - s + s ≡ 12 = omega (arith, few) in
-    take_all (length bytes - (12 - s)) (drop (12 - s) bytes) (rw (length-drop (12 - s) bytes) (omega arith))
-    ∙ sym (take-append-drop s (drop (12 - s) bytes))
-    ∙ ap (λ rest. take s (drop (12 - s) bytes) ++ rest)
-    (drop-drop s (12 - s) bytes ∙ ap (λ n. drop n bytes) room)
+    let room : 17 - s + s ≡ 17 = omega (arith, few) in
+    take_all (length bytes - (17 - s)) (drop (17 - s) bytes) (rw (length-drop (17 - s) bytes) (omega arith))
+    ∙ sym (take-append-drop s (drop (17 - s) bytes))
+    ∙ ap (λ rest. take s (drop (17 - s) bytes) ++ rest)
+    (drop-drop s (17 - s) bytes ∙ ap (λ n. drop n bytes) room)
 
 pub returns : goal.returns
 returns c =

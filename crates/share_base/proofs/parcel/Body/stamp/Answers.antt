@@ -1,8 +1,9 @@
-use Rattle.std.proofs.Common.{◌≡◌, ◌≤◌, ◌++◌, ◌∙◌, ℕ, List, length, take, drop, sym, ap, refl, arith, rules}
-use Rattle.std.proofs.lemmas.List.{length-append, length-drop}
+use Rattle.std.proofs.Common.{◌≡◌, ◌≤◌, ◌+◌, ◌-◌, ◌++◌, ◌∙◌, ℕ, List, length, take, drop, inl, inr, sym, ap, refl}
+use Rattle.std.proofs.Common.{arith}
+use Rattle.std.proofs.lemmas.List.{length-append, length-take, length-drop, drop-drop}
 use Rattle.std.proofs.Math.Seq.{take-append_seam, drop-append_seam}
 use Rattle.std.specs.List.{refill}
-use Rattle.share_base.specs.Body.{BodyView}
+use Rattle.share_base.specs.Body.{BodyView, IsHeaderLength}
 use Rattle.share_base.proofs.parcel.Body.stamp.Goals as goal
 
 -- a list that is written over by one as long is that one
@@ -11,32 +12,65 @@ refilled bytes written long =
     ap (λ n. take n (written ++ drop (length written) bytes)) (sym long)
     ∙ take-append_seam written (drop (length written) bytes)
 
--- a header that is written over the room keeps the length
-as_long : (header bytes : List ℕ) → length header ≡ 12 → 12 ≤ length bytes
-    → length (header ++ drop 12 bytes) ≡ length bytes
-as_long header bytes twelve room =
-    length-append header (drop 12 bytes) ∙ rw (twelve, length-drop 12 bytes) (omega (arith, room))
+header_short : (n : ℕ) → IsHeaderLength n → n ≤ 17
+header_short n (inl twelve) = omega arith
+header_short n (inr seventeen) = omega arith
 
--- the first n bytes as those stamped, and the rest as the payload
-abbrev parted : ℕ → List ℕ → BodyView
-parted n whole = record { stamped = take n whole; payload = drop n whole }
+-- a body whose room ends with a header
+module _ (header bytes : List ℕ) (few : length header ≤ 17) (room : 17 ≤ length bytes) where
+  abbrev front : List ℕ
+  front = take (17 - length header) bytes
 
-with_header : (header payload : List ℕ) → length header ≡ 12
-    → parted 12 (header ++ payload) ≡ record { stamped = header; payload = payload }
-with_header header payload twelve =
-    ap (λ n. parted n (header ++ payload)) (sym twelve)
-    ∙ rw (take-append_seam header payload, drop-append_seam header payload) refl
+  abbrev written : List ℕ
+  written = front ++ (header ++ drop 17 bytes)
+
+  length-front : length front ≡ 17 - length header
+  length-front = omega (arith, length-take (17 - length header) bytes)
+
+  as_long : length written ≡ length bytes
+  as_long =
+      omega (
+        arith,
+        length-append front (header ++ drop 17 bytes),
+        length-append header (drop 17 bytes),
+        length-drop 17 bytes,
+        length-front,
+      )
+
+  behind_front : drop (17 - length header) written ≡ header ++ drop 17 bytes
+  behind_front = ap (λ n. drop n written) (sym length-front) ∙ drop-append_seam front (header ++ drop 17 bytes)
+
+  stamped_is : take (length header) (drop (17 - length header) written) ≡ header
+  stamped_is = ap (take (length header)) behind_front ∙ take-append_seam header (drop 17 bytes)
+
+  payload_is : drop 17 written ≡ drop 17 bytes
+  payload_is =
+      let all : 17 - length header + length header ≡ 17 = omega (arith, few) in
+      ap (λ n. drop n written) (sym all)
+      ∙ (sym (drop-drop (length header) (17 - length header) written)
+      ∙ (ap (drop (length header)) behind_front ∙ drop-append_seam header (drop 17 bytes)))
+
+  seen : ◌≡◌ {A = BodyView}
+      (record { stamped = take (length header) (drop (17 - length header) written); payload = drop 17 written })
+      (record { stamped = header; payload = drop 17 bytes })
+  seen = rw (stamped_is, payload_is) refl
+
+pub write_header-requires-clause-few : goal.write_header-requires-clause-few
+write_header-requires-clause-few c = header_short (length c.args.header.now) c.requires
 
 pub returns : goal.returns
 returns c =
     let bytes = c.self.inside.bytes.items in
-    let twelve : length c.args.header.now ≡ 12 = search rules in
-    let whole : c.write_header.new.bytes ≡ c.args.header.now ++ drop 12 bytes =
-    c.write_header.ensures ∙ ap (λ bs. c.args.header.now ++ drop 12 bs) c.as_mut_slice.ensures.value in
-    let written : refill (length bytes) bytes c.write_header.new.bytes ≡ c.args.header.now ++ drop 12 bytes =
-    rw whole
-    (refilled bytes (c.args.header.now ++ drop 12 bytes)
-    (as_long c.args.header.now bytes twelve (omega (arith, c.self.invariant.1)))) in
-    ap (parted 12) written
-    ∙ with_header c.args.header.now (drop 12 bytes) twelve
-    ∙ ap (λ (body : BodyView). record { stamped = c.args.header.now; payload = body.payload }) c.self.view_is
+    let header = c.args.header.now in
+    let few = header_short (length header) c.requires in
+    let room : 17 ≤ length bytes = omega (arith, c.self.invariant.1) in
+    let whole : c.write_header.new.bytes ≡ written header bytes few room =
+    c.write_header.ensures
+    ∙ ap (λ (bs : List ℕ). take (17 - length header) bs ++ (header ++ drop 17 bs)) c.as_mut_slice.ensures.value in
+    let after : refill (length bytes) bytes c.write_header.new.bytes ≡ written header bytes few room =
+    rw whole (refilled bytes (written header bytes few room) (as_long header bytes few room)) in
+    ap
+    (λ (bs : List ℕ). record { stamped = take (length header) (drop (17 - length header) bs); payload = drop 17 bs })
+    after
+    ∙ seen header bytes few room
+    ∙ ap (λ (body : BodyView). record { stamped = header; payload = body.payload }) c.self.view_is

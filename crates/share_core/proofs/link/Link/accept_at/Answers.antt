@@ -1,7 +1,7 @@
 use Rattle.std.proofs.Common.{◌∙◌, refl, sym, true}
 use Rattle.share_model.proofs.lemmas.run.QueueLaws.{queue-later}
 use Rattle.share_core.proofs.Activities.{stays-active, stays-level, can-set_active, free_in, still_in}
-use Rattle.share_core.proofs.Arrivals.{few_numbers, refused_full, took_number, sound-came}
+use Rattle.share_core.proofs.Arrivals.{few_numbers, refused_full, took_number, sound-came, body_in}
 use Rattle.share_core.proofs.Living.{living}
 use Rattle.share_core.proofs.Standing.{buffered_at, stands_in}
 use Rattle.share_core.proofs.link.Link.accept_at.Goals as goal
@@ -28,7 +28,7 @@ invariant_of-self-then-wakes g c =
       rw (c.set_active.ensures.queue, c.set_active.ensures.ledger, c.in-Ok.ensures.ok.1)
           (rw free at (sound-came sound (living _ _ c.self.view_is c.requires.living sound) c.args.place.now.flow
           c.args.body.payload
-          c.requires.body there)),
+          (body_in _ _ c.args.body.payload c.self.view_is c.requires.body) there)),
     )
 
 pub invariant_of-self-else-wakes : goal.invariant_of-self-else-wakes
@@ -43,7 +43,7 @@ invariant_of-self-else-wakes g c =
         stays-level sound f _ awake c.self.inside.queue sound.level,
         stays-active sound f _ awake,
       ) at (sound-came sound (living _ _ c.self.view_is c.requires.living sound) f c.args.body.payload
-          c.requires.body there)),
+          (body_in _ _ c.args.body.payload c.self.view_is c.requires.body) there)),
     )
 
 pub returns-in_default : goal.returns-in_default

@@ -55,7 +55,7 @@ pub set_active-requires-clause-can : goal.set_active-requires-clause-can
 set_active-requires-clause-can g c =
     let sound = c.self.invariant.1 in
     let t = sent _ _ c.args.place c.self.view_is c.requires.place in
-    let few = subst (λ units. units ≤ 4026) (sym c.charge_at-units.ensures.units)
+    let few = subst (λ units. units ≤ 11842) (sym c.charge_at-units.ensures.units)
     (units_due-few _ _ c.args.place.buffer.flow _ (g.met.S.Rates.in_range c.self.inside.shelf)
     (short _ _ _ c.args.place sound t)) in
     rw (c.charge.ensures)

@@ -14,7 +14,7 @@ invariant_of-result g c = (
     c.in_ok-buffers.ensures.ok,
     c.in_ok-books.ensures,
   )
-      (sound-empty _ _),
+      (sound-empty _ _ _),
 )
 
 pub returns-in_err-books-clause-refused : goal.returns-in_err-books-clause-refused

@@ -6,8 +6,8 @@ use Rattle.share_flows.proofs.Stamping.{stamped-payloads}
 use Rattle.share_flows.proofs.Standing.{some_packet, after_stamp}
 use Rattle.share_flows.proofs.buffers.Buffers.stamp_at.Goals as goal
 
-pub stamp-requires : goal.stamp-requires
-stamp-requires c =
+pub stamp-requires-clause-some : goal.stamp-requires-clause-some
+stamp-requires-clause-some c =
     some_packet _ _ c.args.place.now c.index_mut-ring.result.now c.self.view_is c.requires.there
     c.index_mut-ring.ensures.value c.requires.busy
 

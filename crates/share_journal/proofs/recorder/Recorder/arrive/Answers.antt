@@ -14,7 +14,7 @@ note_if-requires g c =
     (Arrived c.args.flow c.split-sending.result.0)
     c.arrive-reply.result (Worker c.args.worker) c.self.invariant
     (arrive-asked g.W.TellingWriter.told c.self.inside.engine c.arrive-reply.result c.arrive-reply.new.self
-    c.self.invariant.1.range (run-sound c.self.invariant.1) c.args.flow c.split-sending.result.0 (
+    c.self.invariant.2.range (run-sound c.self.invariant.2) c.args.flow c.split-sending.result.0 (
       c.arrive-reply.ensures.fields.0,
       c.arrive-reply.ensures.fields.1,
       ap (λ (b : BodyView). b.stamped) c.split-sending.ensures.sending,
@@ -31,7 +31,7 @@ invariant_of-self g c =
     (Arrived c.args.flow c.split-sending.result.0)
     c.arrive-reply.result (Worker c.args.worker) c.self.invariant
     (arrive-asked g.W.TellingWriter.told c.self.inside.engine c.arrive-reply.result c.arrive-reply.new.self
-    c.self.invariant.1.range (run-sound c.self.invariant.1) c.args.flow c.split-sending.result.0 (
+    c.self.invariant.2.range (run-sound c.self.invariant.2) c.args.flow c.split-sending.result.0 (
       c.arrive-reply.ensures.fields.0,
       c.arrive-reply.ensures.fields.1,
       ap (λ (b : BodyView). b.stamped) c.split-sending.ensures.sending,
@@ -50,7 +50,7 @@ returns-clause-event g c =
     (arrival-answers g.W.TellingWriter.told c.self.inside.engine c.arrive-reply.new.self c.arrive-reply.result
     c.self.inside.journal c.self.invariant c.args.flow c.split-sending.result.0
     (arrive-asked g.W.TellingWriter.told c.self.inside.engine c.arrive-reply.result c.arrive-reply.new.self
-    c.self.invariant.1.range (run-sound c.self.invariant.1) c.args.flow c.split-sending.result.0 (
+    c.self.invariant.2.range (run-sound c.self.invariant.2) c.args.flow c.split-sending.result.0 (
       c.arrive-reply.ensures.fields.0,
       c.arrive-reply.ensures.fields.1,
       ap (λ (b : BodyView). b.stamped) c.split-sending.ensures.sending,

@@ -13,7 +13,7 @@ note_if-requires g c =
     (Commanded c.args.command)
     c.command-reply.result (Clerk c.args.clerk) c.self.invariant
     (command-asked g.W.TellingWriter.told c.self.inside.engine c.command-reply.result c.command-reply.new.self
-    c.self.invariant.1.range (run-sound c.self.invariant.1) c.args.command c.command-reply.ensures.fields
+    c.self.invariant.2.range (run-sound c.self.invariant.2) c.args.command c.command-reply.ensures.fields
     c.command-reply.ensures.did)
     _ c.entry_of_reply.result (same_test c.events-before.ensures.events c.events.ensures.events)
     (c.entry_of_reply.ensures ∙ ap (λ (e : Event). replied_entry e c.command-reply.result (Clerk c.args.clerk))
@@ -25,7 +25,7 @@ invariant_of-self g c =
     (Commanded c.args.command)
     c.command-reply.result (Clerk c.args.clerk) c.self.invariant
     (command-asked g.W.TellingWriter.told c.self.inside.engine c.command-reply.result c.command-reply.new.self
-    c.self.invariant.1.range (run-sound c.self.invariant.1) c.args.command c.command-reply.ensures.fields
+    c.self.invariant.2.range (run-sound c.self.invariant.2) c.args.command c.command-reply.ensures.fields
     c.command-reply.ensures.did)
     _ c.entry_of_reply.result (same_test c.events-before.ensures.events c.events.ensures.events)
     (c.entry_of_reply.ensures ∙ ap (λ (e : Event). replied_entry e c.command-reply.result (Clerk c.args.clerk))
@@ -38,6 +38,6 @@ returns-clause-event g c =
     (command-answers g.W.TellingWriter.told c.self.inside.engine c.command-reply.new.self c.command-reply.result
     c.self.inside.journal c.self.invariant c.args.command
     (command-asked g.W.TellingWriter.told c.self.inside.engine c.command-reply.result c.command-reply.new.self
-    c.self.invariant.1.range (run-sound c.self.invariant.1) c.args.command c.command-reply.ensures.fields
+    c.self.invariant.2.range (run-sound c.self.invariant.2) c.args.command c.command-reply.ensures.fields
     c.command-reply.ensures.did)
     c.command-reply.ensures.did)

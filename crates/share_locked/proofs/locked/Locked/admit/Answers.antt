@@ -1,5 +1,6 @@
 use Rattle.std.proofs.Common.{◌∙◌, ap, sym}
 use Rattle.share_model.specs.link.Calls.{is_spent}
+use Rattle.share_model.proofs.lemmas.link.VersionLaws.{arrive-version}
 use Rattle.share_ingress.specs.Ends.{IntakeView}
 use Rattle.share_locked.proofs.Steps.{admitted_kept}
 use Rattle.share_locked.proofs.locked.Locked.admit.Goals as goal
@@ -10,6 +11,8 @@ invariant_of-self-2 g c = (
   admitted_kept c.self.inside.recorder c.arrive-reply.new.self c.self.inside.intake c.take.new.self c.in-Some.offer
       c.arrive-reply.result (ap is_spent (sym c.engine.ensures.link) ∙ sym c.spent.ensures ∙ c.if-spent.false)
       c.in-Some.ensures.some c.arrive-reply.ensures.did c.arrive-reply.ensures.entry c.arrive-reply.ensures.event
+      c.arrive-reply.ensures.body
       c.self.invariant.1,
   c.self.invariant.2,
+  arrive-version _ _ _ _ _ c.arrive-reply.ensures.did ∙ c.self.invariant.3,
 )

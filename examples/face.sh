@@ -53,12 +53,18 @@ refuses $'open a 4 1\nfund 1 flow a\nmktkt 1 base\n' $'flow 1\nno 6 NoTicket\n' 
 refuses $'walk\ntorn\n' $'no 3 Syntax\n' "1, 'walk': no 3 Syntax"
 refuses $'audit 1\ntorn\n\nmkcur x\n' $'idle\nno 3 Syntax\n' "3, '': no 3 Syntax"
 refuses $'torn\naudit 1' $'idle\nno 3 Syntax\n' "2, 'audit 1': no 3 Syntax"
+refuses $'audit 2\ntorn\n\nmkcur x\n' $'idle\nno 3 Syntax\n' "3, '': no 3 Syntax"
+refuses $'audit 2\ntorn\naudit 2\nmkcur x\n' $'idle\nno 3 Syntax\n' "3, 'audit 2': no 3 Syntax"
+refuses $'audit 1\naudit 2' $'no 3 Syntax\n' "2, 'audit 2': no 3 Syntax"
 refuses $'open a 4 1\nopen a 4 1' $'flow 1\nno 9 Taken\n' "2, 'open a 4 1': no 9 Taken"
 refuses $'report\nmkcur no\nturn 0\n' "$(sed '$d' <(stridelink run <<< report))"$'\nok\nno 4 Range\n' \
     "3, 'turn 0': no 4 Range"
 refuses $'torn\nwa\e[2Jlk\t\xff\n' $'idle\nno 3 Syntax\n' "2, 'wa\\x1b[2Jlk\\t\\xff': no 3 Syntax"
 long=$(printf '%030000d' 0)
 refuses "torn"$'\n'"$long"$'\ntorn\n' $'idle\nno 3 Syntax\n' "2, '${long:0:4096}': no 3 Syntax"
+refuses $'audit 1\nopen a 4 1\n'"send a ${long:0:2982}" $'flow 1\nno 4 Range\n' "3, 'send a ${long:0:2982}': no 4 Range"
+refuses $'audit 2\nopen a 4 1\n'"send a ${long:0:18002}" $'flow 1\nno 4 Range\n' \
+    "3, 'send a ${long:0:4089}': no 4 Range"
 wants 1 $'no 5 NoCurrency\n' $'stridelink: line 1, \'rmcur x\': no 5 NoCurrency\n' \
     "yes 'rmcur x' | head -n 2 | stridelink run --strict --life 1"
 wants 1 $'flow 1\nno 2 Spent\n' $'stridelink: line 2, \'mkcur x\': no 2 Spent\n' \

@@ -14,10 +14,11 @@ compared, byte for byte. Before anything else the models are given worked exampl
     fuzz.py --print FILE    prints what the models answer to a script
 
 A run of a seed has SCRIPTS scripts, each with its audit and that audit with one byte changed, dropped or doubled, and a
-server for each of TEXTS control texts and STREAMS streams of records. It ends with a line that says how many of each
-were compared. At the first difference it ends with status 1: it tells the seed, the number of the case, how the input
-is given to the program again, and the first line that differs, in both answers; and it writes three files to the
-current folder, named after the seed and the case: the input, what was found and what was wanted.
+server for each of TEXTS control texts and STREAMS streams of records. Four in ten scripts begin with `audit 2`: their
+frames and audits are of version 2, as those of servers are. It ends with a line that says how many of each were
+compared. At the first difference it ends with status 1: it tells the seed, the number of the case, how the input is
+given to the program again, and the first line that differs, in both answers; and it writes three files to the current
+folder, named after the seed and the case: the input, what was found and what was wanted.
 
 What a seed draws changes with this file, so what is found is kept as a test by whoever finds it: as a script with its
 output in examples/, or as a case of serve.py. Not drawn are strict runs, several connections of a kind, and whatever
@@ -39,7 +40,8 @@ from itertools import zip_longest
 
 sys.dont_write_bytecode = True
 
-from serving import PATIENCE, PROGRAM, Run, ends_by_itself, frame, frames, limit_time, record, shortened
+from serving import (LONGEST_PAYLOAD, PATIENCE, PROGRAM, SERVED, Run, ends_by_itself, frame, frames, limit_time,
+                     record, shortened)
 
 SEED = 1994
 SCRIPTS = 2000
@@ -61,7 +63,6 @@ MOST_FUNDING = 16
 MOST_CHAINED = 8
 MOST_AMOUNT = 1 << 20
 LONGEST_LINE = 20480
-LONGEST_PAYLOAD = 1490
 LONGEST_TURN = 65535
 DEFAULT_LIFE = 65536
 STRIDE_ONE = 1 << 40
@@ -74,10 +75,11 @@ TARIFFS = {1: (1, 0, 1), 2: (48, 16, 2), 3: (1024, 0, 1), 4: (2048, 1024, 3)}
 SPELLINGS = [spelling.split(" ") for spelling in (
     "mkcur NAME", "rmcur NAME", "mktkt NUM NAME", "rmtkt NUM", "fund NUM cur NAME", "fund NUM flow NAME", "unfund NUM",
     "amend NUM NUM", "open NAME NUM NUM", "close NAME", "hold NAME", "resume NAME", "send NAME HEX", "turn NUM", "torn",
-    "report", "audit 1")]
+    "report", "audit 1", "audit 2")]
 WORDS = {"NAME": re.compile("[a-z][a-z0-9_-]{0,15}"), "NUM": re.compile("0|[1-9][0-9]{0,19}"),
          "HEX": re.compile("([0-9a-f]{2})+")}
 TURNS = ("turn NUM", "torn")
+VERSIONS = {"audit 1": 1, "audit 2": 2}
 VALUES = {"NAME": str, "NUM": int, "HEX": bytes.fromhex}
 
 
@@ -246,10 +248,12 @@ class Queue:
 
 
 class Link:
-    """A link with its writer, which accepts all that it is offered."""
+    """A link with its writer, which accepts all that it is offered. The first line of a script may tell another
+    version."""
 
-    def __init__(self, life):
+    def __init__(self, life, version=1):
         self.life = life
+        self.version = version
         self.lines = 0
         self.events = []
         self.currencies = []
@@ -265,12 +269,15 @@ class Link:
         self.is_broken = False
 
     def answer(self, line):
-        """The answer to a line of a script; None to a first line `audit 1`."""
+        """The answer to a line of a script; None to a first line that tells a version."""
         self.lines += 1
         spelled = words_of(line)
-        if spelled is None or spelled[0] == "audit 1":
-            return refused("Syntax") if spelled is None or self.lines > 1 else None
+        if spelled is None or (self.lines > 1 and spelled[0] in VERSIONS):
+            return refused("Syntax")
         spelling, values = spelled
+        if spelling in VERSIONS:
+            self.version = VERSIONS[spelling]
+            return None
         if spelling == "report":
             return self.report()
         try:
@@ -296,7 +303,7 @@ class Link:
     def check(self, spelling, values):
         """The refusals that make no event."""
         refuse(len(self.events) >= self.life, "Spent")
-        refuse(spelling == "send NAME HEX" and len(values[1]) > LONGEST_PAYLOAD, "Range")
+        refuse(spelling == "send NAME HEX" and len(values[1]) > LONGEST_PAYLOAD[self.version], "Range")
         refuse(spelling == "turn NUM" and not 1 <= values[0] <= LONGEST_TURN, "Range")
         refuse(spelling in TURNS and self.is_broken, "Broken")
 
@@ -447,7 +454,7 @@ class Link:
         if flow is None:
             return "idle"
         number, payload = flow.packets[0]
-        data = frame(flow.number, number, payload)
+        data = frame(flow.number, number, payload, flow.tariff, self.version)
         piece = data[self.sent:self.sent + most]
         self.out += piece
         self.sent += len(piece)
@@ -487,7 +494,7 @@ class Link:
         return "out %s\n" % (self.out.hex() or "-")
 
     def audit(self):
-        return "".join(line + "\n" for line in ["audit 1", *[line for line, _ in self.events]])
+        return "".join(line + "\n" for line in ["audit %d" % self.version, *[line for line, _ in self.events]])
 
 
 def reached(backed, start):
@@ -523,9 +530,57 @@ def printout(text, life):
     return "".join(reply + "\n" for reply in replies if reply is not None) + link.out_line(), link
 
 
-# Worked examples: lines with their answers, and where flows stand in between, at their passes or their remains, and at
-# which pass the link.
-WORKED = ("""\
+# The longest packets, one of each tariff; and the longest of version 1.
+LONGEST_2 = """\
+audit 2 => nothing
+open a 1 1 => flow 1
+open b 1 2 => flow 2
+open c 1 3 => flow 3
+open d 1 4 => flow 4
+""" + "".join("mktkt 1 base => ticket %d\nfund %d flow %s => ok\nsend %s %s => packet %d 1\n"
+              % (flow, flow, name, name, "00" * 9000, flow) for flow, name in enumerate("abcd", 1)) + """\
+turn 65535 => wrote 1 1 9017 whole
+turn 65535 => wrote 2 1 9017 whole
+turn 65535 => wrote 3 1 9017 whole
+turn 65535 => wrote 4 1 9017 whole
+a owes 9017
+b owes 18080
+c owes 9216
+d owes 33792
+send a %s => no 4 Range""" % ("00" * 9001)
+LONGEST_1 = """\
+open a 1 1 => flow 1
+mktkt 1 base => ticket 1
+fund 1 flow a => ok
+send a %s => no 4 Range
+send a %s => packet 1 1
+turn 65535 => wrote 1 1 1502 whole
+a owes 1502""" % ("00" * 1491, "00" * 1490)
+
+# Worked examples: lines with their answers, and what stands in between: at which passes or remains flows are, and at
+# which pass the link, which tickets flows have, what they owe, and which bytes the link wrote.
+WORKED = (LONGEST_2, LONGEST_1, """\
+audit 2 => nothing
+open a 4 1 => flow 1
+mktkt 10 base => ticket 1
+fund 1 flow a => ok
+send a 6869 => packet 1 1
+turn 65535 => wrote 1 1 19 whole
+a owes 19
+audit 2 => no 3 Syntax
+audit 1 => no 3 Syntax
+link wrote 4c020100000001000000000000000100026869""", """\
+audit 1 => nothing
+open a 4 2 => flow 1
+mktkt 1 base => ticket 1
+fund 1 flow a => ok
+send a 6869 => packet 1 1
+turn 7 => wrote 1 1 7 part
+torn => torn 1 1 7
+mkcur x => ok
+audit 2 => no 3 Syntax
+a owes 128
+link wrote 4c010000000100""", """\
 open a 4 3 => flow 1
 mktkt 1 base => ticket 1
 fund 1 flow a => ok
@@ -567,8 +622,12 @@ amend 9 1 => no 6 NoTicket""")
 
 
 def standing(link, name, word):
-    """At which place a flow or the link is, or which tickets it has."""
+    """At which place a flow or the link is, which tickets it has, what it owes, or what it wrote."""
     where = link.queue if name == "link" else link.flow_named(name)
+    if word == "wrote":
+        return link.out.hex()
+    if word == "owes":
+        return where.account
     if word == "has":
         return where.tickets
     return where.remain if name != "link" and not where.competes else where.place
@@ -581,12 +640,12 @@ def check_models():
         for step in example.split("\n"):
             line, answers, wanted = step.partition(" => ")
             if answers:
-                found = link.answer(line)
+                found = link.answer(line) or "nothing"
             else:
                 name, word, wanted = line.split(" ")
                 found = str(standing(link, name, word))
             if found != wanted:
-                sys.exit("the models are wrong: '%s', and they have %s" % (step, found))
+                sys.exit("the models are wrong: '%s', and they have %s" % (shortened(step), shortened(found)))
 
 
 # ---- The model of ingress records
@@ -607,7 +666,7 @@ def items_of(stream):
         length = int.from_bytes(field_of_length, "big")
         if len(field_of_length) < 2:
             return items, "Cut"
-        if not 1 <= length <= LONGEST_PAYLOAD:
+        if not 1 <= length <= LONGEST_PAYLOAD[SERVED]:
             return items, "BadRecord"
         payload = stream[at + 3 + size:at + 3 + size + length]
         if len(payload) < length:
@@ -622,12 +681,12 @@ def items_of(stream):
 AMOUNTS = (1, 1, 2, 3, 7, 10, 1000, 4097, MOST_AMOUNT - 1, MOST_AMOUNT)
 NO_AMOUNTS = (0, MOST_AMOUNT + 1, (1 << 64) - 1)
 SIZES = (1, 1, 1, 2, 2, 3, 16, 17, 36, 37, 84)
-LARGE_SIZES = (1012, 1013, LONGEST_PAYLOAD - 1, LONGEST_PAYLOAD, LONGEST_PAYLOAD + 1)
-TURN_SIZES = (1, 2, 5, 11, 12, 13, 14, 100, LONGEST_TURN - 1, *[LONGEST_TURN] * 12)
+LARGE_SIZES = {1: (1012, 1013, 1489, 1490, 1491, 9000), 2: (1012, 1013, 1490, 1491, 8999, 9000, 9001)}
+TURN_SIZES = (1, 2, 5, 11, 12, 13, 14, 16, 17, 18, 19, 100, LONGEST_TURN - 1, *[LONGEST_TURN] * 12)
 NO_TURN_SIZES = (0, LONGEST_TURN + 1, (1 << 64) - 1, 1 << 64)
 LIMITS = (1, 1, 2, 3, 5, 8, 16, 1023, 1024)
 NO_LIMITS = (0, 1025, (1 << 64) - 1)
-FIRST_LINES = ("audit 1", "audit 1", "audit 1", "audit 2", "audit 1 ", "audit  1", "Audit 1", "")
+FIRST_LINES = (*["audit 1"] * 3, *["audit 2"] * 3, "audit 3", "audit 2 ", "audit  2", "Audit 2", "audit", "")
 LINE_SIZES = (20478, 20479, 20480, 20481, 20482, 40961, 40962, 61443)
 CURRENCY_NAMES = ("a", "b", "c0", "d-1", "e_2", "f", "g", "h", "i", "j", "abcdefghij012345")
 FLOW_NAMES = ("a", "base", "b", "c0", "z9_-", "f", "abcdefghij012345")
@@ -647,7 +706,7 @@ class Drawer:
 
     def __init__(self, chance, life, is_control=False):
         self.random = chance
-        self.link = Link(life)
+        self.link = Link(life, SERVED) if is_control else Link(life)
         self.answer = self.link.answer_control if is_control else self.link.answer
         self.weights = CONTROL if is_control else chance.choice((MIXED, FUNDING, SENDING))
         self.doubt = 0.02
@@ -747,7 +806,8 @@ class Drawer:
         ready = [flow.name for flow in self.link.flows
                  if len(flow.packets) < flow.limit and self.link.held_by(("flow", flow.number))]
         name = self.random.choice(ready) if ready and self.happens(0.8) else self.flow()
-        size = self.random.choice((*SIZES * 4, *LARGE_SIZES, self.random.randint(1, LONGEST_PAYLOAD)))
+        version = self.link.version
+        size = self.random.choice((*SIZES * 4, *LARGE_SIZES[version], self.random.randint(1, LONGEST_PAYLOAD[version])))
         for _ in range(self.random.choice((1, 1, 2, 3, 8))):
             self.give("send %s %s" % (name, self.some_bytes(size)))
 
@@ -756,7 +816,8 @@ class Drawer:
         for prepare in (self.open, self.fund_flow, self.send, self.send):
             if not self.link.part and not self.link.queue.next() and self.happens(0.8):
                 prepare()
-        size = self.pick((*TURN_SIZES, self.random.randint(1, 40), self.random.randint(1, 1600)), NO_TURN_SIZES)
+        longest = LONGEST_PAYLOAD[self.link.version] + 100
+        size = self.pick((*TURN_SIZES, self.random.randint(1, 40), self.random.randint(1, longest)), NO_TURN_SIZES)
         for _ in range(self.random.choice((1, 1, 2, 5))):
             self.give("turn %d" % size)
 
@@ -773,7 +834,7 @@ class Drawer:
             line = "send a " if size % 2 else "send ab "
             self.give(line + "0" * (size - len(line)))
         else:
-            line = self.random.choice((*self.lines[-20:], "audit 1", "report", "torn"))
+            line = self.random.choice((*self.lines[-20:], "audit 1", "audit 2", "report", "torn"))
             self.give(spoiled(self.random, line) if self.happens(0.9) else line)
 
     def doubtful(self):
@@ -854,6 +915,8 @@ class Drawer:
 
     def draw(self):
         """Draws a text: how it begins, some dozens of lines, and how it ends."""
+        if self.happens(0.4):
+            self.give("audit 2")
         for _ in range(self.random.choice((0, 0, 0, 0, 1, 2))):
             self.give(self.random.choice(FIRST_LINES))
         for begin, share in ((self.full_table, 0.03), (self.full_buffer, 0.1), (self.chain, 0.15), (self.crowd, 0.08),
@@ -899,15 +962,15 @@ def spoiled_byte(chance, text):
 
 # How streams of records end: whole or in a field that is not whole, and with a field that is out of its range.
 CUT_ENDS = (b"", b"\x01", b"\x10", b"\x03a", b"\x03A.", b"\x01a", b"\x01a\x00", b"\x01a\xff", b"\x01a\x00\x01",
-            b"\x10abcdefghij012345\x00\x01", b"\x01a\x05\xd2" + b"\x00" * 1489)
+            b"\x10abcdefghij012345\x00\x01", b"\x01a\x05\xd3" + b"\x00" * 1490, b"\x01a\x23\x28" + b"\x00" * 8999)
 WRONG_ENDS = (b"\x00", b"\x11", b"\xff", b"\x01A", b"\x02a.", b"\x02-a", b"\x02a\xff", b"\x01a\x00\x00",
-              b"\x01a\x05\xd3" + b"\x00" * 1491, b"\x01a\xff\xff" + b"\x00" * 65535,
+              b"\x01a\x23\x29" + b"\x00" * 9001, b"\x01a\xff\xff" + b"\x00" * 65535,
               b"\x11abcdefghij0123456\x00\x01z")
 
 
 def some_record(chance, names):
     """A record of a packet for a flow, which may be one that is not open."""
-    size = chance.choice((1, 1, 2, 3, 16, 17, 36, 255, 256, 257, LONGEST_PAYLOAD - 1, LONGEST_PAYLOAD))
+    size = chance.choice((1, 1, 2, 3, 16, 17, 36, 255, 256, 257, 1490, 1491, 8999, 9000))
     return record(chance.choice((*names * 4, *FLOW_NAMES)), chance.randbytes(size))
 
 
@@ -1038,9 +1101,9 @@ def control_case(case):
 def records_case(case):
     """A stream of ingress records, and what comes of it. The order of packets and writes is that of the audit."""
     names = case.chance.sample(FLOW_NAMES, 2)
-    limit = case.chance.choice((1024, 1024, 3, 1))
+    limit, tariffs = case.chance.choice((1024, 1024, 3, 1)), case.chance.choices(list(TARIFFS), k=2)
     funding = [line for number, name in enumerate(names, 1) for line in (
-        "open %s %d %d" % (name, limit, case.chance.choice((1, 2, 3, 4))),
+        "open %s %d %d" % (name, limit, tariffs[number - 1]),
         "mktkt %d base" % case.chance.choice(AMOUNTS), "fund %d flow %s" % (number, name))]
     case.given = some_stream(case.chance, case.number, names)
     case.again = "give %s.input to the ingress connection of a server, after %s" % (case.name, ", ".join(funding))
@@ -1058,12 +1121,13 @@ def records_case(case):
     audit, items, why = server.text("audit"), *items_of(case.given)
     _, link = printout(audit.encode(), DEFAULT_LIFE)
     sent = ["send %s %s" % (name, payload.hex()) for name, payload in items]
-    found = [*told, audit, server.text("stdout"), peer.got.hex(), *re.findall("^send .*$", audit, re.MULTILINE)]
-    wanted = [*ends(link, "ingress 1: ended, %s, %d packets" % (why, len(items))), link.audit(), link.report() + "\n",
-              link.out.hex(), *sent]
+    found = [*told, audit, audit.split("\n")[0], server.text("stdout"), peer.got.hex(),
+             *re.findall("^send .*$", audit, re.MULTILINE)]
+    wanted = [*ends(link, "ingress 1: ended, %s, %d packets" % (why, len(items))), link.audit(), "audit %d" % SERVED,
+              link.report() + "\n", link.out.hex(), *sent]
     if limit == 1024:
         found += [frame(*parts).hex() for parts in sorted(frames(peer.got)[0])]
-        wanted += [frame(flow, number, payload).hex() for flow, own in enumerate(names, 1)
+        wanted += [frame(flow, number, payload, tariffs[flow - 1]).hex() for flow, own in enumerate(names, 1)
                    for number, payload in enumerate([payload for name, payload in items if name == own], 1)]
     case.compare("streams of records", "\n".join(found), "\n".join(wanted))
 
@@ -1106,8 +1170,8 @@ def run_seed(seed, until, agreed):
 
 
 def check_alone(case):
-    """The models alone, on a script: no packet is lost, no flow that is held competes, and the audit is answered as the
-    script was."""
+    """The models alone, on a script: no packet is lost, each that was written is a frame of the link's version, no flow
+    that is held competes, and the audit is answered as the script was."""
     drawer = Drawer(case.chance, DEFAULT_LIFE)
     drawer.draw()
     link = drawer.link
@@ -1115,10 +1179,14 @@ def check_alone(case):
     case.given, case.again = drawer.text(), "%s --print %s.input" % (sys.argv[0], case.name)
     waiting = sum(map(link.waiting, link.flows))
     case.compare("sums of packets", str(link.written + link.is_broken + waiting + link.dropped), str(link.accepted))
+    sent = frames(bytes(link.out), link.version)[0]
+    case.compare("numbers of frames", str(len(sent)), str(link.written))
     held = [flow for flow in link.flows if flow.is_held]
     case.compare("flows that are held", str([flow.name for flow in held if flow.competes]), "[]")
     case.compare("audits", "".join(reply + "\n" for _, reply in link.events) + link.out_line(),
                  printout(audit, DEFAULT_LIFE)[0])
+    case.agreed["links of version 2"] += link.version == 2
+    case.agreed["frames of more than 1490 bytes"] += sum(len(payload) > 1490 for _, _, payload, _ in sent)
     case.agreed["links with flows that are held"] += bool(held)
     for name in ("hold", "resume", "amend"):
         case.agreed["lines of " + name] += sum(line.startswith(name + " ") for line, _ in link.events)

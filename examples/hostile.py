@@ -104,7 +104,7 @@ def finish(connection):
 
 def peer_goes_between_writes(run):
     """The peer of the uplink leaves after a frame and a half, or after two frames."""
-    for many, leave in ((1500, reset), (2024, reset), (2024, socket.socket.close)):
+    for many, leave in ((1500, reset), (2034, reset), (2034, socket.socket.close)):
         peer = run.peer(going(many, leave))
         packets_until_torn(run, peer)
         expect_equal(len(peer.got), many, "bytes that the peer got")
@@ -143,14 +143,14 @@ def read_and_close(peer):
 def peer_goes_unseen(run):
     """A peer that only says that it sends nothing gets all, and one that is reset behind the last frame tears nothing:
     no write fails."""
-    for many, leave in ((0, finish), (10 * 1012, reset)):
+    for many, leave in ((0, finish), (10 * 1017, reset)):
         peer = run.peer(going(many, leave))
         server = run.server(peer)
         control = server.control()
         control.fund()
         some = packets("a", 0, 10, 1000)
         server.ingress(records(some)).close()
-        wait_for(lambda: len(peer.got) == 10 * 1012 and peer.go_on.is_set(), "the frames")
+        wait_for(lambda: len(peer.got) == 10 * 1017 and peer.go_on.is_set(), "the frames")
         control.ask_wanted(["mkcur x"], ["ok"])
         control.close()
         server.ends()
@@ -303,7 +303,7 @@ def script_without_memory(run):
     script.process.stdin.close()
     out = script.process.stdout.read()
     expect_equal((script.process.wait(PATIENCE), script.process.stderr.read()), (0, b""), "the end")
-    expect_equal(out, b"out %s\n" % frame(1, 1, bytes.fromhex("%02980d" % 1)).hex().encode(), "the bytes")
+    expect_equal(out, b"out %s\n" % frame(1, 1, bytes.fromhex("%02980d" % 1), version=1).hex().encode(), "the bytes")
 
 
 def strict_script_without_memory(run):
@@ -340,7 +340,7 @@ def disk_is_full(run):
             control.fund()
             server.ingress(records(packets("a", 0, count, 1490))).close()
             control.close()
-            expect_no_audit(server, peer, count, 1502 * count)
+            expect_no_audit(server, peer, count, 1507 * count)
 
 
 def small_files(run):
@@ -390,7 +390,7 @@ def audit_cannot_take_its_name(run):
         server = run.server(peer, audit=os.path.join(folder, "audit"))
         change(folder)
         one_packet(server)
-        expect_no_audit(server, peer, 1, 15)
+        expect_no_audit(server, peer, 1, 20)
         expect("\nthe whole audit is in %s.1\n" % server.audit_path in server.text("stderr"), "where the audit is")
         if left:
             with open(os.path.join(place, left, "audit.1"), encoding="ascii") as source:
@@ -406,7 +406,7 @@ def audit_reader_goes(run):
     server = run.server(peer, audit=path)
     os.close(reader)
     one_packet(server)
-    expect_no_audit(server, peer, 1, 15)
+    expect_no_audit(server, peer, 1, 20)
 
 
 def full(number):
@@ -444,7 +444,7 @@ def outputs_are_gone(run):
         peer.thread.join(PATIENCE)
         expect_equal(bytes(peer.got), frame(1, 1, b"1st"), "the frame")
         expect_equal(server.text("audit"), ONE_PACKET, "the audit")
-        expect(out or server.text("stdout").startswith(total("clock", 15)), "the report")
+        expect(out or server.text("stdout").startswith(total("clock", 20)), "the report")
 
 
 CASES = (script_is_reset, script_reader_goes, peer_goes_between_writes, peer_goes_in_a_write, peer_goes_unseen,

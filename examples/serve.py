@@ -9,6 +9,7 @@ it once and in order, and the report is the audit's. Each case has a limit of ti
 import fcntl
 import os
 import resource
+import signal
 import socket
 import struct
 import sys
@@ -18,7 +19,7 @@ import time
 sys.dont_write_bytecode = True
 
 from serving import (ENDED, END, LOOPBACK, ONE_PACKET, PATIENCE, QUIET_SECONDS, QUIET_SHARE, Failure, check,
-                     ends_by_itself, expect, expect_equal, frame, is_blocked, listeners, lower, lowest_free,
+                     ends_by_itself, expect, expect_equal, frame, frames, is_blocked, listeners, lower, lowest_free,
                      one_packet, packets, packets_until_torn, record, records, reset, total, try_cases, wait_for)
 
 # Seconds for a case, and for all of them.
@@ -30,21 +31,28 @@ MOST_ENDS = 8
 
 # A server may use this share of a core while all of its workers wait for places of the queue.
 WAITING_SHARE = 0.005 * MOST_ENDS
-SERVED = """\
-clock                           13
+
+REPORT = """\
+clock                           18
 accepted                         1
 written                          1
 torn                             0
 waiting                          0
 dropped                          0
-bytes                           13
+bytes                           18
 past                             0
 tickets                          0
-pass                   13958643712
+pass                   19327352832
 link                             0
-flow        1 a                      0    0                13 out              1099511627776
+flow        1 a                      0    0                18 out              1099511627776
 end
 """
+
+# The sizes of payloads whose frames have 22, 1507, 1508, 9016 and 9017 bytes, and what flows of the tariffs 1 to 4 owe
+# for one frame of each: 21070 units; 64, 1552, 1552, 9040 and 9040 of price 2; 1024, 2048, 2048, 9216 and 9216; and
+# three times 3072 and twice 11264, of price 3.
+LONG_SIZES = (5, 1490, 1491, 8999, 9000)
+OWED = {"a": 21070, "b": 2 * 21248, "c": 23552, "d": 3 * 31744}
 
 
 def served(run):
@@ -57,8 +65,8 @@ def served(run):
     control.close()
     server.ends()
     check(server, peer, [("whole", [("a", b"a")])])
-    expect_equal(peer.got.hex(), "4c010000000100000001000161", "the frame")
-    expect_equal(server.text("stdout"), SERVED, "the report")
+    expect_equal(peer.got.hex(), "4c0201000000010000000000000001000161", "the frame")
+    expect_equal(server.text("stdout"), REPORT, "the report")
     told = server.text("stderr").splitlines()
     for line in (ENDED % ("control", 1), ENDED % ("ingress", 1)):
         expect(any(text.startswith(line) for text in told), "not told: %s" % line)
@@ -83,8 +91,8 @@ def control_lines(run):
     peer = run.peer()
     server = run.server(peer, clerks=2)
     first, second = server.control(), server.control()
-    first.ask_wanted(["turn 1", "send a 61", "torn", "audit 1", "", "mkcur x", "mkcur  y", "mkcur Y", "mkcur y\r"],
-                     ["no 3 Syntax"] * 5 + ["ok"] + ["no 3 Syntax"] * 3)
+    first.ask_wanted(["audit 2", "turn 1", "send a 61", "torn", "audit 1", "audit 2", "", "mkcur x", "mkcur  y",
+                      "mkcur Y", "mkcur y\r"], ["no 3 Syntax"] * 7 + ["ok"] + ["no 3 Syntax"] * 3)
     first.ask_wanted(["x" * 20481, "mkcur " + "y" * 60000, "mkcur x", "mkcur z"],
                      ["no 3 Syntax", "no 3 Syntax", "no 9 Taken", "ok"])
     first.send(b"y" * 100000)
@@ -118,6 +126,27 @@ def expected_rows(names):
     return "\n".join([*rows, "end"])
 
 
+def long_packets(run):
+    """Packets of up to 9000 bytes for a flow of each tariff: their frames, and what the flows owe for them."""
+    peer = run.peer()
+    server = run.server(peer)
+    control = server.control()
+    sent = []
+    for number, name in enumerate(OWED, 1):
+        control.ask_wanted(["open %s 8 %d" % (name, number), "mktkt 1 base", "fund %d flow %s" % (number, name)],
+                           ["flow %d" % number, "ticket %d" % number, "ok"])
+        sent += [packets(name, number, 1, size)[0] for size in LONG_SIZES]
+    server.ingress(records(sent)).close()
+    control.close()
+    server.ends()
+    replay = check(server, peer, [("whole", sent)])
+    wanted = [(number, seq, payload, number) for number, name in enumerate(OWED, 1)
+              for seq, payload in enumerate([payload for flow, payload in sent if flow == name], 1)]
+    expect(sorted(frames(replay.out)[0]) == wanted, "other frames were sent")
+    owed = {line.split()[2]: int(line.split()[5]) for line in replay.report.splitlines() if line.startswith("flow ")}
+    expect_equal(owed, OWED, "what the flows owe")
+
+
 def accepted_in_order(run):
     """Control connections are accepted first, each is answered at once, and ingress connections wait for all of them,
     also those that were there before."""
@@ -130,7 +159,7 @@ def accepted_in_order(run):
     time.sleep(0.2)
     expect(total("accepted", 0) in first.ask("report")[0], "a packet arrives before all control connections are there")
     second = server.control()
-    wait_for(lambda: len(peer.got) == 10 * 112, "the frames of a client")
+    wait_for(lambda: len(peer.got) == 10 * 117, "the frames of a client")
     for client in (first, second, connection):
         client.close()
     server.ends()
@@ -288,7 +317,7 @@ BAD_FIELDS = {
     "a name with an upper-case letter": b"\x02aB",
     "a name with a space": b"\x02a ",
     "a payload of no byte": b"\x01a\x00\x00",
-    "a payload of 1491 bytes": b"\x01a\x05\xd3",
+    "a payload of 9001 bytes": b"\x01a\x23\x29",
     "a payload of 65535 bytes": b"\x01a\xff\xff",
 }
 
@@ -303,7 +332,7 @@ def malformed(run):
         control.fund()
         good = [packets("a", number, 50, 20) for number in (0, 1)]
         first = server.ingress(records(good[0]) + bad)
-        second = server.ingress(records(good[1]) + bad + b"a" * 1491 + records(packets("a", 2, 50, 20)))
+        second = server.ingress(records(good[1]) + bad + b"a" * 9001 + records(packets("a", 2, 50, 20)))
         for connection in (first, second):
             ends_by_itself(connection)
             connection.close()
@@ -340,14 +369,14 @@ def clients_vanish(run):
     gone = packets("a", 0, 5, 1000)
     vanishing = server.ingress(records(gone) + b"\x01a\x03\xe8half")
     stays = server.ingress()
-    wait_for(lambda: len(peer.got) == 5 * 1012, "the frames of a client")
+    wait_for(lambda: len(peer.got) == 5 * 1017, "the frames of a client")
     reset(vanishing)
     first.send(b"report\n" * 100 + b"mkcur")
     first.replies.close()
     reset(first.socket)
     some = packets("a", 1, 100, 100)
     stays.sendall(records(some))
-    wait_for(lambda: len(peer.got) == 5 * 1012 + 100 * 112, "the frames of another client")
+    wait_for(lambda: len(peer.got) == 5 * 1017 + 100 * 117, "the frames of another client")
     second.ask_wanted(["mkcur x"], ["ok"])
     second.close()
     stays.close()
@@ -367,13 +396,13 @@ def clients_stall(run):
     some = packets("a", 1, 60, 8)
     for byte in records(some):
         slow.sendall(bytes([byte]))
-    wait_for(lambda: len(peer.got) == 60 * 20, "the frames of a client")
+    wait_for(lambda: len(peer.got) == 60 * 25, "the frames of a client")
     control.ask_wanted(["mkcur x"], ["ok"])
     control.send(b"mkcur ")
     time.sleep(0.2)
     late = [("a", b"late")]
     stalls.sendall(records(late)[3:])
-    wait_for(lambda: len(peer.got) == 60 * 20 + 16, "the frame of a client that went on")
+    wait_for(lambda: len(peer.got) == 60 * 25 + 21, "the frame of a client that went on")
     control.ask_wanted(["y"], ["ok"])
     expect_equal([deaf.reply() is not None for _ in range(20000)], [True] * 20000, "the reports, read late")
     asked.finish()
@@ -447,7 +476,7 @@ def spent_life(run):
         connection.close()
     control.ask_wanted(["mkcur x", "close a", "mkcur", "turn 1"], ["no 2 Spent"] * 2 + ["no 3 Syntax"] * 2)
     report = control.ask("report")[0]
-    expect(report.startswith(total("clock", 15) + total("accepted", 1) + total("written", 1)), "a report: %s" % report)
+    expect(report.startswith(total("clock", 20) + total("accepted", 1) + total("written", 1)), "a report: %s" % report)
     control.close()
     server.ends(1, "the life is spent")
     replay = check(server, peer, [("whole", [("a", b"1st")])])
@@ -495,7 +524,7 @@ def until_eof_idle(run):
         if there > 1:
             some = packets("a", 0, 200, 20)
             server.ingress(records(some) + b"\x01a\x00")
-            wait_for(lambda: len(peer.got) == 200 * 32, "the frames of a client")
+            wait_for(lambda: len(peer.got) == 200 * 37, "the frames of a client")
         server.end_input()
         server.ends(seconds=END)
         if control:
@@ -578,7 +607,7 @@ def until_eof_unread_replies(run):
     asking = run.thread(ask_on)
     some = packets("a", 0, 10, 100)
     server.ingress(records(some)).close()
-    wait_for(lambda: len(peer.got) == 10 * 112, "the frames of a client")
+    wait_for(lambda: len(peer.got) == 10 * 117, "the frames of a client")
     time.sleep(0.5)
     server.end_input()
     server.ends(seconds=END)
@@ -699,7 +728,7 @@ def fault_thread(run):
     control = server.control()
     control.fund()
     first = server.ingress(record("a", b"1st"))
-    wait_for(lambda: len(peer.got) == 15, "the frame of a client")
+    wait_for(lambda: len(peer.got) == 20, "the frame of a client")
     with open("/proc/%d/statm" % server.process.pid) as source:
         size = int(source.read().split()[0]) * resource.getpagesize()
     lower(server, resource.RLIMIT_AS, size + (1 << 20))
@@ -723,7 +752,7 @@ def fault_files(run):
     server = run.server(peer, audit="/dev/full")
     one_packet(server)
     server.ends(1, "cannot write the audit /dev/full")
-    expect(server.text("stdout").startswith(total("clock", 15)), "no report")
+    expect(server.text("stdout").startswith(total("clock", 20)), "no report")
     for path, fault in ((None, "cannot write the output"), ("/dev/full", "cannot write the audit /dev/full")):
         with open("/dev/full", "wb") as full:
             peer = run.peer()
@@ -748,7 +777,7 @@ def audit_files(run):
         peer = run.peer()
         server = run.server(peer, audit=path)
         control = server.control()
-        expect(open(old).read().startswith("an old audit" if path == old else "audit 1"), "the old audit is gone")
+        expect(open(old).read().startswith("an old audit" if path == old else "audit 2"), "the old audit is gone")
         control.fund()
         server.ingress(record("a", b"1st")).close()
         control.close()
@@ -770,12 +799,33 @@ def audit_files(run):
     expect_equal(bytes(peer.got), frame(1, 1, b"1st"), "the frame")
 
 
-CASES = (served, quiet, control_lines, accepted_in_order, idle, ends_held, full_queue, shares_64, shares_1024,
-         malformed, cut, clients_vanish, clients_stall, peer_closes_at_once, peer_resets_at_once,
+def ended_by_a_signal(run):
+    """A signal ends a server without its audit and its report. An old audit stays as it was."""
+    for sent in (signal.SIGTERM, signal.SIGINT, signal.SIGKILL):
+        old = os.path.join(run.folder(), "audit")
+        with open(old, "w") as sink:
+            sink.write("an old audit\n")
+        peer = run.peer()
+        server = run.server(peer, audit=old)
+        control = server.control()
+        control.fund()
+        client = server.ingress(record("a", b"1st"))
+        wait_for(lambda: len(peer.got) == 20, "the frame of a client")
+        server.process.send_signal(sent)
+        expect_equal(server.wait(), -sent, "status")
+        expect_equal(server.text("stdout"), "", "the report")
+        with open(old) as source:
+            expect_equal(source.read(), "an old audit\n", "the old audit")
+        client.close()
+        control.vanish()
+
+
+CASES = (served, quiet, control_lines, long_packets, accepted_in_order, idle, ends_held, full_queue, shares_64,
+         shares_1024, malformed, cut, clients_vanish, clients_stall, peer_closes_at_once, peer_resets_at_once,
          peer_closes_after_some_bytes, peer_reads_slowly, peer_writes_back, spent_life, spent_life_under_load,
          until_eof_idle, until_eof_gives_what_had_come, until_eof_floods, until_eof_unread_replies, until_eof_dead_peer,
          until_eof_open, fault_words, fault_addresses, fault_memory, fault_accept, fault_thread, fault_files,
-         audit_files)
+         audit_files, ended_by_a_signal)
 
 
 if __name__ == "__main__":

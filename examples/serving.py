@@ -30,8 +30,18 @@ QUIET_SHARE = 0.02
 LISTENING = re.compile(r"^listening for (ingress|control) on 127\.0\.0\.1:(\d+)$", re.MULTILINE)
 ENDED = "%s %d: ended"
 
+# The version of frames and audits that a served link writes.
+SERVED = 2
+
+# By version: the fields of a header behind its mark and its version, how many bytes the whole header has, and the most
+# bytes of a payload.
+FIELDS = {1: ">IIH", 2: ">BIQH"}
+HEADER = {1: 12, 2: 17}
+LONGEST_PAYLOAD = {1: 1490, 2: 9000}
+MOST_TARIFF = 8
+
 FUNDED = ("open a %d 1", "mktkt 1 base", "fund 1 flow a")
-ONE_PACKET = "audit 1\nopen a 1024 1\nmktkt 1 base\nfund 1 flow a\nsend a 317374\nturn 15\n"
+ONE_PACKET = "audit 2\nopen a 1024 1\nmktkt 1 base\nfund 1 flow a\nsend a 317374\nturn 20\n"
 LOOPBACK = "127.0.0.1"
 
 
@@ -89,20 +99,24 @@ def records(some):
     return b"".join(record(name, payload) for name, payload in some)
 
 
-def frame(flow, seq, payload):
-    return b"\x4c\x01" + struct.pack(">IIH", flow, seq, len(payload)) + payload
+def frame(flow, seq, payload, tariff=1, version=SERVED):
+    """A frame. One of version 1 does not tell the tariff of its flow."""
+    numbers = (flow, seq, len(payload)) if version == 1 else (tariff, flow, seq, len(payload))
+    return bytes([0x4c, version]) + struct.pack(FIELDS[version], *numbers) + payload
 
 
-def frames(data):
-    """The frames at the front of these bytes, as (flow, sequence number, payload), and what is left."""
-    found, at = [], 0
-    while len(data) - at >= 12:
-        flow, seq, size = struct.unpack_from(">IIH", data, at + 2)
-        expect(data[at:at + 2] == b"\x4c\x01" and flow and seq and 1 <= size <= 1490, "no frame at byte %d" % at)
-        if len(data) - at < 12 + size:
+def frames(data, version=SERVED):
+    """The frames of a version at the front of these bytes, as (flow, sequence number, payload, tariff), and what is
+    left. Those of version 1 have no tariff: None."""
+    found, at, header = [], 0, HEADER[version]
+    while len(data) - at >= header:
+        *tariff, flow, seq, size = struct.unpack_from(FIELDS[version], data, at + 2)
+        expect(data[at:at + 2] == bytes([0x4c, version]) and all(1 <= number <= MOST_TARIFF for number in tariff)
+               and flow and seq and 1 <= size <= LONGEST_PAYLOAD[version], "no frame at byte %d" % at)
+        if len(data) - at < header + size:
             break
-        found.append((flow, seq, data[at + 12:at + 12 + size]))
-        at += 12 + size
+        found.append((flow, seq, data[at + header:at + header + size], tariff[0] if tariff else None))
+        at += header + size
     return found, data[at:]
 
 
@@ -361,10 +375,10 @@ def one_packet(server):
 
 
 class Replay:
-    """The audit of a run, and what `stridelink run` answers to it and to a report behind it."""
+    """The audit of a served link, and what `stridelink run` answers to it and to a report behind it."""
 
     def __init__(self, audit, life):
-        expect(audit.startswith("audit 1\n") and audit.endswith("\n"), "no audit: %s" % shortened(audit))
+        expect(audit.startswith("audit %d\n" % SERVED) and audit.endswith("\n"), "no audit: %s" % shortened(audit))
         done = subprocess.run([PROGRAM, "run", "--life", str(life)], input=(audit + "report\n").encode(),
                               stdout=subprocess.PIPE, stderr=subprocess.PIPE, timeout=60, check=False)
         expect(done.returncode == 0, "the audit's replay fails: %s" % shortened(done.stderr))
@@ -387,6 +401,11 @@ class Replay:
             if line.startswith("send "):
                 _, name, digits = line.split(" ")
                 yield name, bytes.fromhex(digits), reply
+
+    def tariffs(self):
+        """The number of each flow's tariff, by the flow's number."""
+        opened = [(line.split(), reply.split()) for line, reply in self.answered() if reply.startswith("flow ")]
+        return {int(reply[1]): int(line[3]) for line, reply in opened}
 
     def totals(self):
         """The totals of the report."""
@@ -411,8 +430,9 @@ def check_arrivals(replay, sent):
 
 
 def check_frames(replay):
-    """Wants that the packets of each flow were sent in the order in which they were accepted, counted from 1."""
-    accepted = defaultdict(list)
+    """Wants that the packets of each flow were sent in the order in which they were accepted, counted from 1, and that
+    each frame tells the tariff of its flow."""
+    accepted, tariffs = defaultdict(list), replay.tariffs()
     for _, payload, reply in replay.arrivals():
         word, *numbers = reply.split()
         if word == "packet":
@@ -420,9 +440,10 @@ def check_frames(replay):
             accepted[flow].append(payload)
             expect_equal(seq, len(accepted[flow]), "the number of a packet of flow %d" % flow)
     sent = defaultdict(int)
-    for flow, seq, payload in frames(replay.out)[0]:
+    for flow, seq, payload, tariff in frames(replay.out)[0]:
         sent[flow] += 1
         expect_equal(seq, sent[flow], "the number of a frame of flow %d" % flow)
+        expect_equal(tariff, tariffs[flow], "the tariff that frame %d of flow %d tells" % (seq, flow))
         expect(payload == accepted[flow][seq - 1], "the payload of frame %d of flow %d" % (seq, flow))
     totals = replay.totals()
     expect_equal(totals["accepted"], sum(map(len, accepted.values())), "packets accepted")

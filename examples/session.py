@@ -6,13 +6,17 @@ import sys
 
 sys.dont_write_bytecode = True
 
-from serving import PROGRAM, Failure, Run, expect_equal, frame, frames, limit_time, record, wait_for
+from serving import HEADER, PROGRAM, SERVED, Failure, Run, expect_equal, frame, frames, limit_time, record, wait_for
 
 LIFE = 1000
 
 FUNDING = ("open acme 16 1", "mktkt 300 base", "fund 1 flow acme",
            "open zeta 16 1", "mktkt 100 base", "fund 2 flow zeta")
 PACKETS = (("acme", b"hello"), ("zeta", b"bye"), ("acme", b"again"))
+
+# The frames and the account of acme that README shows.
+ACME_FRAMES = ["4c0201000000010000000000000001000568656c6c6f", "4c02010000000100000000000000020005616761696e"]
+ACME_ACCOUNT = "44"
 
 
 def told(server):
@@ -46,14 +50,19 @@ def play(run):
     for line in FUNDING:
         asked(control, line)
     server.ingress(b"".join(record(name, payload) for name, payload in PACKETS)).close()
-    wanted = sum(12 + len(payload) for _, payload in PACKETS)
+    wanted = sum(HEADER[SERVED] + len(payload) for _, payload in PACKETS)
     wait_for(lambda: len(peer.got) == wanted, "the frames")
-    for flow, seq, payload in frames(peer.got)[0]:
-        print("peer     %s" % frame(flow, seq, payload).hex())
+    got = [(each[0], frame(*each).hex()) for each in frames(peer.got)[0]]
+    for _, each in got:
+        print("peer     %s" % each)
+    expect_equal([each for flow, each in got if flow == 1], ACME_FRAMES, "the frames of acme")
     control.close()
     server.ends()
     told(server)
-    print("\nThe bill, on standard output:\n" + server.text("stdout"), end="")
+    report = server.text("stdout")
+    print("\nThe bill, on standard output:\n" + report, end="")
+    accounts = {line.split()[2]: line.split()[5] for line in report.splitlines() if line.startswith("flow ")}
+    expect_equal(accounts["acme"], ACME_ACCOUNT, "the account of acme")
     proved(server, peer)
 
 

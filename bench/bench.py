@@ -2,11 +2,12 @@
 """Measures bin/stridelink beside a plain Rust program of the same lines, and the crates beside plain loops.
 
 `bench.py scripts` runs the scripts alone, and `bench.py loops` the loops over the ledger and the stride queue;
-`bench.py counts` counts the instructions of the first lines of each script, and `bench.py graphs` those of lines over
-graphs of currencies that are made in several orders (by valgrind, whatever else the machine does); without a word all
-are run. A time is the processor time, user and system, of a whole run, the median of ROUNDS rounds in which the
-programs take turns, and a ratio is the median of the rounds' ratios; machines are noisy, so the ratios of one run are
-what to read. Nothing is written but a folder of scripts and outputs in the system's temporary folder, which is removed.
+`bench.py counts` counts the instructions of the first lines of each script, by the line and by the byte that they
+write, and `bench.py graphs` those of lines over graphs of currencies that are made in several orders (by valgrind,
+whatever else the machine does); without a word all are run. A time is the processor time, user and system, of a whole
+run, the median of ROUNDS rounds in which the programs take turns, and a ratio is the median of the rounds' ratios;
+machines are noisy, so the ratios of one run are what to read. Nothing is written but a folder of scripts and outputs in
+the system's temporary folder, which is removed.
 """
 import filecmp
 import os
@@ -76,8 +77,8 @@ def written(output):
     start = 0
     with open(output, "rb") as source:
         for at in range(0, size, 1 << 16):
-            place = source.read(1 << 16).rfind(b"\n")
-            if 0 <= place and at + place + 1 < size:
+            place = source.read(1 << 16).rfind(b"\n", 0, size - 1 - at)
+            if place >= 0:
                 start = at + place + 1
     return (size - start - len("out \n")) // 2
 
@@ -144,14 +145,17 @@ def measure_counts():
     """Prints a row for each script: the instructions of its first lines."""
     with tempfile.TemporaryDirectory() as folder:
         plain = build_plain(folder)
-        path = os.path.join(folder, "script")
-        print_row(("script", "instructions a line", "plain", "beside plain"))
-        print_row(["---"] * 4)
+        path, output = os.path.join(folder, "script"), os.path.join(folder, "output")
+        print_row(("script", "instructions a line", "plain", "beside plain", "a byte written", "plain"))
+        print_row(["---"] * 6)
         for script in SCRIPTS:
             count = script.write_first(path, COUNTED_LINES)
-            ours, theirs = (instructions([program, "run", "--life", str(script.life)], path, folder) / count
-                            for program in (PROGRAM, plain))
-            print_row((script.name, "%.0f" % ours, "%.0f" % theirs, "%.2f" % (ours / theirs)))
+            commands = [[program, "run", "--life", str(script.life)] for program in (PROGRAM, plain)]
+            ours, theirs = (instructions(command, path, folder) for command in commands)
+            run(commands[1], path, output)
+            size = written(output)
+            print_row((script.name, "%.0f" % (ours / count), "%.0f" % (theirs / count), "%.2f" % (ours / theirs),
+                       *("%.2f" % (total / size) if size else "" for total in (ours, theirs))))
 
 
 def measure_graphs():
@@ -197,8 +201,10 @@ def build_crate(folder, name, sources, used, also, words):
                 sink.write(line)
         sink.write("%s: %s\n" % (name, " ".join([*used, *also])))
     print("building bench/%s" % name, file=sys.stderr)
-    subprocess.run(["rt", "run", "--", *words], cwd=os.path.dirname(source), check=True,
-                   stdout=subprocess.DEVNULL, stderr=subprocess.DEVNULL)
+    done = subprocess.run(["rt", "run", "--", *words], cwd=os.path.dirname(source), stdout=subprocess.PIPE,
+                          stderr=subprocess.STDOUT, text=True)
+    if done.returncode != 0:
+        sys.exit("%sbench/%s is not built" % (done.stdout, name))
     return os.path.join(folder, "crates", name, "out", name)
 
 

@@ -36,7 +36,7 @@ def per_record(program, kind, size, few, many, records):
 def main():
     with tempfile.TemporaryDirectory() as folder:
         program = build_crate(folder, "ingress", SOURCES, USED, ["crossbeam_queue", "anyhow"], ["next", "1", "1"])
-        for size in (1, 700, 1490):
+        for size in (1, 700, 1490, 9000):
             found = [per_record(program, "next", size, 10, 1010, RECORDS) for _ in range(ROUNDS)]
             print("next, a payload of %d bytes: %.0f ns" % (size, median(spent for spent, _ in found)))
         pairs = [[per_record(program, kind, 0, 1000, 1001000, 1)[0] for kind in ("offer", "push")]

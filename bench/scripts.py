@@ -1,6 +1,6 @@
 """The scripts that are measured."""
 from collections.abc import Callable
-from dataclasses import dataclass
+from dataclasses import dataclass, replace
 from itertools import islice
 
 LONGEST_LIFE = 1 << 24
@@ -55,6 +55,16 @@ def opening(limit):
 def send(size, flow="a"):
     """A packet of so many bytes for a flow."""
     return "send %s %s\n" % (flow, "".join("%02x" % (i * 7 % 256) for i in range(size)))
+
+
+def pairs(size, count):
+    """Packets of so many bytes, each of which is written before the next one comes."""
+    return Script("pairs of %d bytes" % size, opening(1000), send(size) + TURN, count)
+
+
+def in_version_2(script):
+    """A script with frames of version 2."""
+    return replace(script, name=script.name + ", version 2", beginning="audit 2\n" + script.beginning)
 
 
 class Funding:
@@ -233,8 +243,11 @@ def amends(name, count):
 
 
 SCRIPTS = [
-    Script("pairs of 700 bytes", opening(1000), send(700) + TURN, 100_000),
-    Script("pairs of 2 bytes", opening(1000), send(2) + TURN, 500_000),
+    pairs(700, 100_000),
+    in_version_2(pairs(700, 100_000)),
+    pairs(1490, 48_000),
+    in_version_2(pairs(9000, 8_000)),
+    pairs(2, 500_000),
     Script("a byte at a time", opening(1000), send(2) + "turn 1\n" * 14, 200_000),
     Script("backlog of 1000 packets", opening(1000), send(1000) * 1000 + TURN * 1000, 60),
     Script("full buffer", opening(1) + send(2), send(2), 1_000_000),

@@ -25,14 +25,13 @@ from bench import MEBIBYTE, PROGRAM, TOP, build_plain, median, print_row
 
 sys.dont_write_bytecode = True
 sys.path.insert(0, os.path.join(TOP, "examples"))
-from serving import LOOPBACK, Server, connected, record  # noqa: E402
+from serving import HEADER, LOOPBACK, SERVED, Server, connected, record  # noqa: E402
 
 ROUNDS = int(os.environ.get("ROUNDS", "7"))
 PACKETS = int(os.environ.get("PACKETS", "60000"))
 MEMORY_PACKETS = int(os.environ.get("MEMORY_PACKETS", "1000000"))
 SIZES = (700, 64)
 SIZES_OF_EIGHT = (1490, 700, 64)
-HEADER = 12
 FLOWS = "abcdefgh"
 
 # A client sends so many records at once. Of all that were sent in a paced load, so many frames at most are not yet
@@ -66,7 +65,7 @@ class Link:
     the uplink's peer."""
 
     def __init__(self, program, size, flows=FLOWS[:2], life=LIFE):
-        self.size = HEADER + size
+        self.size = HEADER[SERVED] + size
         self.folder = tempfile.TemporaryDirectory()
         self.listener = listen()
         self.server = Server(self.folder.name, "%s:%d" % self.listener.getsockname(), workers=len(flows), life=life,
@@ -173,7 +172,7 @@ def bare(program, size, count):
     with listen() as listener:
         before = resource.getrusage(resource.RUSAGE_CHILDREN)
         start = time.perf_counter()
-        child = subprocess.Popen([program, "%s:%d" % listener.getsockname(), str(count), str(HEADER + size)])
+        child = subprocess.Popen([program, "%s:%d" % listener.getsockname(), str(count), str(HEADER[SERVED] + size)])
         peer = listener.accept()[0]
         buffer = bytearray(1 << 20)
         while peer.recv_into(buffer):
@@ -222,7 +221,7 @@ def speed_row(load, program, size, count, rounds, found):
 
     rate = median(speed.rate() for speed in rounds)
     frames = median(speed.frames for speed in rounds)
-    return (load, program, "%.0f" % rate, "%.1f" % (rate * (HEADER + size) / 1e6),
+    return (load, program, "%.0f" % rate, "%.1f" % (rate * (HEADER[SERVED] + size) / 1e6),
             "%.2f" % median(speed.cost() for speed in rounds),
             beside("bare", lambda ours, theirs: ours.rate() / theirs.rate()),
             beside("plain", lambda ours, theirs: ours.rate() / theirs.rate()),

@@ -3,16 +3,17 @@
 
 `soak.py load` and `soak.py hostile` are the parts; without a word both are run. The program is that of `--program`, or
 of the variable PROGRAM, or bin/stridelink. Nothing is written but folders in the system's temporary folder, which are
-removed: of a million packets some 2.5 GB. The server, and then the replay of its audit, hold up to 2 GB of memory in
+removed: of a million packets some 4 GB. The server, and then the replay of its audit, hold up to 3 GB of memory in
 either part. Where nothing moves for a minute, the program ends and tells what it waited for.
 
-*load.* PACKETS packets (1000000 unless set) of drawn lengths, 1 to 1490 bytes, come through eight ingress connections
-for eight flows. All the while eight clerks open a flow each, fund it, let other tickets fund it, and close it again,
-and the peer of the uplink stops reading now and then. What is drawn comes from SEED (the time unless set), which is
-printed; when what comes, no seed decides. The life is reckoned so: a packet is one event, and so is the write of its
-frame; a write that takes a part is one more, of which one for every four packets are allowed; and the clerks, who keep
-behind the packets, make one command for each packet at most, and a few to begin with. That is 3.25 events a packet and
-4096, so the longest life has room for five million packets. It is wanted
+*load.* PACKETS packets (1000000 unless set) come through eight ingress connections for eight flows. Their lengths are
+drawn: one in eight from 1 to 9000 bytes, the others from 1 to 1490. All the while eight clerks open a flow each, fund
+it, let other tickets fund it, and close it again, and the peer of the uplink stops reading now and then. What is drawn
+comes from SEED (the time unless set), which is printed; when what comes, no seed decides. The life is reckoned so: a
+packet is one event, and so is the write of its frame; a write that takes a part is one more, of which one for every
+four packets are allowed; and the clerks, who keep behind the packets, make one command for each packet at most, and a
+few to begin with. That is 3.25 events a packet and 4096, so the longest life has room for five million packets. It is
+wanted
 
 - that the server ends with status 0, and has counted the packets and commands that were sent;
 - that its audit, run as a script, has an answer for each event, gives the report of the server, and ends with the bytes
@@ -57,8 +58,8 @@ from bench import MEBIBYTE, TOP, median, print_row
 
 sys.dont_write_bytecode = True
 sys.path.insert(0, os.path.join(TOP, "examples"))
-from serving import (LOOPBACK, Failure, Server, Task, expect, expect_equal, limit_time,  # noqa: E402
-                     record, total, wait_for)
+from serving import (HEADER, LONGEST_PAYLOAD, LOOPBACK, SERVED, Failure, Server, Task, expect,  # noqa: E402
+                     expect_equal, limit_time, record, total, wait_for)
 
 PROGRAM = os.environ.get("PROGRAM", bench.PROGRAM)
 PACKETS = int(os.environ.get("PACKETS", "1000000"))
@@ -73,12 +74,16 @@ STALL = 60
 # its entry.
 LONGEST_LIFE = 1 << 24
 FLOWS = "abcdefgh"
-MOST_PAYLOAD = 1490
+MOST_PAYLOAD = LONGEST_PAYLOAD[SERVED]
 MOST_WAITING = 1024
 PLACES = 256
 TARIFFS = 4
-HEADER = 12
+ADDED = HEADER[SERVED]
 IN_PLACE = 16
+
+# The part of the packets that are drawn from all lengths. The others have at most so many bytes.
+LONG = 1 / 8
+MOST_USUAL = 1490
 
 # A client sends so many records at once. A clerk has so many tickets, closes its flow once in so many steps, and may
 # make so many commands before the packets come.
@@ -215,7 +220,7 @@ class Kept:
         bytes together, and so many were commands."""
         waiting = len(FLOWS) * MOST_WAITING + 2 * (PLACES + len(FLOWS))
         held = (before + 2 * len(FLOWS) * ROOM + events * self.entry + copied + copies * self.copy
-                + 2 * commands * self.receipt + waiting * (HEADER + MOST_PAYLOAD + self.copy))
+                + 2 * commands * self.receipt + waiting * (ADDED + MOST_PAYLOAD + self.copy))
         return held * (1 + MARGIN)
 
 
@@ -256,10 +261,15 @@ class Probe:
                 self.control.reply()
 
 
+def drawn_length(draw):
+    """How many bytes a packet has."""
+    return 1 + int(draw.random() * (MOST_PAYLOAD if draw.random() < LONG else MOST_USUAL))
+
+
 def measure_kept(program):
     """What an entry, a copy and a receipt take."""
     draw = random.Random("%d probe" % SEED)
-    lengths = [draw.randint(IN_PLACE + 1, MOST_PAYLOAD) for _ in range(PROBE)]
+    lengths = [max(IN_PLACE + 1, drawn_length(draw)) for _ in range(PROBE)]
     found = []
     for give in (lambda probe: probe.send([1] * PROBE), lambda probe: probe.send(lengths), Probe.ask):
         with contextlib.ExitStack() as stack:
@@ -267,7 +277,7 @@ def measure_kept(program):
             found.append(probe.growth(lambda: give(probe)))
             probe.end()
     entry, copied, asked = found
-    return Kept(entry, max(0, copied - entry - sum(lengths) / PROBE - HEADER), max(0, asked - entry))
+    return Kept(entry, max(0, copied - entry - sum(lengths) / PROBE - ADDED), max(0, asked - entry))
 
 
 # A long load.
@@ -384,13 +394,13 @@ def send_packets(connection, number, count, sent, copies, copied):
     names = [bytes([len(name)]) + name.encode() for name in FLOWS]
     while sent[number] < count:
         some = min(STEP, count - sent[number])
-        lengths = [1 + int(draw.random() * MOST_PAYLOAD) for _ in range(some)]
+        lengths = [drawn_length(draw) for _ in range(some)]
         parts = []
         for length in lengths:
             at = int(draw.random() * (len(noise) - MOST_PAYLOAD))
             parts += (names[int(draw.random() * len(names))], struct.pack(">H", length), noise[at:at + length])
         connection.sendall(b"".join(parts))
-        outside = [HEADER + length for length in lengths if length > IN_PLACE]
+        outside = [ADDED + length for length in lengths if length > IN_PLACE]
         copies[number] += len(outside)
         copied[number] += sum(outside)
         sent[number] += some
@@ -580,11 +590,11 @@ def pace(connection, peer, ending, results):
     buffer = bytearray(1 << 20)
     sent, got, start = 0, 0, time.perf_counter()
     while not ending.is_set():
-        while sent + STEP - got // (HEADER + PACED) <= WINDOW:
+        while sent + STEP - got // (ADDED + PACED) <= WINDOW:
             connection.sendall(step)
             sent += STEP
         got += peer.recv_into(buffer)
-    results.send((got // (HEADER + PACED), time.perf_counter() - start))
+    results.send((got // (ADDED + PACED), time.perf_counter() - start))
     finish(connection)
     while peer.recv_into(buffer):
         pass

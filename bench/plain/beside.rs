@@ -2,7 +2,7 @@
 
 use crate::journal::Journal;
 use crate::link::Link;
-use crate::locked::{CAPACITY, Locked, Port, hold, run_link};
+use crate::locked::{CAPACITY, Locked, Port, VERSION, hold, run_link};
 use crate::output::Output;
 use crate::records::{self, Offer};
 use std::fs::File;
@@ -50,8 +50,8 @@ fn to_stderr() -> io::Result<Output> {
 
 /// A link on which the flow a is open and funded, and whose writer takes all.
 fn port(life: u64, queue: Receiver<Offer>) -> io::Result<Port<Sink>> {
-    let journal = Journal::new(life).ok_or(ErrorKind::OutOfMemory)?;
-    let link = Link::new(life, to_stderr()?);
+    let journal = Journal::new(VERSION, life).ok_or(ErrorKind::OutOfMemory)?;
+    let link = Link::new(VERSION, life, to_stderr()?);
     let mut locked = Locked { link, journal, uplink: io::sink(), queue: Some(queue), popped: vec![0; WORKERS] };
     let mut replies = to_stderr()?;
     for line in ["open a 1024 1", "mktkt 1 base", "fund 1 flow a"] {

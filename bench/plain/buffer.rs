@@ -1,9 +1,7 @@
 //! The packets of a flow that wait, as the frames that they will be sent as.
 
-const HEADER: usize = 12;
-
-/// The longest frame.
-const MAX_FRAME: usize = 1502;
+use crate::frame::{Header, MAX_HEADER, Version};
+use std::ops::Range;
 
 /// How many bytes of frames that are out may stand before the first frame.
 const MAX_STALE: usize = 1 << 12;
@@ -34,6 +32,7 @@ pub fn is_hexadecimal(payload: &[u8]) -> bool {
 
 /// Frames one after the other, from `first` to `end`. Each tells its size.
 pub struct Buffer {
+    version: Version,
     limit: usize,
     count: usize,
     frames: Vec<u8>,
@@ -42,8 +41,10 @@ pub struct Buffer {
 }
 
 impl Buffer {
-    pub fn new(limit: usize) -> Buffer {
-        Buffer { limit, count: 0, frames: vec![0; 2 * MAX_STALE], first: 0, end: 0 }
+    /// An empty buffer. It has room for two frames at least, so one more has room once the room is doubled.
+    pub fn new(version: Version, limit: usize) -> Buffer {
+        let room = 2 * MAX_STALE.max(version.max_frame());
+        Buffer { version, limit, count: 0, frames: vec![0; room], first: 0, end: 0 }
     }
 
     pub fn len(&self) -> usize {
@@ -54,32 +55,31 @@ impl Buffer {
         self.count == self.limit
     }
 
-    /// The room of a frame behind the others, its header written.
-    fn next(&mut self, flow: u32, seq: u32, size: usize) -> &mut [u8] {
-        if self.frames.len() - self.end < MAX_FRAME {
+    /// Puts a header behind the frames; the place of its payload.
+    #[inline(always)]
+    fn begin(&mut self, header: Header, size: usize) -> Range<usize> {
+        if self.frames.len() - self.end < MAX_HEADER + size {
             self.frames.resize(2 * self.frames.len(), 0);
         }
-        let frame = &mut self.frames[self.end..self.end + HEADER + size];
-        frame[..2].copy_from_slice(&[0x4c, 1]);
-        frame[2..6].copy_from_slice(&flow.to_be_bytes());
-        frame[6..10].copy_from_slice(&seq.to_be_bytes());
-        frame[10..HEADER].copy_from_slice(&(size as u16).to_be_bytes());
-        frame
+        self.version.write_header(&mut self.frames[self.end..], header, size);
+        let start = self.end + self.version.header_size();
+        start..start + size
     }
 
     /// Puts a frame with this payload behind the others.
-    pub fn push_bytes(&mut self, flow: u32, seq: u32, payload: &[u8]) {
-        self.next(flow, seq, payload.len())[HEADER..].copy_from_slice(payload);
-        self.end += HEADER + payload.len();
+    pub fn push_bytes(&mut self, header: Header, payload: &[u8]) {
+        let place = self.begin(header, payload.len());
+        self.end = place.end;
         self.count += 1;
+        self.frames[place].copy_from_slice(payload);
     }
 
     /// Puts a frame with this payload behind the others, where an even number of digits spell it; else nothing changes.
-    pub fn push(&mut self, flow: u32, seq: u32, payload: &[u8]) -> bool {
-        let size = payload.len() / 2;
-        let frame = self.next(flow, seq, size);
+    pub fn push(&mut self, header: Header, payload: &[u8]) -> bool {
+        let place = self.begin(header, payload.len() / 2);
+        let end = place.end;
         let mut seen = 0;
-        for (byte, pair) in frame[HEADER..].iter_mut().zip(payload.as_chunks().0) {
+        for (byte, pair) in self.frames[place].iter_mut().zip(payload.as_chunks().0) {
             let spelled = spelled(pair);
             seen |= spelled;
             *byte = spelled as u8;
@@ -87,16 +87,14 @@ impl Buffer {
         if seen >= NO_BYTE {
             return false;
         }
-        self.end += HEADER + size;
+        self.end = end;
         self.count += 1;
         true
     }
 
     /// The first frame.
     pub fn head(&self) -> &[u8] {
-        let frames = &self.frames[self.first..self.end];
-        let size = usize::from(u16::from_be_bytes([frames[10], frames[11]]));
-        &frames[..HEADER + size]
+        self.version.first_frame(&self.frames[self.first..self.end])
     }
 
     /// Takes the first frame out, which has so many bytes.

@@ -1,5 +1,6 @@
 //! The events of a link, and the file that tells them.
 
+use crate::frame::Version;
 use crate::records;
 use std::fs::{self, File, OpenOptions};
 use std::io::{self, BufWriter, Write};
@@ -14,6 +15,7 @@ pub enum Entry {
 }
 
 pub struct Journal {
+    version: Version,
     entries: Vec<Entry>,
     pub commands: u64,
     pub arrivals: u64,
@@ -21,10 +23,10 @@ pub struct Journal {
 
 impl Journal {
     /// A journal with room for a whole life, where there is memory for it.
-    pub fn new(life: u64) -> Option<Journal> {
+    pub fn new(version: Version, life: u64) -> Option<Journal> {
         let mut entries = Vec::new();
         entries.try_reserve_exact(life as usize).ok()?;
-        Some(Journal { entries, commands: 0, arrivals: 0 })
+        Some(Journal { version, entries, commands: 0, arrivals: 0 })
     }
 
     pub fn push(&mut self, entry: Entry) {
@@ -42,7 +44,8 @@ impl Journal {
     }
 
     fn write(&self, sink: &mut impl Write) -> io::Result<()> {
-        sink.write_all(b"audit 1\n")?;
+        sink.write_all(self.version.audit_line())?;
+        sink.write_all(b"\n")?;
         let mut digits = Vec::new();
         for entry in &self.entries {
             match entry {

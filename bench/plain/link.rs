@@ -1,6 +1,7 @@
 //! The link: each line is an event of it, or none.
 
 use crate::buffer::{Buffer, is_hexadecimal};
+use crate::frame::{Header, Version};
 use crate::ledger::Ledger;
 use crate::names::{Name, Names};
 use crate::output::Output;
@@ -12,21 +13,21 @@ use std::io::{self, ErrorKind, Write};
 use std::mem;
 
 pub const MAX_LINE: usize = 20480;
-const MAX_PAYLOAD: usize = 1490;
 const MAX_FLOWS: usize = 64;
 const MAX_TICKETS: u64 = 1 << 20;
 
 struct Tariff {
+    number: u8,
     cell: u32,
     overhead: u32,
     price: u64,
 }
 
 static TARIFFS: [Tariff; 4] = [
-    Tariff { cell: 1, overhead: 0, price: 1 },
-    Tariff { cell: 48, overhead: 16, price: 2 },
-    Tariff { cell: 1024, overhead: 0, price: 1 },
-    Tariff { cell: 2048, overhead: 1024, price: 3 },
+    Tariff { number: 1, cell: 1, overhead: 0, price: 1 },
+    Tariff { number: 2, cell: 48, overhead: 16, price: 2 },
+    Tariff { number: 3, cell: 1024, overhead: 0, price: 1 },
+    Tariff { number: 4, cell: 2048, overhead: 1024, price: 3 },
 ];
 
 struct Flow {
@@ -42,12 +43,17 @@ struct Flow {
 impl Flow {
     /// Posts so many bytes of a frame, and answers their units.
     fn post(&mut self, bytes: usize) -> u32 {
-        let Tariff { cell, overhead, price } = *self.tariff;
+        let Tariff { cell, overhead, price, .. } = *self.tariff;
         let bytes = bytes as u32;
         let cells = if cell == 1 { bytes } else { cell * bytes.div_ceil(cell) };
         let units = if bytes == 0 { 0 } else { overhead + cells };
         self.account += price * u64::from(units);
         units
+    }
+
+    /// What the frame of the next packet that comes will tell.
+    fn header(&self) -> Header {
+        Header { tariff: self.tariff.number, flow: self.number, seq: self.next }
     }
 
     /// Whether a packet that has just come is the first one that the flow could send.
@@ -79,6 +85,7 @@ pub enum Turn {
 }
 
 pub struct Link {
+    version: Version,
     life: u64,
     events: u64,
     /// Whether no line of a script was answered.
@@ -103,8 +110,10 @@ pub struct Link {
 }
 
 impl Link {
-    pub fn new(life: u64, output: Output) -> Link {
+    /// A link of a version. The first line of a script may tell another one.
+    pub fn new(version: Version, life: u64, output: Output) -> Link {
         Link {
+            version,
             life,
             events: 0,
             is_fresh: true,
@@ -129,7 +138,8 @@ impl Link {
         let is_first = mem::replace(&mut self.is_fresh, false);
         let answered = if line.len() > MAX_LINE {
             Err(Syntax)
-        } else if is_first && line == b"audit 1" {
+        } else if is_first && let Some(version) = Version::of_audit(line) {
+            self.version = version;
             Ok(())
         } else if let Some(words) = line.strip_prefix(b"send ") {
             self.send(words)
@@ -327,7 +337,7 @@ impl Link {
         self.free &= self.free - 1;
         self.opened += 1;
         self.names.insert(name, place);
-        let (number, buffer) = (self.opened, Buffer::new(limit));
+        let (number, buffer) = (self.opened, Buffer::new(self.version, limit));
         self.flows[place] = Some(Flow { name, number, next: 1, tariff, account: 0, held: false, buffer });
         self.ledger.worths.add_flow(place);
         self.queue.add(place, self.opened);
@@ -381,7 +391,7 @@ impl Link {
     /// The place of the flow that takes a packet of this size.
     fn receiver(&self, name: Name, size: usize) -> Result<usize, Refusal> {
         self.check_life()?;
-        if size > MAX_PAYLOAD {
+        if size > self.version.max_payload() {
             return Err(Range);
         }
         let place = self.names.get(name).ok_or(NoFlow)?;
@@ -410,7 +420,7 @@ impl Link {
     /// A packet comes for a flow that has room for it.
     fn accept(&mut self, place: usize, payload: &[u8]) -> Result<(), Refusal> {
         let flow = self.flows[place].as_mut().ok_or(NoFlow)?;
-        if !flow.buffer.push(flow.number, flow.next, payload) {
+        if !flow.buffer.push(flow.header(), payload) {
             return Err(Syntax);
         }
         self.events += 1;
@@ -429,7 +439,7 @@ impl Link {
         self.events += 1;
         let Ok(place) = receiver else { return };
         let Some(flow) = &mut self.flows[place] else { return };
-        flow.buffer.push_bytes(flow.number, flow.next, payload);
+        flow.buffer.push_bytes(flow.header(), payload);
         flow.next += 1;
         if flow.wakes() {
             self.ledger.worths.set_active(place, true);

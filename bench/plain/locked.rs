@@ -1,5 +1,6 @@
 //! The link behind its lock, one call a hold, and the worker that admits and sends.
 
+use crate::frame::Version;
 use crate::journal::{Entry, Journal};
 use crate::link::{Link, Turn};
 use crate::output::Output;
@@ -12,6 +13,9 @@ use std::thread;
 
 /// The places of the queue.
 pub const CAPACITY: usize = 256;
+
+/// The version of a link behind its lock, and of its audit.
+pub const VERSION: Version = Version::Two;
 
 pub struct Locked<W> {
     pub link: Link,

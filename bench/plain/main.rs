@@ -14,6 +14,7 @@ mod buffer;
 mod chains;
 mod connections;
 mod control;
+mod frame;
 mod heap;
 mod journal;
 mod ledger;
@@ -29,6 +30,7 @@ mod serve;
 mod words;
 mod worths;
 
+use frame::Version;
 use link::{Link, MAX_LINE};
 use output::Output;
 use std::fs::File;
@@ -89,6 +91,6 @@ fn main() -> io::Result<ExitCode> {
     let life = std::env::args().nth(3).and_then(|word| word.parse().ok()).unwrap_or(65536);
     let mut script = File::from(io::stdin().as_fd().try_clone_to_owned()?);
     let output = Output::new(File::from(io::stdout().as_fd().try_clone_to_owned()?));
-    run(&mut Link::new(life, output), &mut script)?;
+    run(&mut Link::new(Version::One, life, output), &mut script)?;
     Ok(ExitCode::SUCCESS)
 }

@@ -7,7 +7,7 @@ use std::sync::mpsc::SyncSender;
 
 const ROOM: usize = 1 << 16;
 const MAX_NAME: usize = 16;
-const MAX_PAYLOAD: usize = 1490;
+const MAX_PAYLOAD: usize = 9000;
 
 /// A record as it came, its name, and the number of its worker from 0.
 pub struct Offer {

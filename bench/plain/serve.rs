@@ -5,7 +5,7 @@ use crate::connections::{Connections, Kind, Source, read_away};
 use crate::control::{self, How};
 use crate::journal::{AuditFile, Journal};
 use crate::link::Link;
-use crate::locked::{CAPACITY, LinkEnd, Locked, Port, hold, run_link};
+use crate::locked::{CAPACITY, LinkEnd, Locked, Port, VERSION, hold, run_link};
 use crate::output::Output;
 use crate::records::{self, Offer, Why};
 use std::collections::BTreeSet;
@@ -234,7 +234,7 @@ impl Server {
 /// Makes what a run needs, in the order in which its faults are told.
 fn prepare(arguments: &Arguments) -> Result<(Journal, AuditFile, [TcpListener; 2], TcpStream), String> {
     let Arguments { ingress, control, uplink, audit, life, .. } = arguments;
-    let journal = Journal::new(*life).ok_or("out of memory")?;
+    let journal = Journal::new(VERSION, *life).ok_or("out of memory")?;
     let file = AuditFile::open(audit).map_err(|_| Fault::Audit.text(audit))?;
     let listen = |address: &String| TcpListener::bind(address).map_err(|_| format!("cannot listen on {address}"));
     let listeners = [listen(ingress)?, listen(control)?];
@@ -257,7 +257,7 @@ fn try_serve(arguments: &Arguments) -> Result<(), String> {
     }
     let output = Output::new(File::from(io::stdout().as_fd().try_clone_to_owned().map_err(memory)?));
     let (sender, receiver) = sync_channel(CAPACITY);
-    let link = Link::new(arguments.life, output);
+    let link = Link::new(VERSION, arguments.life, output);
     let popped = vec![0; arguments.workers];
     let server = Server {
         port: Mutex::new(Locked { link, journal, uplink, queue: Some(receiver), popped }),

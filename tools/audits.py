@@ -19,7 +19,9 @@ PROGRAM = os.environ.get("STRIDELINK") or (BUILT if os.path.exists(BUILT) else "
 # The longest life of a link. The audit of a shorter one is answered the same.
 LIFE = 1 << 24
 
-FIRST_LINES = (b"audit 1\n",)
+# The version of an audit and of its frames, by the first line; and how many bytes the header of a frame has.
+VERSIONS = {b"audit 1\n": 1, b"audit 2\n": 2}
+HEADER = {1: 12, 2: 17}
 
 # Answers to no event: no journal has a line that gets one of these.
 ANSWERS_TO_NO_EVENT = ("no 1 NoMemory", "no 2 Spent", "no 3 Syntax", "no 20 Broken", "idle", "again")
@@ -59,15 +61,24 @@ def why_unprinted(words, answer):
     return None
 
 
+def version_of(path):
+    """The version of an audit."""
+    with open(path, "rb") as audit:
+        version = VERSIONS.get(audit.readline())
+    if not version:
+        raise NoAudit("%s: line 1 is neither 'audit 1' nor 'audit 2'" % path)
+    return version
+
+
 class Replay:
-    """One run of an audit as a script. `lines` goes through its lines, and then `report` is that on the link at the
-    end, and `written` gives what the link wrote. A report is asked for in front of the lines of the numbers
-    `reports`."""
+    """One run of an audit of the version `version` as a script. `lines` goes through its lines, and then `report` is
+    that on the link at the end, and `written` gives what the link wrote. A report is asked for in front of the lines of
+    the numbers `reports`."""
 
     def __init__(self, path, reports=frozenset()):
         if not os.path.isfile(path):
             raise Fault("%s: no such file" % path)
-        open(path, "rb").close()
+        self.version = version_of(path)
         self.path = path
         self.reports = reports
         self.report = None
@@ -115,8 +126,7 @@ class Replay:
     def lines(self):
         """Each line but the first, Answered."""
         with open(self.path, "rb") as audit:
-            if audit.readline() not in FIRST_LINES:
-                raise NoAudit("%s: line 1 is not 'audit 1'" % self.path)
+            audit.readline()
             for number, line in enumerate(audit, 2):
                 yield self.answered(number, line)
         self.report = read_report(self.next_line)

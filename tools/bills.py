@@ -1,8 +1,9 @@
 """What the lines of an audit say of each flow, computed by the rules of the tariffs and compared with what the program
 answers: two ways to the same account."""
-from dataclasses import dataclass
+from collections import deque
+from dataclasses import dataclass, field
 
-from audits import Fault, Replay
+from audits import HEADER, Fault, Replay
 
 
 @dataclass(frozen=True)
@@ -23,7 +24,7 @@ TARIFFS = {1: Tariff(1, 0, 1), 2: Tariff(48, 16, 2), 3: Tariff(1024, 0, 1), 4: T
 @dataclass
 class Flow:
     """A flow's bill. `account` is what the program tells, and `tickets` are those with which the link chose the flow's
-    last frame; a flow of which no frame was begun has 0."""
+    last frame; a flow of which no frame was begun has 0. `waiting` has the lengths of the payloads that wait."""
     number: int
     name: str
     tariff: Tariff
@@ -34,6 +35,7 @@ class Flow:
     account: int = 0
     state: str = "open"
     last_frame: int = 0
+    waiting: deque = field(default_factory=deque)
 
     def row(self):
         return {"flow": self.number, "name": self.name, "tickets": self.tickets, "packets": self.packets,
@@ -50,9 +52,11 @@ def tariff(line):
 
 
 class Books:
-    """The flows of an audit by their numbers, from its lines. Of the frame in part, `part` bytes are out."""
+    """The flows of an audit by their numbers, from its lines. In front of a payload a frame has `header` bytes. Of the
+    frame in part, `part` bytes are out."""
 
-    def __init__(self):
+    def __init__(self, version):
+        self.header = HEADER[version]
         self.flows = {}
         self.part = 0
 
@@ -64,10 +68,14 @@ class Books:
         elif kind == "closed":
             flow = self.flows[int(numbers[0])]
             flow.account, flow.state = int(numbers[2]), "closed"
+        elif kind == "packet":
+            self.flows[int(numbers[0])].waiting.append(len(line.words[2]) // 2)
         elif kind == "wrote":
             flow = self.flows[int(numbers[0])]
             self.send(flow, line.number, int(numbers[2]))
             if numbers[3] == "whole":
+                agree("the bytes of packet %s of flow %d" % (numbers[1], flow.number), self.part,
+                      self.header + flow.waiting.popleft())
                 flow.packets += 1
                 self.charge(flow)
         elif kind == "torn":
@@ -107,8 +115,8 @@ def check(books, report):
 
 def bill(path):
     """The flows of an audit, in the order of their numbers."""
-    books = Books()
     with Replay(path) as replay:
+        books = Books(replay.version)
         for line in replay.lines():
             books.take(line)
         for number, row in replay.report.flows.items():

@@ -67,8 +67,9 @@ class Courses:
 
 def courses(path, most):
     """The courses of an audit's flows, with a point for each of at most `most` writes, and one for the end."""
-    found, books = Courses(), Books()
+    found = Courses()
     with Replay(path, samples(path, most)) as replay:
+        books = Books(replay.version)
         for line in replay.lines():
             if line.report:
                 found.sample(line.report, books)

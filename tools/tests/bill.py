@@ -58,10 +58,31 @@ WORKED = {
                       [(1, "a", 0, 0, 0, 0, 1, 0, "open")]),
 }
 
+# Audits of version 2, whose frames have 5 bytes more: 19 bytes under tariff 1; the same, of which 7 went out under
+# tariff 2 before a fault; frames of 9017 bytes under each tariff; and 1508 bytes, in a part of 1500 and one of 8, under
+# tariff 3.
+ONE_PACKET_2 = (*ONE_PACKET[:4], "turn 19")
+LONGEST = [line for flow, name in enumerate("abcd", 1)
+           for line in ("open %s 4 %d" % (name, flow), "mktkt 1 base", "fund %d flow %s" % (flow, name),
+                        "send %s %s" % (name, "00" * 9000))]
+WORKED_2 = {
+    "no lines": ((), []),
+    "one packet": (ONE_PACKET_2, [(1, "a", 10, 1, 19, 19, 1, 19, "open")]),
+    "torn": (TORN, [(1, "a", 1, 0, 7, 64, 2, 128, "open")]),
+    "single bytes": ((*ONE_PACKET[:4], *["turn 1"] * 19), [(1, "a", 10, 1, 19, 19, 1, 19, "open")]),
+    "the longest frames": ((*LONGEST, *["turn 9017"] * 4), [
+        (1, "a", 1, 1, 9017, 9017, 1, 9017, "open"), (2, "b", 1, 1, 9017, 9040, 2, 18080, "open"),
+        (3, "c", 1, 1, 9017, 9216, 1, 9216, "open"), (4, "d", 1, 1, 9017, 11264, 3, 33792, "open")]),
+    "a frame in two parts": (("open a 4 3", "mktkt 1 base", "fund 1 flow a", "send a " + "00" * 1491, "turn 1500",
+                              "turn 8", "close a"), [(1, "a", 1, 1, 1508, 2048, 1, 2048, "closed")]),
+}
+
 # Texts that no journal prints, with the line at fault and what is told of it. Lines 2 to 6 of ONE_PACKET are fine.
 NO_JOURNAL = {
     "a report": (audit("report"), 2, "'report', asks for a report"),
-    "a second version": (audit("audit 1"), 2, "'audit 1', is answered 'no 3 Syntax'"),
+    "a version twice": (audit("audit 1"), 2, "'audit 1', is answered 'no 3 Syntax'"),
+    "version 2 twice": (audit("audit 2", version=2), 2, "'audit 2', is answered 'no 3 Syntax'"),
+    "another version": (audit("audit 2"), 2, "'audit 2', is answered 'no 3 Syntax'"),
     "a misspelled line": (audit("mkcur  x"), 2, "'mkcur  x', is answered 'no 3 Syntax'"),
     "an empty line": (audit(*ONE_PACKET, ""), 7, "'', is answered 'no 3 Syntax'"),
     "a long line": (audit("x" * 30000), 2, "'%s', is answered 'no 3 Syntax'" % ("x" * 60)),
@@ -72,14 +93,20 @@ NO_JOURNAL = {
     "torn twice": (audit(*TORN, "torn"), 9, "'torn', is answered 'no 20 Broken'"),
     "a payload of 1491 bytes": (audit("send a " + "00" * 1491), 2,
                                 "'send a %s', is answered 'no 4 Range'" % ("0" * 53)),
+    "a payload of 9001 bytes": (audit("send a " + "00" * 9001, version=2), 2,
+                                "'send a %s', is answered 'no 4 Range'" % ("0" * 53)),
     "a turn of no byte": (audit(*ONE_PACKET[:4], "turn 0"), 6, "'turn 0', is answered 'no 4 Range'"),
     "a turn of too many bytes": (audit(*ONE_PACKET[:4], "turn 15"), 6,
                                  "'turn 15', is answered 'wrote 1 1 14 whole', "
                                  "as no turn of 15 bytes that were written"),
+    "a turn of too many bytes in version 2": (audit(*ONE_PACKET[:4], "turn 20", version=2), 6,
+                                              "'turn 20', is answered 'wrote 1 1 19 whole', "
+                                              "as no turn of 20 bytes that were written"),
     "a last line that is cut": (audit(*ONE_PACKET)[:-2], 6, "'turn 1', ends without a line feed"),
 }
 
-FIRST_LINES = ("", "audit 1", "audit 1\r\n", "audit 3\n", "audit 01\n", "open a 4 1\n", "\naudit 1\n")
+FIRST_LINES = ("", "audit 1", "audit 1\r\n", "audit 2", "audit 2 \n", "audit 3\n", "audit 02\n", "open a 4 1\n",
+               "\naudit 2\n")
 
 # Answers that a link gives only where memory is short, its life is over, or a writer was interrupted: a program that
 # gives such an answer to each line stands in for it.
@@ -91,8 +118,14 @@ FUNDING = ("open acme 16 1", "mktkt 300 base", "fund 1 flow acme",
 
 def worked(run):
     """The bills of worked audits as CSV and JSON, and what stands in the table."""
-    for what, (lines, wanted) in WORKED.items():
-        path = write(run.folder(), "audit", audit(*lines))
+    expect_bills(run, WORKED, 1)
+    expect_bills(run, WORKED_2, 2)
+
+
+def expect_bills(run, worked_audits, version):
+    """Wants these bills of audits of a version."""
+    for what, (lines, wanted) in worked_audits.items():
+        path = write(run.folder(), "audit", audit(*lines, version=version))
         rows = list(csv.reader(io.StringIO(expect_works("bill", "--csv", path))))
         expect_equal(rows, [list(COLUMNS), *[[str(field) for field in row] for row in wanted]], what + " as CSV")
         expect_equal(json.loads(expect_works("bill", "--json", path)), [dict(zip(COLUMNS, row)) for row in wanted],
@@ -110,7 +143,7 @@ def no_journal(run):
         expect_fails("%s: line %d, %s: no journal prints it" % (path, number, fault), "bill", path)
     for text in FIRST_LINES:
         path = write(folder, "audit", text)
-        expect_fails("%s: line 1 is not 'audit 1'" % path, "bill", path)
+        expect_fails("%s: line 1 is neither 'audit 1' nor 'audit 2'" % path, "bill", path)
     path = write(folder, "audit", audit("mkcur x"))
     for answer in STAND_INS:
         program = stand_in(folder, "while read -r line; do echo '%s'; done" % answer)
@@ -127,11 +160,15 @@ def stand_in(folder, work):
 
 def wrong_accounts(run):
     """A program that charges an account, or sums, otherwise than the rules is found out, and so is one with another
-    tariff."""
+    tariff, or with frames of another version than the audit's."""
     folder = run.folder()
     path = write(folder, "audit", audit("open a 4 5"))
     expect_fails("line 2: the rules of tariff 5 are not known", "bill", path,
                  program=stand_in(folder, "while read -r line; do echo flow 1; done"))
+    for version, lines, wrong, right in ((1, ONE_PACKET_2, 19, 14), (2, ONE_PACKET, 14, 19)):
+        program = stand_in(folder, "printf 'flow 1\\nticket 1\\nok\\npacket 1 1\\nwrote 1 1 %d whole\\n'" % wrong)
+        expect_fails("the bytes of packet 1 of flow 1: %d by the program, and %d by the rules" % (wrong, right), "bill",
+                     write(folder, "audit", audit(*lines, version=version)), program=program)
     path = write(folder, "audit", audit(*ONE_PACKET))
     totals = {"clock": 14, "accepted": 1, "written": 1, "torn": 0, "waiting": 0, "dropped": 0, "bytes": 14, "past": 0,
               "tickets": 0, "pass": 0, "link": 0}
@@ -178,17 +215,17 @@ def served(run):
     control.ask_wanted(FUNDING, ["flow 1", "ticket 1", "ok", "flow 2", "ticket 2", "ok"])
     client = server.ingress(b"".join(record(*packet) for packet in (("acme", b"hello"), ("zeta", b"bye"),
                                                                     ("acme", b"again"))))
-    wait_for(lambda: len(peer.got) == 17 + 15 + 17, "the frames")
+    wait_for(lambda: len(peer.got) == 22 + 20 + 22, "the frames")
     control.ask_wanted(["close zeta"], ["closed 2 0 128"])
     client.close()
     control.close()
     server.ends()
     check(server, peer)
     rows = json.loads(expect_works("bill", "--json", server.audit_path))
-    wanted = [(1, "acme", 300, 2, 34, 34, 1, 34, "open"), (2, "zeta", 100, 1, 15, 64, 2, 128, "closed")]
+    wanted = [(1, "acme", 300, 2, 44, 44, 1, 44, "open"), (2, "zeta", 100, 1, 20, 64, 2, 128, "closed")]
     expect_equal([tuple(row.values()) for row in rows], wanted, "the bill")
     report = server.text("stdout").splitlines()
-    expect_equal(report[11].split()[5], "34", "the account of acme in the report")
+    expect_equal(report[11].split()[5], "44", "the account of acme in the report")
 
 
 try_cases(worked, no_journal, wrong_accounts, faults, served)

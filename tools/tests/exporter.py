@@ -30,9 +30,9 @@ NOTHING = {"stridelink_charged_units_total": 0, "stridelink_accepted_packets_tot
            "stridelink_dropped_packets_total": 0, "stridelink_written_bytes_total": 0,
            "stridelink_past_account_total": 0, "stridelink_competing_tickets": 0, "stridelink_global_pass_total": 0}
 
-# Three frames were written: 17 and 17 bytes of acme, 15 of zeta.
-SENT = {**NOTHING, "stridelink_charged_units_total": 34 + 64, "stridelink_accepted_packets_total": 3,
-        "stridelink_written_packets_total": 3, "stridelink_written_bytes_total": 49}
+# Three frames were written: 22 and 22 bytes of acme, 20 of zeta.
+SENT = {**NOTHING, "stridelink_charged_units_total": 44 + 64, "stridelink_accepted_packets_total": 3,
+        "stridelink_written_packets_total": 3, "stridelink_written_bytes_total": 64}
 
 
 class Exporter:
@@ -104,21 +104,21 @@ def served(run):
     expect_equal(states, {"whole": 1, "part": 0, "torn": 0}, "the state of the link")
     control.ask_wanted(FUNDING, FUNDED)
     client = server.ingress(b"".join(record(*packet) for packet in PACKETS))
-    wait_for(lambda: len(peer.got) == 49 and exporter.scrape()[("stridelink_written_packets_total", ())] == 3, "frames")
+    wait_for(lambda: len(peer.got) == 64 and exporter.scrape()[("stridelink_written_packets_total", ())] == 3, "frames")
     scrape = exporter.scrape()
     expect_totals(scrape, {name: value for name, value in SENT.items() if name != "stridelink_global_pass_total"})
-    expect_flow(scrape, ACME, account_total=34, tickets=0, waiting_packets=0, competes=0)
+    expect_flow(scrape, ACME, account_total=44, tickets=0, waiting_packets=0, competes=0)
     expect_flow(scrape, ZETA, account_total=128, tickets=0, waiting_packets=0, competes=0)
     control.ask_wanted(["close zeta", "open zeta 16 1", "unfund 1"], ["closed 2 0 128", "flow 3", "ok"])
     client.sendall(record("acme", b"waits"))
     wait_for(lambda: exporter.scrape()[("stridelink_waiting_packets", ())] == 1, "a packet that waits")
     scrape = exporter.scrape()
     expect_totals(scrape, {"stridelink_past_account_total": 128, "stridelink_accepted_packets_total": 4})
-    expect_flow(scrape, ACME, account_total=34, tickets=0, waiting_packets=1, competes=0)
+    expect_flow(scrape, ACME, account_total=44, tickets=0, waiting_packets=1, competes=0)
     expect_flow(scrape, (("flow", "3"), ("name", "zeta")), account_total=0)
     expect(("stridelink_flow_account_total", ZETA) not in scrape, "a flow that is closed")
-    control.ask_wanted(["close acme"], ["closed 1 1 34"])
-    expect_totals(exporter.scrape(), {"stridelink_dropped_packets_total": 1, "stridelink_past_account_total": 162})
+    control.ask_wanted(["close acme"], ["closed 1 1 44"])
+    expect_totals(exporter.scrape(), {"stridelink_dropped_packets_total": 1, "stridelink_past_account_total": 172})
     expect_equal(server.text("stderr").count("control 1: connected"), 1, "connections of the exporter")
     for connection in (client, control):
         connection.close()
@@ -148,9 +148,9 @@ def held_up(run):
     peer.go_on.set()
     wait_for(lambda: not exporter.is_down(), "the report")
     task.finish()
-    wait_for(lambda: len(peer.got) == 1000 * 1412, "the frames")
+    wait_for(lambda: len(peer.got) == 1000 * 1417, "the frames")
     expect_totals(exporter.scrape(), {"stridelink_up": 1, "stridelink_written_packets_total": 1000,
-                                      "stridelink_written_bytes_total": 1412000})
+                                      "stridelink_written_bytes_total": 1417000})
     for connection in (client, control):
         connection.close()
     exporter.signal(signal.SIGTERM)
@@ -172,15 +172,15 @@ def held(run):
     control = server.control()
     control.ask_wanted([*FUNDING, "hold acme"], [*FUNDED, "ok"])
     client = server.ingress(record("acme", b"hello") + record("zeta", b"bye"))
-    wait_for(lambda: len(peer.got) == 15, "the frame of zeta")
+    wait_for(lambda: len(peer.got) == 20, "the frame of zeta")
     waits_for(1, exporter)
     scrape = exporter.scrape()
     expect_flow(scrape, ACME, held=1, competes=0, tickets=0, waiting_packets=1, account_total=0, place=0)
     expect_flow(scrape, ZETA, held=0, account_total=128)
     control.ask_wanted(["amend 1 1000", "resume acme"], ["ok", "ok"])
-    wait_for(lambda: len(peer.got) == 15 + 17, "the frame of acme")
+    wait_for(lambda: len(peer.got) == 20 + 22, "the frame of acme")
     waits_for(0, exporter)
-    expect_flow(exporter.scrape(), ACME, held=0, account_total=17)
+    expect_flow(exporter.scrape(), ACME, held=0, account_total=22)
     control.ask_wanted(["hold acme"], ["ok"])
     client.sendall(record("acme", b"later"))
     waits_for(1, exporter)

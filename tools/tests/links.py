@@ -13,17 +13,17 @@ from trying import LIMIT, TOOLS, audit, expect, expect_equal, expect_works, try_
 PROGRAMS = (sorted(glob.glob("/usr/lib/postgresql/*/bin")) or [""])[-1]
 USER = "postgres"
 
-# Two links, of which north has two lives. The frames have 13 bytes: 13 units of price 1 under tariff 1, 64 of price 2
-# under tariff 2. In the first life of north, acme is closed and opened again.
-START = ("open acme 4 1", "mktkt 1 base", "fund 1 flow acme", "send acme 61", "turn 13")
+# Two links, of which north has two lives. The frames have 13 bytes in version 1, and 18 in version 2: as many units of
+# price 1 under tariff 1, 64 of price 2 under tariff 2. In the first life of north, acme is closed and opened again.
+FUNDED = ("open acme 4 1", "mktkt 1 base", "fund 1 flow acme", "send acme 61")
 AUDITS = {
-    "north-1": (*START, "close acme", "open acme 4 2", "fund 1 flow acme", "send acme 61", "turn 13"),
-    "north-2": (*START, "open zeta 4 2"),
-    "south-1": ("open zeta 4 2", "mktkt 1 base", "fund 1 flow zeta", "send zeta 61", "turn 13"),
+    "north-1": audit(*FUNDED, "turn 13", "close acme", "open acme 4 2", "fund 1 flow acme", "send acme 61", "turn 13"),
+    "north-2": audit(*FUNDED, "turn 18", "open zeta 4 2", version=2),
+    "south-1": audit("open zeta 4 2", "mktkt 1 base", "fund 1 flow zeta", "send zeta 61", "turn 18", version=2),
 }
 
 # For each tenant: its audits, flows, packets, bytes, units and account.
-WANTED = [["acme", "2", "3", "3", "39", "90", "154"], ["zeta", "2", "2", "1", "13", "64", "128"]]
+WANTED = [["acme", "2", "3", "3", "44", "95", "159"], ["zeta", "2", "2", "1", "18", "64", "128"]]
 
 
 class Engine:
@@ -54,7 +54,7 @@ class Engine:
 
 def rows_of(folder, name):
     """The rows of an audit, with its name."""
-    path = write(folder, name, audit(*AUDITS[name]))
+    path = write(folder, name, AUDITS[name])
     return "".join("%s,%s\n" % (name, line) for line in expect_works("bill", "--csv", path).splitlines()[1:])
 
 

@@ -177,6 +177,9 @@ def examples(run):
     report = re.sub(r"^     ", "", report, flags=re.MULTILINE)
     printed = answered(run, audit + "\nreport\n")
     expect_equal(printed[printed.index("clock"):], report + "\nout 4c010000000100\n", "the report of stridelink(5)")
+    second, out = re.search(r"( *audit 2\n.*?)\n\n *(out .*?)\n", example, re.DOTALL).groups()
+    printed = answered(run, re.sub(r"^ +", "", second, flags=re.MULTILINE) + "\n")
+    expect_equal(printed.splitlines()[-1], out, "the bytes of the audit of version 2 in stridelink(5)")
 
 
 def answered(run, script):

@@ -170,7 +170,7 @@ def tools(run):
         found = root.tell("stridelink-" + words[0], *words[1:], "/tmp/audit")
         expect_equal(found, expect_works(*words, ours), "what stridelink-%s prints" % words[0])
         expect("acme" in found, "stridelink-%s prints no flow" % words[0])
-    write(root.path("tmp"), "frames", frame(1, 1, b"hello"))
+    write(root.path("tmp"), "frames", frame(1, 1, b"hello", version=1))
     expect_equal(root.tell("stridelink-verify", "/tmp/audit", "/tmp/frames"),
                  "the same 17 bytes, with 1 whole frames\n", "what stridelink-verify says")
     root.tell("stridelink-shares", "/tmp/audit", "/tmp/picture")

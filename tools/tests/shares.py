@@ -10,10 +10,12 @@ from trying import TOOLS, audit, expect, expect_equal, expect_fails, expect_work
 
 import idle_tenant
 
-# Flows of 3, 2 and 1 tickets with 3, 2 and 1 packets, of 1024 units each. The frames are a1 b1 a2 a3 b2 c1.
-THREE_FLOWS = ("mktkt 3 base", "mktkt 2 base", "mktkt 1 base", "open a 4 3", "open b 4 3", "open c 4 3",
-               "fund 1 flow a", "fund 2 flow b", "fund 3 flow c", *["send a 61"] * 3, *["send b 62"] * 2, "send c 63",
-               *["turn 13"] * 6)
+# Flows of 3, 2 and 1 tickets with 3, 2 and 1 packets, of 1024 units each in either version. The frames are a1 b1 a2 a3
+# b2 c1.
+THREE_SENDS = ("mktkt 3 base", "mktkt 2 base", "mktkt 1 base", "open a 4 3", "open b 4 3", "open c 4 3",
+               "fund 1 flow a", "fund 2 flow b", "fund 3 flow c", *["send a 61"] * 3, *["send b 62"] * 2, "send c 63")
+THREE_FLOWS = (*THREE_SENDS, *["turn 13"] * 6)
+THREE_FLOWS_2 = (*THREE_SENDS, *["turn 18"] * 6)
 
 # Of each flow at the clock 0, 1024, .., 6144: the units charged to it; what was promised, as 1024 units are shared by
 # 3, 2 and 1 of 6 tickets four times, and then, a having nothing to send, by 2 and 1 of 3, and the last by c alone; and
@@ -43,15 +45,17 @@ def rows(*words):
 
 def worked(run):
     """The numbers of three flows, whose strides, passes and promises are worked by hand."""
-    found = rows(write(run.folder(), "audit", audit(*THREE_FLOWS)))
-    expect_equal([row["flow"] for row in found], ["1"] * 7 + ["2"] * 7 + ["3"] * 7, "flows")
-    for name in "abc":
-        own = [row for row in found if row["name"] == name]
-        expect_equal([int(row["clock"]) for row in own], list(range(0, 7168, 1024)), "the clock")
-        expect_equal(tuple(int(row["units"]) for row in own), UNITS[name], "units of " + name)
-        expect_equal(tuple(float(row["promised"]) for row in own), PROMISED[name], "what was promised to " + name)
-        expect_equal([bool(row["pass"]) for row in own], [at < COMPETES[name] for at in range(7)], "where it competes")
-        expect_equal(int(own[3]["pass"]), FOURTH[name], "the pass in front of the fourth frame")
+    for text in (audit(*THREE_FLOWS), audit(*THREE_FLOWS_2, version=2)):
+        found = rows(write(run.folder(), "audit", text))
+        expect_equal([row["flow"] for row in found], ["1"] * 7 + ["2"] * 7 + ["3"] * 7, "flows")
+        for name in "abc":
+            own = [row for row in found if row["name"] == name]
+            expect_equal([int(row["clock"]) for row in own], list(range(0, 7168, 1024)), "the clock")
+            expect_equal(tuple(int(row["units"]) for row in own), UNITS[name], "units of " + name)
+            expect_equal(tuple(float(row["promised"]) for row in own), PROMISED[name], "what was promised to " + name)
+            competing = [bool(row["pass"]) for row in own]
+            expect_equal(competing, [at < COMPETES[name] for at in range(7)], "where it competes")
+            expect_equal(int(own[3]["pass"]), FOURTH[name], "the pass in front of the fourth frame")
 
 
 def held(run):

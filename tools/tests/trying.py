@@ -47,9 +47,9 @@ def write(folder, name, text):
     return path
 
 
-def audit(*lines):
-    """The text of an audit, from its lines but the first."""
-    return "".join(line + "\n" for line in ("audit 1", *lines))
+def audit(*lines, version=1):
+    """The text of an audit of a version, from its lines but the first."""
+    return "".join(line + "\n" for line in ("audit %d" % version, *lines))
 
 
 def holds(case):

@@ -116,7 +116,7 @@ def stop_loaded(run):
         instance.start()
         instance.stop()
     others = [text(path) for path in instance.files("audit") if path != audit]
-    expect_equal(others, ["audit 1\n"] * 3, "the audits of links to which nobody came")
+    expect_equal(others, ["audit 2\n"] * 3, "the audits of links to which nobody came")
     expect_equal(text(audit).splitlines()[1:], replay.lines, "the first audit")
 
 
@@ -129,7 +129,7 @@ def ends_by_itself(run):
             connection.close()
     instance.ended.finish()
     expect_equal(instance.process.returncode, 0, "status")
-    expect_equal([text(path) for path in instance.files("audit")], ["audit 1\n"], "the audit")
+    expect_equal([text(path) for path in instance.files("audit")], ["audit 2\n"], "the audit")
     os.kill(instance.holder(), 0)
     instance.run_stop()
     wait_for(lambda: not is_there(instance.holder()), "the end of the process that held the input")

@@ -1,18 +1,20 @@
--- Shows the frames of a stridelink uplink in Wireshark and tshark.
+-- Shows the frames of a stridelink uplink in Wireshark and tshark: those of version 1 and of version 2, also in one
+-- connection.
 --
 -- A connection is recognised at the first segment that begins with a whole header, or is named by its port: by 'Decode
--- As', or with tshark -X lua_script:stridelink.lua -d tcp.port==7003,stridelink. Filters are stridelink.flow,
--- stridelink.seq, stridelink.length, stridelink.payload, stridelink.version, and stridelink.bad: the place of the first
--- field that no frame has. Behind such a field nothing says where a next frame begins, so the rest of its bytes is not
--- taken apart.
+-- As', or with tshark -X lua_script:stridelink.lua -d tcp.port==7003,stridelink. Filters are stridelink.version,
+-- stridelink.tariff, stridelink.flow, stridelink.seq, stridelink.length, stridelink.payload, and stridelink.bad: the
+-- place of the first field that no frame has. Behind such a field nothing says where a next frame begins, so the rest
+-- of its bytes is not taken apart.
 
 local stridelink = Proto("stridelink", "stridelink uplink")
 
 local shown = {
   mark = ProtoField.uint8("stridelink.mark", "Mark", base.HEX),
   version = ProtoField.uint8("stridelink.version", "Version", base.DEC),
+  tariff = ProtoField.uint8("stridelink.tariff", "Tariff", base.DEC),
   flow = ProtoField.uint32("stridelink.flow", "Flow", base.DEC),
-  seq = ProtoField.uint32("stridelink.seq", "Sequence number", base.DEC),
+  seq = ProtoField.uint64("stridelink.seq", "Sequence number", base.DEC),
   length = ProtoField.uint16("stridelink.length", "Payload length", base.DEC),
   payload = ProtoField.bytes("stridelink.payload", "Payload"),
   bad = ProtoField.uint8("stridelink.bad", "Place of the bad field", base.DEC),
@@ -24,7 +26,8 @@ local bad_field = ProtoExpert.new("stridelink.malformed", "no frame has this fie
 stridelink.experts = { bad_field }
 
 -- The header of each version: where its fields begin, how many bytes they have, and their ranges. All versions have
--- their first two fields at the same places.
+-- their first two fields at the same places. A number of eight bytes is rounded where it is compared, which is no
+-- matter at the ends of its range.
 local HEADERS = {
   [1] = {
     size = 12,
@@ -33,6 +36,15 @@ local HEADERS = {
     { name = "flow", at = 2, size = 4, least = 1, most = 0xffffffff },
     { name = "seq", at = 6, size = 4, least = 1, most = 0xffffffff },
     { name = "length", at = 10, size = 2, least = 1, most = 1490 },
+  },
+  [2] = {
+    size = 17,
+    { name = "mark", at = 0, size = 1, least = 0x4c, most = 0x4c },
+    { name = "version", at = 1, size = 1, least = 2, most = 2 },
+    { name = "tariff", at = 2, size = 1, least = 1, most = 8 },
+    { name = "flow", at = 3, size = 4, least = 1, most = 0xffffffff },
+    { name = "seq", at = 7, size = 8, least = 1, most = 2 ^ 64 },
+    { name = "length", at = 15, size = 2, least = 1, most = 9000 },
   },
 }
 
@@ -44,7 +56,7 @@ end
 -- Whether some value of the field begins with these of its bytes.
 local function may_begin(field, bytes)
   local room = 256 ^ (field.size - bytes:len())
-  local least = bytes:uint() * room
+  local least = bytes:uint64():tonumber() * room
   return least + room - 1 >= field.least and least <= field.most
 end
 
@@ -73,12 +85,12 @@ end
 
 local function value(bytes, offset, header, name)
   for _, field in ipairs(header) do
-    if field.name == name then return bytes(offset + field.at, field.size):uint() end
+    if field.name == name then return tostring(bytes(offset + field.at, field.size):uint64()) end
   end
 end
 
 local function show_frame(tree, bytes, offset, header, size)
-  local title = string.format("stridelink frame: flow %u, packet %u, %u bytes of payload",
+  local title = string.format("stridelink frame: flow %s, packet %s, %u bytes of payload",
     value(bytes, offset, header, "flow"), value(bytes, offset, header, "seq"), size - header.size)
   local frame = tree:add(stridelink, bytes(offset, size), title)
   show_fields(frame, bytes, offset, header)

@@ -2,12 +2,12 @@
 """Measures the server of bin/stridelink beside that of the plain Rust program (bench/plain), over loopback.
 
 `serve.py speed`, with two connections, `serve.py eight`, with eight, `serve.py replies` and `serve.py memory` are the
-parts; without a word all are run. In each of ROUNDS
-rounds (7 unless set) the programs take turns, and what is printed are medians; machines are noisy, so the ratios of one
-run are what to read, which are medians of the rounds' ratios. Processor time is that of the server's threads while the
-load lasts, without its start and its audit. PACKETS is how many packets a run of these two has (60000), of 64 bytes
-three times as many; MEMORY_PACKETS those of `memory` (1000000). Where bin/stridelink has no `serve`, the plain
-program is measured alone. Nothing is written but a folder in the system's temporary folder, which is removed.
+parts; without a word all are run. In each of ROUNDS rounds (7 unless set) the programs take turns, and what is printed
+are medians; machines are noisy, so the ratios of one run are what to read, which are medians of the rounds' ratios.
+Processor time is that of the server's threads while the load lasts, without its start and its audit. PACKETS is how
+many packets a run of these two has (60000), of 64 bytes three times as many; MEMORY_PACKETS those of `memory`
+(1000000). Where bin/stridelink has no `serve`, the plain program is measured alone. Nothing is written but a folder in
+the system's temporary folder, which is removed.
 """
 import multiprocessing
 import os

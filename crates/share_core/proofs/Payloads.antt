@@ -5,11 +5,12 @@ use Rattle.std.proofs.Common.{Result, Ok, Err, IfOk, IfErr, OnOk, refl, sym, ap,
 use Rattle.std.proofs.lemmas.Option.{same_Some}
 use Rattle.share_base.specs.Body.{BodyView, framed_bytes}
 use Rattle.share_model.specs.link.Frame.{Packet, PacketOf, map_packet}
-use Rattle.share_model.specs.link.Buffers.{Buffer, is_buffer_of, buffer_of, open_in, close_in, count_in, push_in}
+use Rattle.share_model.specs.link.Buffers.{Buffer, is_buffer_of, buffer_of, backlog_of, open_in, close_in, count_in, push_in}
 use Rattle.share_model.specs.link.Buffers.{head_in as head_in_buffer, head_of_buffer, holds_packet, is_some_packet}
 use Rattle.share_model.specs.link.Buffers.{is_full, pop_in, head_of, is_busy, map_buffer, payload_of, payloads_in}
 use Rattle.share_model.proofs.lemmas.lists.Laws.{find-change_first}
-use Rattle.share_model.proofs.lemmas.link.PayloadLaws.{buffer_of-image, count_in-image, is_full-image, is_busy-image}
+use Rattle.share_model.proofs.lemmas.link.PayloadLaws.{buffer_of-image, backlog_of-image, count_in-image}
+use Rattle.share_model.proofs.lemmas.link.PayloadLaws.{is_full-image, is_busy-image}
 use Rattle.share_model.proofs.lemmas.link.PayloadLaws.{head_of-image, place-image, open_in-image, close_in-image}
 use Rattle.share_model.proofs.lemmas.link.PayloadLaws.{push_in-image, pop_in-image}
 use Rattle.share_flows.specs.declared.buffers.Place.{Place}
@@ -71,6 +72,9 @@ module _ (bs : List BufferView) (seen : List Buffer) (is : payloads_in bs ≡ se
 
   pub busy_in : (f : ℕ) → is_busy seen f ≡ is_busy bs f
   busy_in f = ap (λ xs. is_busy xs f) (sym is) ∙ is_busy-image payload_of bs f
+
+  pub backlog_as : (f : ℕ) → backlog_of bs f ≡ backlog_of seen f
+  backlog_as f = sym (backlog_of-image payload_of bs f) ∙ ap (λ xs. backlog_of xs f) is
 
   pub count_as : (f : ℕ) → count_in bs f ≡ count_in seen f
   count_as f = sym (count_in-image payload_of bs f) ∙ ap (λ xs. count_in xs f) is

@@ -11,6 +11,7 @@ ghost use Rattle.share_model.specs.link.Calls.{is_spent, Steps, CommandCall, Off
 ghost use Rattle.share_model.specs.funding.Changes.{flow_named};
 ghost use Rattle.share_model.specs.link.Live.{empty_link};
 ghost use Rattle.share_model.specs.link.Books.{is_book_of};
+ghost use Rattle.share_model.specs.link.Buffers.{backlog_of};
 ghost use Rattle.share_model.specs.link.Arrivals.{arrive_step};
 ghost use Rattle.share_model.specs.link.Turns.{sending};
 ghost use Rattle.share_model.specs.link.View.{LinkView};
@@ -25,7 +26,7 @@ use crate::fields;
 use crate::link::Link;
 use crate::next_write::NextWrite;
 use share_base::{Body, Command, FlowNo, Name, Refusal, Reply, Turn, Version};
-use share_model::{Answer, GlobalPart, Position, Rates, Row, TellingWriter, Totals};
+use share_model::{Answer, Backlog, GlobalPart, Position, Rates, Row, TellingWriter, Totals};
 use std::alloc::Global;
 use std::marker::Model;
 
@@ -159,6 +160,14 @@ impl<W, S: Rates> Engine<W, S> {
         ensures { result ≡ position_at self.now flow }
     {
         self.link.position(flow)
+    }
+
+    /// How full the buffer of an open flow is: the packets that it holds, a torn one included, and its limit. `None` if
+    /// no open flow has this number.
+    pub fn backlog(&self, flow: FlowNo) -> Option<Backlog>
+        ensures { result ≡ backlog_of self.now.live.buffers flow }
+    {
+        self.link.backlog(flow)
     }
 
     /// What the flows share: the tickets of those that compete, the global pass and the clock at its last update, and

@@ -5,14 +5,14 @@ ghost use Rattle.share_base.specs.Body.{IsHeaderLength};
 ghost use Rattle.share_base.specs.Refusal.{IsRefused};
 ghost use Rattle.share_base.specs.declared.refusal.Refusal.TheVariants.{NoMemory};
 ghost use Rattle.share_model.specs.link.Buffers.{buffer_of, open_in, close_in, count_in, push_in, pop_in, is_full};
-ghost use Rattle.share_model.specs.link.Buffers.{head_of, is_busy};
+ghost use Rattle.share_model.specs.link.Buffers.{backlog_of, head_of, is_busy};
 ghost use Rattle.share_model.specs.io.Told.{Fits};
 ghost use Rattle.share_flows.specs.Limit.{limit_refusal};
 ghost use Rattle.share_flows.specs.Places.{Stands};
 
 use share_base::{Body, FlowNo, Refusal};
 use share_flows::{Buffers, Place};
-use share_model::{Answer, TellingWriter};
+use share_model::{Answer, Backlog, TellingWriter};
 use std::alloc::Global;
 use std::marker::Model;
 
@@ -104,6 +104,13 @@ impl PayloadBuffers {
         ensures { result ≡ count_in self.now flow }
     {
         self.buffers.len(flow)
+    }
+
+    /// How full a flow's buffer is. `None` if the flow is not open.
+    pub fn backlog(&self, flow: FlowNo) -> Option<Backlog>
+        ensures { result ≡ backlog_of self.now flow }
+    {
+        self.buffers.backlog(flow)
     }
 
     /// Whether a flow is open and its buffer holds a packet.

@@ -5,13 +5,14 @@ ghost use Rattle.share_base.specs.Body.{IsHeaderLength};
 ghost use Rattle.share_base.specs.Refusal.{IsRefused};
 ghost use Rattle.share_base.specs.declared.refusal.Refusal.TheVariants.{NoMemory};
 ghost use Rattle.share_model.specs.link.Buffers.{buffer_of, is_buffer_of, open_in, close_in, count_in, push_in, pop_in};
-ghost use Rattle.share_model.specs.link.Buffers.{is_full, head_of, is_busy, payloads_in};
+ghost use Rattle.share_model.specs.link.Buffers.{backlog_of, is_full, head_of, is_busy, payloads_in};
 ghost use Rattle.share_flows.specs.Places.{Stands, AreApart};
 ghost use Rattle.share_flows.specs.Stamps.{stamp_in};
 ghost use Rattle.share_flows.specs.Limit.{limit_refusal};
 
 use crate::ring::{MAX_LIMIT, Ring};
 use share_base::{Body, FlowNo, Refusal};
+use share_model::Backlog;
 use std::alloc::Global;
 use std::marker::Model;
 
@@ -227,6 +228,14 @@ impl Buffers {
             None => 0,
             Some(place) => self.rings[place.at].count(),
         }
+    }
+
+    /// How full a flow's buffer is. `None` if the flow is not open. It takes no memory.
+    pub fn backlog(&self, flow: FlowNo) -> Option<Backlog>
+        ensures { result ≡ backlog_of self.now flow }
+    {
+        let place = self.find(flow)?;
+        Some(self.rings[place.at].backlog())
     }
 
     /// Whether a flow is open and its buffer holds a packet. It takes no memory.

@@ -2,12 +2,13 @@
 ghost use Rattle.std.specs.Prelude.{◌≡◌, ◌<◌, ◌≤◌, ◌^◌, ◌-◌, ◌∷◌, true, false, length, nat_lt, IfOk, IfErr};
 ghost use Rattle.std.specs.Prelude.{MatchOption, None, Some};
 ghost use Rattle.share_model.specs.link.Buffers.{is_buffer_of, new_buffer, is_full, with_packet, without_head};
-ghost use Rattle.share_model.specs.link.Buffers.{head_of_buffer, is_some_packet};
+ghost use Rattle.share_model.specs.link.Buffers.{backlog_in, head_of_buffer, is_some_packet};
 ghost use Rattle.share_base.specs.Body.{IsHeaderLength};
 ghost use Rattle.share_flows.specs.Stamps.{with_stamp};
 
 use circular_buffer::HeapCircularBuffer;
 use share_base::{Body, FlowNo};
+use share_model::Backlog;
 use std::alloc::{AllocError, Global};
 use std::marker::Model;
 
@@ -89,6 +90,16 @@ impl Ring {
         ensures limit { result ≤ self.now.limit }
     {
         self.packets.len() as u32
+    }
+
+    /// How full it is.
+    pub fn backlog(&self) -> Backlog
+        ensures { result ≡ backlog_in self.now }
+    {
+        Backlog {
+            packets: self.packets.len() as u32,
+            limit: self.packets.capacity() as u32,
+        }
     }
 
     /// Whether it holds a packet.

@@ -31,7 +31,7 @@ pub use laws::{
     shares_are_within_of_runs, shares_of_calls, shares_of_runs, tickets_are_uncapped_of_runs,
 };
 pub use line::{HolderKind, Line};
-pub use link::{Book, Counts, FlowLine, LinkState, Part, Row, Standing, Totals};
+pub use link::{Backlog, Book, Counts, FlowLine, LinkState, Part, Row, Standing, Totals};
 pub use output::{Fault, put};
 pub use patient::PatientWriter;
 pub use rates::{Rate, Rates};

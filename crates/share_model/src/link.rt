@@ -80,6 +80,13 @@ pub struct Row {
     pub waiting: u32,
 }
 
+/// How full the buffer of an open flow is: the packets that it holds, a torn one included, and the most that it holds.
+#[derive(Clone, Copy, Debug, PartialEq, Eq)]
+pub struct Backlog {
+    pub packets: u32,
+    pub limit: u32,
+}
+
 /// Whether an open flow takes part in the race for the link.
 #[derive(Clone, Copy, Debug, PartialEq, Eq)]
 pub enum Standing {

@@ -5,6 +5,7 @@ ghost use Rattle.share_model.specs.funding.Changes.{flow_named};
 ghost use Rattle.share_model.specs.funding.Graph.{tickets};
 ghost use Rattle.share_model.specs.link.Calls.{is_spent};
 ghost use Rattle.share_model.specs.link.Books.{is_book_of};
+ghost use Rattle.share_model.specs.link.Buffers.{backlog_of};
 ghost use Rattle.share_model.specs.link.Tariff.{AreInRange};
 ghost use Rattle.share_model.specs.link.Totals.{torn_count, waiting, state_by, totals, row};
 ghost use Rattle.share_model.specs.run.Sound.{Sound};
@@ -13,7 +14,7 @@ ghost use Rattle.share_model.specs.stride.Moves.{position as position_of};
 
 use super::Link;
 use share_base::{FlowNo, Name, Version};
-use share_model::{GlobalPart, LinkState, Position, Rates, Row, Totals};
+use share_model::{Backlog, GlobalPart, LinkState, Position, Rates, Row, Totals};
 
 impl<S: Rates> Link<S> {
     /// How many events it makes at most.
@@ -99,6 +100,13 @@ impl<S: Rates> Link<S> {
         } else {
             None
         }
+    }
+
+    /// How full the buffer of an open flow is.
+    pub fn backlog(&self, flow: FlowNo) -> Option<Backlog>
+        ensures { result ≡ backlog_of self.now.live.buffers flow }
+    {
+        self.buffers.backlog(flow)
     }
 
     /// What the flows share in the queue.

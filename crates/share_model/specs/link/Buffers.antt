@@ -4,8 +4,9 @@
 use Rattle.std.specs.Prelude.{ℕ, ◌+◌, ◌-◌, Bool, true, false, List, [], ◌∷◌, ◌++◌, length, drop, find, map, nat_eq}
 use Rattle.std.specs.Prelude.{nat_le}
 use Rattle.std.specs.Set.{remove_key}
-use Rattle.std.specs.Prelude.{Option, None, Some, option_and_then}
+use Rattle.std.specs.Prelude.{Option, None, Some, option_and_then, option_map}
 use Rattle.share_base.specs.Body.{BodyView}
+use Rattle.share_model.specs.declared.link.Backlog.{Backlog}
 use Rattle.share_model.specs.link.Frame.{PacketOf}
 use Rattle.share_model.specs.lists.Change.{change_first}
 
@@ -40,6 +41,14 @@ count_by (Some b) = length b.packets
 
 abbrev pub count_in : {A : Type 0} → List (BufferOf A) → ℕ → ℕ
 count_in bs f = count_by (buffer_of bs f)
+
+-- how full a buffer is
+abbrev pub backlog_in : {A : Type 0} → BufferOf A → Backlog
+backlog_in b = record { packets = length b.packets; limit = b.limit }
+
+-- how full the buffer of an open flow is
+abbrev pub backlog_of : {A : Type 0} → List (BufferOf A) → ℕ → Option Backlog
+backlog_of bs f = option_map backlog_in (buffer_of bs f)
 
 -- a packet goes to the back, and takes the next number
 abbrev pub with_packet : {A : Type 0} → A → BufferOf A → BufferOf A

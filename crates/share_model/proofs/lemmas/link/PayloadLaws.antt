@@ -5,7 +5,8 @@ use Rattle.std.proofs.Common.{Option, None, Some, option_map, option_and_then, i
 use Rattle.std.proofs.lemmas.List.{length-map, map-append}
 use Rattle.std.proofs.lemmas.Simd.{map-map}
 use Rattle.share_model.specs.link.Frame.{map_packet}
-use Rattle.share_model.specs.link.Buffers.{BufferOf, is_buffer_of, buffer_of, new_buffer, open_in, close_in, count_by}
+use Rattle.share_model.specs.link.Buffers.{BufferOf, is_buffer_of, buffer_of, backlog_in, backlog_of}
+use Rattle.share_model.specs.link.Buffers.{new_buffer, open_in, close_in, count_by}
 use Rattle.share_model.specs.link.Buffers.{count_in, with_packet, push_in, is_full, without_head, pop_in, head_in}
 use Rattle.share_model.specs.link.Buffers.{head_of_buffer, head_of, is_some_packet, holds_packet, is_busy, map_buffer}
 use Rattle.share_model.specs.lists.Change.{change_first}
@@ -59,6 +60,15 @@ module _ {A B : Type 0} (f : A → B) where
 
   pub count_in-image : (bs : List (BufferOf A)) (n : ℕ) → count_in (map (map_buffer f) bs) n ≡ count_in bs n
   count_in-image bs n = ap count_by (buffer_of-image bs n) ∙ count_by-image (buffer_of bs n)
+
+  backlog_in-image : (o : Option (BufferOf A))
+      → option_map backlog_in (option_map (map_buffer f) o) ≡ option_map backlog_in o
+  backlog_in-image None = refl
+  backlog_in-image (Some b) =
+      ap (λ n. Some (record { packets = n; limit = b.limit })) (length-map b.packets f)
+
+  pub backlog_of-image : (bs : List (BufferOf A)) (n : ℕ) → backlog_of (map (map_buffer f) bs) n ≡ backlog_of bs n
+  backlog_of-image bs n = ap (option_map backlog_in) (buffer_of-image bs n) ∙ backlog_in-image (buffer_of bs n)
 
   pub is_full-image : (b : BufferOf A) → is_full (map_buffer f b) ≡ is_full b
   is_full-image b = ap (nat_le b.limit) (length-map b.packets f)

@@ -1,10 +1,13 @@
 //! A running link: what is behind its lock, its clerks, the worker that serves it, and its settling.
 #![tactic(auto)]
 
+mod backlogs;
 mod clerk;
 mod laws;
 mod link;
 mod locked;
+mod pace;
+mod paced;
 mod running;
 #[cfg(test)]
 mod tests;
@@ -14,6 +17,8 @@ pub use clerk::{Clerk, Receipt};
 pub use laws::shares_of_held_calls;
 pub use link::LinkBrand;
 pub use locked::{Admit, Locked, Settled, Unsettled, WhyUnsettled, settle};
+pub use pace::Pace;
+pub use paced::{Attendant, run_paced_link};
 pub use running::{LinkEnd, Port, Stop, run_link};
 pub use threads::{
     Duty, Left, NotRun, Post, Ran, attend_while, run_and_settle, run_while, serve_while,

@@ -1,7 +1,7 @@
 //! The worker that serves a running link.
 use crate::link::LinkBrand;
 use crate::locked::{Admit, Locked};
-use share_base::Turn;
+use share_base::{Reply, Turn};
 use share_model::{Rates, TellingWriter};
 use std::sync::atomic::{AtomicU64, Ordering};
 use std::sync::{Mutex, Wait};
@@ -15,10 +15,10 @@ pub type Port<W, S, L> = Mutex<Locked<W, S, L>>;
 /// The most bytes that a turn offers.
 const MOST: u32 = 65535;
 
-/// After how many rounds in a row with nothing to do the link begins to rest.
+/// After how many rounds in a row with nothing to do a link that nobody wakes begins to rest.
 const EAGER: u32 = 16;
 
-/// How many milliseconds the link then rests after each round with nothing to do.
+/// How many milliseconds it then rests after each round with nothing to do.
 const REST: u64 = 2;
 
 /// A flag that is set once, and stays set.
@@ -70,6 +70,64 @@ enum Round {
     Spent,
 }
 
+/// How a link's service goes on between its calls. What is given here is that of a link that nobody wakes: it waits for
+/// no packet.
+pub(crate) trait Pacing {
+    /// The n-th offer of a worker was taken, with this reply.
+    fn admitted<W: TellingWriter, S: Rates, L: LinkBrand, R: Wait>(
+        &mut self,
+        _rt: &R,
+        _port: &Port<W, S, L>,
+        _worker: u64,
+        _n: u64,
+        _reply: &Reply,
+    ) {}
+
+    /// Whether the next turn is to wait for packets that are at hand soon.
+    fn awaits(&mut self) -> bool {
+        false
+    }
+
+    /// Lets the workers run, the n-th time in a row, from 0, that a turn waits.
+    fn linger<R: Wait>(&mut self, _rt: &R, _n: u32) {}
+
+    /// A turn was made.
+    fn turned<W: TellingWriter, S: Rates, L: LinkBrand, R: Wait>(
+        &mut self,
+        _rt: &R,
+        _port: &Port<W, S, L>,
+        _turn: &Turn,
+    ) {}
+
+    /// A round had something to do.
+    fn worked(&mut self);
+
+    /// A round had nothing to do.
+    fn pause<R: Wait>(&mut self, rt: &R);
+}
+
+// Rests for a short time while there is nothing to do.
+#[derive(Drop)]
+struct Timed {
+    parker: Parker,
+    idle: u32,
+}
+
+impl Pacing for Timed {
+    fn worked(&mut self) {
+        self.idle = 0;
+    }
+
+    fn pause<R: Wait>(&mut self, rt: &R) {
+        self.idle = self.idle.saturating_add(1);
+        if self.idle < EAGER {
+            thread::yield_now();
+        } else {
+            self.parker.park_timeout(rt, Duration::from_millis(REST));
+        }
+    }
+}
+
 /// Serves a link until it is stopped and has nothing left to do, or until its life is spent. A round admits offers
 /// until the queue is empty, at most as many as the queue has places, and then makes one turn. Each call is a hold of
 /// the lock of its own, so others get the lock between any two calls, and a command waits only for the calls before it.
@@ -79,36 +137,55 @@ pub fn run_link<W: TellingWriter, S: Rates, L: LinkBrand, R: Wait>(
     port: &Port<W, S, L>,
     stop: &Stop,
 ) -> LinkEnd {
+    let mut timed = Timed {
+        parker: Parker::new(),
+        idle: 0,
+    };
+    serve_in_rounds(rt, port, stop, &mut timed)
+}
+
+// Serves a link in rounds.
+pub(crate) fn serve_in_rounds<W, S, L, R, P>(
+    rt: &R,
+    port: &Port<W, S, L>,
+    stop: &Stop,
+    pacing: &mut P,
+) -> LinkEnd
+where
+    W: TellingWriter,
+    S: Rates,
+    L: LinkBrand,
+    R: Wait,
+    P: Pacing,
+{
     let places = port.lock(rt).capacity();
-    let parker = Parker::new();
-    let mut idle: u32 = 0;
     for _ in rt.forever() {
         let last = stop.is_set();
-        match serve(rt, port, places) {
-            Round::Busy => idle = 0,
+        match serve_round(rt, port, places, pacing) {
+            Round::Busy => pacing.worked(),
             Round::Spent => return LinkEnd::Spent,
             Round::Idle if last => return LinkEnd::Drained,
             Round::Broken if last => return LinkEnd::Broken,
-            _ => {
-                idle = idle.saturating_add(1);
-                pause(rt, &parker, idle);
-            }
+            _ => pacing.pause(rt),
         }
     }
     unreachable!()
 }
 
 // One round.
-fn serve<W: TellingWriter, S: Rates, L: LinkBrand, R: Wait>(
+fn serve_round<W: TellingWriter, S: Rates, L: LinkBrand, R: Wait, P: Pacing>(
     rt: &R,
     port: &Port<W, S, L>,
     places: usize,
+    pacing: &mut P,
 ) -> Round {
-    let found = match admit_all(rt, port, places) {
+    let found = match admit_awaited(rt, port, places, pacing) {
         Admit::Spent => return Round::Spent,
         found => found,
     };
-    match (port.lock(rt).turn(MOST), found) {
+    let turn = port.lock(rt).turn(MOST);
+    pacing.turned(rt, port, &turn);
+    match (turn, found) {
         (Turn::Spent, _) => Round::Spent,
         (Turn::Idle, Admit::Empty) => Round::Idle,
         (Turn::Broken, Admit::Empty) => Round::Broken,
@@ -116,27 +193,41 @@ fn serve<W: TellingWriter, S: Rates, L: LinkBrand, R: Wait>(
     }
 }
 
-// Admits until the queue is empty, the life is spent, or `places` offers were admitted. Gives the last answer.
-fn admit_all<W: TellingWriter, S: Rates, L: LinkBrand, R: Wait>(
+// Admits what is in the queue, and what is at hand soon. Gives the last answer.
+fn admit_awaited<W: TellingWriter, S: Rates, L: LinkBrand, R: Wait, P: Pacing>(
     rt: &R,
     port: &Port<W, S, L>,
     places: usize,
+    pacing: &mut P,
+) -> Admit {
+    let mut times: u32 = 0;
+    for _ in rt.forever() {
+        let found = admit_all(rt, port, places, pacing);
+        if found == Admit::Spent || !pacing.awaits() {
+            return found;
+        }
+        pacing.linger(rt, times);
+        times = times.saturating_add(1);
+    }
+    unreachable!()
+}
+
+// Admits until the queue is empty, the life is spent, or `places` offers were admitted. Gives the last answer.
+fn admit_all<W: TellingWriter, S: Rates, L: LinkBrand, R: Wait, P: Pacing>(
+    rt: &R,
+    port: &Port<W, S, L>,
+    places: usize,
+    pacing: &mut P,
 ) -> Admit {
     let mut last = Admit::Empty;
     for _ in 0..places {
         last = port.lock(rt).admit(rt);
-        if !matches!(last, Admit::Admitted { .. }) {
-            return last;
+        match &last {
+            Admit::Admitted { worker, n, reply } => {
+                pacing.admitted(rt, port, *worker, *n, reply);
+            }
+            _ => return last,
         }
     }
     last
-}
-
-// Lets other threads run after the n-th round in a row with nothing to do.
-fn pause<R: Wait>(rt: &R, parker: &Parker, n: u32) {
-    if n < EAGER {
-        thread::yield_now();
-    } else {
-        parker.park_timeout(rt, Duration::from_millis(REST));
-    }
 }

@@ -1,0 +1,5 @@
+//! Tests of a running link, over the public calls of share_locked.
+#![tactic(auto)]
+
+#[cfg(test)]
+mod tests;

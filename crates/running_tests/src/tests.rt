@@ -1,0 +1,5 @@
+//! What no contract says of a running link.
+
+mod made;
+mod pacing;
+mod tariffs;

@@ -106,6 +106,10 @@ byte, that of the flow in 4, that of the packet in 8, the length of the payload 
 and the payload. Packets of flows
 that are held or have no tickets are not sent: they stay in the report as waiting,
 and are no fault.
+Shares hold at C while flows are offered more than their shares: each then gets of
+the units that arrive the part that its tickets are of all. A limit of 64 packets or
+more costs least. What is under way in the system's buffers arrives before 'hold',
+'resume' and 'amend' are seen at C.
 A life lasts for L events: each command that is answered, each packet that came for
 a flow, and each write call on the uplink is one, refused commands and packets too.
 When it is spent the ingress connections are ended, lines are answered 'no 2 Spent',

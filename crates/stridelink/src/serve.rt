@@ -35,7 +35,7 @@ use share_base::Version;
 use share_core::Engine;
 use share_ingress::{IngressEnd, Intake, queue};
 use share_journal::{Journal, Recorder};
-use share_locked::{Clerk, LinkBrand, Locked, Stop};
+use share_locked::{Clerk, LinkBrand, Locked, Pace, Stop};
 use share_model::{PlainWriter, Rates, TellingWriter};
 use std::alloc::{AllocError, Global};
 use std::io::{Eprint, ErrorKind, Read};
@@ -164,12 +164,16 @@ fn open_doors(alloc: Global, sockets: Sockets, plan: Plan) -> Result<(Doors, Upl
     let _ = uplink.set_nodelay(true);
     let wire = Arc::new(alloc, Wire::new(uplink)).map_err(|_| ServeFault::NoMemory)?;
     let uplink = Uplink::new(&wire)?;
+    let Ok(pace) = Pace::new(alloc, PLACES, plan.workers) else {
+        return Err(ServeFault::NoMemory);
+    };
     let room = plan.workers.saturating_add(plan.clerks);
     let connections = match Connections::new(
         alloc,
         &control,
         &ingress,
         wire,
+        pace,
         room,
         plan.is_verbose,
     ) {

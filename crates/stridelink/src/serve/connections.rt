@@ -1,7 +1,7 @@
 //! The connections that are open, and how they are ended.
 
 use crate::serve::uplink::Wire;
-use share_locked::Stop;
+use share_locked::{Attendant, Pace, Stop};
 use std::alloc::Global;
 use std::fmt::Display;
 use std::io::{Eprint, ErrorKind, Read};
@@ -47,6 +47,7 @@ pub struct Connections {
     ending: Stop,
     // Set when the link takes nothing any more.
     link_ended: Stop,
+    pace: Pace,
     // Set when nothing is left to watch.
     over: Stop,
     watcher: Parker,
@@ -65,6 +66,7 @@ impl Connections {
         control: &TcpListener,
         ingress: &TcpListener,
         wire: Arc<Wire>,
+        pace: Pace,
         room: usize,
         is_verbose: bool,
     ) -> io::Result<Connections> {
@@ -76,6 +78,7 @@ impl Connections {
             wire,
             ending: Stop::new(),
             link_ended: Stop::new(),
+            pace,
             over: Stop::new(),
             watcher: Parker::new(),
             is_verbose,
@@ -91,6 +94,11 @@ impl Connections {
 
     pub fn wire(&self) -> &Wire {
         &self.wire
+    }
+
+    /// The pace of the link.
+    pub fn pace(&self) -> &Pace {
+        &self.pace
     }
 
     /// Whether no more connections are accepted.
@@ -156,6 +164,7 @@ impl Connections {
         let _ = self.ingress.shutdown(Shutdown::Both);
         self.shut(rt, Kind::Control, Shutdown::Read);
         self.shut(rt, Kind::Ingress, Shutdown::Read);
+        self.pace.hurry();
         self.watcher.unpark();
     }
 
@@ -196,6 +205,16 @@ impl Connections {
             self.watcher.park_timeout(rt, Duration::from_millis(REST));
         }
         self.over.is_set()
+    }
+}
+
+impl Attendant for Connections {
+    fn rests(&self) {
+        self.wire.push();
+    }
+
+    fn ends<R: Wait>(&self, rt: &R) {
+        self.end_link(rt);
     }
 }
 

@@ -5,7 +5,7 @@ ghost use Rattle.share_script.specs.Lines.{IsUnfinished};
 ghost use Rattle.stridelink.specs.Control.{request_of, request_in, Changed, Reported, AnswersRequest};
 
 use share_base::{Command, Refusal, Reply, Version};
-use share_locked::{Clerk, LinkBrand, Port};
+use share_locked::{Clerk, LinkBrand, Pace, Port};
 use share_model::{
     Fault, Got, Line, PatientWriter, PlainWriter, Rates, TellingReader, TellingWriter, put,
 };
@@ -74,6 +74,7 @@ fn request_in(alloc: Global, bytes: &[u8]) -> Request
 fn change<W: TellingWriter, S: Rates, L: LinkBrand, R: Wait>(
     rt: &R,
     port: &Port<W, S, L>,
+    pace: &Pace,
     clerk: &mut Clerk<L>,
     command: Command,
 ) -> Reply
@@ -83,6 +84,7 @@ fn change<W: TellingWriter, S: Rates, L: LinkBrand, R: Wait>(
         return Reply::Refused(Refusal::NoMemory);
     }
     let (_number, reply) = port.lock(rt).command(clerk, command);
+    pace.ring();
     reply
 }
 
@@ -107,6 +109,7 @@ fn answer<W: TellingWriter, S: Rates, L: LinkBrand, R: Wait, O: TellingWriter>(
     rt: &R,
     alloc: Global,
     port: &Port<W, S, L>,
+    pace: &Pace,
     clerk: &mut Clerk<L>,
     request: Request,
     output: &mut O,
@@ -116,7 +119,7 @@ fn answer<W: TellingWriter, S: Rates, L: LinkBrand, R: Wait, O: TellingWriter>(
 {
     match request {
         Request::Change(command) => {
-            let reply = change(rt, port, clerk, command);
+            let reply = change(rt, port, pace, clerk, command);
             write_reply(&reply, output)
         }
         Request::Report => answer_report(rt, alloc, port, output),
@@ -136,6 +139,7 @@ fn answer_all<
     rt: &R,
     alloc: Global,
     port: &Port<W, S, L>,
+    pace: &Pace,
     clerk: &mut Clerk<L>,
     input: &mut IncomingLines<I>,
     output: &mut O,
@@ -148,7 +152,7 @@ fn answer_all<
             Incoming::OverLong => Request::NoPlace,
             Incoming::Unfinished => return Ok(()),
         };
-        answer(rt, alloc, port, clerk, request, output)?;
+        answer(rt, alloc, port, pace, clerk, request, output)?;
     }
     unreachable!()
 }
@@ -166,12 +170,13 @@ fn converse<
     rt: &R,
     alloc: Global,
     port: &Port<W, S, L>,
+    pace: &Pace,
     clerk: &mut Clerk<L>,
     input: &mut IncomingLines<I>,
     output: &mut Output<O>,
 ) -> How {
     for _ in rt.forever() {
-        if answer_all(rt, alloc, port, clerk, input, output).is_err() {
+        if answer_all(rt, alloc, port, pace, clerk, input, output).is_err() {
             return How::WriteFault;
         }
         if output.0.0.flush().is_err() {
@@ -200,6 +205,7 @@ pub fn attend<
     rt: &R,
     alloc: Global,
     port: &Port<W, S, L>,
+    pace: &Pace,
     clerk: Clerk<L>,
     input: IncomingLines<I>,
     output: O,
@@ -213,6 +219,6 @@ pub fn attend<
         };
     };
     let mut output = PatientWriter(PlainWriter(buffered));
-    let how = converse(rt, alloc, port, &mut clerk, &mut input, &mut output);
+    let how = converse(rt, alloc, port, pace, &mut clerk, &mut input, &mut output);
     Attended { how, clerk }
 }

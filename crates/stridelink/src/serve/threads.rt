@@ -7,7 +7,7 @@ use crate::serve::given::Given;
 use crate::serve::slot::Slot;
 use crate::serve::uplink::Uplink;
 use crate::serve::worker::{LinkedEnd, why_text, work};
-use share_locked::{Clerk, LinkBrand, LinkEnd, Port, Stop, run_link};
+use share_locked::{Clerk, LinkBrand, LinkEnd, Port, Stop, run_paced_link};
 use share_model::{PlainReader, PlainWriter, Rates};
 use share_script::IncomingLines;
 use std::alloc::Global;
@@ -32,11 +32,11 @@ pub struct Server<S: Rates, L: LinkBrand> {
     pub ends: Vec<Slot<LinkedEnd<L>>>,
 }
 
-// Serves the link until it ends, and then tells the connections.
+// Serves the link until it ends.
 fn serve_link<R: Wait, S: Rates, L: LinkBrand>(rt: &R, server: &Server<S, L>) -> LinkEnd {
-    let end = run_link(rt, &server.port, &server.stop);
-    server.connections.end_link(rt);
-    end
+    let connections = &*server.connections;
+    let pace = connections.pace();
+    run_paced_link(rt, &server.port, &server.stop, pace, connections)
 }
 
 // Answers the lines of a control connection.
@@ -48,7 +48,10 @@ fn answer<R: Wait, S: Rates, L: LinkBrand>(
 ) -> Attended<L> {
     let source = PlainReader(Given::new(stream, &server.connections));
     match IncomingLines::new(server.alloc, source) {
-        Ok(input) => attend(rt, server.alloc, &server.port, clerk, input, stream),
+        Ok(input) => {
+            let pace = server.connections.pace();
+            attend(rt, server.alloc, &server.port, pace, clerk, input, stream)
+        }
         Err(_) => Attended {
             how: How::NoMemory,
             clerk,
@@ -239,11 +242,13 @@ where
         }
         if link.is_err() {
             connections.end_link(rt);
+            connections.pace().end();
         }
         accept_control(scope, rt, server, &mut found);
         accept_ingress(scope, rt, server, &mut found);
         connections.wait(rt);
         server.stop.set();
+        connections.pace().ring();
         connections.tell(rt, "the stop is set");
         if let Ok(handle) = link {
             found.life = handle.join(rt) == LinkEnd::Spent;

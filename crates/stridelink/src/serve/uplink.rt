@@ -17,11 +17,13 @@ const MOST_READS: u64 = 4096;
 /// How many bytes each of them reads, at most.
 const AWAY: usize = 4096;
 
-/// The connection, and how many times a write call on it began or ended: odd during a call.
+/// The connection, how many times a write call on it began or ended, which is odd during a call, and how many calls
+/// began since the last push.
 #[derive(Drop)]
 pub struct Wire {
     stream: TcpStream,
     steps: AtomicU64,
+    busy: AtomicU64,
 }
 
 /// The writer of the link. Its offers are write calls on the connection.
@@ -35,12 +37,33 @@ impl Wire {
         Wire {
             stream,
             steps: AtomicU64::new(0),
+            busy: AtomicU64::new(0),
         }
     }
 
     /// How many times a write call began or ended. It is odd during a call.
     pub fn steps(&self) -> u64 {
         self.steps.load(Ordering::SeqCst)
+    }
+
+    /// Sends what the system holds back, since the link has nothing more to write for now.
+    pub fn push(&self) {
+        if self.busy.swap(0, Ordering::SeqCst) > 1 {
+            let _ = self.stream.set_nodelay(true);
+        }
+    }
+
+    // A write call begins. From the second one since the last push on the system may hold back a piece that fills no
+    // segment until more comes.
+    fn begin_write(&self) {
+        let _ = self.steps.fetch_add(1, Ordering::SeqCst);
+        if self.busy.fetch_add(1, Ordering::SeqCst) == 1 {
+            let _ = self.stream.set_nodelay(false);
+        }
+    }
+
+    fn end_write(&self) {
+        let _ = self.steps.fetch_add(1, Ordering::SeqCst);
     }
 
     /// Ends the connection, and with it a write call that waits.
@@ -96,10 +119,10 @@ impl Uplink {
 
 impl Write for Uplink {
     fn write(&mut self, buf: &[u8]) -> io::Result<usize> {
-        let _ = self.wire.steps.fetch_add(1, Ordering::SeqCst);
+        self.wire.begin_write();
         let mut stream = &self.wire.stream;
         let written = stream.write(buf);
-        let _ = self.wire.steps.fetch_add(1, Ordering::SeqCst);
+        self.wire.end_write();
         written
     }
 

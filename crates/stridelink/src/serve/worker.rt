@@ -2,7 +2,7 @@
 ghost use Rattle.std.specs.Prelude.{◌≡◌};
 
 use crate::serve::connections::Connections;
-use crate::serve::given::Given;
+use crate::serve::given::{Given, PacedGiven};
 use share_ingress::{Done, Ended, Gate, IngressEnd, IngressReader, Why, run_worker};
 use share_locked::LinkBrand;
 use share_model::PlainReader;
@@ -11,35 +11,9 @@ use std::marker::{Model, PhantomData};
 use std::net::TcpStream;
 use std::sync::Wait;
 use std::thread;
-use std::thread::Parker;
-use std::time::Duration;
 
 /// How many reads and repeated offers a worker may make.
 const TURNS: u64 = 1 << 40;
-
-/// How many times a full queue is tried again without a rest.
-const EAGER: u32 = 16;
-
-/// How many microseconds the worker rests at least after each further refusal. A random time, up to as long, is added,
-/// so that neither of two workers that wait for places of one queue always comes second.
-const SHORT_REST: u64 = 100;
-
-/// After this many refusals in a row it rests longer, so that it costs little while the link waits for its peer.
-const STALLED: u32 = 80;
-
-/// How many microseconds it then rests at least.
-const LONG_REST: u64 = 4000;
-
-/// After a full queue this many records are offered in portions, with a rest after each. More places become free at
-/// once than a buffer may hold, and without a rest the first worker to find them would leave none to those that rest.
-const CAREFUL: u32 = 256;
-
-/// How many microseconds such a rest has at least if the worker had rested longer before. Other workers may rest longer
-/// too, and shall find places when they wake.
-const CAREFUL_REST: u64 = 1000;
-
-/// How many records such a portion has.
-const PORTION: u32 = 32;
 
 /// An end of the queue of this link.
 #[derive(Drop)]
@@ -79,63 +53,29 @@ impl<L: LinkBrand> LinkedEnd<L> {
     }
 }
 
-/// Lets a worker go on until the link has ended. It rests while the queue stays full.
+/// Lets a worker go on as far as the link allows, until the link has ended.
 #[derive(Drop)]
-struct UntilLinkEnds<'a, R> {
+struct AtPace<'a, R> {
     rt: &'a R,
     connections: &'a Connections,
-    parker: Parker,
-    full: u32,
-    careful: u32,
-    careful_rest: u64,
-    drawn: u64,
+    worker: u64,
 }
 
-impl<'a, R: Wait> UntilLinkEnds<'a, R> {
-    // Rests for this many microseconds and a random time, of a linear congruential generator.
-    fn rest(&mut self, least: u64) {
-        self.drawn = self
-            .drawn
-            .wrapping_mul(6364136223846793005)
-            .wrapping_add(1442695040888963407);
-        let more = (self.drawn >> 54).saturating_mul(least) >> 10;
-        self.parker
-            .park_timeout(self.rt, Duration::from_micros(least.saturating_add(more)));
-    }
-}
-
-impl<'a, R: Wait> Gate for UntilLinkEnds<'a, R> {
+impl<'a, R: Wait> Gate for AtPace<'a, R> {
     ghost told = { λ _ _ _. Unit {0} };
 
-    fn before(&mut self, _n: u64) {
-        self.full = 0;
+    fn before(&mut self, n: u64) {
+        self.connections.pace().wait(self.rt, self.worker, n);
     }
 
     fn offered(&mut self, _n: u64) {
-        if self.careful > 0 {
-            self.careful -= 1;
-            if self.careful % PORTION == 0 {
-                self.rest(self.careful_rest);
-            }
-        }
+        self.connections.pace().ring();
     }
 
+    // A worker at the link's pace finds the queue full only when the link takes nothing any more.
     fn full(&mut self) -> bool {
-        if self.connections.has_link_ended() {
-            return false;
-        }
-        self.careful = CAREFUL;
-        self.full = self.full.saturating_add(1);
-        if self.full < EAGER {
-            self.careful_rest = SHORT_REST;
-            thread::yield_now();
-        } else if self.full < STALLED {
-            self.rest(SHORT_REST);
-        } else {
-            self.careful_rest = CAREFUL_REST;
-            self.rest(LONG_REST);
-        }
-        true
+        thread::yield_now();
+        !self.connections.has_link_ended()
     }
 }
 
@@ -149,18 +89,16 @@ pub fn work<R: Wait, L: LinkBrand>(
     stream: &TcpStream,
     linked: LinkedEnd<L>,
 ) -> (LinkedEnd<L>, Why, u64) {
-    let source = PlainReader(Given::new(stream, connections));
+    let worker = number as u64;
+    let given = Given::new(stream, connections);
+    let source = PlainReader(PacedGiven::new(given, worker));
     let Ok(reader) = IngressReader::new(alloc, source, TURNS) else {
         return (linked, Why::Ended(Ended::NoMemory), 0);
     };
-    let gate = UntilLinkEnds {
+    let gate = AtPace {
         rt,
         connections,
-        parker: Parker::new(),
-        full: 0,
-        careful: 0,
-        careful_rest: SHORT_REST,
-        drawn: number as u64,
+        worker,
     };
     let Done {
         end,
@@ -169,6 +107,7 @@ pub fn work<R: Wait, L: LinkBrand>(
         tally,
     } = run_worker(rt, reader, linked.into_end(), gate);
     drop(gate);
+    connections.pace().begin_waiting(worker);
     (LinkedEnd::new(end), why, tally)
 }
 

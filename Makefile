@@ -1,6 +1,7 @@
 # stridelink: 'make try' runs an example unproved, 'make run' proves and builds the program and runs it, 'make serve'
 # plays a session over sockets with it, 'make check' proves what changed and runs tests and examples, and 'make test'
-# passes the gate. 'make soak' puts a server under a long load and beside a hostile client, and 'make fuzz' compares
+# passes the gate. 'make soak' puts a server under a long load and beside a hostile client, and counts shares at the far
+# end of the uplink for each kind of load; 'make fuzz' compares
 # the program with plain models for MINUTES minutes (10) of drawn scripts and servers. The toolchain's command rt has
 # to be on the PATH. 'make tools' installs what the tools around a server use, and 'make tools-test' tries these with
 # the program, or with that of the variable STRIDELINK. 'make deb' builds a Debian package of all this in bin/.
@@ -57,6 +58,7 @@ test:
 	RT_JOBS=$$(.ci/jobs) rt ci
 	.ci/memory
 	.ci/places
+	.ci/yields
 	$(examples)
 
 edits:
@@ -70,6 +72,7 @@ bench: bin/stridelink
 
 soak: bin/stridelink
 	python3 bench/soak.py
+	python3 bench/shares.py
 
 fuzz: bin/stridelink
 	examples/fuzz.py --minutes $(or $(MINUTES),10)

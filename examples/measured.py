@@ -162,11 +162,12 @@ class Floods:
                 flood.say(line)
 
 
-def flooded(run, load, listen="127.0.0.1:0", prefix=(), lines=None):
+def flooded(run, load, listen="127.0.0.1:0", prefix=(), lines=None, **words):
     """Starts a server under a load. With lines of its own the flows are opened and funded by them."""
     far = FarEnd(load.rate, listen, prefix)
     run.stack.callback(far.close)
-    server = run.start(far.address, workers=len(load.connections), life=LONGEST_LIFE, audit=os.devnull).listens()
+    server = run.start(far.address, workers=len(load.connections), life=LONGEST_LIFE, audit=os.devnull,
+                       **words).listens()
     control = server.control()
     for line, reply in lines or load.lines():
         control.ask_wanted([line], [reply])

@@ -21,7 +21,7 @@ import time
 
 sys.dont_write_bytecode = True
 
-from measured import Load, check_changes, check_currency, check_load
+from measured import Load, check_changes, check_currency, check_load, flooded
 from serving import (ENDED, END, LOOPBACK, ONE_PACKET, PATIENCE, QUIET_SECONDS, Failure, check,
                      ends_by_itself, expect, expect_equal, frame, frames, is_blocked, listeners, lower, lowest_free,
                      one_packet, packets, packets_until_torn, record, records, reset, total, try_cases, wait_for)
@@ -39,6 +39,9 @@ BLOCKED_RUNS = 10
 # Half of the packets that come to a server that sleeps are at the far end within so many seconds: the system holds a
 # frame back for up to 0.04.
 PROMPT = 0.015
+
+# How fast the far end of a server that ends under floods reads, in bytes a second.
+SLOW_END = 1e6
 
 # A server that has nothing to do, or waits for its far end, may use this share of a core: its threads sleep.
 ASLEEP_SHARE = 0.0005
@@ -619,6 +622,17 @@ def until_eof_floods(run):
     expect_equal(replay.totals()["waiting"], 1, "packets that wait")
 
 
+def until_eof_before_a_slow_far_end(run):
+    """From the beginning of the end on no worker waits for room: what buffers have no room for is refused. So the end
+    does not take as long as the far end would take for all that had come."""
+    load = Load("an end before a slow far end", SLOW_END)
+    floods = flooded(run, load, until_eof=True)
+    floods.begin()
+    floods.far.wait(1.0)
+    floods.server.end_input()
+    floods.server.ends(seconds=END)
+
+
 def until_eof_unread_replies(run):
     """A client that never reads its replies cannot hold up the end."""
     peer = run.peer()
@@ -938,9 +952,10 @@ CASES = (served, quiet, control_lines, long_packets, accepted_in_order, idle, en
          shares_at_slow_far_ends, shares_of_tariffs, shares_beside_busy_loops, shares_as_tickets_change, malformed, cut,
          clients_vanish, clients_stall, peer_closes_at_once, peer_resets_at_once, peer_closes_after_some_bytes,
          peer_reads_slowly, peer_writes_back, spent_life, spent_life_under_load, spent_life_blocked_often,
-         until_eof_idle, until_eof_gives_what_had_come, until_eof_floods, until_eof_unread_replies, until_eof_dead_peer,
-         until_eof_open, ends_asleep_and_awake, fault_words, fault_addresses, fault_memory, fault_accept, fault_thread, fault_files,
-         audit_files, ended_by_a_signal)
+         until_eof_idle, until_eof_gives_what_had_come, until_eof_floods, until_eof_before_a_slow_far_end,
+         until_eof_unread_replies, until_eof_dead_peer,
+         until_eof_open, ends_asleep_and_awake, fault_words, fault_addresses, fault_memory, fault_accept, fault_thread,
+         fault_files, audit_files, ended_by_a_signal)
 
 
 if __name__ == "__main__":

@@ -248,7 +248,8 @@ PHASE = WINDOW + DRAINED + 0.5
 
 def check_currency(run, rate=2.5e7):
     """Two flows share a currency's 400, and one of them stops for a while: the other has all 400 meanwhile."""
-    load = Load("a currency whose flow goes and comes", rate)
+    lengths = ("700" if rate else "4000",) * 4
+    load = Load("a currency whose flow goes and comes", rate, lengths=lengths)
     floods = flooded(run, load, lines=COMING_AND_GOING)
     floods.begin()
     floods.far.wait(START + PHASE)
@@ -263,8 +264,10 @@ def check_currency(run, rate=2.5e7):
 
 
 def check_changes(run, rate=2.5e7):
-    """A flow is held and resumed, and a ticket is amended, while all are flooded."""
-    load = Load("a flow that is held, a ticket that is amended", rate)
+    """A flow is held and resumed, and a ticket is amended, while all are flooded. Before a far end that is as fast as
+    loopback the packets are long, so that the life lasts."""
+    lengths = ("700" if rate else "4000",) * 4
+    load = Load("a flow that is held, a ticket that is amended", rate, lengths=lengths)
     floods = flooded(run, load)
     floods.begin()
     at(floods, START + PHASE, ("hold b", "ok"))

@@ -10,6 +10,7 @@ import contextlib
 import fcntl
 import os
 import random
+import re
 import resource
 import signal
 import socket
@@ -39,6 +40,9 @@ BLOCKED_RUNS = 10
 # Half of the packets that come to a server that sleeps are at the far end within so many seconds: the system holds a
 # frame back for up to 0.04.
 PROMPT = 0.015
+
+# How many packets of a flood may be refused for each that is sent.
+MOST_REFUSED = 0.01
 
 # How fast the far end of a server that ends under floods reads, in bytes a second.
 SLOW_END = 1e6
@@ -333,6 +337,24 @@ BAD_FIELDS = {
     "a payload of 9001 bytes": b"\x01a\x23\x29",
     "a payload of 65535 bytes": b"\x01a\xff\xff",
 }
+
+
+def few_are_refused(run):
+    """While each connection carries a flow of its own, its worker is in step with the link: of the packets of a flood
+    hardly one is refused, whatever the limit."""
+    for limit in (1, 8, 1024):
+        load = Load("a limit of %d" % limit, 2.5e7, limit=limit)
+        floods = flooded(run, load, until_eof=True)
+        floods.begin()
+        floods.far.wait(2.0)
+        floods.say("stop")
+        wait_for(lambda: not any(floods.waiting()), "the end of the floods")
+        floods.server.end_input()
+        floods.server.ends(seconds=END)
+        written = int(re.search(r"^written *(\d+)$", floods.server.text("stdout"), re.MULTILINE).group(1))
+        arrivals = int(re.search(r"(\d+) arrivals", floods.server.text("stderr")).group(1))
+        expect(written > 0 and arrivals - written <= MOST_REFUSED * written,
+               "%s: of %d packets %d were sent" % (load.name, arrivals, written))
 
 
 def malformed(run):
@@ -949,13 +971,13 @@ def ended_by_a_signal(run):
 
 
 CASES = (served, quiet, control_lines, long_packets, accepted_in_order, idle, ends_held, lone_packets, full_queue,
-         shares_at_slow_far_ends, shares_of_tariffs, shares_beside_busy_loops, shares_as_tickets_change, malformed, cut,
-         clients_vanish, clients_stall, peer_closes_at_once, peer_resets_at_once, peer_closes_after_some_bytes,
-         peer_reads_slowly, peer_writes_back, spent_life, spent_life_under_load, spent_life_blocked_often,
-         until_eof_idle, until_eof_gives_what_had_come, until_eof_floods, until_eof_before_a_slow_far_end,
-         until_eof_unread_replies, until_eof_dead_peer,
-         until_eof_open, ends_asleep_and_awake, fault_words, fault_addresses, fault_memory, fault_accept, fault_thread,
-         fault_files, audit_files, ended_by_a_signal)
+         shares_at_slow_far_ends, shares_of_tariffs, shares_beside_busy_loops, shares_as_tickets_change,
+         few_are_refused, malformed, cut, clients_vanish, clients_stall, peer_closes_at_once, peer_resets_at_once,
+         peer_closes_after_some_bytes, peer_reads_slowly, peer_writes_back, spent_life, spent_life_under_load,
+         spent_life_blocked_often, until_eof_idle, until_eof_gives_what_had_come, until_eof_floods,
+         until_eof_before_a_slow_far_end, until_eof_unread_replies, until_eof_dead_peer, until_eof_open,
+         ends_asleep_and_awake, fault_words, fault_addresses, fault_memory, fault_accept, fault_thread, fault_files,
+         audit_files, ended_by_a_signal)
 
 
 if __name__ == "__main__":

@@ -7,8 +7,6 @@ mod naming;
 mod number;
 mod parcel;
 mod refusal;
-#[cfg(test)]
-mod tests;
 mod version;
 
 pub use command::{Command, Event, Outcome, Reply, Turn};

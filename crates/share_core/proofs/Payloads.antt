@@ -5,9 +5,10 @@ use Rattle.std.proofs.Common.{Result, Ok, Err, IfOk, IfErr, OnOk, refl, sym, ap,
 use Rattle.std.proofs.lemmas.Option.{same_Some}
 use Rattle.share_base.specs.Body.{BodyView, framed_bytes}
 use Rattle.share_model.specs.link.Frame.{Packet, PacketOf, map_packet}
-use Rattle.share_model.specs.link.Buffers.{Buffer, is_buffer_of, buffer_of, backlog_of, open_in, close_in, count_in, push_in}
+use Rattle.share_model.specs.link.Buffers.{Buffer, is_buffer_of, buffer_of, backlog_of, open_in, close_in, count_in}
 use Rattle.share_model.specs.link.Buffers.{head_in as head_in_buffer, head_of_buffer, holds_packet, is_some_packet}
 use Rattle.share_model.specs.link.Buffers.{is_full, pop_in, head_of, is_busy, map_buffer, payload_of, payloads_in}
+use Rattle.share_model.specs.link.Buffers.{push_in}
 use Rattle.share_model.proofs.lemmas.lists.Laws.{find-change_first}
 use Rattle.share_model.proofs.lemmas.link.PayloadLaws.{buffer_of-image, backlog_of-image, count_in-image}
 use Rattle.share_model.proofs.lemmas.link.PayloadLaws.{is_full-image, is_busy-image}

@@ -8,8 +8,6 @@ mod laws;
 mod link;
 mod next_write;
 mod payload_buffers;
-#[cfg(test)]
-mod tests;
 
 pub use engine::Engine;
 pub use laws::{idle_links_are_done, shares_of_calls, tickets_are_shares};

@@ -3,8 +3,6 @@
 
 mod buffers;
 mod ring;
-#[cfg(test)]
-mod tests;
 
 pub use buffers::{Buffers, Place};
 pub use ring::MAX_LIMIT;

@@ -8,8 +8,6 @@ mod held;
 mod laws;
 mod reader;
 mod record;
-#[cfg(test)]
-mod tests;
 mod threads;
 mod workers;
 

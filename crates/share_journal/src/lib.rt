@@ -7,8 +7,6 @@ mod entry;
 mod journal;
 mod laws;
 mod recorder;
-#[cfg(test)]
-mod tests;
 
 pub use entry::{Entry, Source};
 pub use journal::Journal;

@@ -301,9 +301,4 @@ impl Ledger {
     {
         &self.tables
     }
-
-    #[cfg(test)]
-    pub(crate) fn cache(&self) -> &Cache {
-        &self.cache
-    }
 }

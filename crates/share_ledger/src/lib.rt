@@ -21,8 +21,6 @@ mod recomputing;
 mod routes;
 mod stale;
 mod tables;
-#[cfg(test)]
-mod tests;
 mod tickets;
 mod turns;
 

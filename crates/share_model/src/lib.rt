@@ -18,8 +18,6 @@ mod scripted;
 mod scripted_reader;
 mod stride;
 mod tape;
-#[cfg(test)]
-mod tests;
 mod writer;
 
 pub use funding::{Holder, OpenFlow, Ticket};

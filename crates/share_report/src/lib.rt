@@ -4,8 +4,6 @@
 mod engine;
 mod laws;
 mod lines;
-#[cfg(test)]
-mod tests;
 mod text;
 
 pub use engine::report;

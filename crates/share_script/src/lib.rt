@@ -14,8 +14,6 @@ mod replies;
 mod script;
 mod spelling;
 mod spool;
-#[cfg(test)]
-mod tests;
 mod text;
 mod words;
 mod writing;

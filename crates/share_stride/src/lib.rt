@@ -10,8 +10,6 @@ mod moves;
 mod queue;
 mod seating;
 mod table;
-#[cfg(test)]
-mod tests;
 
 pub use laws::{
     levelling_levels, moves_commute, moves_in_any_order, next_is_unique, removal_commutes,

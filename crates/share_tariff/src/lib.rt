@@ -5,8 +5,6 @@ mod laws;
 mod plain;
 mod shelf;
 mod tariff;
-#[cfg(test)]
-mod tests;
 
 pub use laws::bytes_fill_whole_cells;
 pub use plain::{account_after, units_by_division};

@@ -1,0 +1,13 @@
+//! What no contract says of a link and its journal.
+
+mod allocator;
+mod assertions;
+mod audits;
+mod cuts;
+mod journal;
+mod journal_memory;
+mod made;
+mod memory;
+mod sessions;
+mod talk;
+mod tariffs;

@@ -1,0 +1,11 @@
+//! What no contract says of the parts of a link: worked rows, texts, memory, and what is called how often.
+
+mod allocator;
+mod assertions;
+mod base;
+mod flows;
+mod frame;
+mod ledger;
+mod model;
+mod stride;
+mod tariff;

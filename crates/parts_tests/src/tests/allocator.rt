@@ -1,0 +1,45 @@
+//! Questions to the allocator of `.ci/allocator.c`, over which `.ci/memory` runs the tests of memory. Any other
+//! allocator refuses nothing, and then these tests compare the answers alone.
+
+use crate::tests::assertions::{holds, same};
+use share_model::allocator::{IS_HELD_OTHER, MARK_HELD, WAS_REFUSED};
+use share_model::asks;
+use std::alloc::Global;
+use std::fmt::Debug;
+use std::process::Abort;
+
+/// Refuses the request of this number from here on.
+pub(super) fn refuse(alloc: Global, request: u16) {
+    let _no = asks!(alloc, request);
+}
+
+/// Refuses nothing from here on. Returns whether a request was refused.
+pub(super) fn was_refused(alloc: Global) -> bool {
+    asks!(alloc, WAS_REFUSED)
+}
+
+/// Remembers how many blocks are held.
+pub(super) fn mark(alloc: Global) {
+    let _no = asks!(alloc, MARK_HELD);
+}
+
+/// As many blocks are held as were remembered.
+pub(super) fn keeps_none<R: Debug + Copy>(rt: &impl Abort, row: R, alloc: Global) {
+    holds(rt, (row, "keeps no block"), !asks!(alloc, IS_HELD_OTHER));
+}
+
+/// Whether the allocator is the one that refuses.
+pub(super) fn is_steered(alloc: Global) -> bool {
+    mark(alloc);
+    let block = Vec::<u8>::with_capacity(alloc, 1);
+    let is = block.is_ok() && asks!(alloc, IS_HELD_OTHER);
+    drop(block);
+    is
+}
+
+/// After `refuse(alloc, 1)` no request was made: the first one is made here.
+pub(super) fn took_none<R: Debug + Copy>(rt: &impl Abort, row: R, alloc: Global) {
+    let is_first_refused = Vec::<u8>::with_capacity(alloc, 1).is_err();
+    let was_one = was_refused(alloc);
+    same(rt, (row, "takes no memory"), is_first_refused, was_one);
+}

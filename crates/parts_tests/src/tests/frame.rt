@@ -1,0 +1,249 @@
+//! share_frame: worked frames, what bytes are read as, and every cut. No call takes memory.
+
+use crate::tests::allocator::{refuse, took_none};
+use crate::tests::assertions::{holds, same};
+use share_base::Version::{One, Two};
+use share_base::{FlowNo, Version};
+use share_frame::FrameRead2::{Bad, More};
+use share_frame::{
+    Field, FrameRead, FrameRead2, HEADER, HEADER2, header, header2, no_frame_begins_another,
+    read_frame, read_frame2,
+};
+use std::process::Abort;
+
+/// The frames of the payload `hi`, the first packet of flow 1, in version 1, and in version 2 under tariff 1.
+const HI: &[u8; 14] = b"\x4c\x01\x00\x00\x00\x01\x00\x00\x00\x01\x00\x02hi";
+
+const HI2: &[u8; 19] = b"\x4c\x02\x01\x00\x00\x00\x01\x00\x00\x00\x00\x00\x00\x00\x01\x00\x02hi";
+
+// What `hi` is read as. The tariff is 0 in version 1, which has none.
+const READ: FrameRead2 = FrameRead2::Frame {
+    flow: FlowNo(1),
+    seq: 1,
+    tariff: 0,
+    len: 2,
+};
+
+const READ2: FrameRead2 = FrameRead2::Frame {
+    flow: FlowNo(1),
+    seq: 1,
+    tariff: 1,
+    len: 2,
+};
+
+/// A version, bytes in hexadecimal, and what they are read as.
+const ROWS: [(Version, &str, FrameRead2); 35] = [
+    (One, "", More),
+    (One, "4d", Bad(Field::Magic)),
+    (One, "4c02", Bad(Field::Version)),
+    (One, "4c0100", More),
+    (One, "4c0100000000", Bad(Field::Flow)),
+    (One, "4c010000000100000000", Bad(Field::Seq)),
+    (One, "4c01000000010000000105", More),
+    (One, "4c01000000010000000105d2", More),
+    (One, "4c01000000010000000105d3", Bad(Field::Len)),
+    (One, "4c01000000010000000106", Bad(Field::Len)),
+    (One, "4c0100000001000000010000", Bad(Field::Len)),
+    (One, "4d0200000000000000000600", Bad(Field::Magic)),
+    (One, "4c0100000000000000000600", Bad(Field::Flow)),
+    (One, "4c01000000010000000100026869", READ),
+    (One, "4c010000000100000001000268694d", READ),
+    (Two, "", More),
+    (Two, "4d", Bad(Field::Magic)),
+    (Two, "4c01", Bad(Field::Version)),
+    (Two, "4c02", More),
+    (Two, "4c0200", Bad(Field::Tariff)),
+    (Two, "4c0208", More),
+    (Two, "4c0209", Bad(Field::Tariff)),
+    (Two, "4c020100000000", Bad(Field::Flow)),
+    (Two, "4c0201000000010000000000000000", Bad(Field::Seq)),
+    (Two, "4c0201000000010000000100000000", More),
+    (Two, "4c020100000001000000000000000123", More),
+    (Two, "4c02010000000100000000000000012328", More),
+    (Two, "4c02010000000100000000000000012329", Bad(Field::Len)),
+    (Two, "4c020100000001000000000000000124", Bad(Field::Len)),
+    (Two, "4c02010000000100000000000000010000", Bad(Field::Len)),
+    (Two, "4d01000000000000000000000000002400", Bad(Field::Magic)),
+    (
+        Two,
+        "4c02090000000000000000000000002400",
+        Bad(Field::Tariff),
+    ),
+    (Two, "4c020100000001000000000000000100026869", READ2),
+    (Two, "4c0201000000010000000000000001000268694d", READ2),
+    (Two, "4c0208000000010000000000000001", More),
+];
+
+// What bytes are read as in a version.
+fn read(version: Version, bytes: &[u8]) -> FrameRead2 {
+    match version {
+        Two => read_frame2(bytes),
+        One => match read_frame(bytes) {
+            FrameRead::Frame { flow, seq, len } => FrameRead2::Frame {
+                flow,
+                seq: u64::from(seq),
+                tariff: 0,
+                len,
+            },
+            FrameRead::More => More,
+            FrameRead::Bad(field) => Bad(field),
+        },
+    }
+}
+
+fn digit(byte: u8) -> u8 {
+    match byte {
+        b'0'..=b'9' => byte - b'0',
+        b'a'..=b'f' => byte - b'a' + 10,
+        _ => 0,
+    }
+}
+
+// What bytes in hexadecimal are read as, at most 20 of them.
+fn read_hex(version: Version, text: &str) -> FrameRead2 {
+    let mut bytes = [0; 20];
+    for (place, pair) in bytes.iter_mut().zip(text.as_bytes().chunks_exact(2)) {
+        if let [high, low] = pair {
+            *place = digit(*high) << 4 | digit(*low);
+        }
+    }
+    let count = text.len() / 2;
+    read(version, bytes.get(..count).unwrap_or(&[]))
+}
+
+#[test]
+fn bytes_are_read(rt: HostRuntime) {
+    no_frame_begins_another();
+    for (version, text, answer) in ROWS {
+        same(&rt, (version, text), read_hex(version, text), answer);
+    }
+    for count in 0..HI.len() {
+        same(&rt, count, read(One, &HI[..count]), More);
+    }
+    for count in 0..HI2.len() {
+        same(&rt, count, read(Two, &HI2[..count]), More);
+    }
+}
+
+const STARTS: [(Field, usize, usize); 6] = [
+    (Field::Magic, 0, 0),
+    (Field::Version, 1, 1),
+    (Field::Tariff, 2, 2),
+    (Field::Flow, 2, 3),
+    (Field::Seq, 6, 7),
+    (Field::Len, 10, 15),
+];
+
+#[test]
+fn fields_have_places(rt: HostRuntime) {
+    for (field, one, two) in STARTS {
+        same(&rt, field, (field.start(One), field.start(Two)), (one, two));
+    }
+}
+
+/// The flow number, the sequence number, the tariff and the length of packets. In version 1 the tariff is 0.
+const PACKETS: [(Version, u32, u64, u8, u16); 10] = [
+    (One, 1, 1, 0, 1),
+    (One, 1, 1, 0, 1490),
+    (One, 256, 65536, 0, 1281),
+    (One, 0x8000_0000, 0x0100_0000, 0, 256),
+    (One, 4294967295, 4294967295, 0, 1490),
+    (Two, 1, 1, 1, 1),
+    (Two, 1, 1, 8, 9000),
+    (Two, 256, 65536, 2, 8961),
+    (Two, 0x8000_0000, 0x1_0000_0000, 3, 256),
+    (Two, 4294967295, 18446744073709551615, 8, 9000),
+];
+
+// Writes a header of a version before zeros. Returns its length.
+fn write(
+    bytes: &mut [u8; 9017],
+    version: Version,
+    flow: FlowNo,
+    seq: u64,
+    tariff: u8,
+    len: u16,
+) -> usize {
+    match version {
+        One => bytes[..HEADER].copy_from_slice(&header(
+            flow,
+            u32::try_from(seq).unwrap_or(u32::MAX),
+            len,
+        )),
+        Two => bytes[..HEADER2].copy_from_slice(&header2(flow, seq, tariff, len)),
+    }
+    version.header()
+}
+
+// Whether a header and a payload of zeros are read as a frame, and as part of one if the end is cut off.
+fn is_read_again(version: Version, flow: u32, seq: u64, tariff: u8, len: u16) -> bool {
+    let mut bytes = [0; 9017];
+    let flow = FlowNo(flow);
+    let header = write(&mut bytes, version, flow, seq, tariff, len);
+    let Some(frame) = bytes.get(..usize::from(len).saturating_add(header)) else {
+        return false;
+    };
+    let wanted = FrameRead2::Frame {
+        flow,
+        seq,
+        tariff,
+        len,
+    };
+    read(version, frame) == wanted
+        && read(
+            version,
+            frame.get(..frame.len().saturating_sub(1)).unwrap_or(&[]),
+        ) == More
+        && read(version, frame.get(..header).unwrap_or(&[])) == More
+}
+
+#[test]
+fn headers_are_those_of_frames_and_are_read_again(rt: HostRuntime) {
+    same(&rt, "hi", header(FlowNo(1), 1, 2).as_slice(), &HI[..HEADER]);
+    same(
+        &rt,
+        "hi, version 2",
+        header2(FlowNo(1), 1, 1, 2).as_slice(),
+        &HI2[..HEADER2],
+    );
+    let one = b"\x4c\x01\x01\x02\x03\x04\x05\x06\x07\x08\x09\x0a";
+    same(
+        &rt,
+        "version 1",
+        header(FlowNo(0x01020304), 0x05060708, 0x090a),
+        *one,
+    );
+    let two = b"\x4c\x02\x01\x02\x03\x04\x05\x06\x07\x08\x09\x0a\x0b\x0c\x0d\x0e\x0f";
+    let numbers = header2(FlowNo(0x02030405), 0x060708090a0b0c0d, 1, 0x0e0f);
+    same(&rt, "version 2", numbers, *two);
+    for (version, flow, seq, tariff, len) in PACKETS {
+        holds(
+            &rt,
+            (version, flow, seq),
+            is_read_again(version, flow, seq, tariff, len),
+        );
+    }
+}
+
+// Whether all calls answer as they should.
+fn are_answered() -> bool {
+    for (version, text, answer) in ROWS {
+        if read_hex(version, text) != answer {
+            return false;
+        }
+    }
+    for (version, flow, seq, tariff, len) in PACKETS {
+        if !is_read_again(version, flow, seq, tariff, len) {
+            return false;
+        }
+    }
+    Field::Len.start(One) == 10
+}
+
+#[test]
+fn frames_take_no_memory(rt: HostRuntime) {
+    refuse(rt.alloc(), 1);
+    let are_answered = are_answered();
+    took_none(&rt, "frames", rt.alloc());
+    holds(&rt, "the answers", are_answered);
+}

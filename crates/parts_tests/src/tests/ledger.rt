@@ -1,0 +1,620 @@
+//! share_ledger: worked figures, limits and orders of refusals, as rows of text; and what a ledger takes of memory: its
+//! cache when it is made, and room for more currencies, tickets and flows if there is none left.
+
+use crate::tests::allocator::{is_steered, keeps_none, mark, refuse, took_none, was_refused};
+use crate::tests::assertions::{holds, same};
+use share_base::{FlowNo, Name, Refusal};
+use share_ledger::Ledger;
+use std::alloc::Global;
+use std::process::Abort;
+
+/// What a table is about, the rows that lead up to it, and its own rows, which take no memory. A row is a command of a
+/// script (`open` without a limit and a tariff), or one of the words of `ask`. After ` = ` stands what it answers: a
+/// number, or the name of a refusal.
+type Table = (&'static str, &'static str, &'static str);
+
+/// The answer to a call: a number, or nothing to tell, or why nothing was done.
+type Answer = Result<Option<u64>, Refusal>;
+
+/// 100 of `base` back x, of which 3 back y and 4 fund a. Of y 1 funds each of b and c.
+const THREE_DEEP: &str =
+    "mkcur x; mkcur y; open a = 1; open b = 2; open c = 3; mktkt 100 base = 1; fund 1 cur x;
+    mktkt 3 x = 2; fund 2 cur y; mktkt 4 x = 3; fund 3 flow a; mktkt 1 y = 4; fund 4 flow b; mktkt 1 y = 5;
+    fund 5 flow c";
+
+/// 1000 of `base` back x, of which 1 funds a and 2 fund b.
+const TWO_FLOWS: &str =
+    "mkcur x; mktkt 1000 base = 1; fund 1 cur x; mktkt 1 x = 2; mktkt 2 x = 3; open a = 1;
+    open b = 2; fund 2 flow a; fund 3 flow b";
+
+/// Nine currencies c1 to c9, and a ticket of each with its number. The first seven tickets fund the next currency.
+const CHAIN_OF_EIGHT: &str =
+    "mkcur c1; mktkt 1 c1 = 1; mkcur c2; mktkt 1 c2 = 2; mkcur c3; mktkt 1 c3 = 3; mkcur c4;
+    mktkt 1 c4 = 4; mkcur c5; mktkt 1 c5 = 5; mkcur c6; mktkt 1 c6 = 6; mkcur c7; mktkt 1 c7 = 7; mkcur c8;
+    mktkt 1 c8 = 8; mkcur c9; mktkt 1 c9 = 9; fund 1 cur c2; fund 2 cur c3; fund 3 cur c4; fund 4 cur c5;
+    fund 5 cur c6; fund 6 cur c7; fund 7 cur c8; open a = 1; back_16 1 base c9";
+
+/// The tickets 1 to 16 fund the flow a, 17 to 32 back the currency x, and 33 and 34 are free.
+const CROWDED: &str =
+    "mkcur x; mkcur y; open a = 1; fund_16 a; back_16 1 base x; mktkt 1 base = 33; mktkt 1 x = 34";
+
+/// Eight currencies, each backed by the one before it through sixteen tickets: 16^8 paths. 64 flows are funded by
+/// fourteen tickets each of the last currency: 1024 tickets in all.
+const DEEP_GRAPH: &str =
+    "mkcur c1; mkcur c2; mkcur c3; mkcur c4; mkcur c5; mkcur c6; mkcur c7; mkcur c8;
+    back_16 65536 base c1; back_16 65536 c1 c2; back_16 65536 c2 c3; back_16 65536 c3 c4; back_16 65536 c4 c5;
+    back_16 65536 c5 c6; back_16 65536 c6 c7; back_16 65536 c7 c8; flows_64 c8";
+
+const TABLES_ARE_FULL: &str =
+    "why fresh = TableFull; why c07 = Taken; mkcur fresh = TableFull; mkcur c07 = Taken;
+    mkcur base = Taken; open fresh = TableFull; open c07 = Taken; mktkt 1 base = TableFull; mktkt 0 fresh = Range;
+    mktkt 1 fresh = NoCurrency";
+
+const TABLES: [Table; 23] = [
+    (
+        "three currencies deep, with fewer and fewer flows",
+        THREE_DEEP,
+        "wake 1; wake 2; wake 3; tickets 1 = 57; tickets 2 = 21; tickets 3 = 21; rest 3; tickets 1 = 57;
+            tickets 2 = 42; tickets 3 = 0; rest 2; tickets 1 = 100; tickets 2 = 0; flow b = 2; flow x",
+    ),
+    (
+        "shares follow activity",
+        TWO_FLOWS,
+        "wake 1; tickets 1 = 1000; wake 2; tickets 1 = 333; tickets 2 = 666; rest 2; tickets 1 = 1000; tickets 2 = 0",
+    ),
+    (
+        "an idle currency comes alive",
+        "mkcur x; mktkt 5 x = 1; open a = 1; fund 1 flow a; mktkt 10 base = 2",
+        "wake 1; tickets 1 = 0; fund 2 cur x; tickets 1 = 10",
+    ),
+    (
+        "the tickets of a flow have a cap",
+        "open a = 1; mktkt 1048576 base = 1; fund 1 flow a; mktkt 1048576 base = 2; fund 2 flow a",
+        "wake 1; tickets 1 = 1048576",
+    ),
+    (
+        "a free ticket gets an amount",
+        "mktkt 5 base = 1; mktkt 3 base = 2; open a = 1",
+        "wake 1; amend 1 8; tickets 1 = 0; fund 1 flow a; tickets 1 = 8; fund 2 flow a; tickets 1 = 11",
+    ),
+    (
+        "an amended ticket keeps its holder: it is not removed, funds nothing else, and is taken away once",
+        "mktkt 5 base = 1; mktkt 2 base = 2; open a = 1; open b = 2",
+        "fund 1 flow a; fund 2 flow b; wake 1; wake 2; tickets 1 = 5; amend 1 9; tickets 1 = 9; tickets 2 = 2;
+            rmtkt 1 = Funding; fund 1 flow b = Funding; unfund 1; tickets 1 = 0; unfund 1 = Unfunded; fund 1 flow b;
+            tickets 2 = 11",
+    ),
+    (
+        "others keep their part of a currency",
+        TWO_FLOWS,
+        "wake 1; wake 2; tickets 1 = 333; tickets 2 = 666; amend 3 4; tickets 1 = 200; tickets 2 = 800; amend 3 2;
+            tickets 1 = 333; tickets 2 = 666",
+    ),
+    (
+        "the ticket of an idle flow gets an amount",
+        TWO_FLOWS,
+        "wake 1; tickets 1 = 1000; amend 3 4; tickets 1 = 1000; tickets 2 = 0; wake 2; tickets 1 = 200;
+            tickets 2 = 800",
+    ),
+    (
+        "what backs a currency gets an amount",
+        TWO_FLOWS,
+        "wake 1; wake 2; amend 1 600; tickets 1 = 200; tickets 2 = 400; amend 1 1; tickets 1 = 0; tickets 2 = 0",
+    ),
+    (
+        "an amount is felt two currencies down: 16 of x are active, worth 100 and then 64; then 4, and at last 8",
+        THREE_DEEP,
+        "wake 1; wake 2; wake 3; amend 2 12; tickets 1 = 25; tickets 2 = 37; tickets 3 = 37; amend 1 64;
+            tickets 1 = 16; tickets 2 = 24; tickets 3 = 24; rest 2; rest 3; tickets 1 = 64; amend 2 4; tickets 1 = 64;
+            wake 2; tickets 1 = 32; tickets 2 = 32; tickets 3 = 0",
+    ),
+    (
+        "amounts from 1 to 2^20",
+        "mktkt 5 base = 1; open a = 1; mktkt 4294967297 base = Range; mktkt 18446744073709551615 base = Range",
+        "amend 9 0 = Range; amend 9 1048577 = Range; amend 9 1 = NoTicket; fund 1 flow a; wake 1; amend 1 1048576;
+            amend 1 1048577 = Range; tickets 1 = 1048576; amend 1 1; amend 1 0 = Range; tickets 1 = 1;
+            amend 1 4294967297 = Range; amend 1 18446744073709551615 = Range",
+    ),
+    (
+        "no cycle",
+        "mkcur x; mkcur y; mktkt 1 x = 1; mktkt 1 y = 2",
+        "fund 1 cur y; fund 2 cur x = Cycle; fund 2 cur y = Cycle",
+    ),
+    (
+        "each row passes one test more than the row before it, and fails the next",
+        CHAIN_OF_EIGHT,
+        "fund 99 cur nope = NoTicket; fund 1 cur nope = NoCurrency; fund 1 cur base = Base; fund 1 cur c9 = Funding;
+            fund 9 cur c9 = Crowded; fund 8 cur c9 = Crowded; fund 8 cur c1 = Cycle; unfund 25; fund 9 cur c9 = Cycle;
+            fund 8 cur c9 = Deep; fund 25 cur c9; fund 99 flow nope = NoTicket; fund 1 flow nope = NoFlow;
+            fund 1 flow a = Funding",
+    ),
+    (
+        "a deep graph answers at once, whatever the number of paths",
+        DEEP_GRAPH,
+        "mktkt 1 base = TableFull; fund 1 cur c8 = Funding; wake_64; each 64 = 16380; rest 64; each 63 = 16632;
+            tickets 64 = 0",
+    ),
+    ("tables are full", "fill", TABLES_ARE_FULL),
+    (
+        "flows by place",
+        "open a = 1; open b = 2; mktkt 5 base = 1",
+        "fund 1 flow b; wake 2; flows = 2; at 2; active 1 = 2; close 1; at 0 = 2; active 0 = 2; flows = 1;
+            tickets_at 0 = 5; counts 0 = 5; counts 1; tickets 1 = 0",
+    ),
+    (
+        "refusals of a fresh ledger",
+        "",
+        "mkcur base = Taken; rmcur base = Base; rmcur nope = NoCurrency; mktkt 0 nope = Range;
+            mktkt 1048577 base = Range; mktkt 1 nope = NoCurrency; rmtkt 1 = NoTicket; fund 9 flow nope = NoTicket;
+            fund 9 cur nope = NoTicket; unfund 1 = NoTicket",
+    ),
+    (
+        "refusals of a backed currency",
+        "mkcur x; mktkt 1 x = 1; mktkt 1 base = 2",
+        "unfund 1 = Unfunded; fund 2 cur x; rmcur x = InUse; fund 1 cur x = Cycle; fund 2 cur base = Base;
+            rmtkt 2 = Funding",
+    ),
+    (
+        "numbers are not cut to 32 bits: 2^32 + 1 is not 1",
+        "mktkt 1 base = 1; open a = 1",
+        "fund 4294967297 flow a = NoTicket; fund 4294967297 cur base = NoTicket; rmtkt 4294967297 = NoTicket;
+            unfund 4294967297 = NoTicket; amend 4294967297 1 = NoTicket; fund 0 flow a = NoTicket;
+            fund 0 cur base = NoTicket; rmtkt 0 = NoTicket; unfund 0 = NoTicket; amend 0 1 = NoTicket; fund 1 flow a",
+    ),
+    (
+        "names of flows and currencies are apart",
+        "open base = 1; mkcur x; open x = 2; mktkt 7 base = 1",
+        "flow base = 1; fund 1 flow base; wake 1; tickets 1 = 7; close 1; flow base; tickets 1 = 0",
+    ),
+    (
+        "a closed flow's name and ticket are free again",
+        "open a = 1; mktkt 7 base = 1; fund 1 flow a; close 1; open a = 2",
+        "fund 1 flow a; flow a = 2; wake 2; tickets 2 = 7",
+    ),
+    (
+        "holders are crowded at sixteen, flows first",
+        CROWDED,
+        "mkcur x = Taken; open a = Taken; why a = Taken; why b; wake 1; tickets 1 = 16; fund 33 flow a = Crowded;
+            fund 33 cur x = Crowded; unfund 16; tickets 1 = 15; fund 33 flow nope = NoFlow; fund 33 flow a;
+            fund 33 flow a = Funding; tickets 1 = 16; tickets_at 0 = 16; each 1 = 16; rmtkt 33 = Funding; rmtkt 16;
+            rest 1; active 0; tickets 1 = 0; close 1; flows = 0; rmtkt 1; next = 35",
+    ),
+    (
+        "then currencies",
+        CROWDED,
+        "unfund 17; fund 17 cur nope = NoCurrency; fund 17 cur base = Base; fund 18 cur y = Funding;
+            fund 34 cur x = Cycle; fund 17 cur y; rmcur y = InUse; unfund 17; rmcur y; fund 17 cur y = NoCurrency",
+    ),
+];
+
+fn name(rt: &impl Abort, text: &str) -> Name {
+    Name::read(text.as_bytes()).expect(rt, "a name")
+}
+
+fn number(rt: &impl Abort, text: &str) -> u64 {
+    text.parse::<u64>().ok().expect(rt, "a number")
+}
+
+fn flow_no(rt: &impl Abort, text: &str) -> FlowNo {
+    FlowNo(text.parse::<u32>().ok().expect(rt, "a flow"))
+}
+
+fn done(answer: Result<(), Refusal>) -> Answer {
+    match answer {
+        Ok(()) => Ok(None),
+        Err(refusal) => Err(refusal),
+    }
+}
+
+fn make_ticket(ledger: &mut Ledger, amount: u64, currency: Name) -> Answer {
+    if ledger.next_ticket() == u32::MAX {
+        return Err(Refusal::Spent);
+    }
+    let ticket = ledger.make_ticket(amount, currency)?;
+    Ok(Some(u64::from(ticket.number())))
+}
+
+fn open(ledger: &mut Ledger, name: Name) -> Answer {
+    if ledger.next_flow() == u32::MAX {
+        return Err(Refusal::Spent);
+    }
+    let flow = ledger.add_flow(name)?;
+    Ok(Some(u64::from(flow.number())))
+}
+
+fn fund(ledger: &mut Ledger, ticket: u64, kind: &str, holder: Name) -> Answer {
+    done(match kind {
+        "cur" => ledger.fund_currency(ticket, holder),
+        _ => ledger.fund_flow(ticket, holder),
+    })
+}
+
+// Makes a call, and gives its answer.
+fn ask(rt: &impl Abort, ledger: &mut Ledger, call: &str) -> Answer {
+    let mut words = call.split_whitespace();
+    let verb = words.next().unwrap_or("");
+    let first = words.next().unwrap_or("");
+    let second = words.next().unwrap_or("");
+    let third = words.next().unwrap_or("");
+    match verb {
+        "mkcur" => done(ledger.make_currency(name(rt, first))),
+        "rmcur" => done(ledger.remove_currency(name(rt, first))),
+        "mktkt" => make_ticket(ledger, number(rt, first), name(rt, second)),
+        "rmtkt" => done(ledger.remove_ticket(number(rt, first))),
+        "amend" => done(ledger.amend(number(rt, first), number(rt, second))),
+        "fund" => fund(ledger, number(rt, first), second, name(rt, third)),
+        "unfund" => done(ledger.unfund(number(rt, first))),
+        "open" => open(ledger, name(rt, first)),
+        "why" => why_not(ledger, name(rt, first)),
+        "back_16" => fund_many(
+            ledger,
+            16,
+            number(rt, first),
+            name(rt, second),
+            "cur",
+            name(rt, third),
+        ),
+        "fund_16" => fund_many(ledger, 16, 1, name(rt, "base"), "flow", name(rt, first)),
+        "flows_64" => open_and_fund(rt, ledger, name(rt, first)),
+        "fill" => fill(rt, ledger),
+        _ => read_or_turn(rt, ledger, verb, first),
+    }
+}
+
+// Closes, wakes and rests flows, or reads.
+fn read_or_turn(rt: &impl Abort, ledger: &mut Ledger, verb: &str, first: &str) -> Answer {
+    match verb {
+        "close" => ledger.remove_flow(flow_no(rt, first)),
+        "wake" => ledger.set_active(flow_no(rt, first), true),
+        "rest" => ledger.set_active(flow_no(rt, first), false),
+        "wake_64" => {
+            for flow in 1..=64 {
+                ledger.set_active(FlowNo(flow), true);
+            }
+        }
+        "flow" => return Ok(number_of(ledger.flow(name(rt, first)))),
+        "flows" => return Ok(Some(ledger.flow_count() as u64)),
+        "next" => return Ok(Some(u64::from(ledger.next_ticket()))),
+        "tickets" => return Ok(Some(u64::from(ledger.tickets(flow_no(rt, first))))),
+        _ => return read_place(ledger, verb, number(rt, first)),
+    }
+    Ok(None)
+}
+
+// Why no flow can be opened under a name.
+fn why_not(ledger: &Ledger, flow: Name) -> Answer {
+    match ledger.add_flow_refusal(flow) {
+        Some(refusal) => Err(refusal),
+        None => Ok(None),
+    }
+}
+
+fn number_of(flow: Option<FlowNo>) -> Option<u64> {
+    match flow {
+        Some(flow) => Some(u64::from(flow.number())),
+        None => None,
+    }
+}
+
+// The number or the tickets of the flow at a place, its number if it is active, or the tickets that each of so many
+// first flows has.
+fn read_place(ledger: &Ledger, verb: &str, first: u64) -> Answer {
+    let place = usize::try_from(first).unwrap_or(usize::MAX);
+    match verb {
+        "at" => Ok(number_at(ledger, place, false)),
+        "active" => Ok(number_at(ledger, place, true)),
+        "counts" => Ok(count_at(ledger.ticket_counts(), place)),
+        "tickets_at" if place < ledger.flow_count() => {
+            Ok(Some(u64::from(ledger.tickets_at(place))))
+        }
+        "each" => Ok(tickets_of_each(ledger, u32::try_from(first).unwrap_or(0))),
+        _ => Err(Refusal::Syntax),
+    }
+}
+
+fn count_at(counts: &[u32], place: usize) -> Option<u64> {
+    match counts.get(place) {
+        Some(tickets) => Some(u64::from(*tickets)),
+        None => None,
+    }
+}
+
+fn number_at(ledger: &Ledger, place: usize, is_active: bool) -> Option<u64> {
+    let (_, open) = ledger.flow_at(place)?;
+    if is_active && !open.active {
+        return None;
+    }
+    Some(u64::from(open.number.number()))
+}
+
+fn tickets_of_each(ledger: &Ledger, count: u32) -> Option<u64> {
+    let tickets = ledger.tickets(FlowNo(1));
+    for flow in 1..=count {
+        if ledger.tickets(FlowNo(flow)) != tickets {
+            return None;
+        }
+    }
+    Some(u64::from(tickets))
+}
+
+// The k-th of many names: the letter, and two digits.
+fn numbered(rt: &impl Abort, letter: u8, k: u32) -> Name {
+    let tens = b'0' + (k / 10 % 10) as u8;
+    let ones = b'0' + (k % 10) as u8;
+    Name::read(&[letter, tens, ones]).expect(rt, "a name")
+}
+
+// Makes so many tickets of a currency, which fund a holder.
+fn fund_many(
+    ledger: &mut Ledger,
+    count: u32,
+    amount: u64,
+    from: Name,
+    kind: &str,
+    holder: Name,
+) -> Answer {
+    for _ in 0..count {
+        let ticket = make_ticket(ledger, amount, from)?;
+        fund(ledger, ticket.unwrap_or(0), kind, holder)?;
+    }
+    Ok(None)
+}
+
+// Opens 64 flows, each funded by fourteen tickets of a currency.
+fn open_and_fund(rt: &impl Abort, ledger: &mut Ledger, currency: Name) -> Answer {
+    for k in 0..64 {
+        open(ledger, numbered(rt, b'f', k))?;
+    }
+    for k in 0..64 {
+        fund_many(ledger, 14, 1, currency, "flow", numbered(rt, b'f', k))?;
+    }
+    Ok(None)
+}
+
+// Makes the currencies c00 to c63, flows of the same names, and 1024 tickets.
+fn fill(rt: &impl Abort, ledger: &mut Ledger) -> Answer {
+    for k in 0..64 {
+        ledger.make_currency(numbered(rt, b'c', k))?;
+        open(ledger, numbered(rt, b'c', k))?;
+    }
+    let base = name(rt, "base");
+    for _ in 0..1024 {
+        make_ticket(ledger, 1, base)?;
+    }
+    Ok(None)
+}
+
+fn is(answer: Answer, wanted: &str) -> bool {
+    match answer {
+        Ok(None) => wanted.is_empty(),
+        Ok(Some(number)) => wanted.parse::<u64>().ok() == Some(number),
+        Err(refusal) => refusal.name() == wanted,
+    }
+}
+
+// Makes the call of each row, and checks its answer.
+fn play(rt: &impl Abort, ledger: &mut Ledger, table: &'static str, rows: &'static str) {
+    for row in rows.split(';') {
+        let row = row.trim();
+        let (call, wanted) = row.split_once(" = ").unwrap_or((row, ""));
+        if !call.is_empty() {
+            holds(rt, (table, row), is(ask(rt, ledger, call), wanted));
+        }
+    }
+}
+
+fn plays(rt: &impl Abort, alloc: Global, ledger: &mut Ledger, table: Table) {
+    let (text, first, rows) = table;
+    play(rt, ledger, text, first);
+    refuse(alloc, 1);
+    play(rt, ledger, text, rows);
+    took_none(rt, text, alloc);
+}
+
+#[test]
+fn worked_rows_take_no_memory(rt: HostRuntime) {
+    for table in TABLES {
+        let mut ledger = Ledger::new(rt.alloc()).expect(&rt, "memory");
+        plays(&rt, rt.alloc(), &mut ledger, table);
+        drop(ledger);
+    }
+}
+
+/// The requests of a new ledger: 6 for the funding tickets of 65 currencies, whose vector grows to 4, 8, 16, 32, 64 and
+/// 128 of them, and 6 for those of 65 flows; 7 for the activity, what is awake, the weights, those that were seen, the
+/// values, the ranks and their order; 1 for the tickets of the flows; and 2 for the routes.
+const FOR_A_LEDGER: u16 = 22;
+
+#[test]
+fn a_ledger_is_made_once_its_memory_is_found(rt: HostRuntime) {
+    let alloc = rt.alloc();
+    let is_steered = is_steered(alloc);
+    for request in 1..=FOR_A_LEDGER + 1 {
+        let is_refused = is_steered && request <= FOR_A_LEDGER;
+        mark(alloc);
+        refuse(alloc, request);
+        let refusal = Ledger::new(alloc).err();
+        same(&rt, request, was_refused(alloc), is_refused);
+        let wanted = if is_refused {
+            Some(Refusal::NoMemory)
+        } else {
+            None
+        };
+        same(&rt, request, refusal, wanted);
+        keeps_none(&rt, request, alloc);
+    }
+}
+
+/// A change for which a table may have to grow.
+#[derive(Clone, Copy)]
+enum Growth {
+    Currency(Name),
+    Ticket,
+    Flow(Name),
+}
+
+fn grow(rt: &impl Abort, ledger: &mut Ledger, growth: &Growth) -> Answer {
+    match growth {
+        Growth::Currency(name) => done(ledger.make_currency(*name)),
+        Growth::Ticket => make_ticket(ledger, 1, name(rt, "base")),
+        Growth::Flow(name) => open(ledger, *name),
+    }
+}
+
+// Whether there is nothing of a change.
+fn is_undone(ledger: &mut Ledger, growth: &Growth) -> bool {
+    match growth {
+        Growth::Currency(name) => ledger.remove_currency(*name) == Err(Refusal::NoCurrency),
+        Growth::Ticket => {
+            let next = u64::from(ledger.next_ticket());
+            ledger.unfund(next) == Err(Refusal::NoTicket)
+        }
+        Growth::Flow(name) => {
+            ledger.flow(*name).is_none() && ledger.add_flow_refusal(*name).is_none()
+        }
+    }
+}
+
+// The next numbers, how many flows are open, and the tickets of the first.
+fn shown(ledger: &Ledger) -> (u32, u32, usize, u32) {
+    let tickets = ledger.tickets(FlowNo(1));
+    (
+        ledger.next_ticket(),
+        ledger.next_flow(),
+        ledger.flow_count(),
+        tickets,
+    )
+}
+
+// What the growth of the k-th one is called, and what it answers.
+fn told_of(growth: &Growth, k: u32) -> (&'static str, Option<u64>) {
+    match growth {
+        Growth::Currency(_) => ("currency", None),
+        Growth::Ticket => ("ticket", Some(u64::from(k) + 1)),
+        Growth::Flow(_) => ("flow", Some(u64::from(k) + 1)),
+    }
+}
+
+// The first request of a change is refused. A refused change keeps what it was granted, so after that the second one.
+// Nothing else is changed.
+fn is_refused(
+    rt: &impl Abort,
+    alloc: Global,
+    ledger: &mut Ledger,
+    growth: &Growth,
+    row: (&'static str, u32),
+    refusal: u16,
+) {
+    let before = shown(ledger);
+    mark(alloc);
+    refuse(alloc, refusal.min(1) + 1);
+    let answer = grow(rt, ledger, growth);
+    same(rt, row, was_refused(alloc), true);
+    same(rt, row, answer, Err(Refusal::NoMemory));
+    if refusal == 0 {
+        keeps_none(rt, row, alloc);
+    }
+    same(rt, row, is_undone(ledger, growth), true);
+    same(rt, row, shown(ledger), before);
+}
+
+// Makes the k-th one after this many refusals, and no more.
+fn grows(
+    rt: &impl Abort,
+    alloc: Global,
+    ledger: &mut Ledger,
+    growth: &Growth,
+    k: u32,
+    refusals: u16,
+) {
+    let (kind, answer) = told_of(growth, k);
+    for refusal in 0..refusals {
+        is_refused(rt, alloc, ledger, growth, (kind, k), refusal);
+    }
+    refuse(alloc, refusals.min(1) + 1);
+    let grown = grow(rt, ledger, growth);
+    same(rt, (kind, k), was_refused(alloc), false);
+    same(rt, (kind, k), grown, Ok(answer));
+}
+
+// The requests of the k-th currency or flow, from 0. A map has room for 9, 18, 36 or 72 names, and grows by four
+// requests: the hashes, the groups that find them, the names, and what is kept by them.
+fn for_a_name(k: u32) -> u16 {
+    match k {
+        0 | 9 | 18 | 36 => 4,
+        _ => 0,
+    }
+}
+
+// The request of the k-th ticket, from 0. The vector has room for 4, 8, 16, .. or 1024 tickets.
+fn for_a_ticket(k: u32) -> u16 {
+    match k {
+        0 | 4 | 8 | 16 | 32 | 64 | 128 | 256 | 512 => 1,
+        _ => 0,
+    }
+}
+
+// Makes 64 currencies and flows and 1024 tickets. The first flow is funded.
+fn grows_full(rt: &impl Abort, alloc: Global, ledger: &mut Ledger, is_steered: bool) {
+    for k in 0..64 {
+        let refusals = if is_steered { for_a_name(k) } else { 0 };
+        let name = numbered(rt, b'c', k);
+        grows(rt, alloc, ledger, &Growth::Currency(name), k, refusals);
+        grows(rt, alloc, ledger, &Growth::Flow(name), k, refusals);
+    }
+    for k in 0..1024 {
+        let refusals = if is_steered { for_a_ticket(k) } else { 0 };
+        grows(rt, alloc, ledger, &Growth::Ticket, k, refusals);
+        if k == 0 {
+            play(
+                rt,
+                ledger,
+                "funded",
+                "fund 1 flow c00; wake 1; tickets 1 = 1",
+            );
+        }
+    }
+    play(rt, ledger, "full", TABLES_ARE_FULL);
+    let room =
+        "close 8; flow c07; open c07 = 65; rmcur c07; mkcur fresh; rmtkt 5; mktkt 1 fresh = 1025; next = 1026";
+    play(rt, ledger, "room after removals", room);
+}
+
+#[test]
+fn tables_grow_once_their_memory_is_found(rt: HostRuntime) {
+    let is_steered = is_steered(rt.alloc());
+    let mut ledger = Ledger::new(rt.alloc()).expect(&rt, "memory");
+    grows_full(&rt, rt.alloc(), &mut ledger, is_steered);
+    drop(ledger);
+}
+
+// Makes changes of which each request is refused in turn.
+fn is_refused_in_part(rt: &impl Abort, alloc: Global, ledger: &mut Ledger) {
+    let x = name(rt, "x");
+    for growth in &[Growth::Currency(x), Growth::Ticket, Growth::Flow(x)] {
+        let (kind, _) = told_of(growth, 0);
+        for request in 1..4 {
+            refuse(alloc, request);
+            let answer = grow(rt, ledger, growth);
+            let was_refused = was_refused(alloc);
+            holds(
+                rt,
+                (kind, request),
+                !was_refused || answer == Err(Refusal::NoMemory),
+            );
+        }
+    }
+}
+
+#[test]
+fn a_ledger_gives_its_memory_back(rt: HostRuntime) {
+    let alloc = rt.alloc();
+    for rows in ["", "fill"] {
+        mark(alloc);
+        let mut ledger = Ledger::new(alloc).expect(&rt, "memory");
+        play(&rt, &mut ledger, "before it is dropped", rows);
+        is_refused_in_part(&rt, alloc, &mut ledger);
+        drop(ledger);
+        keeps_none(&rt, rows, alloc);
+    }
+}

@@ -1,0 +1,587 @@
+//! Lines and scripts that find no memory. Each run is made again and again: first its first request for memory is
+//! refused, then its second, and so on, until none is refused. Requests are refused by the allocator of
+//! `.ci/allocator.c` alone, with which `.ci/memory` runs these tests; with any other each run has its memory at once.
+
+use super::allocator::{REQUESTS, keeps_none, mark, refuse, refuse_each, takes_none, was_refused};
+use super::assertions::{holds, prints, same};
+use super::faults::linewise;
+use super::script::{ITS_OUTPUT, ONE_PACKET, print_written, with_zeros};
+use super::tariffs::Four;
+use super::{LIFE, VERSIONS};
+use share_base::{Event, Outcome, Refusal, Reply, Turn, Version};
+use share_core::Engine;
+use share_model::allocator::REFUSE_EACH;
+use share_model::{Got, Line, PlainWriter, ScriptedReader, Tape, TellingReader};
+use share_script::{
+    ScriptFault, print_bytes, read_line, run_script, write_event, write_line, write_reply,
+    write_turn,
+};
+use std::alloc::Global;
+use std::process::Abort;
+use std::str::from_utf8;
+
+/// A packet of 17 bytes, the fewest for which a line takes memory.
+const LONG: &str = "send a 6162636465666768696a6b6c6d6e6f7071";
+
+/// Packets of more than 16 bytes, why they are refused where no memory is found, and why with ample memory. What spells
+/// no packet is told before want of memory.
+const LONG_LINES: [(&str, Refusal, Option<Refusal>); 3] = [
+    (LONG, Refusal::NoMemory, None),
+    (
+        "send a 6162636465666768696a6b6c6d6e6f707",
+        Refusal::Syntax,
+        Some(Refusal::Syntax),
+    ),
+    (
+        "send a 6162636465666768696a6b6c6d6e6f707g",
+        Refusal::Syntax,
+        Some(Refusal::Syntax),
+    ),
+];
+
+/// Lines that take no memory to be read, one of each kind, and why they are refused.
+const SHORT_LINES: [(&str, Option<Refusal>); 20] = [
+    ("send a 6162636465666768696a6b6c6d6e6f70", None),
+    ("mkcur x", None),
+    ("rmcur x", None),
+    ("mktkt 10 base", None),
+    ("rmtkt 1", None),
+    ("fund 1 cur x", None),
+    ("fund 1 flow a", None),
+    ("unfund 1", None),
+    ("open a 4 1", None),
+    ("close a", None),
+    ("hold a", None),
+    ("resume a", None),
+    ("amend 1 2", None),
+    ("turn 65535", None),
+    ("turn 65536", Some(Refusal::Range)),
+    ("torn", None),
+    ("report", None),
+    ("audit 1", None),
+    ("audit 2", None),
+    ("", Some(Refusal::Syntax)),
+];
+
+// Why a line is refused where each request for memory is, and whether one was.
+fn read_without(alloc: Global, version: Version, line: &[u8]) -> (Option<Refusal>, bool) {
+    refuse_each(alloc);
+    let read = read_line(alloc, version, line);
+    let refused = was_refused(alloc);
+    (read.err(), refused)
+}
+
+/// Payloads that are out of range before memory is taken for them.
+const TOO_LONG: [(Version, usize); 3] = [
+    (Version::One, 1491),
+    (Version::One, 9000),
+    (Version::Two, 9001),
+];
+
+#[test]
+fn only_a_long_packet_takes_memory_to_be_read(rt: HostRuntime) {
+    let alloc = rt.alloc();
+    for version in VERSIONS {
+        for (line, without, with) in LONG_LINES {
+            let (refusal, refused) = read_without(alloc, version, line.as_bytes());
+            let wanted = if refused { Some(without) } else { with };
+            same(&rt, line, refusal, wanted);
+        }
+        for (line, wanted) in SHORT_LINES {
+            same(
+                &rt,
+                line,
+                read_without(alloc, version, line.as_bytes()),
+                (wanted, false),
+            );
+        }
+    }
+    for (version, count) in TOO_LONG {
+        let line = with_zeros(&rt, alloc, b"send a ", count, b"");
+        let read = read_without(alloc, version, line.as_slice());
+        same(&rt, count, read, (Some(Refusal::Range), false));
+        drop(line);
+    }
+}
+
+// Whether the line sends this payload.
+fn sends(line: &Line, payload: &[u8]) -> bool {
+    match line {
+        Line::Send { body, .. } => body.as_slice() == payload,
+        _ => false,
+    }
+}
+
+// The line is read as a packet of this payload, once its memory is found.
+fn is_read_at_last(rt: &impl Abort, alloc: Global, version: Version, line: &[u8], payload: &[u8]) {
+    for request in 1..REQUESTS {
+        refuse(alloc, request);
+        let read = read_line(alloc, version, line);
+        same(rt, request, read.is_err(), was_refused(alloc));
+        match read {
+            Err(refusal) => same(rt, request, refusal, Refusal::NoMemory),
+            Ok(line) => {
+                holds(rt, request, sends(&line, payload));
+                return;
+            }
+        }
+    }
+    panic!(rt; "there is none for good");
+}
+
+#[test]
+fn a_long_packet_is_read_once_its_memory_is_found(rt: HostRuntime) {
+    let alloc = rt.alloc();
+    for version in VERSIONS {
+        is_read_at_last(&rt, alloc, version, LONG.as_bytes(), b"abcdefghijklmnopq");
+    }
+    let line = with_zeros(&rt, alloc, b"send a ", 9000, b"");
+    is_read_at_last(&rt, alloc, Version::Two, line.as_slice(), &[0; 9000]);
+    drop(line);
+}
+
+// Each call that writes a line or an answer, to a writer with room.
+fn writes(line: &Line, output: &mut Printed) -> bool {
+    let reply = Reply::Refused(Refusal::NoFlow);
+    write_line(line, output).is_ok()
+        && write_event(&Event::Written(5), output).is_ok()
+        && write_reply(&reply, output).is_ok()
+        && write_turn(&Turn::Idle, output).is_ok()
+        && print_bytes(output, b"hi").is_ok()
+}
+
+/// What they write.
+const WRITTEN: &[u8] =
+    b"send a 6162636465666768696a6b6c6d6e6f7071\nturn 5\nno 7 NoFlow\nidle\nout 6869\n";
+
+#[test]
+fn lines_are_written_without_memory(rt: HostRuntime) {
+    let alloc = rt.alloc();
+    let line = read_line(alloc, Version::One, LONG.as_bytes())
+        .ok()
+        .expect(&rt, "a line");
+    let mut output = roomy(&rt, alloc);
+    refuse_each(alloc);
+    let written = writes(&line, &mut output);
+    takes_none(&rt, "a text", alloc);
+    drop(line);
+    prints(
+        &rt,
+        "texts",
+        (written, output.0.as_slice()),
+        (true, WRITTEN),
+    );
+    drop(output);
+}
+
+/// Gives a script by the line. Before one of its reads, counted from 1, it asks the allocator a question, and before
+/// another one it has no more requests refused.
+#[derive(Drop)]
+struct Asking<'a> {
+    alloc: Global,
+    lines: ScriptedReader<'a>,
+    reads: usize,
+    from: usize,
+    until: usize,
+    question: u16,
+}
+
+impl<'a> TellingReader for Asking<'a> {
+    ghost use Rattle.std.specs.Prelude.{Some};
+    ghost use Rattle.share_model.specs.io.ScriptedReader.{ScriptedGives};
+
+    ghost left = { λ reader. Some reader.lines.left };
+
+    ghost gives = { λ before buffer got after. ScriptedGives before.lines buffer got after.lines };
+
+    ghost tells = { λ before buffer got after did. did.gives };
+
+    fn take_bytes(&mut self, buffer: &mut [u8]) -> Got {
+        self.reads = self.reads.saturating_add(1);
+        self.ask(self.reads);
+        self.lines.take_bytes(buffer)
+    }
+}
+
+impl<'a> Asking<'a> {
+    // Asks what is to be asked before this read; 0 is before the buffers are made.
+    fn ask(&self, read: usize) {
+        if read == self.from {
+            refuse(self.alloc, self.question);
+        }
+        if read == self.until {
+            let _refused = was_refused(self.alloc);
+        }
+    }
+}
+
+/// Takes no memory.
+pub(super) type Printed = PlainWriter<Vec<u8>>;
+
+/// Runs a script on a new link, and prints the bytes that the link wrote. Returns how it ended, and whether a request
+/// was refused.
+fn ran(
+    rt: &impl Abort,
+    alloc: Global,
+    life: u64,
+    input: &mut Asking<'_>,
+    output: &mut Printed,
+) -> (Result<(), ScriptFault>, bool) {
+    let engine = Engine::new(alloc, Four, life, Tape::new(alloc)).expect(rt, "a link");
+    input.ask(0);
+    let ended = run_script(alloc, engine, input, output);
+    let refused = was_refused(alloc);
+    match ended {
+        Ok(engine) => {
+            let printed = print_written(&engine, output);
+            drop(engine);
+            (printed, refused)
+        }
+        Err(fault) => (Err(fault), refused),
+    }
+}
+
+/// A script of which some lines find no memory. Each of its reads gives a line.
+#[derive(Drop)]
+struct Row<'a> {
+    life: u64,
+    script: &'a [u8],
+    /// The read that gives the first of these lines, counted from 1, and the read that gives the first line after them;
+    /// 0 for the buffers, which are made before the first read.
+    reads: (usize, usize),
+    /// What is printed without memory for them, and how the run ends.
+    without: &'static [u8],
+    ended: Result<(), ScriptFault>,
+    /// What is printed with ample memory.
+    with: &'static [u8],
+}
+
+const ROWS: [Row<'static>; 12] = [
+    Row {
+        life: LIFE,
+        script: ONE_PACKET,
+        reads: (0, 1),
+        without: b"",
+        ended: Err(ScriptFault::NoMemory),
+        with: ITS_OUTPUT,
+    },
+    Row {
+        life: LIFE,
+        script: ONE_PACKET,
+        reads: (1, 2),
+        without: b"no 1 NoMemory\nticket 1\nno 7 NoFlow\nno 7 NoFlow\nidle\nout -\n",
+        ended: Ok(()),
+        with: ITS_OUTPUT,
+    },
+    Row {
+        life: LIFE,
+        script: ONE_PACKET,
+        reads: (2, 3),
+        without: b"flow 1\nno 1 NoMemory\nno 6 NoTicket\npacket 1 1\nidle\nout -\n",
+        ended: Ok(()),
+        with: ITS_OUTPUT,
+    },
+    // The tape finds none for the frame.
+    Row {
+        life: LIFE,
+        script: ONE_PACKET,
+        reads: (5, 6),
+        without: b"flow 1\nticket 1\nok\npacket 1 1\n",
+        ended: Err(ScriptFault::NoMemory),
+        with: ITS_OUTPUT,
+    },
+    // No number of a flow is taken, and the flow is opened when it is asked for again.
+    Row {
+        life: LIFE,
+        script: b"open a 4 1\nopen a 4 1\nmktkt 1 base\nfund 1 flow a\nsend a 61\nturn 65535\n",
+        reads: (1, 2),
+        without: b"no 1 NoMemory\nflow 1\nticket 1\nok\npacket 1 1\nwrote 1 1 13 whole\n\
+            out 4c010000000100000001000161\n",
+        ended: Ok(()),
+        with: b"flow 1\nno 9 Taken\nticket 1\nok\npacket 1 1\nwrote 1 1 13 whole\n\
+            out 4c010000000100000001000161\n",
+    },
+    // Nor is one of a ticket.
+    Row {
+        life: LIFE,
+        script: b"mktkt 1 base\nmktkt 2 base\n",
+        reads: (1, 2),
+        without: b"no 1 NoMemory\nticket 1\nout -\n",
+        ended: Ok(()),
+        with: b"ticket 1\nticket 2\nout -\n",
+    },
+    Row {
+        life: LIFE,
+        script: b"mkcur x\nmktkt 5 x\nmkcur x\nmktkt 5 x\n",
+        reads: (1, 2),
+        without: b"no 1 NoMemory\nno 5 NoCurrency\nok\nticket 1\nout -\n",
+        ended: Ok(()),
+        with: b"ok\nticket 1\nno 9 Taken\nticket 2\nout -\n",
+    },
+    // The refused packet takes no number.
+    Row {
+        life: LIFE,
+        script: b"open a 4 1\nmktkt 1 base\nfund 1 flow a\n\
+            send a 6162636465666768696a6b6c6d6e6f7071\nsend a 61\nturn 65535\n",
+        reads: (4, 5),
+        without: b"flow 1\nticket 1\nok\nno 1 NoMemory\npacket 1 1\nwrote 1 1 13 whole\n\
+            out 4c010000000100000001000161\n",
+        ended: Ok(()),
+        with: b"flow 1\nticket 1\nok\npacket 1 1\npacket 1 2\nwrote 1 1 29 whole\n\
+            out 4c01000000010000000100116162636465666768696a6b6c6d6e6f7071\n",
+    },
+    // Nor does one of version 2.
+    Row {
+        life: LIFE,
+        script: b"audit 2\nopen a 4 1\nmktkt 1 base\nfund 1 flow a\n\
+            send a 6162636465666768696a6b6c6d6e6f7071\nsend a 61\nturn 65535\n",
+        reads: (5, 6),
+        without: b"flow 1\nticket 1\nok\nno 1 NoMemory\npacket 1 1\nwrote 1 1 18 whole\n\
+            out 4c0201000000010000000000000001000161\n",
+        ended: Ok(()),
+        with: b"flow 1\nticket 1\nok\npacket 1 1\npacket 1 2\nwrote 1 1 34 whole\n\
+            out 4c020100000001000000000000000100116162636465666768696a6b6c6d6e6f7071\n",
+    },
+    // Want of memory is no event of the life.
+    Row {
+        life: 3,
+        script: b"open a 4 1\nopen a 4 1\nmktkt 1 base\nfund 1 flow a\nturn 65535\n",
+        reads: (1, 2),
+        without: b"no 1 NoMemory\nflow 1\nticket 1\nok\nno 2 Spent\nout -\n",
+        ended: Ok(()),
+        with: b"flow 1\nno 9 Taken\nticket 1\nno 2 Spent\nno 2 Spent\nout -\n",
+    },
+    // It is told after a spent life.
+    Row {
+        life: 1,
+        script: b"open a 4 1\nsend a 6162636465666768696a6b6c6d6e6f7071\n",
+        reads: (2, 3),
+        without: b"flow 1\nno 2 Spent\nout -\n",
+        ended: Ok(()),
+        with: b"flow 1\nno 2 Spent\nout -\n",
+    },
+    // The last line has no line feed, so it is answered when the end was read.
+    Row {
+        life: LIFE,
+        script: b"torn\nopen a 4 1",
+        reads: (3, 4),
+        without: b"idle\nno 1 NoMemory\nout -\n",
+        ended: Ok(()),
+        with: b"idle\nflow 1\nout -\n",
+    },
+];
+
+/// The first rows are of one script, in the order of its requests.
+const OF_ONE_SCRIPT: usize = 4;
+
+// A reader that has requests refused from one of its reads on, until another.
+fn asking_reader<'a>(
+    rt: &impl Abort,
+    alloc: Global,
+    script: &'a [u8],
+    reads: (usize, usize),
+    question: u16,
+) -> Asking<'a> {
+    Asking {
+        alloc,
+        lines: linewise(rt, alloc, script),
+        reads: 0,
+        from: reads.0,
+        until: reads.1,
+        question,
+    }
+}
+
+/// A writer with room for all that is printed here.
+pub(super) fn roomy(rt: &impl Abort, alloc: Global) -> Printed {
+    PlainWriter(Vec::with_capacity(alloc, 4096).ok().expect(rt, "memory"))
+}
+
+// Plays a row in which the question is asked. Returns whether a request was refused.
+fn plays(rt: &impl Abort, alloc: Global, row: &Row<'_>, question: u16) -> bool {
+    let script = from_utf8(row.script).ok().expect(rt, "text");
+    let mut input = asking_reader(rt, alloc, row.script, row.reads, question);
+    let mut output = roomy(rt, alloc);
+    mark(alloc);
+    let (ended, refused) = ran(rt, alloc, row.life, &mut input, &mut output);
+    keeps_none(rt, (script, question), alloc);
+    let wanted = if refused {
+        (row.ended, row.without)
+    } else {
+        (Ok(()), row.with)
+    };
+    prints(rt, (script, question), (ended, output.0.as_slice()), wanted);
+    same(
+        rt,
+        (script, "its reads"),
+        input.reads == 0,
+        refused && row.reads.0 == 0,
+    );
+    drop(input);
+    drop(output);
+    refused
+}
+
+fn finds_no_memory(rt: &impl Abort, alloc: Global, row: &Row<'_>) {
+    let _refused = plays(rt, alloc, row, REFUSE_EACH);
+    for request in 1..REQUESTS {
+        if !plays(rt, alloc, row, request) {
+            break;
+        }
+    }
+}
+
+// The place of the first of these rows, from a place on, which ends and prints so.
+fn place_of(
+    rows: &[Row<'_>],
+    from: usize,
+    ended: Result<(), ScriptFault>,
+    text: &[u8],
+) -> Option<usize> {
+    for (place, row) in rows.iter().enumerate() {
+        if place >= from && ended == row.ended && text == row.without {
+            return Some(place);
+        }
+    }
+    None
+}
+
+// Whichever request of a script is refused, it is that of one of the first rows, and each in their order.
+fn a_request_is_refused(rt: &impl Abort, alloc: Global) {
+    let mut place = 0;
+    for request in 1..REQUESTS {
+        let mut input = asking_reader(rt, alloc, ONE_PACKET, (0, usize::MAX), request);
+        let mut output = roomy(rt, alloc);
+        let (ended, refused) = ran(rt, alloc, LIFE, &mut input, &mut output);
+        drop(input);
+        let text = output.0;
+        if !refused {
+            prints(rt, request, (ended, text.as_slice()), (Ok(()), ITS_OUTPUT));
+            holds(rt, request, request == 1 || place == OF_ONE_SCRIPT - 1);
+            break;
+        }
+        let found = place_of(&ROWS[..OF_ONE_SCRIPT], place, ended, text.as_slice());
+        drop(text);
+        place = found.expect(rt, "a row");
+    }
+}
+
+/// Four lines that find no memory, and the same lines again.
+const FOUR_LINES: Row<'static> = Row {
+    life: LIFE,
+    script: b"open a 4 1\nmkcur x\nmktkt 1 base\nsend a 6162636465666768696a6b6c6d6e6f7071\n\
+        open a 4 1\nmkcur x\nmktkt 1 base\nfund 1 flow a\n\
+        send a 6162636465666768696a6b6c6d6e6f7071\nturn 65535\n",
+    reads: (1, 5),
+    without: b"no 1 NoMemory\nno 1 NoMemory\nno 1 NoMemory\nno 1 NoMemory\n\
+        flow 1\nok\nticket 1\nok\npacket 1 1\nwrote 1 1 29 whole\n\
+        out 4c01000000010000000100116162636465666768696a6b6c6d6e6f7071\n",
+    ended: Ok(()),
+    with: b"flow 1\nok\nticket 1\npacket 1 1\nno 9 Taken\nno 9 Taken\nticket 2\nok\npacket 1 2\n\
+        wrote 1 1 29 whole\nout 4c01000000010000000100116162636465666768696a6b6c6d6e6f7071\n",
+};
+
+/// Lines that take no memory.
+const TAKE_NONE: [Row<'static>; 3] = [
+    // On a new link.
+    Row {
+        life: LIFE,
+        script: b"audit 1\nreport\nfund 9 flow zz\nclose zz\nrmcur base\nunfund 1\nrmtkt 1\ntorn\n\
+            turn 65535\nturn 0\naudit 1\nsend zz 6162636465666768696a6b6c6d6e6f70\nsend a 6g\n\
+            \nmkcur base\nmktkt 0 nope\nopen a 1 9\n",
+        reads: (1, usize::MAX),
+        without: b"",
+        ended: Ok(()),
+        with: b"clock                            0\n\
+            accepted                         0\n\
+            written                          0\n\
+            torn                             0\n\
+            waiting                          0\n\
+            dropped                          0\n\
+            bytes                            0\n\
+            past                             0\n\
+            tickets                          0\n\
+            pass                             0\n\
+            link                             0\n\
+            end\n\
+            no 6 NoTicket\nno 7 NoFlow\nno 10 Base\nno 6 NoTicket\nno 6 NoTicket\nidle\n\
+            idle\nno 4 Range\nno 3 Syntax\nno 7 NoFlow\nno 3 Syntax\n\
+            no 3 Syntax\nno 9 Taken\nno 4 Range\nno 8 NoTariff\nout -\n",
+    },
+    // On one of version 2.
+    Row {
+        life: LIFE,
+        script: b"audit 2\naudit 2\naudit 1\nturn 0\nsend zz 6162636465666768696a6b6c6d6e6f70\n",
+        reads: (1, usize::MAX),
+        without: b"",
+        ended: Ok(()),
+        with: b"no 3 Syntax\nno 3 Syntax\nno 4 Range\nno 7 NoFlow\nout -\n",
+    },
+    // The tape, whose room doubles, has room for three more frames of 13 bytes once it holds five.
+    Row {
+        life: LIFE,
+        script: b"open a 1 1\nopen b 4 1\nmkcur x\nmktkt 10 base\nmktkt 5 x\nmktkt 1 base\n\
+            fund 3 flow b\nsend b 61\nturn 65535\nsend b 61\nturn 65535\nsend b 61\nturn 65535\n\
+            send b 61\nturn 65535\nsend b 61\nturn 65535\n\
+            fund 1 cur x\nfund 2 flow a\nhold a\nhold a\namend 1 12\namend 9 1\nresume a\nresume a\n\
+            send a 61\nsend a 61\nturn 5\nclose a\nturn 65535\n\
+            turn 65535\nunfund 2\nfund 2 cur x\nrmtkt 2\nunfund 1\nrmtkt 1\nrmcur x\nclose a\n\
+            send b 61\ntorn\nturn 65535\nclose b\n",
+        reads: (18, usize::MAX),
+        without: b"",
+        ended: Ok(()),
+        with: b"flow 1\nflow 2\nok\nticket 1\nticket 2\nticket 3\n\
+            ok\npacket 2 1\nwrote 2 1 13 whole\npacket 2 2\nwrote 2 2 13 whole\n\
+            packet 2 3\nwrote 2 3 13 whole\npacket 2 4\nwrote 2 4 13 whole\n\
+            packet 2 5\nwrote 2 5 13 whole\n\
+            ok\nok\nok\nno 21 Held\nok\nno 6 NoTicket\nok\nno 22 NotHeld\n\
+            packet 1 1\nno 19 BufferFull\nwrote 1 1 5 part\nno 18 Sending\n\
+            wrote 1 1 8 whole\n\
+            idle\nok\nno 15 Cycle\nok\nok\nok\nok\nclosed 1 0 13\n\
+            packet 2 6\ntorn 2 6 0\nno 20 Broken\nclosed 2 0 65\n\
+            out 4c0100000002000000010001614c010000000200000002000161\
+            4c0100000002000000030001614c0100000002000000040001614c010000000200000005000161\
+            4c010000000100000001000161\n",
+    },
+];
+
+// The longest payload of version 2, whose line finds no memory. The refused packet takes no number.
+fn a_long_packet_finds_none(rt: &impl Abort, alloc: Global) {
+    let script = with_zeros(
+        rt,
+        alloc,
+        b"audit 2\nopen a 4 1\nsend a ",
+        9000,
+        b"\nsend a 61\n",
+    );
+    let row = Row {
+        life: LIFE,
+        script: script.as_slice(),
+        reads: (3, 4),
+        without: b"flow 1\nno 1 NoMemory\npacket 1 1\nout -\n",
+        ended: Ok(()),
+        with: b"flow 1\npacket 1 1\npacket 1 2\nout -\n",
+    };
+    finds_no_memory(rt, alloc, &row);
+    drop(row);
+    drop(script);
+}
+
+#[test]
+fn scripts_are_answered_once_their_memory_is_found(rt: HostRuntime) {
+    let alloc = rt.alloc();
+    for row in &ROWS {
+        finds_no_memory(&rt, alloc, row);
+    }
+    a_request_is_refused(&rt, alloc);
+    let _refused = plays(&rt, alloc, &FOUR_LINES, REFUSE_EACH);
+    for row in &TAKE_NONE {
+        let refused = plays(&rt, alloc, row, REFUSE_EACH);
+        holds(
+            &rt,
+            (from_utf8(row.script).ok(), "takes no memory"),
+            !refused,
+        );
+    }
+    a_long_packet_finds_none(&rt, alloc);
+}

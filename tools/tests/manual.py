@@ -95,7 +95,7 @@ def numbers(run):
 
 def faults(run):
     """Each fault text of the sources stands among the diagnostics; what is named in it is ADDR or FILE."""
-    texts = [text for path in (("stridelink", "serve", "fault.rt"), ("stridelink", "serve", "start.rt"),
+    texts = [text for path in (("share_server", "faults.rt"), ("stridelink", "serving.rt"),
                                ("share_script", "script.rt"))
              for text in re.findall(r'#\[error\("(.*?)"\)\]', source(*path)) if text != "{0}"]
     names = [text.replace("{0}", "FILE" if "audit" in text else "ADDR") for text in texts]
@@ -105,8 +105,8 @@ def faults(run):
 def told(run):
     """Each line of --verbose stands in the page, with capital letters for what is put in, and each word for an end."""
     texts = set()
-    for name in ("serve.rt", "serve/threads.rt", "serve/books.rt", "serve/connections.rt"):
-        text = source("stridelink", *name.split("/"))
+    for name in ("setup.rt", "threads.rt", "shutdown.rt", "connections.rt"):
+        text = source("share_server", name)
         texts |= set(re.findall(r'format_args!\("(.*?)"\)', text)) | set(re.findall(r'tell\(rt, "(.*?)"\)', text))
         texts |= set(re.findall(r'format_args!\(\s*"(.*?)"', text))
     letters = {"address": "ADDR", "number": "N", "how:?": "HOW", "text": "WHY", "count": "C", "tally": "T",

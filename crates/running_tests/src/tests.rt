@@ -2,4 +2,3 @@
 
 mod made;
 mod pacing;
-mod tariffs;

@@ -12,7 +12,8 @@ const FLOWS: usize = 8;
 /// A worker fills a flow if one of so many of its last offers was for it.
 const WINDOW: u64 = 64;
 
-/// A flow for which a worker made an offer: how full its buffer is, and which of the worker's offers was the last for it.
+/// A flow for which a worker made an offer: how full its buffer is, and which of the worker's offers was the last for
+/// it.
 #[derive(Clone, Copy, Debug)]
 struct Filled {
     flow: FlowNo,

@@ -21,5 +21,6 @@ pub use pace::Pace;
 pub use paced::{Attendant, run_paced_link};
 pub use running::{LinkEnd, Port, Stop, run_link};
 pub use threads::{
-    Duty, Left, NotRun, Post, Ran, attend_while, run_and_settle, run_while, serve_while,
+    Duty, Left, NotRun, Post, Ran, attend_while, run_and_settle, run_while, serve_paced_while,
+    serve_while,
 };

@@ -70,14 +70,14 @@ impl WorkerPace {
     }
 }
 
-/// The pace of a running link, which its threads share so that none of them polls. The link's thread sleeps while it has
-/// nothing to do, and whoever makes work for it *rings*. A worker sleeps when it has made as many offers as the link
-/// allows. Workers are numbered from 1, as the ends of the queue are.
+/// The pace of a running link, which its threads share so that none of them polls. The link's thread sleeps while it
+/// has nothing to do, and whoever makes work for it *rings*. A worker sleeps when it has made as many offers as the
+/// link allows. Workers are numbered from 1, as the ends of the queue are.
 ///
-/// No wake-up is lost. Whoever makes work makes it first, and then looks whether the link's thread lies down; that thread
-/// lies down first, and then looks for work once more before it sleeps. All accesses have one order, so one of the two
-/// sees the other. A worker looks at what it is allowed before each sleep, and a wake-up that comes before its sleep is
-/// kept.
+/// No wake-up is lost. Whoever makes work makes it first, and then looks whether the link's thread lies down; that
+/// thread lies down first, and then looks for work once more before it sleeps. All accesses have one order, so one of
+/// the two sees the other. A worker looks at what it is allowed before each sleep, and a wake-up that comes before its
+/// sleep is kept.
 #[derive(Drop)]
 pub struct Pace {
     link: Sleeper,
@@ -88,8 +88,8 @@ pub struct Pace {
 }
 
 impl Pace {
-    /// The pace of a link with so many workers and a queue of so many places. Each worker may be ahead of the link by an
-    /// equal part of the places, so the queue is never full. `NoMemory` if memory is refused.
+    /// The pace of a link with so many workers and a queue of so many places. Each worker may be ahead of the link by
+    /// an equal part of the places, so the queue is never full. `NoMemory` if memory is refused.
     pub fn new(alloc: Global, places: usize, workers: usize) -> Result<Pace, Refusal>
         ensures { IfErr result (λ e. e ≡ NoMemory) }
     {

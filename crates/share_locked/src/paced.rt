@@ -199,10 +199,10 @@ impl<'a, A: Attendant> Pacing for Paced<'a, A> {
     }
 }
 
-/// Serves a link as `run_link` does, but sleeps while it has nothing to do, until somebody rings. Whoever makes work for
-/// the link, or sets the stop, rings afterwards. The workers are in step with the link: each makes its offers as far as
-/// `Pace` allows, and a turn waits for the packets of a worker that is at work and fills a flow whose buffer is empty.
-/// So a flow whose worker always has more to offer never leaves the race for the link.
+/// Serves a link as `run_link` does, but sleeps while it has nothing to do, until somebody rings. Whoever makes work
+/// for the link, or sets the stop, rings afterwards. The workers are in step with the link: each makes its offers as
+/// far as `Pace` allows, and a turn waits for the packets of a worker that is at work and fills a flow whose buffer is
+/// empty. So a flow whose worker always has more to offer never leaves the race for the link.
 pub fn run_paced_link<W, S, L, R, A>(
     rt: &R,
     port: &Port<W, S, L>,

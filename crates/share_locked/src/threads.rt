@@ -1,5 +1,5 @@
 //! A link with its threads, from its queue to its settling.
-ghost use Rattle.std.specs.Prelude.{◌≡◌, ◌≤◌, [], map, IfOk, IfErr, vec_len, vec_capacity};
+ghost use Rattle.std.specs.Prelude.{◌≡◌, ◌≤◌, [], map, is_some, IfOk, IfErr, vec_len, vec_capacity};
 ghost use Rattle.share_model.specs.lists.Each.{Each};
 ghost use Rattle.share_ingress.specs.Names.{LinkName};
 ghost use Rattle.share_ingress.specs.Threads.{IsJobDone, Matches};
@@ -9,6 +9,8 @@ ghost use Rattle.share_locked.specs.Settles.{IsAccounted, IsSettledBy, Unsettles
 use crate::clerk::Clerk;
 use crate::link::LinkBrand;
 use crate::locked::{Locked, Settled, Unsettled, settle};
+use crate::pace::Pace;
+use crate::paced::{Attendant, run_paced_link};
 use crate::running::{LinkEnd, Port, Stop, run_link};
 use share_ingress::{Done, Gate, IngressEnd, Job, Why, run_workers};
 use share_model::{Rates, TellingReader, TellingWriter};
@@ -277,6 +279,51 @@ where
                 Err(_) => None,
             };
             (end, done)
+        },
+    )
+}
+
+/// Serves a link in a thread of its own, as `run_paced_link` does, while `work` is done in this one. Then it stops the
+/// service and waits for its end. `work` is given whether the link has a thread. If its thread is refused, the
+/// attendant and the workers hear before the work that the link takes nothing, and the end is `None`.
+pub fn serve_paced_while<W, S, L, R, A, F, X>(
+    rt: &R,
+    port: &Port<W, S, L>,
+    pace: &Pace,
+    attendant: &A,
+    work: F,
+) -> (Option<LinkEnd>, X)
+where
+    W: TellingWriter + Send,
+    S: Rates + Send,
+    L: LinkBrand + Send,
+    R: Threads + Wait + Sync,
+    A: Attendant + Sync,
+    F: FnOnce(bool) -> X,
+    requires { (is_served : _) → F.pre work is_served }
+    ensures { F.post work (is_some result.0) result.1 }
+{
+    let stop = Stop::new();
+    let stopped = &stop;
+    thread::scope(
+        thread::scope_env(),
+        rt,
+        move |scope| -> (Option<LinkEnd>, X)
+            requires { (is_served : _) → F.pre work is_served }
+            ensures { F.post work (is_some result.0) result.1 }
+        {
+            let link = scope.spawn(move || run_paced_link(rt, port, stopped, pace, attendant));
+            if link.is_err() {
+                attendant.ends(rt);
+                pace.end();
+            }
+            let done = work(link.is_ok());
+            stopped.set();
+            pace.ring();
+            match link {
+                Ok(link) => (Some(link.join(rt)), done),
+                Err(_) => (None, done),
+            }
         },
     )
 }

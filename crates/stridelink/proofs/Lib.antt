@@ -1,5 +1,3 @@
-mod BookLemmas
-mod ControlLemmas
 mod LineLemmas
 mod ProgramLemmas
 mod StrictLemmas

@@ -1,6 +1,3 @@
-pub mod Books
-pub mod Control
-pub mod Faults
 pub mod Lines
 pub mod LinesLaws
 pub mod Orders

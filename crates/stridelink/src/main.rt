@@ -25,15 +25,17 @@ macro_rules! program_shelf {
 
 mod help;
 mod lines;
-mod serve;
+mod serving;
+mod streams;
 mod strict;
-#[cfg(test)]
-mod tests;
+mod tariffs;
 mod words;
 
 use crate::lines::LineReader;
-use crate::serve::{PlainTariffs, StandIns, Unserved, serve};
+use crate::serving::{Unserved, serve};
+use crate::streams::StandIns;
 use crate::strict::StrictWriter;
+use crate::tariffs::PlainTariffs;
 use crate::words::{Asked, Orders, ServeOrders, parse};
 use clap::error::ErrorKind;
 use share_core::Engine;

@@ -33,6 +33,13 @@ const MOST_CONNECTIONS: u64 = 8;
 /// What is wrong with a number of connections out of range.
 const NO_CONNECTIONS: &str = "a server accepts 1 to 8 connections of each kind";
 
+/// What `life`, `workers` and `clerks` are.
+const LIFE_HELP: &str = "the events of the link's life, 1 to 16777216";
+
+const WORKERS_HELP: &str = "how many ingress connections are accepted, 1 to 8";
+
+const CLERKS_HELP: &str = "how many control connections are accepted, 1 to 8";
+
 /// How a script is to be run.
 #[derive(Clone, Copy, Debug)]
 pub struct Orders<'a> {
@@ -78,102 +85,113 @@ pub enum Asked<'a> {
     Text(clap::Error),
 }
 
-// The words of `run`.
-fn run_command<'a>(alloc: Global) -> Result<Command<'a>, AllocError> {
-    let life = Arg::new(alloc, "life")
-        .long("life")
-        .value_name("L")
-        .help("the events of the link's life, 1 to 16777216")
-        .value_parser(value_parser!(u64).range(1..=MAX_LIFE as i64))
-        .default_value("65536")
-        .action(ArgAction::Set);
-    let strict = Arg::new(alloc, "strict")
-        .long("strict")
-        .help("end at the first refused line, with status 1")
-        .action(ArgAction::SetTrue);
-    let file = Arg::new(alloc, "file")
-        .value_name("FILE")
-        .help("the script; without it, or where it is -, standard input")
-        .action(ArgAction::Set);
-    Command::new(alloc, "run")
-        .about("runs a script")
-        .after_long_help(help::SCRIPTS)
-        .arg(life)?
-        .arg(strict)?
-        .arg(file)
+// A word that is given or not.
+fn flag<'a>(alloc: Global, name: &'a str, help: &'a str) -> Arg<'a> {
+    Arg::new(alloc, name)
+        .long(name)
+        .help(help)
+        .action(ArgAction::SetTrue)
 }
 
-// A word of `serve` that must be there.
-fn required_word<'a>(alloc: Global, name: &'a str, value: &'a str, help: &'a str) -> Arg<'a> {
+// A word with a value.
+fn valued<'a>(alloc: Global, name: &'a str, value: &'a str, help: &'a str) -> Arg<'a> {
     Arg::new(alloc, name)
         .long(name)
         .value_name(value)
         .help(help)
+        .action(ArgAction::Set)
+}
+
+// A word of `serve` with a value, which must be there.
+fn required<'a>(alloc: Global, name: &'a str, value: &'a str, help: &'a str) -> Arg<'a> {
+    valued(alloc, name, value, help)
         .value_parser(ValueParser::NonEmptyString)
         .required(true)
+}
+
+// The life of a link.
+fn life<'a>(word: Arg<'a>) -> Arg<'a> {
+    word.value_parser(value_parser!(u64).range(1..=MAX_LIFE as i64))
+}
+
+// A number of connections.
+fn count<'a>(word: Arg<'a>) -> Arg<'a> {
+    word.value_parser(value_parser!(u64).range(1..=MOST_CONNECTIONS as i64))
+}
+
+// The file of a script.
+fn script<'a>(alloc: Global) -> Arg<'a> {
+    Arg::new(alloc, "file")
+        .value_name("FILE")
+        .help("the script; without it, or where it is -, standard input")
         .action(ArgAction::Set)
+}
+
+// The words of `run`.
+fn run_command<'a>(alloc: Global) -> Result<Command<'a>, AllocError> {
+    let events = valued(alloc, "life", "L", LIFE_HELP).default_value("65536");
+    let strict = flag(
+        alloc,
+        "strict",
+        "end at the first refused line, with status 1",
+    );
+    Command::new(alloc, "run")
+        .about("runs a script")
+        .after_long_help(help::SCRIPTS)
+        .arg(life(events))?
+        .arg(strict)?
+        .arg(script(alloc))
+}
+
+// The words of `serve` that are addresses and a file.
+fn with_places<'a>(alloc: Global, serve: Command<'a>) -> Result<Command<'a>, AllocError> {
+    let ingress = required(
+        alloc,
+        "ingress",
+        "A",
+        "where ingress connections are accepted",
+    );
+    let control = required(
+        alloc,
+        "control",
+        "B",
+        "where control connections are accepted",
+    );
+    let uplink = required(alloc, "uplink", "C", "where the frames go");
+    let audit = required(
+        alloc,
+        "audit",
+        "FILE",
+        "where the audit is written at the end",
+    );
+    serve.arg(ingress)?.arg(control)?.arg(uplink)?.arg(audit)
 }
 
 // The words of `serve` that are numbers.
 fn with_numbers<'a>(alloc: Global, serve: Command<'a>) -> Result<Command<'a>, AllocError> {
-    let workers = required_word(
-        alloc,
-        "workers",
-        "K",
-        "how many ingress connections are accepted, 1 to 8",
-    );
-    let life = required_word(
-        alloc,
-        "life",
-        "L",
-        "the events of the link's life, 1 to 16777216",
-    );
-    let clerks = Arg::new(alloc, "clerks")
-        .long("clerks")
-        .value_name("J")
-        .help("how many control connections are accepted, 1 to 8")
-        .value_parser(value_parser!(u64).range(1..=MOST_CONNECTIONS as i64))
-        .default_value("1")
-        .action(ArgAction::Set);
+    let workers = required(alloc, "workers", "K", WORKERS_HELP);
+    let events = required(alloc, "life", "L", LIFE_HELP);
+    let clerks = valued(alloc, "clerks", "J", CLERKS_HELP).default_value("1");
     serve
-        .arg(workers.value_parser(value_parser!(u64).range(1..=MOST_CONNECTIONS as i64)))?
-        .arg(life.value_parser(value_parser!(u64).range(1..=MAX_LIFE as i64)))?
-        .arg(clerks)
+        .arg(count(workers))?
+        .arg(life(events))?
+        .arg(count(clerks))
 }
 
 // The words of `serve`.
 fn serve_command<'a>(alloc: Global) -> Result<Command<'a>, AllocError> {
-    let until_eof = Arg::new(alloc, "until-eof")
-        .long("until-eof")
-        .help("end all connections where standard input ends")
-        .action(ArgAction::SetTrue);
-    let verbose = Arg::new(alloc, "verbose")
-        .long("verbose")
-        .help("tell on standard error what happens")
-        .action(ArgAction::SetTrue);
     let serve = Command::new(alloc, "serve")
         .about("serves a link on sockets")
-        .after_long_help(help::SERVER)
-        .arg(required_word(
-            alloc,
-            "ingress",
-            "A",
-            "where ingress connections are accepted",
-        ))?
-        .arg(required_word(
-            alloc,
-            "control",
-            "B",
-            "where control connections are accepted",
-        ))?
-        .arg(required_word(alloc, "uplink", "C", "where the frames go"))?
-        .arg(required_word(
-            alloc,
-            "audit",
-            "FILE",
-            "where the audit is written at the end",
-        ))?;
-    with_numbers(alloc, serve)?.arg(until_eof)?.arg(verbose)
+        .after_long_help(help::SERVER);
+    let until_eof = flag(
+        alloc,
+        "until-eof",
+        "end all connections where standard input ends",
+    );
+    let verbose = flag(alloc, "verbose", "tell on standard error what happens");
+    with_numbers(alloc, with_places(alloc, serve)?)?
+        .arg(until_eof)?
+        .arg(verbose)
 }
 
 // The command line of the program, under its own name whatever the first word is.

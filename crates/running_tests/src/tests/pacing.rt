@@ -1,11 +1,11 @@
-//! Workers, a clerk and a link that wake each other. A wake-up that is lost would leave one of them asleep: a watch then
-//! ends the run, and the test fails. `.ci/yields` runs it once more in a copy of the pace that lets other threads run at
-//! each of its steps.
+//! Workers, a clerk and a link that wake each other. A wake-up that is lost would leave one of them asleep: a watch
+//! then ends the run, and the test fails. `.ci/yields` runs it once more in a copy of the pace that lets other threads
+//! run at each of its steps.
 ghost use Rattle.std.specs.Prelude.{◌≡◌, []};
 ghost use Rattle.share_base.specs.declared.version.Version.TheVariants.{Two};
 
+use crate::ByByte;
 use crate::tests::made::{name, recording};
-use crate::tests::tariffs::ByByte;
 use share_base::{Command, Name, Parcel, Reply};
 use share_ingress::{IngressEnd, Intake, Offered, queue};
 use share_journal::Recorder;

@@ -1,0 +1,6 @@
+//! Tests of the server, over the public calls of share_server.
+#![tactic(auto)]
+
+pub mod failing;
+#[cfg(test)]
+mod tests;

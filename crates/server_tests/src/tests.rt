@@ -1,0 +1,6 @@
+//! What no contract says of a server.
+
+mod audit;
+mod control;
+mod faults;
+mod serving;

@@ -1,0 +1,337 @@
+//! The file of an audit, in a folder of its own.
+
+use crate::failing::{FailingFiles, Taken};
+use share_base::{Command, Event, Name, Outcome, Reply, Version};
+use share_journal::{Entry, Journal, Source};
+use share_server::{AuditFile, Keep};
+use std::alloc::Global;
+use std::fs;
+use std::fs::Files;
+use std::io::{Eprint, ErrorKind, Read};
+use std::process::Abort;
+use std::test::Fail;
+
+/// The audit of an empty journal.
+const AUDIT: &str = "audit 2\n";
+
+const OLD: &str = "what was there before";
+
+/// How many names are tried for the folder.
+const MOST_FOLDERS: u32 = 10000;
+
+// Makes a new folder.
+fn folder(rt: &(impl Files + Abort), alloc: Global) -> Result<String, Fail> {
+    for number in 0..MOST_FOLDERS {
+        let mut name = String::new(alloc);
+        write!(name, "/tmp/stridelink-test-{number}")?;
+        if fs::create_dir(rt, name.as_str()).is_ok() {
+            return Ok(name);
+        }
+    }
+    panic!(rt; "no folder can be made")
+}
+
+fn in_folder(alloc: Global, folder: &str, name: &str) -> Result<String, Fail> {
+    let mut path = String::new(alloc);
+    write!(path, "{folder}/{name}")?;
+    Ok(path)
+}
+
+// Whether the file of this path holds this text, or does not exist if that is `None`.
+fn holds<R: Files>(rt: &R, path: &str, text: Option<&str>) -> bool {
+    let Ok(mut file) = fs::open(rt, path) else {
+        return text.is_none();
+    };
+    let mut buffer = [0u8; 64];
+    match (file.read(&mut buffer), text) {
+        (Ok(count), Some(text)) if count <= 64 => &buffer[..count] == text.as_bytes(),
+        _ => false,
+    }
+}
+
+// An empty journal of version 2.
+fn empty(alloc: Global) -> Result<Journal, Fail> {
+    let mut journal = Journal::new(alloc, 1)?;
+    journal.choose(Version::Two);
+    Ok(journal)
+}
+
+// Checks that the new file takes the name at the end, and the old file stays until then.
+fn takes_the_name<R: Files + Eprint + Abort>(
+    rt: &R,
+    alloc: Global,
+    folder: &str,
+    old: Option<&str>,
+) -> Result<(), Fail> {
+    let (path, beside) = (
+        in_folder(alloc, folder, "a")?,
+        in_folder(alloc, folder, "a.1")?,
+    );
+    let journal = empty(alloc)?;
+    let audit = AuditFile::open(rt, alloc, path.as_str())?;
+    assert!(rt; holds(rt, path.as_str(), old), "the old file is not there");
+    assert!(rt; holds(rt, beside.as_str(), Some("")), "no file beside");
+    audit.write(&journal)?;
+    assert!(rt; holds(rt, path.as_str(), Some(AUDIT)), "no audit");
+    assert!(rt; holds(rt, beside.as_str(), None), "the file beside is left");
+    Ok(())
+}
+
+// Checks that nothing changes if nothing is written, or what was written cannot take the name.
+fn leaves_the_old<R: Files + Eprint + Abort>(
+    rt: &R,
+    alloc: Global,
+    folder: &str,
+) -> Result<(), Fail> {
+    let (path, beside) = (
+        in_folder(alloc, folder, "b")?,
+        in_folder(alloc, folder, "b.1")?,
+    );
+    let journal = empty(alloc)?;
+    fs::write(rt, path.as_str(), OLD)?;
+    drop(AuditFile::open(rt, alloc, path.as_str())?);
+    assert!(rt; holds(rt, path.as_str(), Some(OLD)), "the old file is lost");
+    assert!(rt; holds(rt, beside.as_str(), None), "the file beside is left");
+    let audit = AuditFile::open(rt, alloc, path.as_str())?;
+    fs::remove_file(rt, beside.as_str())?;
+    assert!(rt; audit.write(&journal).is_err(), "the fault is not told");
+    assert!(rt; holds(rt, path.as_str(), Some(OLD)), "the old file is lost");
+    Ok(())
+}
+
+// Checks that a file whose name is taken stays as it was, and the next name is used.
+fn leaves_other_files<R: Files + Eprint + Abort>(
+    rt: &R,
+    alloc: Global,
+    folder: &str,
+) -> Result<(), Fail> {
+    let (path, taken) = (
+        in_folder(alloc, folder, "c")?,
+        in_folder(alloc, folder, "c.1")?,
+    );
+    let journal = empty(alloc)?;
+    fs::write(rt, taken.as_str(), OLD)?;
+    let audit = AuditFile::open(rt, alloc, path.as_str())?;
+    audit.write(&journal)?;
+    assert!(rt; holds(rt, path.as_str(), Some(AUDIT)), "no audit");
+    assert!(rt;
+        holds(rt, taken.as_str(), Some(OLD)),
+        "another file is lost"
+    );
+    Ok(())
+}
+
+// Checks that a file behind a symbolic link is written in place, and a folder is refused.
+fn writes_in_place<R: Files + Eprint + Abort>(
+    rt: &R,
+    alloc: Global,
+    folder: &str,
+) -> Result<(), Fail> {
+    let (path, link) = (
+        in_folder(alloc, folder, "d")?,
+        in_folder(alloc, folder, "e")?,
+    );
+    let journal = empty(alloc)?;
+    fs::write(rt, path.as_str(), OLD)?;
+    rt.symlink(path.as_str(), link.as_str())?;
+    let audit = AuditFile::open(rt, alloc, link.as_str())?;
+    assert!(rt; holds(rt, path.as_str(), Some(OLD)), "the old file is lost");
+    audit.write(&journal)?;
+    assert!(rt; holds(rt, path.as_str(), Some(AUDIT)), "no audit");
+    assert!(rt;
+        AuditFile::open(rt, alloc, folder).is_err(),
+        "a folder is no file"
+    );
+    Ok(())
+}
+
+const NONE: Taken = Taken::Most(0);
+
+const FULL: Taken = Taken::Error(ErrorKind::StorageFull);
+
+const BLOCKED: Taken = Taken::Error(ErrorKind::WouldBlock);
+
+const INTERRUPTED: Taken = Taken::Error(ErrorKind::Interrupted);
+
+/// Answers of write calls in turn, whether files can be renamed, whether the audit is told as written, and what is then
+/// in a file that is written in place, which is not renamed. What a refused call leaves is offered once more when the
+/// file is closed, so a call that stays refused is refused twice.
+type Row = (&'static [Taken], bool, bool, &'static str);
+
+/// What comes of the audit of an empty journal, which goes out in one call.
+const WRITES: [Row; 14] = [
+    (&[], true, true, AUDIT),
+    (&[Taken::Most(1)], true, true, AUDIT),
+    (&[Taken::Most(1), Taken::Most(6)], true, true, AUDIT),
+    (
+        &[INTERRUPTED, Taken::Most(3), INTERRUPTED],
+        true,
+        true,
+        AUDIT,
+    ),
+    (&[FULL, FULL], true, false, ""),
+    (&[BLOCKED, BLOCKED], true, false, ""),
+    (&[NONE, NONE], true, false, ""),
+    (&[Taken::Most(1), FULL, FULL], true, false, "a"),
+    (&[Taken::Most(5), FULL, FULL], true, false, "audit"),
+    (&[Taken::Most(5), BLOCKED, BLOCKED], true, false, "audit"),
+    (
+        &[Taken::Most(5), Taken::Most(2), NONE, NONE],
+        true,
+        false,
+        "audit 2",
+    ),
+    (
+        &[INTERRUPTED, Taken::Most(7), FULL, FULL],
+        true,
+        false,
+        "audit 2",
+    ),
+    (&[Taken::Most(3), FULL], true, false, AUDIT),
+    (&[Taken::Most(3)], false, false, AUDIT),
+];
+
+/// What comes of an audit that goes out in several calls. Its row is the only one, since it takes long.
+const LONG_WRITES: [Row; 1] = [(&[Taken::Most(5), FULL, FULL], true, false, "audit")];
+
+/// How many commands a journal holds whose audit goes out in several calls: 72008 bytes, of which 65536 go together.
+const LONG: u64 = 9000;
+
+// A journal of commands that each make the currency x.
+fn long_journal(rt: &impl Abort, alloc: Global) -> Journal {
+    let name = Name::read(b"x").expect(rt, "a name");
+    let mut journal = Journal::new(alloc, LONG).expect(rt, "a journal");
+    journal.choose(Version::Two);
+    for _ in 0..LONG {
+        if journal.len() < journal.life() {
+            journal.push(Entry {
+                event: Event::Commanded(Command::MakeCurrency(name)),
+                reply: Outcome::Replied(Reply::Done),
+                source: Source::Clerk(1),
+            });
+        }
+    }
+    journal
+}
+
+// Whether an audit is told as written where write calls have these answers, and files may not be renamed.
+fn is_told<R: Files + Eprint + Abort>(
+    rt: &R,
+    alloc: Global,
+    path: &str,
+    journal: &Journal,
+    taken: &'static [Taken],
+    is_renamed: bool,
+) -> bool {
+    let files = FailingFiles {
+        files: rt,
+        taken,
+        is_renamed,
+    };
+    let audit = AuditFile::open(&files, alloc, path)
+        .ok()
+        .expect(rt, "a file");
+    audit.keep(journal)
+}
+
+// Checks that the audit of a faulty write is told as not written, and that what was there before stays as it was. One
+// that cannot take its name stays beside it.
+fn faults_leave_the_old<R: Files + Eprint + Abort>(
+    rt: &R,
+    alloc: Global,
+    folder: &str,
+    journal: &Journal,
+    rows: &[Row],
+    old: Option<&str>,
+) -> Result<(), Fail> {
+    let (path, beside) = (
+        in_folder(alloc, folder, "f")?,
+        in_folder(alloc, folder, "f.1")?,
+    );
+    for (number, row) in rows.iter().enumerate() {
+        let (taken, is_renamed, is_written, _) = *row;
+        let _ = fs::remove_file(rt, path.as_str());
+        if let Some(text) = old {
+            fs::write(rt, path.as_str(), text)?;
+        }
+        let told = is_told(rt, alloc, path.as_str(), journal, taken, is_renamed);
+        assert!(rt; told == is_written, "row {number} is told another way");
+        let left = if is_written { Some(AUDIT) } else { old };
+        assert!(rt;
+            holds(rt, path.as_str(), left),
+            "row {number} leaves another file"
+        );
+        let beside_it = if is_renamed { None } else { Some(AUDIT) };
+        assert!(rt;
+            holds(rt, beside.as_str(), beside_it),
+            "row {number} leaves another file beside"
+        );
+        let _ = fs::remove_file(rt, beside.as_str());
+    }
+    Ok(())
+}
+
+// Checks that a file behind a symbolic link, which is written in place, holds a beginning of the audit after a fault.
+fn faults_leave_a_beginning<R: Files + Eprint + Abort>(
+    rt: &R,
+    alloc: Global,
+    folder: &str,
+    journal: &Journal,
+    rows: &[Row],
+) -> Result<(), Fail> {
+    let (path, link) = (
+        in_folder(alloc, folder, "g")?,
+        in_folder(alloc, folder, "h")?,
+    );
+    fs::write(rt, path.as_str(), OLD)?;
+    let _ = fs::remove_file(rt, link.as_str());
+    rt.symlink(path.as_str(), link.as_str())?;
+    for (number, row) in rows.iter().enumerate() {
+        let (taken, is_renamed, is_written, text) = *row;
+        fs::write(rt, path.as_str(), OLD)?;
+        let told = is_told(rt, alloc, link.as_str(), journal, taken, is_renamed);
+        let wanted = is_written || !is_renamed;
+        assert!(rt; told == wanted, "row {number} is told another way");
+        assert!(rt;
+            holds(rt, path.as_str(), Some(text)),
+            "row {number} leaves another text"
+        );
+    }
+    Ok(())
+}
+
+// Checks what these rows say of the audit of a journal, which is dropped.
+fn faults_are_told<R: Files + Eprint + Abort>(
+    rt: &R,
+    alloc: Global,
+    folder: &str,
+    journal: Journal,
+    rows: &[Row],
+) -> Result<(), Fail> {
+    faults_leave_the_old(rt, alloc, folder, &journal, rows, None)?;
+    faults_leave_the_old(rt, alloc, folder, &journal, rows, Some(OLD))?;
+    faults_leave_a_beginning(rt, alloc, folder, &journal, rows)?;
+    drop(journal);
+    Ok(())
+}
+
+#[test]
+fn files_of_audits(rt: HostRuntime) -> Result<(), Fail> {
+    let alloc = rt.alloc();
+    let folder = folder(&rt, alloc)?;
+    takes_the_name(&rt, alloc, folder.as_str(), None)?;
+    takes_the_name(&rt, alloc, folder.as_str(), Some(AUDIT))?;
+    leaves_the_old(&rt, alloc, folder.as_str())?;
+    leaves_other_files(&rt, alloc, folder.as_str())?;
+    writes_in_place(&rt, alloc, folder.as_str())?;
+    faults_are_told(&rt, alloc, folder.as_str(), empty(alloc)?, &WRITES)?;
+    faults_are_told(
+        &rt,
+        alloc,
+        folder.as_str(),
+        long_journal(&rt, alloc),
+        &LONG_WRITES,
+    )?;
+    fs::remove_dir_all(&rt, folder.as_str())?;
+    Ok(())
+}

@@ -1,0 +1,590 @@
+//! The answers on control connections.
+ghost use Rattle.std.specs.Prelude.{◌≡◌, ◌≤◌, [], length};
+ghost use Rattle.share_base.specs.declared.version.Version.TheVariants.{Two};
+
+use crate::failing::{Taken, Taking};
+use running_tests::ByByte;
+use share_base::Version;
+use share_core::Engine;
+use share_ingress::{IngressEnd, Intake, queue};
+use share_journal::{Journal, Recorder};
+use share_locked::{LinkBrand, Locked, Pace, Port};
+use share_model::{PlainReader, Rates, Tape};
+use share_script::IncomingLines;
+use share_server::{Attended, How, attend};
+use std::alloc::Global;
+use std::io;
+use std::io::{Error, ErrorKind, Read, Write};
+use std::marker::Brand;
+use std::process::Abort;
+use std::sync::{Mutex, Wait};
+use std::test::Fail;
+
+/// A life that is not spent.
+const LIFE: u64 = 100;
+
+/// What comes on a connection, with a bar after what one read gives, and two bars where a read is interrupted; what is
+/// written, with a bar after what one write call takes; and how many commands are made.
+const CONVERSATIONS: [(&[u8], &[u8], usize); 12] = [
+    (b"", b"", 0),
+    (b"nonsense\n", b"no 3 Syntax\n|", 0),
+    (
+        b"turn 1\nsend a 61\ntorn\naudit 1\n\nturn 0\n",
+        b"no 3 Syntax\nno 3 Syntax\nno 3 Syntax\nno 3 Syntax\nno 3 Syntax\nno 3 Syntax\n|",
+        0,
+    ),
+    // The first line chooses no version here.
+    (b"audit 2\nmkcur x\n", b"no 3 Syntax\nok\n|", 1),
+    (
+        b"audit 1\n|mkcur x\n|audit 2\n",
+        b"no 3 Syntax\n|ok\n|no 3 Syntax\n|",
+        1,
+    ),
+    (
+        b"report\n",
+        b"clock                            0\n\
+        accepted                         0\n\
+        written                          0\n\
+        torn                             0\n\
+        waiting                          0\n\
+        dropped                          0\n\
+        bytes                            0\n\
+        past                             0\n\
+        tickets                          0\n\
+        pass                             0\n\
+        link                             0\n\
+        end\n|",
+        0,
+    ),
+    (b"mkcur x\nmkcur x\n", b"ok\nno 9 Taken\n|", 2),
+    (b"mkcur x\n|mkcur y\n", b"ok\n|ok\n|", 2),
+    (b"mkcur x\nmkcur y", b"ok\n|", 1),
+    (b"mk|||cur x|\n", b"ok\n|", 1),
+    (
+        b"open a 4 1\n|mktkt 1 base\nfund 1 flow a\n",
+        b"flow 1\n|ticket 1\nok\n|",
+        3,
+    ),
+    // The second line is cut.
+    (b"open a 4 1\nmktkt 1 ba", b"flow 1\n|", 1),
+];
+
+/// The lines of a session.
+const SESSION: &[u8] =
+    b"open a 4 1\nmktkt 1 base\nfund 1 flow a\nturn 1\nmkcur x\nmkcur x\nclose a\n";
+
+/// What is answered, and how many commands are made, if so many bytes of the session come: at least the first number,
+/// and fewer than the second.
+const CUTS: [(usize, usize, &[u8], usize); 8] = [
+    (0, 11, b"", 0),
+    (11, 24, b"flow 1\n", 1),
+    (24, 38, b"flow 1\nticket 1\n", 2),
+    (38, 45, b"flow 1\nticket 1\nok\n", 3),
+    (45, 53, b"flow 1\nticket 1\nok\nno 3 Syntax\n", 3),
+    (53, 61, b"flow 1\nticket 1\nok\nno 3 Syntax\nok\n", 4),
+    (
+        61,
+        69,
+        b"flow 1\nticket 1\nok\nno 3 Syntax\nok\nno 9 Taken\n",
+        5,
+    ),
+    (
+        69,
+        70,
+        b"flow 1\nticket 1\nok\nno 3 Syntax\nok\nno 9 Taken\nclosed 1 0 0\n",
+        6,
+    ),
+];
+
+/// Three lines that come one by one, and the same lines in one read.
+const APART: &[u8] = b"open a 4 1\n|mktkt 1 base\n|fund 1 flow a\n";
+
+const TOGETHER: &[u8] = b"open a 4 1\nmktkt 1 base\nfund 1 flow a\n";
+
+const ALL: Taken = Taken::Most(usize::MAX);
+
+const NONE: Taken = Taken::Most(0);
+
+const BROKEN: Taken = Taken::Error(ErrorKind::BrokenPipe);
+
+const RESET: Taken = Taken::Error(ErrorKind::ConnectionReset);
+
+const BLOCKED: Taken = Taken::Error(ErrorKind::WouldBlock);
+
+const INTERRUPTED: Taken = Taken::Error(ErrorKind::Interrupted);
+
+/// Lines, the answers of write calls in turn, what is written, how the connection ends, and how many commands are made.
+/// What a refused call leaves is offered once more when the connection is dropped, so a call that stays refused is
+/// refused twice.
+const WRITES: [(&[u8], &[Taken], &[u8], How, usize); 20] = [
+    (APART, &[BROKEN, BROKEN], b"", How::WriteFault, 1),
+    (APART, &[RESET, RESET], b"", How::WriteFault, 1),
+    (APART, &[BLOCKED, BLOCKED], b"", How::WriteFault, 1),
+    (APART, &[NONE, NONE], b"", How::WriteFault, 1),
+    (
+        APART,
+        &[ALL, BROKEN, BROKEN],
+        b"flow 1\n|",
+        How::WriteFault,
+        2,
+    ),
+    (
+        APART,
+        &[ALL, BLOCKED, BLOCKED],
+        b"flow 1\n|",
+        How::WriteFault,
+        2,
+    ),
+    (APART, &[ALL, NONE, NONE], b"flow 1\n|", How::WriteFault, 2),
+    (
+        APART,
+        &[ALL, ALL, BROKEN, BROKEN],
+        b"flow 1\n|ticket 1\n|",
+        How::WriteFault,
+        3,
+    ),
+    (
+        APART,
+        &[ALL, ALL, NONE, NONE],
+        b"flow 1\n|ticket 1\n|",
+        How::WriteFault,
+        3,
+    ),
+    (
+        APART,
+        &[ALL, ALL, ALL, BROKEN],
+        b"flow 1\n|ticket 1\n|ok\n|",
+        How::End,
+        3,
+    ),
+    (
+        APART,
+        &[INTERRUPTED],
+        b"flow 1\n|ticket 1\n|ok\n|",
+        How::End,
+        3,
+    ),
+    (
+        APART,
+        &[INTERRUPTED, ALL, INTERRUPTED, INTERRUPTED, ALL, INTERRUPTED],
+        b"flow 1\n|ticket 1\n|ok\n|",
+        How::End,
+        3,
+    ),
+    (
+        APART,
+        &[Taken::Most(1)],
+        b"f|low 1\n|ticket 1\n|ok\n|",
+        How::End,
+        3,
+    ),
+    (
+        APART,
+        &[
+            Taken::Most(6),
+            Taken::Most(1),
+            Taken::Most(8),
+            Taken::Most(1),
+            Taken::Most(2),
+        ],
+        b"flow 1|\n|ticket 1|\n|ok|\n|",
+        How::End,
+        3,
+    ),
+    (
+        APART,
+        &[Taken::Most(3), INTERRUPTED, Taken::Most(2)],
+        b"flo|w |1\n|ticket 1\n|ok\n|",
+        How::End,
+        3,
+    ),
+    (
+        APART,
+        &[Taken::Most(3), BROKEN, BROKEN],
+        b"flo|",
+        How::WriteFault,
+        1,
+    ),
+    (
+        APART,
+        &[Taken::Most(3), NONE, NONE],
+        b"flo|",
+        How::WriteFault,
+        1,
+    ),
+    // What is left goes out when the connection is dropped, and what was taken does not go out again.
+    (
+        APART,
+        &[Taken::Most(3), BROKEN],
+        b"flo|w 1\n|",
+        How::WriteFault,
+        1,
+    ),
+    (
+        TOGETHER,
+        &[Taken::Most(9), BROKEN, BROKEN],
+        b"flow 1\nti|",
+        How::WriteFault,
+        3,
+    ),
+    (
+        TOGETHER,
+        &[Taken::Most(9)],
+        b"flow 1\nti|cket 1\nok\n|",
+        How::End,
+        3,
+    ),
+];
+
+/// A reader that gives what is before each bar, at most `most` bytes a call, is interrupted if that is nothing, and may
+/// fail at the end.
+#[derive(Drop)]
+struct Pieces<'a> {
+    rest: &'a [u8],
+    most: usize,
+    fails: bool,
+}
+
+// How many bytes are before the first bar.
+fn piece_length(bytes: &[u8], most: usize) -> usize
+    ensures fits { result ≤ length bytes.now }
+    ensures few { result ≤ most }
+{
+    let count = bytes
+        .iter()
+        .position(|byte| *byte == b'|')
+        .unwrap_or(bytes.len());
+    count.min(most)
+}
+
+impl<'a> Read for Pieces<'a> {
+    fn read(&mut self, buf: &mut [u8]) -> io::Result<usize> {
+        if self.rest.is_empty() {
+            return if self.fails {
+                Err(Error::from(ErrorKind::ConnectionReset))
+            } else {
+                Ok(0)
+            };
+        }
+        let count = piece_length(self.rest, self.most.min(buf.len()));
+        buf[..count].copy_from_slice(&self.rest[..count]);
+        self.rest = &self.rest[count..];
+        if let Some((b'|', rest)) = self.rest.split_first() {
+            self.rest = rest;
+        }
+        if count == 0 {
+            return Err(Error::from(ErrorKind::Interrupted));
+        }
+        Ok(count)
+    }
+}
+
+/// A writer that takes what its list says, with a bar after each call that takes something. It fails if the link is
+/// locked.
+#[derive(Drop)]
+struct Barred<'a, S: Rates, L: LinkBrand> {
+    port: &'a Port<Tape, S, L>,
+    bytes: &'a mut Vec<u8>,
+    taking: Taking<'a>,
+}
+
+impl<'a, S: Rates, L: LinkBrand> Write for Barred<'a, S, L> {
+    fn write(&mut self, buf: &[u8]) -> io::Result<usize> {
+        if self.port.try_lock().is_none() {
+            return Err(Error::from(ErrorKind::BrokenPipe));
+        }
+        let count = self.taking.next(buf.len())?;
+        if count > 0 {
+            self.bytes.extend_from_slice(&buf[..count])?;
+            self.bytes.push(b'|')?;
+        }
+        Ok(count)
+    }
+
+    fn flush(&mut self) -> io::Result<()> {
+        Ok(())
+    }
+}
+
+/// What comes on a connection, how much of it a read gives at most, whether the last read fails, and the answers of
+/// write calls.
+#[derive(Clone, Copy)]
+struct Asked<'a> {
+    life: u64,
+    bytes: &'a [u8],
+    most: usize,
+    fails: bool,
+    taken: &'a [Taken],
+}
+
+// A connection without faults.
+fn whole<'a>(bytes: &'a [u8]) -> Asked<'a> {
+    Asked {
+        life: LIFE,
+        bytes,
+        most: usize::MAX,
+        fails: false,
+        taken: &[],
+    }
+}
+
+// How many entries the journal of a link has.
+fn entries_of<T: Wait, S: Rates, L: LinkBrand>(rt: &T, port: &Port<Tape, S, L>) -> u64 {
+    port.lock(rt).recorder().journal().len()
+}
+
+// Answers a connection to a link of this name. Gives how it ended, and how many receipts its clerk has, which is how
+// many entries the journal has.
+fn attended<T, S, L>(
+    rt: &T,
+    alloc: Global,
+    recorder: Recorder<Tape, S>,
+    intake: Intake,
+    asked: Asked<'_>,
+    written: &mut Vec<u8>,
+) -> (How, usize)
+where
+    T: Wait + Abort,
+    S: Rates + Drop,
+    L: LinkBrand,
+    requires empty { recorder.entries ≡ [] }
+    requires version { recorder.link.live.version ≡ Two }
+    requires link { intake.link ≡ L.link }
+    requires nothing { intake.popped ≡ [] }
+{
+    let mut locked = Locked::<Tape, S, L>::new(recorder, intake);
+    let clerk = locked.clerk(alloc).expect(rt, "a clerk");
+    let port = Mutex::new(locked);
+    let pieces = Pieces {
+        rest: asked.bytes,
+        most: asked.most,
+        fails: asked.fails,
+    };
+    let input = IncomingLines::new(alloc, PlainReader(pieces))
+        .ok()
+        .expect(rt, "a chunk");
+    let output = Barred {
+        port: &port,
+        bytes: written,
+        taking: Taking::new(asked.taken),
+    };
+    let pace = Pace::new(alloc, 1, 1).expect(rt, "a pace");
+    let Attended { how, clerk } = attend(rt, alloc, &port, &pace, clerk, input, output);
+    let entries = entries_of(rt, &port);
+    drop(port);
+    let receipts = clerk.receipts().len();
+    assert!(rt;
+        entries == receipts as u64,
+        "the journal has other commands"
+    );
+    drop(clerk);
+    (how, receipts)
+}
+
+// A recorder of a new link of version 2.
+fn recording<S: Rates + Drop>(
+    rt: &impl Abort,
+    alloc: Global,
+    shelf: S,
+    life: u64,
+) -> Recorder<Tape, S>
+    ensures empty { result.entries ≡ [] }
+    ensures version { result.link.live.version ≡ Two }
+{
+    let mut engine = Engine::new(alloc, shelf, life, Tape::new(alloc)).expect(rt, "a link");
+    engine.choose(Version::Two);
+    let mut journal = Journal::new(alloc, life).expect(rt, "a journal");
+    journal.choose(Version::Two);
+    let Ok(recorder) = Recorder::new(engine, journal) else {
+        panic!(rt; "the link and its journal are not new");
+    };
+    recorder
+}
+
+// Answers a connection to a new link.
+fn answered<T: Wait + Abort, S: Rates + Drop>(
+    rt: &T,
+    alloc: Global,
+    shelf: S,
+    asked: Asked<'_>,
+    written: &mut Vec<u8>,
+) -> (How, usize) {
+    let recorder = recording(rt, alloc, shelf, asked.life);
+    let (intake, ends) = queue(alloc, 1, 1).expect(rt, "a queue");
+    drop::<Vec<IngressEnd>>(ends);
+    attended::<T, S, Brand>(rt, alloc, recorder, intake, asked, written)
+}
+
+fn are_answered<T: Wait + Abort, S: Rates + Copy>(
+    rt: &T,
+    alloc: Global,
+    shelf: S,
+) -> Result<(), Fail> {
+    for (bytes, want, commands) in CONVERSATIONS {
+        let mut written = Vec::new(alloc);
+        let ended = answered(rt, alloc, shelf, whole(bytes), &mut written);
+        assert_eq!(rt; ended, (How::End, commands));
+        assert_eq!(rt; written.as_slice(), want);
+    }
+    Ok(())
+}
+
+// Checks the answers if the session is cut after `cut` bytes, or the read after them fails.
+fn is_cut<T: Wait + Abort, S: Rates + Copy>(
+    rt: &T,
+    alloc: Global,
+    shelf: S,
+    cut: usize,
+    want: &[u8],
+    commands: usize,
+) {
+    let bytes = SESSION.get(..cut).expect(rt, "a beginning");
+    for most in [1, 7, usize::MAX] {
+        for (fails, how) in [(false, How::End), (true, How::ReadFault)] {
+            let mut written = Vec::new(alloc);
+            let asked = Asked {
+                most,
+                fails,
+                ..whole(bytes)
+            };
+            let ended = answered(rt, alloc, shelf, asked, &mut written);
+            written.retain(|byte| *byte != b'|');
+            let right = ended == (how, commands) && written.as_slice() == want;
+            assert!(rt; right, "{cut} bytes, {most} a read");
+            drop(written);
+        }
+    }
+}
+
+// Checks that whole lines alone are answered, wherever the session is cut and whichever read fails.
+fn cut_lines_are_no_lines<T: Wait + Abort, S: Rates + Copy>(rt: &T, alloc: Global, shelf: S) {
+    for (first, end, want, commands) in CUTS {
+        for cut in first..end {
+            is_cut(rt, alloc, shelf, cut, want, commands);
+        }
+    }
+}
+
+// Checks that answers go out once and in order, whatever the write calls take, up to one that is refused.
+fn answers_go_out_once<T: Wait + Abort, S: Rates + Copy>(rt: &T, alloc: Global, shelf: S) {
+    for (number, (bytes, taken, want, how, commands)) in WRITES.into_iter().enumerate() {
+        let mut written = Vec::new(alloc);
+        let asked = Asked {
+            taken,
+            ..whole(bytes)
+        };
+        let ended = answered(rt, alloc, shelf, asked, &mut written);
+        let right = ended == (how, commands) && written.as_slice() == want;
+        assert!(rt; right, "row {number}");
+        drop(written);
+    }
+}
+
+// Checks that answers are written whole by calls that take `most` bytes each.
+fn short_writes_go_on<T: Wait + Abort, S: Rates + Copy>(rt: &T, alloc: Global, shelf: S) {
+    let want = b"flow 1\nticket 1\nok\n".as_slice();
+    for most in 1..20 {
+        let taken = [Taken::Most(most); 30];
+        let mut written = Vec::new(alloc);
+        let asked = Asked {
+            taken: &taken,
+            ..whole(TOGETHER)
+        };
+        let ended = answered(rt, alloc, shelf, asked, &mut written);
+        written.retain(|byte| *byte != b'|');
+        let right = ended == (How::End, 3) && written.as_slice() == want;
+        assert!(rt; right, "{most} bytes a call");
+        drop(written);
+    }
+}
+
+// Checks that a line which begins so and has this many more bytes has no place, and the line after it has its own
+// answer.
+fn has_no_place<T: Wait + Abort, S: Rates + Copy>(
+    rt: &T,
+    alloc: Global,
+    shelf: S,
+    beginning: &[u8],
+    more: usize,
+) -> Result<(), Fail> {
+    let mut lines = Vec::from_slice(alloc, beginning)?;
+    for _ in 0..more {
+        lines.push(b'6')?;
+    }
+    lines.extend_from_slice(b"\nmkcur x\n".as_slice())?;
+    let mut written = Vec::new(alloc);
+    let asked = whole(lines.as_slice());
+    let ended = answered(rt, alloc, shelf, asked, &mut written);
+    let right = ended == (How::End, 1) && written.as_slice() == b"no 3 Syntax\nok\n|".as_slice();
+    assert!(rt; right, "{more} bytes more");
+    Ok(())
+}
+
+/// How many digits of a packet a line has: those of 1 byte, of as many bytes as a frame of each version carries and of
+/// one more; as many as a line of 20480 bytes has room for; and more than that.
+const DIGITS: [usize; 8] = [2, 2980, 2982, 18000, 18002, 20472, 20474, 40000];
+
+// Checks that neither a packet, however long, nor a line of more than 20480 bytes has a place.
+fn packets_and_over_long_lines_have_no_place<T: Wait + Abort, S: Rates + Copy>(
+    rt: &T,
+    alloc: Global,
+    shelf: S,
+) -> Result<(), Fail> {
+    for digits in DIGITS {
+        has_no_place(rt, alloc, shelf, b"send a ", digits)?;
+    }
+    has_no_place(rt, alloc, shelf, b"", 20481)
+}
+
+// Checks that only changes are answered with a spent life, and have no receipts.
+fn spent_lives_are_told<T: Wait + Abort, S: Rates + Copy>(
+    rt: &T,
+    alloc: Global,
+    shelf: S,
+) -> Result<(), Fail> {
+    let mut written = Vec::new(alloc);
+    let asked = Asked {
+        life: 1,
+        ..whole(b"mkcur x\nmkcur y\ntorn\n")
+    };
+    let (how, receipts) = answered(rt, alloc, shelf, asked, &mut written);
+    assert_eq!(rt; (how, receipts), (How::End, 1));
+    assert_eq!(rt;
+        written.as_slice(),
+        b"ok\nno 2 Spent\nno 3 Syntax\n|".as_slice()
+    );
+    Ok(())
+}
+
+// Checks that no answer is written in a hold of the lock, even if lines that came together have more answers than may
+// wait.
+fn answers_are_written_outside_of_holds<T: Wait + Abort, S: Rates + Copy>(
+    rt: &T,
+    alloc: Global,
+    shelf: S,
+) -> Result<(), Fail> {
+    let mut lines = Vec::new(alloc);
+    for _ in 0..200 {
+        lines.extend_from_slice(b"report\n".as_slice())?;
+    }
+    for _ in 0..8000 {
+        lines.extend_from_slice(b"mkcur x\n".as_slice())?;
+    }
+    let mut written = Vec::new(alloc);
+    let (how, _) = answered(rt, alloc, shelf, whole(lines.as_slice()), &mut written);
+    assert_eq!(rt; how, How::End);
+    Ok(())
+}
+
+#[test]
+fn lines_of_control_connections(rt: HostRuntime) -> Result<(), Fail> {
+    let alloc = rt.alloc();
+    are_answered(&rt, alloc, ByByte)?;
+    packets_and_over_long_lines_have_no_place(&rt, alloc, ByByte)?;
+    spent_lives_are_told(&rt, alloc, ByByte)?;
+    answers_are_written_outside_of_holds(&rt, alloc, ByByte)?;
+    cut_lines_are_no_lines(&rt, alloc, ByByte);
+    answers_go_out_once(&rt, alloc, ByByte);
+    short_writes_go_on(&rt, alloc, ByByte);
+    Ok(())
+}

@@ -1,0 +1,2 @@
+mod ControlLemmas
+mod ShutdownLemmas

@@ -1,0 +1,3 @@
+pub mod Control
+pub mod Faults
+pub mod Shutdown

@@ -1,0 +1,170 @@
+//! Where the audit of a run goes.
+
+use share_journal::Journal;
+use share_model::{PatientWriter, PlainWriter};
+use std::alloc::{AllocError, Global};
+use std::fs::{Files, Metadata, OpenFile, OpenOptions};
+use std::io::{BufWriter, Eprint, ErrorKind, Write};
+use std::{fs, io};
+
+/// How many bytes of an audit are written together.
+const ROOM: usize = 65536;
+
+/// How many names are tried for the new file.
+const MOST_NAMES: u32 = 1000;
+
+/// Keeps the audit of a journal. `kept` is what contracts know of that.
+pub trait Keep {
+    ghost use Rattle.std.specs.Prelude.{Bool};
+    ghost use Rattle.share_journal.specs.Entries.{JournalView};
+
+    /// Relates the keeper, the journal, and whether all of its audit was written.
+    ghost kept: { Self → JournalView → Bool → Type 0 };
+
+    /// Writes the audit, and says whether all of it was written.
+    fn keep(self, journal: &Journal) -> bool
+        ensures { kept self journal.now result };
+}
+
+/// Where an audit goes. If the path names a regular file or nothing, the audit goes into a new file beside it, which
+/// takes its name at the end; if no audit is written, it is removed. Otherwise the audit goes into what the path names.
+pub struct AuditFile<'a, R: Files> {
+    files: &'a R,
+    path: &'a str,
+    output: PatientWriter<PlainWriter<BufWriter<R::File>>>,
+    // The path of the new file, if there is one.
+    beside: Option<String>,
+}
+
+impl<'a, R: Files> Drop for AuditFile<'a, R> {
+    fn drop(self) {
+        let AuditFile {
+            files,
+            path: _,
+            output,
+            beside,
+        } = self;
+        drop(output);
+        if let Some(beside) = beside {
+            let _ = fs::remove_file(files, beside.as_str());
+        }
+    }
+}
+
+/// What is at a path. `None` if nothing is.
+pub fn found_at<R: Files>(files: &R, path: &str) -> io::Result<Option<Metadata>> {
+    match fs::symlink_metadata(files, path) {
+        Ok(found) => Ok(Some(found)),
+        Err(fault) if fault.kind() == ErrorKind::NotFound => Ok(None),
+        Err(fault) => Err(fault),
+    }
+}
+
+// The path with a dot and a number after it.
+fn numbered_path(alloc: Global, path: &str, number: u32) -> Result<String, AllocError> {
+    let mut name = String::new(alloc);
+    write!(name, "{path}.{number}")?;
+    Ok(name)
+}
+
+impl<'a, R: Files> AuditFile<'a, R> {
+    /// Opens the file of this path for an audit. Nothing of an old audit is lost by that.
+    pub fn open(files: &'a R, alloc: Global, path: &'a str) -> io::Result<AuditFile<'a, R>> {
+        match found_at(files, path)? {
+            None => AuditFile::open_beside(files, alloc, path),
+            Some(found) if found.is_file() => {
+                let audit = AuditFile::open_beside(files, alloc, path)?;
+                audit.file().set_permissions(found.permissions())?;
+                Ok(audit)
+            }
+            Some(_) => {
+                let file = OpenOptions::new().write(true).open(files, path)?;
+                AuditFile::over(files, alloc, path, file, None)
+            }
+        }
+    }
+
+    // Makes a new file beside this path, under the first name that is free.
+    fn open_beside(files: &'a R, alloc: Global, path: &'a str) -> io::Result<AuditFile<'a, R>> {
+        for number in 1..=MOST_NAMES {
+            let beside = numbered_path(alloc, path, number)?;
+            let opened = OpenOptions::new()
+                .write(true)
+                .create_new(true)
+                .open(files, beside.as_str());
+            match opened {
+                Ok(file) => return AuditFile::over(files, alloc, path, file, Some(beside)),
+                Err(fault) if fault.kind() == ErrorKind::AlreadyExists => (),
+                Err(fault) => return Err(fault),
+            }
+        }
+        Err(io::Error::from(ErrorKind::AlreadyExists))
+    }
+
+    // An audit that goes into this file.
+    fn over(
+        files: &'a R,
+        alloc: Global,
+        path: &'a str,
+        file: R::File,
+        beside: Option<String>,
+    ) -> io::Result<AuditFile<'a, R>> {
+        let buffered = match BufWriter::with_capacity(alloc, ROOM, file) {
+            Ok(buffered) => buffered,
+            Err(fault) => {
+                if let Some(beside) = beside {
+                    let _ = fs::remove_file(files, beside.as_str());
+                }
+                return Err(fault);
+            }
+        };
+        Ok(AuditFile {
+            files,
+            path,
+            output: PatientWriter(PlainWriter(buffered)),
+            beside,
+        })
+    }
+
+    fn file(&self) -> &R::File {
+        self.output.0.0.get_ref()
+    }
+
+    // Writes the audit of a journal.
+    fn write_out(&mut self, journal: &Journal) -> io::Result<()> {
+        if journal.audit(&mut self.output).is_err() {
+            return Err(io::Error::from(ErrorKind::Other));
+        }
+        self.output.0.0.flush()
+    }
+
+    /// Writes the audit of a journal, and gives it its name. If that fails, a regular file that was there before stays
+    /// as it was. An audit that is written and cannot take its name stays in the new file, which standard error tells.
+    pub fn write(self, journal: &Journal) -> io::Result<()>
+    where
+        R: Eprint,
+    {
+        let mut audit = self;
+        if audit.beside.is_none() {
+            // A device or a pipe has no length.
+            let _ = audit.file().set_len(0);
+        }
+        audit.write_out(journal)?;
+        if let Some(beside) = audit.beside.take() {
+            if let Err(fault) = fs::rename(audit.files, beside.as_str(), audit.path) {
+                let name = beside.as_str();
+                let _ = eprintln!(audit.files; "the whole audit is in {name}");
+                return Err(fault);
+            }
+        }
+        Ok(())
+    }
+}
+
+impl<'a, R: Files + Eprint> Keep for AuditFile<'a, R> {
+    ghost kept = { λ _ _ _. Unit {0} };
+
+    fn keep(self, journal: &Journal) -> bool {
+        self.write(journal).is_ok()
+    }
+}

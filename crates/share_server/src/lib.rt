@@ -1,0 +1,20 @@
+//! A link that is served over sockets: its connections, its threads, and its end.
+#![tactic(auto)]
+
+mod audit_file;
+mod connections;
+mod control;
+mod faults;
+mod ingress;
+mod serve;
+mod setup;
+mod shutdown;
+mod slots;
+mod threads;
+mod uplink;
+
+pub use audit_file::{AuditFile, Keep, found_at};
+pub use control::{Attended, How, Request, attend};
+pub use faults::ServeFault;
+pub use serve::serve_on;
+pub use setup::{Plan, Sockets};

@@ -1,0 +1,204 @@
+//! A link over sockets, from its first connection to its report.
+ghost use Rattle.std.specs.Prelude.{◌≡◌, ◌≤◌, [], None, Some, MatchResult, OnOk, true, vec_len, vec_capacity};
+ghost use Rattle.share_base.specs.declared.version.Version.TheVariants.{Two};
+ghost use Rattle.share_model.specs.lists.Each.{Each};
+ghost use Rattle.share_server.specs.Faults.{first_of, faults_of, no_fault};
+ghost use Rattle.share_server.specs.Shutdown.{IsAuditKept};
+
+use crate::audit_file::Keep;
+use crate::connections::end_at_eof;
+use crate::faults::{FoundFaults, ServeFault};
+use crate::setup::{Doors, Fresh, Plan, Setting, Sockets, set_up};
+use crate::shutdown::{EndedLink, close};
+use crate::slots::{Places, all_clerks, all_ends, filled, make_places};
+use crate::threads::{Server, run};
+use share_ingress::IngressEnd;
+use share_journal::Journal;
+use share_locked::{Clerk, LinkBrand, Locked};
+use share_model::{Rates, TellingWriter};
+use std::alloc::Global;
+use std::io::{Eprint, Read};
+use std::marker::Brand;
+use std::sync::{Mutex, Wait};
+use std::thread::Threads;
+use std::time::Clock;
+
+/// Serves a new link of version 2 with this journal, which is empty and of version 2, over these sockets: accepts the
+/// control connections and then the ingress connections, and runs until all have ended and what they brought is sent.
+/// Then it settles, keeps the audit, and writes the report to the output, both even if something went wrong. If a
+/// reader is given, its end ends the connections. The error is the first fault, in the order of `ServeFault`.
+pub fn serve_on<R, S, I, K, O>(
+    rt: &R,
+    alloc: Global,
+    shelf: S,
+    journal: Journal,
+    sockets: Sockets,
+    plan: Plan,
+    until: Option<I>,
+    keep: K,
+    output: &mut O,
+) -> Result<(), ServeFault>
+where
+    R: Threads + Wait + Clock + Eprint + Copy + Send + Sync + 'static,
+    S: Rates + Send + Drop,
+    I: Read + Send + Drop + 'static,
+    K: Keep + Drop,
+    O: TellingWriter,
+    ensures kept { OnOk result (IsAuditKept K.kept keep true) }
+{
+    match set_up(rt, alloc, shelf, journal, sockets, plan) {
+        Ok(setting) => { serve_as::<R, S, I, K, O, Brand>(rt, alloc, setting, until, keep, output) }
+        Err(fault) => {
+            drop(until);
+            drop(keep);
+            Err(fault)
+        }
+    }
+}
+
+// Serves the link of this name until all its connections have ended, and closes its books.
+fn serve_as<R, S, I, K, O, L>(
+    rt: &R,
+    alloc: Global,
+    setting: Setting<S>,
+    until: Option<I>,
+    keep: K,
+    output: &mut O,
+) -> Result<(), ServeFault>
+where
+    R: Threads + Wait + Clock + Eprint + Copy + Send + Sync + 'static,
+    S: Rates + Send + Drop,
+    I: Read + Send + Drop + 'static,
+    K: Keep + Drop,
+    O: TellingWriter,
+    L: LinkBrand + Send,
+    requires empty { setting.fresh.recorder.entries ≡ [] }
+    requires version { setting.fresh.recorder.link.live.version ≡ Two }
+    requires link { setting.fresh.intake.link ≡ L.link }
+    requires nothing { setting.fresh.intake.popped ≡ [] }
+    requires linked { Each (λ e. e.link ≡ L.link) setting.fresh.ends.items }
+    ensures kept { OnOk result (IsAuditKept K.kept keep true) }
+{
+    match make_places(alloc, setting.fresh.ends.len(), setting.clerks) {
+        Ok(places) => {
+            let ended = serve_all::<R, S, I, L>(rt, alloc, setting, places, until);
+            told(close(rt, alloc, ended, keep, output))
+        }
+        Err(refused) => {
+            drop(setting);
+            drop(until);
+            drop(keep);
+            Err(ServeFault::from(refused))
+        }
+    }
+}
+
+// The result of a run with these faults.
+fn told(found: FoundFaults) -> Result<(), ServeFault>
+    ensures first { MatchResult result (λ _. first_of (faults_of found) ≡ None)
+        (λ fault. first_of (faults_of found) ≡ Some fault) }
+    ensures none { OnOk result (found ≡ no_fault) }
+{
+    match found.first() {
+        None => Ok(()),
+        Some(fault) => Err(fault),
+    }
+}
+
+// Serves the link of this name until all its connections have ended.
+fn serve_all<R, S, I, L>(
+    rt: &R,
+    alloc: Global,
+    setting: Setting<S>,
+    places: Places<L>,
+    until: Option<I>,
+) -> EndedLink<S, L>
+where
+    R: Threads + Wait + Eprint + Copy + Send + Sync + 'static,
+    S: Rates + Send + Drop,
+    I: Read + Send + Drop + 'static,
+    L: LinkBrand + Send,
+    requires empty { setting.fresh.recorder.entries ≡ [] }
+    requires version { setting.fresh.recorder.link.live.version ≡ Two }
+    requires link { setting.fresh.intake.link ≡ L.link }
+    requires nothing { setting.fresh.intake.popped ≡ [] }
+    requires linked { Each (λ e. e.link ≡ L.link) setting.fresh.ends.items }
+    requires room { vec_len setting.fresh.ends ≤ vec_capacity places.ends }
+    requires vacant { places.ends.items ≡ [] }
+    ensures linked { Each (λ e. e.link ≡ L.link) result.ends.items }
+{
+    let Setting { fresh, doors, .. } = setting;
+    let Fresh {
+        recorder,
+        intake,
+        ends,
+    } = fresh;
+    let Doors {
+        ingress,
+        control,
+        connections,
+    } = doors;
+    let Places {
+        clerks,
+        ends: vacant,
+        spare_clerks,
+    } = places;
+    let mut spare = ends;
+    let ends = filled(&mut spare, vacant);
+    let server = Server::<S, L> {
+        alloc,
+        port: Mutex::new(Locked::new(recorder, intake)),
+        connections,
+        control,
+        ingress,
+        clerks,
+        ends,
+    };
+    let found = run_until(rt, &server, until);
+    ended_link(server, spare, spare_clerks, found)
+}
+
+// Runs all threads until the link has ended, and says which faults there were. If a reader is given, its end ends the
+// connections.
+fn run_until<R, S, I, L>(rt: &R, server: &Server<S, L>, until: Option<I>) -> FoundFaults
+where
+    R: Threads + Wait + Eprint + Copy + Send + Sync + 'static,
+    S: Rates + Send,
+    I: Read + Send + Drop + 'static,
+    L: LinkBrand + Send,
+{
+    let mut found = FoundFaults::none();
+    if let Some(input) = until {
+        if !end_at_eof(rt, input, &server.connections) {
+            found.thread = true;
+            server.connections.end(rt);
+        }
+    }
+    run(rt, server, found)
+}
+
+// A link after its service, with its ends and clerks in lists that have room for them.
+fn ended_link<S: Rates + Drop, L: LinkBrand>(
+    server: Server<S, L>,
+    spare: Vec<IngressEnd>,
+    spare_clerks: Vec<Clerk<L>>,
+    found: FoundFaults,
+) -> EndedLink<S, L>
+    requires { Each (λ e. e.link ≡ L.link) spare.items }
+    ensures { Each (λ e. e.link ≡ L.link) result.ends.items }
+{
+    let Server {
+        port,
+        connections,
+        clerks,
+        ends,
+        ..
+    } = server;
+    EndedLink {
+        locked: port.into_inner(),
+        ends: all_ends(ends, spare),
+        clerks: all_clerks(clerks, spare_clerks),
+        connections,
+        found,
+    }
+}

@@ -1,0 +1,159 @@
+//! What the threads of connections take, and give back at their ends.
+ghost use Rattle.std.specs.Prelude.{◌≡◌, ◌≤◌, [], IfOk, vec_len, vec_capacity};
+ghost use Rattle.share_model.specs.lists.Each.{Each};
+
+use share_ingress::IngressEnd;
+use share_locked::{Clerk, LinkBrand};
+use std::alloc::{AllocError, Global};
+use std::marker::{Model, PhantomData};
+use std::sync::{Mutex, Wait};
+
+/// A place for a value that one thread at a time takes and uses.
+#[derive(Drop)]
+pub struct Slot<X> {
+    held: Mutex<Option<X>>,
+}
+
+impl<X: Drop> Slot<X> {
+    pub fn new(held: Option<X>) -> Slot<X> {
+        Slot {
+            held: Mutex::new(held),
+        }
+    }
+
+    /// Puts a value in.
+    pub fn put<R: Wait>(&self, rt: &R, item: X) {
+        *self.held.lock(rt) = Some(item);
+    }
+
+    /// Takes the value out, if there is one.
+    pub fn take<R: Wait>(&self, rt: &R) -> Option<X> {
+        self.held.lock(rt).take()
+    }
+
+    /// The value, if there is one.
+    pub fn into_inner(self) -> Option<X> {
+        self.held.into_inner()
+    }
+}
+
+/// An end of the queue of this link.
+#[derive(Drop)]
+pub struct LinkedEnd<L: LinkBrand> {
+    end: IngressEnd,
+    of: PhantomData<L>,
+}
+
+impl<L: LinkBrand> Model for LinkedEnd<L> {
+    ghost use Rattle.std.specs.Prelude.{◌≡◌};
+    ghost use Rattle.share_ingress.specs.Ends.{EndView};
+
+    ghost Value = { EndView };
+
+    ghost view = { λ l. l.end };
+
+    ghost invariant = { λ l. l.end.link ≡ L.link };
+}
+
+impl<L: LinkBrand> LinkedEnd<L> {
+    pub fn new(end: IngressEnd) -> LinkedEnd<L>
+        requires { end.link ≡ L.link }
+        ensures { result ≡ end }
+    {
+        LinkedEnd {
+            end,
+            of: PhantomData,
+        }
+    }
+
+    /// The end itself.
+    pub fn into_end(self) -> IngressEnd
+        ensures end { result ≡ self }
+        ensures link { result.link ≡ L.link }
+    {
+        self.end
+    }
+}
+
+/// Places for clerks and ends while threads use them, and lists for them afterwards.
+#[derive(Drop)]
+pub struct Places<L: LinkBrand> {
+    pub clerks: Vec<Slot<Clerk<L>>>,
+    pub ends: Vec<Slot<LinkedEnd<L>>>,
+    pub spare_clerks: Vec<Clerk<L>>,
+}
+
+// A place for the clerk of each control connection.
+fn clerk_slots<L: LinkBrand>(
+    alloc: Global,
+    count: usize,
+) -> Result<Vec<Slot<Clerk<L>>>, AllocError> {
+    let mut slots = Vec::with_capacity(alloc, count)?;
+    for _ in 0..count {
+        slots.push(Slot::new(None))?;
+    }
+    Ok(slots)
+}
+
+/// Places for these numbers of ends and clerks.
+pub fn make_places<L: LinkBrand>(
+    alloc: Global,
+    ends: usize,
+    clerks: usize,
+) -> Result<Places<L>, AllocError>
+    ensures vacant { IfOk result (λ places. places.ends.items ≡ []) }
+    ensures room { IfOk result (λ places. ends ≤ vec_capacity places.ends) }
+{
+    let spare_clerks = Vec::with_capacity(alloc, clerks)?;
+    let clerks = clerk_slots(alloc, clerks)?;
+    Ok(Places {
+        clerks,
+        ends: Vec::with_capacity(alloc, ends)?,
+        spare_clerks,
+    })
+}
+
+/// Puts the ends into places, in their order.
+pub fn filled<L: LinkBrand>(
+    ends: &mut Vec<IngressEnd>,
+    vacant: Vec<Slot<LinkedEnd<L>>>,
+) -> Vec<Slot<LinkedEnd<L>>>
+    requires linked { Each (λ e. e.link ≡ L.link) ends.old.items }
+    requires vacant { (vacant.items ≡ []) × (vec_len ends.old ≤ vec_capacity vacant) }
+    ensures { ends.new.items ≡ [] }
+{
+    let mut slots = vacant;
+    while let Some(end) = ends.pop() {
+        slots.push_reserved(Slot::new(Some(LinkedEnd::new(end))));
+    }
+    slots.as_mut_slice().reverse();
+    slots
+}
+
+/// Takes the ends from their places into a list that has room for them.
+pub fn all_ends<L: LinkBrand>(
+    slots: Vec<Slot<LinkedEnd<L>>>,
+    spare: Vec<IngressEnd>,
+) -> Vec<IngressEnd>
+    requires { Each (λ e. e.link ≡ L.link) spare.items }
+    ensures { Each (λ e. e.link ≡ L.link) result.items }
+{
+    let mut ends = spare;
+    for slot in slots {
+        if let Some(linked) = slot.into_inner() {
+            let _ = ends.push(linked.into_end());
+        }
+    }
+    ends
+}
+
+/// Takes the clerks from their places into a list that has room for them.
+pub fn all_clerks<L: LinkBrand>(slots: Vec<Slot<Clerk<L>>>, spare: Vec<Clerk<L>>) -> Vec<Clerk<L>> {
+    let mut clerks = spare;
+    for slot in slots {
+        if let Some(clerk) = slot.into_inner() {
+            let _ = clerks.push(clerk);
+        }
+    }
+    clerks
+}

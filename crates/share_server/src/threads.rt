@@ -1,0 +1,271 @@
+//! The threads of a running server.
+
+use crate::connections::{ConnectionReader, Connections, Kind};
+use crate::control::{Attended, How, attend};
+use crate::faults::FoundFaults;
+use crate::ingress::{why_text, work};
+use crate::slots::{LinkedEnd, Slot};
+use crate::uplink::Uplink;
+use share_locked::{Clerk, LinkBrand, LinkEnd, Port, serve_paced_while};
+use share_model::{PlainReader, PlainWriter, Rates};
+use share_script::IncomingLines;
+use std::alloc::Global;
+use std::io::Eprint;
+use std::net::{TcpListener, TcpStream};
+use std::sync::{Arc, Wait};
+use std::thread;
+use std::thread::{Scope, Threads};
+
+/// What the threads share.
+#[derive(Drop)]
+pub struct Server<S: Rates, L: LinkBrand> {
+    pub alloc: Global,
+    pub port: Port<PlainWriter<Uplink>, S, L>,
+    pub connections: Arc<Connections>,
+    pub control: TcpListener,
+    pub ingress: TcpListener,
+    // The clerk of each control connection, from when it is accepted.
+    pub clerks: Vec<Slot<Clerk<L>>>,
+    // The end of the queue for each ingress connection.
+    pub ends: Vec<Slot<LinkedEnd<L>>>,
+}
+
+// Answers the lines of a control connection.
+fn answer<R: Wait, S: Rates, L: LinkBrand>(
+    rt: &R,
+    server: &Server<S, L>,
+    stream: &TcpStream,
+    clerk: Clerk<L>,
+) -> Attended<L> {
+    let source = PlainReader(ConnectionReader::new(stream, &server.connections));
+    match IncomingLines::new(server.alloc, source) {
+        Ok(input) => {
+            let pace = server.connections.pace();
+            attend(rt, server.alloc, &server.port, pace, clerk, input, stream)
+        }
+        Err(_) => Attended {
+            how: How::NoMemory,
+            clerk,
+        },
+    }
+}
+
+// The thread of a control connection.
+fn serve_control<R: Wait + Eprint, S: Rates, L: LinkBrand>(
+    rt: &R,
+    server: &Server<S, L>,
+    number: usize,
+    stream: Arc<TcpStream>,
+    slot: &Slot<Clerk<L>>,
+) {
+    if let Some(clerk) = slot.take(rt) {
+        let Attended { how, clerk } = answer(rt, server, &stream, clerk);
+        let count = clerk.receipts().len();
+        server.connections.tell(
+            rt,
+            format_args!("control {number}: ended, {how:?}, {count} commands"),
+        );
+        slot.put(rt, clerk);
+    }
+    drop(stream);
+    server.connections.remove(rt, Kind::Control, number);
+}
+
+// The thread of an ingress connection.
+fn serve_ingress<R: Wait + Eprint, S: Rates, L: LinkBrand>(
+    rt: &R,
+    server: &Server<S, L>,
+    number: usize,
+    stream: Arc<TcpStream>,
+    slot: &Slot<LinkedEnd<L>>,
+) {
+    if let Some(end) = slot.take(rt) {
+        let (end, why, tally) = work(rt, server.alloc, &server.connections, number, &stream, end);
+        let text = why_text(why);
+        server.connections.tell(
+            rt,
+            format_args!("ingress {number}: ended, {text}, {tally} packets"),
+        );
+        slot.put(rt, end);
+    }
+    drop(stream);
+    server.connections.remove(rt, Kind::Ingress, number);
+}
+
+// Accepts a connection. If that fails, the end begins.
+fn accept<R: Wait + Eprint, S: Rates, L: LinkBrand>(
+    rt: &R,
+    server: &Server<S, L>,
+    kind: Kind,
+    number: usize,
+    found: &mut FoundFaults,
+) -> Option<Arc<TcpStream>> {
+    let (listener, word) = match kind {
+        Kind::Control => (&server.control, "control"),
+        Kind::Ingress => (&server.ingress, "ingress"),
+    };
+    let accepted = listener.accept();
+    if server.connections.is_ending() {
+        return None;
+    }
+    if let Ok((stream, address)) = accepted {
+        server.connections.tell(
+            rt,
+            format_args!("{word} {number}: connected from {address}"),
+        );
+        if let Some(stream) = open(rt, server, kind, number, stream) {
+            return Some(stream);
+        }
+    }
+    found.accept = true;
+    server.connections.end(rt);
+    None
+}
+
+// Adds a connection that was accepted to those that are open. `None` if there is no memory for it.
+fn open<R: Wait, S: Rates, L: LinkBrand>(
+    rt: &R,
+    server: &Server<S, L>,
+    kind: Kind,
+    number: usize,
+    stream: TcpStream,
+) -> Option<Arc<TcpStream>> {
+    let _ = stream.set_nodelay(true);
+    let stream = Arc::new(server.alloc, stream).ok()?;
+    let theirs = Arc::try_clone(&stream).ok()?;
+    if server.connections.add(rt, kind, number, theirs) {
+        Some(stream)
+    } else {
+        None
+    }
+}
+
+// Begins the end, since a connection that was accepted cannot be served.
+fn refuse<R: Wait, S: Rates, L: LinkBrand>(
+    rt: &R,
+    server: &Server<S, L>,
+    kind: Kind,
+    number: usize,
+) {
+    server.connections.remove(rt, kind, number);
+    server.connections.end(rt);
+}
+
+// Accepts the control connections, and starts a thread for each.
+fn accept_control<'s, E, R, S, L>(
+    scope: &Scope<'s, E>,
+    rt: &'s R,
+    server: &'s Server<S, L>,
+    found: &mut FoundFaults,
+)
+where
+    R: Wait + Eprint + Sync,
+    S: Rates + Send,
+    L: LinkBrand + Send,
+{
+    for (at, slot) in server.clerks.iter().enumerate() {
+        let number = at + 1;
+        let Some(stream) = accept(rt, server, Kind::Control, number, found) else {
+            return;
+        };
+        let Ok(clerk) = server.port.lock(rt).clerk(server.alloc) else {
+            found.accept = true;
+            refuse(rt, server, Kind::Control, number);
+            return;
+        };
+        slot.put(rt, clerk);
+        let started = scope.spawn(move || {
+            let mine = stream;
+            serve_control(rt, server, number, mine, slot)
+        });
+        if started.is_err() {
+            found.thread = true;
+            refuse(rt, server, Kind::Control, number);
+            return;
+        }
+    }
+}
+
+// Accepts the ingress connections, and starts a thread for each.
+fn accept_ingress<'s, E, R, S, L>(
+    scope: &Scope<'s, E>,
+    rt: &'s R,
+    server: &'s Server<S, L>,
+    found: &mut FoundFaults,
+)
+where
+    R: Wait + Eprint + Sync,
+    S: Rates + Send,
+    L: LinkBrand + Send,
+{
+    for (at, slot) in server.ends.iter().enumerate() {
+        let number = at + 1;
+        let Some(stream) = accept(rt, server, Kind::Ingress, number, found) else {
+            return;
+        };
+        let started = scope.spawn(move || {
+            let mine = stream;
+            serve_ingress(rt, server, number, mine, slot)
+        });
+        if started.is_err() {
+            found.thread = true;
+            refuse(rt, server, Kind::Ingress, number);
+            return;
+        }
+    }
+}
+
+// Accepts the connections, and waits until all are over. If nothing serves the link, it ends them.
+fn accept_all<R, S, L>(
+    rt: &R,
+    server: &Server<S, L>,
+    is_served: bool,
+    found: FoundFaults,
+) -> FoundFaults
+where
+    R: Threads + Wait + Eprint + Sync,
+    S: Rates + Send,
+    L: LinkBrand + Send,
+{
+    thread::scope(thread::scope_env(), rt, |scope| -> FoundFaults {
+        let mut found = found;
+        let connections = &*server.connections;
+        if !is_served {
+            found.thread = true;
+            connections.end(rt);
+        }
+        accept_control(scope, rt, server, &mut found);
+        accept_ingress(scope, rt, server, &mut found);
+        connections.wait(rt);
+        connections.tell(rt, "the stop is set");
+        found
+    })
+}
+
+/// Runs all threads until the link has ended, and says which faults there were.
+pub fn run<R, S, L>(rt: &R, server: &Server<S, L>, found: FoundFaults) -> FoundFaults
+where
+    R: Threads + Wait + Eprint + Sync,
+    S: Rates + Send,
+    L: LinkBrand + Send,
+{
+    thread::scope(thread::scope_env(), rt, |scope| -> FoundFaults {
+        let mut found = found;
+        let connections = &*server.connections;
+        let watch = scope.spawn(move || connections.watch(rt));
+        if watch.is_err() {
+            found.thread = true;
+            connections.end(rt);
+        }
+        let (end, mut found) = serve_paced_while(
+            rt,
+            &server.port,
+            connections.pace(),
+            connections,
+            |is_served| -> FoundFaults { accept_all(rt, server, is_served, found) },
+        );
+        found.life = end == Some(LinkEnd::Spent);
+        connections.end_watch();
+        found
+    })
+}

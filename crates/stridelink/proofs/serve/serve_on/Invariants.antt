@@ -1,4 +1,0 @@
-use Rattle.stridelink.proofs.serve.serve_on.Given as goal
-
-abbrev pub ghosts-serve_as : goal.ghosts-serve_as
-ghosts-serve_as g a = record { link = a.setting.fresh.intake.link }

@@ -1,4 +1,0 @@
-use Rattle.stridelink.proofs.tests.control.answered.Given as goal
-
-abbrev pub ghosts-attended : goal.ghosts-attended
-ghosts-attended g a = record { link = a.intake.link }

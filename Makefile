@@ -6,6 +6,9 @@
 # to be on the PATH. 'make tools' installs what the tools around a server use, and 'make tools-test' tries these with
 # the program, or with that of the variable STRIDELINK. 'make deb' builds a Debian package of all this in bin/.
 
+# How many jobs each proof of 'make run' has; .ci/prove chooses if it is empty.
+JOBS ?=
+
 SOURCES := crates.txt $(shell find crates -name '*.rt' -o -name '*.antt' | grep -v /out/)
 
 .PHONY: run serve try build check test edits bench soak fuzz tools tools-test deb
@@ -47,19 +50,19 @@ check:
 build: bin/stridelink
 
 bin/stridelink: $(SOURCES)
-	@echo 'proving and building stridelink: some minutes where nothing is built yet' >&2
-	mkdir -p bin
-	cd crates/stridelink && rt run -- --help > ../../bin/build.log 2>&1 || { cat ../../bin/build.log >&2; exit 1; }
+	@.ci/prove $(JOBS)
 	cp crates/stridelink/out/stridelink bin/stridelink
 
 test:
 	@echo 'the gate: every proof from nothing, the edits that must fail, the tests and the program; more than an hour' >&2
 	.ci/layers
-	RT_JOBS=$$(.ci/jobs) rt ci
+	RT_JOBS=$$(.ci/jobs) .ci/costs record rt ci
+	.ci/costs record --more .ci/edits --named --built
 	.ci/memory
 	.ci/places
 	.ci/yields
 	$(examples)
+	.ci/costs
 
 edits:
 	.ci/edits

@@ -13,12 +13,15 @@ compared, byte for byte. Before anything else the models are given worked exampl
     fuzz.py --self          runs the models alone, on the scripts of a seed: no program is needed
     fuzz.py --print FILE    prints what the models answer to a script
 
-A run of a seed has SCRIPTS scripts, each with its audit and that audit with one byte changed, dropped or doubled, and a
-server for each of TEXTS control texts and STREAMS streams of records. Four in ten scripts begin with `audit 2`: their
-frames and audits are of version 2, as those of servers are. It ends with a line that says how many of each were
-compared. At the first difference it ends with status 1: it tells the seed, the number of the case, how the input is
-given to the program again, and the first line that differs, in both answers; and it writes three files to the current
-folder, named after the seed and the case: the input, what was found and what was wanted.
+A run of a seed has SCRIPTS scripts, each with its audit and that audit with one byte changed, dropped or doubled, and
+a server for each of TEXTS control texts, STREAMS streams of records and UPLINK_CASES uplinks. The first INTERRUPTED
+uplinks are stopped and continued while a write waits: the system ends it then, short, or interrupted if it took none
+of its bytes. The peers of the others reset their connection. Four in ten scripts begin with `audit 2`: their frames
+and audits are of version 2, as those of servers are. At the end it prints how many of each were compared, and how
+often each reply, refusal, reason and turn of the language was met. It ends with status 1 if one was met fewer than
+LEAST times. At the first difference it ends with status 1: it prints the seed, the number of the case, how the input
+is given to the program again, and the first line that differs, in both answers; and it writes three files to the
+current folder, named after the seed and the case: the input, what was found and what was wanted.
 
 What a seed draws changes with this file, so what is found is kept as a test by whoever finds it: as a script with its
 output in examples/, or as a case of serve.py. Not drawn are strict runs, several connections of a kind, and whatever
@@ -26,10 +29,13 @@ the system takes away.
 """
 import argparse
 import contextlib
+import ctypes
+import os
 import random
 import re
 import signal
 import socket
+import struct
 import subprocess
 import sys
 import time
@@ -40,13 +46,21 @@ from itertools import zip_longest
 
 sys.dont_write_bytecode = True
 
-from serving import (LONGEST_PAYLOAD, PATIENCE, PROGRAM, SERVED, Run, ends_by_itself, frame, frames, limit_time,
-                     record, shortened)
+from serving import (LONGEST_PAYLOAD, PATIENCE, PROGRAM, SERVED, Failure, Run, ends_by_itself, frame, frames,
+                     limit_time, record, reset, shortened, wait_for)
 
 SEED = 1994
 SCRIPTS = 2000
 TEXTS = 20
-STREAMS = 30
+STREAMS = 360
+# Servers whose uplink is interrupted, in how many rounds, with so many packets that wait, and servers in all.
+INTERRUPTED = 30
+ROUNDS = 15
+PACKETS = 60
+UPLINK_CASES = INTERRUPTED + 100
+
+# The number of the system call that duplicates a handle of another process.
+PIDFD_GETFD = 438
 
 # Seconds for a case.
 LIMIT = 60
@@ -108,6 +122,24 @@ def value_of(word, wanted):
         return word if word == wanted else None
     value = VALUES[wanted](word) if WORDS[wanted].fullmatch(word) else None
     return None if wanted == "NUM" and value is not None and value >= 1 << 64 else value
+
+
+def why_misspelled(line):
+    """What is wrong with a line that is not one of the language."""
+    words = line.split(" ")
+    fitting = [spelling for spelling in SPELLINGS if spelling[0] == words[0]]
+    if len(line) > LONGEST_LINE:
+        return "too long"
+    if "" in words:
+        return "a space too much" if line else "an empty line"
+    if not fitting:
+        return "no word of the language"
+    if all(len(words) != len(spelling) for spelling in fitting):
+        return "too few or too many words"
+    spelling = min((it for it in fitting if len(it) == len(words)),
+                   key=lambda it: sum(value_of(word, wanted) is None for word, wanted in zip(words, it)))
+    wrong = [wanted for word, wanted in zip(words, spelling) if value_of(word, wanted) is None]
+    return "no %s" % (wrong[0] if wrong[0] in WORDS else "word in its place") if wrong else "not the first line"
 
 
 def words_of(line):
@@ -267,9 +299,17 @@ class Link:
         self.sent = 0
         self.torn_flow = None
         self.is_broken = False
+        self.met = Counter()
 
     def answer(self, line):
-        """The answer to a line of a script; None to a first line that tells a version."""
+        """The answer to a line of a script, which is counted as met; None to a first line that tells a version."""
+        was_in_part, was_sent = bool(self.part), self.sent
+        reply = self.answer_to(line)
+        spelled = words_of(line)
+        self.met.update(met_by(spelled and spelled[0], line, reply, was_in_part, was_sent))
+        return reply
+
+    def answer_to(self, line):
         self.lines += 1
         spelled = words_of(line)
         if spelled is None or (self.lines > 1 and spelled[0] in VERSIONS):
@@ -523,6 +563,59 @@ CALLS = {"mkcur NAME": Link.make_currency, "rmcur NAME": Link.remove_currency, "
          "send NAME HEX": Link.arrive, "turn NUM": Link.turn, "torn": Link.tear}
 
 
+# ---- What of the language is met
+
+# The refusals of each line, but for NoMemory.
+REFUSALS_OF = {
+    "mkcur NAME": "Spent Taken TableFull", "rmcur NAME": "Spent NoCurrency Base InUse",
+    "mktkt NUM NAME": "Spent Range NoCurrency TableFull", "rmtkt NUM": "Spent NoTicket Funding",
+    "fund NUM cur NAME": "Spent NoTicket NoCurrency Base Funding Crowded Cycle Deep",
+    "fund NUM flow NAME": "Spent NoTicket NoFlow Funding Crowded", "unfund NUM": "Spent NoTicket Unfunded",
+    "amend NUM NUM": "Spent Range NoTicket", "open NAME NUM NUM": "Spent Range NoTariff Taken TableFull",
+    "close NAME": "Spent NoFlow Sending", "hold NAME": "Spent NoFlow Held", "resume NAME": "Spent NoFlow NotHeld",
+    "send NAME HEX": "Spent Range NoFlow BufferFull", "turn NUM": "Spent Range Broken", "torn": "Spent Broken"}
+MISSPELLED = ("an empty line", "too long", "a space too much", "no word of the language", "too few or too many words",
+              "no NAME", "no NUM", "no HEX", "no word in its place", "not the first line")
+REPLIES_OF = {
+    "mktkt NUM NAME": "ticket", "open NAME NUM NUM": "flow", "close NAME": "closed", "send NAME HEX": "packet",
+    "turn NUM": "idle", "torn": "idle"}
+WRITES = ("turn NUM: begun", "turn NUM: goes on", "turn NUM: finished", "turn NUM: at once",
+          "torn: a frame not begun", "torn: a frame in part")
+REPORTS = ("report", "report: a flow in", "report: a flow out", "report: a flow hld")
+ENDS = ("End", "Cut", "BadRecord")
+UPLINKS = ("uplink: a write cut short", "uplink: a write interrupted", "uplink: torn")
+
+# How often each of these is met in a run of a seed, at least.
+LEAST = 100
+
+
+def all_met():
+    """All that is met in a run of a seed."""
+    found = [*VERSIONS, *REPORTS, *WRITES, *["Syntax: %s" % why for why in MISSPELLED]]
+    for spelling, refusals in REFUSALS_OF.items():
+        found += ["%s: %s" % (spelling, answer) for answer in (REPLIES_OF.get(spelling, "ok"), *refusals.split())]
+    return found + ["records: %s" % why for why in ENDS] + list(UPLINKS)
+
+
+def met_by(spelling, line, reply, was_in_part, was_sent):
+    """What of the language a line and its answer meet."""
+    if spelling is None or reply == refused("Syntax"):
+        return ["Syntax: %s" % why_misspelled(line)]
+    if reply is None:
+        return [spelling]
+    word = reply.split(" ")[0]
+    if word == "no":
+        return ["%s: %s" % (spelling, reply.split(" ")[2])]
+    if spelling == "report":
+        return ["report", *["report: a flow %s" % state for state in ("in", "out", "hld") if " %s " % state in reply]]
+    if spelling == "turn NUM" and word == "wrote":
+        is_whole = reply.endswith(" whole")
+        word = ("at once", "finished")[was_in_part] if is_whole else ("begun", "goes on")[was_in_part]
+    if word == "torn":
+        word = "a frame in part" if was_sent else "a frame not begun"
+    return ["%s: %s" % (spelling, word)]
+
+
 def printout(text, life):
     """What a script is answered, and the link that it leaves."""
     link = Link(life)
@@ -743,7 +836,7 @@ class Drawer:
         self.give("mkcur %s" % self.pick(CURRENCY_NAMES, ("base", *NO_NAMES)))
 
     def rmcur(self):
-        self.give("rmcur %s" % self.pick(self.link.currencies, ("base", *CURRENCY_NAMES)))
+        self.give("rmcur %s" % self.pick(self.link.currencies, (*["base"] * 9, *CURRENCY_NAMES)))
 
     def mktkt(self):
         self.give("mktkt %d %s" % (self.pick(AMOUNTS, NO_AMOUNTS), self.currency()))
@@ -754,7 +847,8 @@ class Drawer:
     def fund_cur(self):
         if self.happens(0.5):
             self.mktkt()
-        self.give("fund %d cur %s" % (self.ticket(False), self.pick(self.link.currencies, ("base", *CURRENCY_NAMES))))
+        self.give("fund %d cur %s" % (self.ticket(False), self.pick(self.link.currencies,
+                                                                           (*["base"] * 9, *CURRENCY_NAMES))))
 
     def fund_flow(self):
         if self.happens(0.5):
@@ -762,7 +856,7 @@ class Drawer:
         self.give("fund %d flow %s" % (self.ticket(False), self.flow()))
 
     def unfund(self):
-        self.give("unfund %d" % self.ticket(True))
+        self.give("unfund %d" % self.ticket(self.happens(0.95)))
 
     def amend(self):
         """Another amount for a ticket, most often for one that funds something."""
@@ -829,12 +923,13 @@ class Drawer:
 
     def odd(self):
         """A line that is too long, or nearly, or one that was drawn before, as it was or spoiled."""
-        if self.happens(0.05):
+        if self.happens(0.1):
             size = self.random.choice(LINE_SIZES)
             line = "send a " if size % 2 else "send ab "
             self.give(line + "0" * (size - len(line)))
         else:
-            line = self.random.choice((*self.lines[-20:], "audit 1", "audit 2", "report", "torn"))
+            sends = [line for line in self.lines[-20:] if line.startswith("send ")]
+            line = self.random.choice((*self.lines[-20:], *sends[-4:], "audit 1", "audit 2", "report", "torn", ""))
             self.give(spoiled(self.random, line) if self.happens(0.9) else line)
 
     def doubtful(self):
@@ -905,7 +1000,8 @@ class Drawer:
     def fault(self):
         """A fault in a frame or before it, and lines behind it."""
         self.turn()
-        self.give("turn %d" % self.pick(TURN_SIZES[:5]))
+        if self.happens(0.6):
+            self.give("turn %d" % self.pick(TURN_SIZES[:5]))
         self.torn()
         name = self.link.torn_flow.name if self.link.torn_flow else self.flow()
         lines = ("report", "turn 1", "torn", "send %s 00" % name, "close %s" % name, "hold %s" % name,
@@ -919,13 +1015,13 @@ class Drawer:
             self.give("audit 2")
         for _ in range(self.random.choice((0, 0, 0, 0, 1, 2))):
             self.give(self.random.choice(FIRST_LINES))
-        for begin, share in ((self.full_table, 0.03), (self.full_buffer, 0.1), (self.chain, 0.15), (self.crowd, 0.08),
+        for begin, share in ((self.full_table, 0.07), (self.full_buffer, 0.1), (self.chain, 0.2), (self.crowd, 0.12),
                              (self.race, 0.6)):
             if self.happens(share):
                 begin()
         for kind in self.random.choices(KINDS, self.weights, k=self.random.choice((0, 10, 40, 60, 80, 100))):
             getattr(self, kind)()
-        for end, share in ((self.fault, 0.1), (self.report, 0.5)):
+        for end, share in ((self.fault, 0.3), (self.report, 0.5)):
             if self.happens(share):
                 end()
 
@@ -961,7 +1057,7 @@ def spoiled_byte(chance, text):
 
 
 # How streams of records end: whole or in a field that is not whole, and with a field that is out of its range.
-CUT_ENDS = (b"", b"\x01", b"\x10", b"\x03a", b"\x03A.", b"\x01a", b"\x01a\x00", b"\x01a\xff", b"\x01a\x00\x01",
+CUT_ENDS = (b"\x01", b"\x10", b"\x03a", b"\x03A.", b"\x01a", b"\x01a\x00", b"\x01a\xff", b"\x01a\x00\x01",
             b"\x10abcdefghij012345\x00\x01", b"\x01a\x05\xd3" + b"\x00" * 1490, b"\x01a\x23\x28" + b"\x00" * 8999)
 WRONG_ENDS = (b"\x00", b"\x11", b"\xff", b"\x01A", b"\x02a.", b"\x02-a", b"\x02a\xff", b"\x01a\x00\x00",
               b"\x01a\x23\x29" + b"\x00" * 9001, b"\x01a\xff\xff" + b"\x00" * 65535,
@@ -975,11 +1071,15 @@ def some_record(chance, names):
 
 
 def some_stream(chance, number, names):
-    """A stream of records with one of the ends, or one with a byte changed, dropped or doubled, or one that is cut."""
+    """A stream of records: whole, with one of the ends, or with a byte changed, dropped or doubled, or cut."""
     some = [b"".join(some_record(chance, names) for _ in range(chance.choice((0, 1, 2, 5, 20, 60)))) for _ in range(2)]
-    if number <= len(CUT_ENDS + WRONG_ENDS):
-        end = (CUT_ENDS + WRONG_ENDS)[number - 1]
-        return some[0] + end + (some[1] if end in WRONG_ENDS else b"")
+    kind, turn = number % 4, number // 4
+    if kind == 0:
+        return some[0]
+    if kind == 1:
+        return some[0] + CUT_ENDS[turn % len(CUT_ENDS)]
+    if kind == 2:
+        return some[0] + WRONG_ENDS[turn % len(WRONG_ENDS)] + some[1]
     stream = some[0] + some_record(chance, names)
     at = chance.randrange(len(stream))
     changes = (chance.randbytes(1), b"", stream[at:at + 1] * 2)
@@ -999,11 +1099,13 @@ class Case:
     agreed."""
 
     def __init__(self, seed, kind, number):
+        self.seed = seed
         self.number = number
         self.title = "seed %d, %s %d" % (seed, kind, number)
         self.name = "fuzz-%d-%s-%d" % (seed, kind, number)
         self.chance = random.Random(self.name)
         self.run = None
+        self.ingress = None
         self.given = b""
         self.again = ""
         self.agreed = Counter()
@@ -1045,6 +1147,7 @@ def script_case(case):
         life = case.chance.randint(1, len(link.events))
         wanted, link = printout(text, life)
     case.run_script("scripts", text, life, wanted)
+    case.agreed.update(link.met)
     audit = link.audit().encode()
     case.run_script("audits", audit, life, "".join(reply + "\n" for _, reply in link.events) + link.out_line())
     changed = spoiled_byte(case.chance, audit)
@@ -1096,6 +1199,7 @@ def control_case(case):
     told = [line for line in told_at_end(server) if not line.startswith("ingress")]
     case.compare("control texts", "\n".join([*replies, *told, server.text("audit"), server.text("stdout")]),
                  "\n".join([drawer.answers(), *ends(link), link.audit(), link.report() + "\n"]))
+    case.agreed.update(link.met)
 
 
 def records_case(case):
@@ -1130,9 +1234,111 @@ def records_case(case):
         wanted += [frame(flow, number, payload, tariffs[flow - 1]).hex() for flow, own in enumerate(names, 1)
                    for number, payload in enumerate([payload for name, payload in items if name == own], 1)]
     case.compare("streams of records", "\n".join(found), "\n".join(wanted))
+    case.agreed["records: " + why] += 1
 
 
-CASES = (("script", script_case, SCRIPTS), ("control", control_case, TEXTS), ("records", records_case, STREAMS))
+def uplink_of(server, peer):
+    """A second handle of the socket by which a server writes to its peer."""
+    libc = ctypes.CDLL(None, use_errno=True)
+    pid = os.pidfd_open(server.process.pid)
+    try:
+        for name in os.listdir("/proc/%d/fd" % server.process.pid):
+            handle = libc.syscall(PIDFD_GETFD, pid, int(name), 0)
+            if handle < 0:
+                continue
+            with contextlib.suppress(OSError):
+                uplink = socket.socket(fileno=handle)
+                if uplink.family == socket.AF_INET and "%s:%d" % uplink.getpeername() == peer.address:
+                    return uplink
+                uplink.close()
+    finally:
+        os.close(pid)
+    raise Failure("the server has no connection to its peer")
+
+
+def states(server):
+    """The states of a server's threads, as S for asleep and T for stopped."""
+    found = set()
+    folder = "/proc/%d/task" % server.process.pid
+    for thread in os.listdir(folder):
+        with open("%s/%s/stat" % (folder, thread)) as stat:
+            found.add(stat.read().rsplit(")", 1)[1].split()[0])
+    return found
+
+
+def stay(server, state):
+    """Waits until all threads of a server are in a state, and stay in it for a while."""
+    seen = 0
+
+    def is_steady():
+        nonlocal seen
+        seen = seen + 1 if states(server) == {state} else 0
+        return seen == 3
+
+    wait_for(is_steady, "a server in state %s" % state)
+
+
+def interrupted(case, server, peer, rounds):
+    """Stops and continues a server while its write to the peer waits. The system interrupts a write of a socket with a
+    limit of time then. Between the rounds the peer reads some bytes."""
+    uplink = uplink_of(server, peer)
+    uplink.setsockopt(socket.SOL_SOCKET, socket.SO_SNDTIMEO, struct.pack("ll", LIMIT, 0))
+    uplink.setsockopt(socket.SOL_SOCKET, socket.SO_SNDBUF, 4096)
+    case.ingress.sendall(b"".join(record("a", bytes(9000)) for _ in range(PACKETS)))
+    for _ in range(rounds):
+        stay(server, "S")
+        server.process.send_signal(signal.SIGSTOP)
+        stay(server, "T")
+        server.process.send_signal(signal.SIGCONT)
+        case.agreed["uplink: a write interrupted"] += 1
+        peer.read(case.chance.choice((1, 500, 5000, 20000)))
+    uplink.close()
+
+
+def uplink_case(case):
+    """A server whose writes are cut short and interrupted, or whose peer resets its connection. What it wrote is what
+    the audit says."""
+    is_torn = case.number > INTERRUPTED
+    size = case.chance.choice((1, 5, 17, 200, 9017, 20000))
+    peer = case.run.peer(lambda peer: torn_after(peer, size) if is_torn else peer.go_on.wait(LIMIT), narrow=True)
+    server = case.run.server(peer)
+    control, case.ingress = server.control(), server.ingress()
+    tariff = case.chance.choice(list(TARIFFS))
+    control.ask_wanted(["open a 1024 %d" % tariff, "mktkt 1 base", "fund 1 flow a"], ["flow 1", "ticket 1", "ok"])
+    case.again = "--seed %d, as no file gives it again" % case.seed
+    if is_torn:
+        wait_for(lambda: is_torn_by(case, control), "a fault of the uplink")
+    else:
+        interrupted(case, server, peer, ROUNDS)
+        peer.go_on.set()
+    case.ingress.close()
+    control.close()
+    status = server.wait()
+    peer.thread.join(PATIENCE)
+    audit = server.text("audit")
+    answers, link = printout(audit.encode(), DEFAULT_LIFE)
+    sent = link.out[:len(peer.got)] if is_torn else link.out
+    case.compare("uplinks", "\n".join([str(status), audit, server.text("stdout"), peer.got.hex()]),
+                 "\n".join([str(int(is_torn)), link.audit(), link.report() + "\n", sent.hex()]))
+    case.agreed["uplink: a write cut short"] += answers.count(" part\n")
+    case.agreed["uplink: torn"] += link.is_broken
+
+
+def torn_after(peer, size):
+    """Reads so many bytes, and resets the connection."""
+    while len(peer.got) < size and peer.read(size - len(peer.got)):
+        pass
+    reset(peer.connection)
+
+
+def is_torn_by(case, control):
+    """Sends one more packet, and says whether the link is torn."""
+    case.ingress.sendall(record("a", bytes(case.chance.choice((1, 2, 1000, 9000)))))
+    return control.ask("report")[0].split("\n")[10].split() == ["link", "2"]
+
+
+CASES = (("script", script_case, SCRIPTS), ("uplink", uplink_case, UPLINK_CASES), ("control", control_case, TEXTS),
+         ("records", records_case, STREAMS))
 
 
 def tell(case, fault):
@@ -1194,6 +1400,20 @@ def check_alone(case):
         case.agreed["answers " + name] += sum(reply.endswith(" " + name) for _, reply in link.events)
 
 
+def tell_met(agreed):
+    """Prints how often all of the language was met; and whether each was met often enough."""
+    rows = defaultdict(list)
+    for name in all_met():
+        line, _, answer = name.partition(": ")
+        rows[line].append("%s %d" % (answer or "met", agreed[name]))
+    for line, counts in rows.items():
+        print("%-17s %s" % (line, ", ".join(counts)))
+    rare = [name for name in all_met() if agreed[name] < LEAST]
+    if rare:
+        print("met fewer than %d times: %s" % (LEAST, ", ".join(rare)))
+    return not rare
+
+
 def run_alone(seed, agreed):
     """Runs the models alone on the scripts of a seed."""
     for number in range(1, SCRIPTS + 1):
@@ -1237,7 +1457,11 @@ def main():
             seed = random.SystemRandom().randrange(1 << 32)
             print("seed %d" % seed, flush=True)
             run_seed(seed, until, agreed)
-    print("as the models have it: " + ", ".join("%d %s" % (count, kind) for kind, count in agreed.items()))
+    known = set(all_met())
+    print("as the models have it: " + ", ".join("%d %s" % (count, kind) for kind, count in agreed.items()
+                                                if kind not in known))
+    if words.minutes is None and not words.is_alone and not tell_met(agreed):
+        sys.exit(1)
 
 
 if __name__ == "__main__":

@@ -3,8 +3,8 @@
 Tenants flood a server, each by a program of its own (flood.py), and another program at the far end counts what each of
 them gets (far_end.py). A share is that of the units that arrived in a window of WINDOW seconds. Windows are looked at
 from START seconds after the first byte on; none waits until buffers are full. What the system takes at once before it
-waits for a slow far end is read there for seconds, so before such a far end the flows are held until each has a packet:
-all of them are offered from the first byte on.
+waits for a slow far end is read there for seconds. So the flows are held until each has a packet: all of them are
+offered from the first byte on.
 """
 import json
 import os
@@ -27,9 +27,8 @@ MOST_ERROR = 0.01
 # How long a flood that stops may still be in buffers on its way, and a command in buffers behind the link.
 DRAINED = 2.5
 
-# After how many seconds floods begin together, and below which rate the flows are held at first.
+# After how many seconds floods begin together.
 TOGETHER = 0.05
-SLOW = 1e6
 
 FLOWS = "abcdefgh"
 LONGEST_LIFE = 1 << 24
@@ -139,9 +138,6 @@ class Floods:
     def begin(self):
         """Lets all floods begin."""
         flows = FLOWS[:len(self.load.tickets)]
-        if not 0 < self.load.rate < SLOW:
-            self.go()
-            return
         self.control.ask_wanted(["hold " + flow for flow in flows], ["ok"] * len(flows))
         self.go()
         wait_for(lambda: all(self.waiting()), "a packet of each flow")

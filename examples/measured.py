@@ -27,8 +27,9 @@ MOST_ERROR = 0.01
 # How long a flood that stops may still be in buffers on its way, and a command in buffers behind the link.
 DRAINED = 2.5
 
-# After how many seconds floods begin together.
+# After how many seconds floods begin together, and after how many without a packet they are over.
 TOGETHER = 0.05
+QUIET = 0.5
 
 FLOWS = "abcdefgh"
 LONGEST_LIFE = 1 << 24
@@ -147,6 +148,12 @@ class Floods:
         """How many packets each flow has."""
         lines = self.control.ask("report")[0].splitlines()
         return [int(line.split()[4]) for line in lines if line.startswith("flow ")]
+
+    def is_over(self):
+        """Whether nothing comes for a while, and no packet waits."""
+        first = self.control.ask("report")[0]
+        time.sleep(QUIET)
+        return self.control.ask("report")[0] == first and not any(self.waiting())
 
     def go(self, flows=FLOWS):
         """Lets the floods that carry one of these flows begin, all at the same time."""

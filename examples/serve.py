@@ -345,10 +345,10 @@ def few_are_refused(run):
     for limit in (1, 8, 1024):
         load = Load("a limit of %d" % limit, 2.5e7, limit=limit)
         floods = flooded(run, load, until_eof=True)
-        floods.begin()
+        floods.go()
         floods.far.wait(2.0)
         floods.say("stop")
-        wait_for(lambda: not any(floods.waiting()), "the end of the floods")
+        wait_for(floods.is_over, "the end of the floods", seconds=END)
         floods.server.end_input()
         floods.server.ends(seconds=END)
         written = int(re.search(r"^written *(\d+)$", floods.server.text("stdout"), re.MULTILINE).group(1))

@@ -11,7 +11,9 @@ mod payload_buffers;
 
 pub use engine::Engine;
 pub use laws::{idle_links_are_done, shares_of_calls, tickets_are_shares};
+pub use share_base::Turn;
 use share_base::{HEADER_ROOM, MAX_PAYLOAD};
+pub use share_model::{Row, Totals};
 
 /// The most flows that are open at once.
 pub const MAX_FLOWS: usize = 64;

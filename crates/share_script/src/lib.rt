@@ -23,5 +23,5 @@ pub use laws::{lines_given_are_of_the_text, written_lines_are_read};
 pub use lines::{Incoming, IncomingLines};
 pub use reading::read_line;
 pub use script::{ScriptFault, run_script};
-pub use share_model::{Fault, Tape};
+pub use share_model::{Fault, Line, Tape};
 pub use writing::{write_event, write_line, write_reply, write_turn};

@@ -1,0 +1,2 @@
+//! Tests of a gateway's core, over the public calls of share_gateway.
+#![tactic(auto)]

@@ -1,0 +1,2 @@
+pub mod OutboxHistoryLemmas
+pub mod OutboxLemmas

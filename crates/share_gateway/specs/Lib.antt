@@ -1,0 +1,5 @@
+pub mod ByteQueue
+pub mod Outbox
+pub mod OutboxHistory
+pub mod OutboxRows
+pub mod OutboxTold

@@ -1,7 +1,7 @@
 -- The frames of an outbox, and the bytes that they consist of.
 use Rattle.std.proofs.Common.{◌≡◌, ℕ, ◌+◌, ◌-◌, ◌<◌, ◌≤◌, Bool, true, false, nat_le, if◌then◌else◌}
 use Rattle.std.proofs.Common.{List, [], ◌∷◌, ◌++◌, length, take, drop, sum, arith, refl, sym, ap, ◌∙◌}
-use Rattle.std.proofs.lemmas.Bool.{le-ltb}
+use Rattle.std.proofs.lemmas.Bool.{le-leb, lt-leb}
 use Rattle.std.proofs.lemmas.List.{take-append-drop, take-append-le, drop-append-le, length-drop, length-take-le}
 use Rattle.std.proofs.lemmas.List.{nil_from_length, take_all}
 use Rattle.std.proofs.lemmas.List.Sums.{sum_by-cons}
@@ -51,12 +51,13 @@ pub passed_one : (n : ℕ) (ns bs : List ℕ) (out allowed : ℕ) → sum (n ∷
 unfolding passed
 passed_one n ns bs out allowed long past =
     let size : length (take n bs) ≡ n = length-take-le n bs (rest_long n ns bs long).0 in
-    let test : nat_le (length (take n bs)) out ≡ true = rw size (grind (arith, past)) in
-    rw size (sym (if_true (nat_le n out) _ _ (rw (← size) test)))
+    rw size (sym (if_true (nat_le n out) _ _ (le-leb n out past)))
 
 -- one that is not stays
 pub passed_none : (n : ℕ) (ns bs : List ℕ) (out allowed : ℕ) → sum (n ∷ ns) ≡ length bs → out < n
     → passed (frames_in (n ∷ ns) bs) out allowed
     ≡ record { frames = frames_in (n ∷ ns) bs; out = out; allowed = allowed }
 unfolding passed
-passed_none n ns bs out allowed long before = ?
+passed_none n ns bs out allowed long before =
+    let size : length (take n bs) ≡ n = length-take-le n bs (rest_long n ns bs long).0 in
+    if_false (nat_le (length (take n bs)) out) _ _ (rw size (lt-leb n out before))

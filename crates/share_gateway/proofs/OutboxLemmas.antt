@@ -1,12 +1,13 @@
 -- The frames of an outbox, and the bytes that they consist of.
-use Rattle.std.proofs.Common.{◌≡◌, ℕ, ◌+◌, ◌-◌, ◌<◌, ◌≤◌, Bool, true, false, nat_le, if◌then◌else◌}
+use Rattle.std.proofs.Common.{◌≡◌, ℕ, ◌+◌, ◌-◌, ◌<◌, ◌≤◌, Bool, true, false, ◌&&◌, nat_le, nat_lt}
+use Rattle.std.proofs.Common.{if◌then◌else◌}
 use Rattle.std.proofs.Common.{List, [], ◌∷◌, ◌++◌, length, take, drop, sum, arith, refl, sym, ap, ◌∙◌}
 use Rattle.std.proofs.lemmas.Bool.{le-leb, lt-leb}
 use Rattle.std.proofs.lemmas.List.{take-append-drop, take-append-le, drop-append-le, length-drop, length-take-le}
 use Rattle.std.proofs.lemmas.List.{nil_from_length, take_all}
 use Rattle.std.proofs.lemmas.List.Sums.{sum_by-cons}
 use Rattle.std.specs.List.{concat}
-use Rattle.share_gateway.specs.Outbox.{OutboxView, passed, frames_in}
+use Rattle.share_gateway.specs.Outbox.{OutboxView, takes, room_of, passed, frames_in}
 
 sum-cons : (n : ℕ) (ns : List ℕ) → sum (n ∷ ns) ≡ n + sum ns
 sum-cons n ns = sum_by-cons (λ x. x) n ns
@@ -61,3 +62,13 @@ unfolding passed
 passed_none n ns bs out allowed long before =
     let size : length (take n bs) ≡ n = length-take-le n bs (rest_long n ns bs long).0 in
     if_false (nat_le (length (take n bs)) out) _ _ (rw size (lt-leb n out before))
+
+-- A frame that is not longer than the room is taken
+
+takes_by : (few : Bool) (held n : ℕ) → 1 ≤ n → n ≤ (if few then 65536 - held else 0)
+    → (few && nat_le (held + n) 65536) ≡ true
+takes_by true held n some room = le-leb (held + n) 65536 (omega (arith, some, room))
+takes_by false held n some room = absurd (omega (arith, some, room))
+
+pub takes-room : (o : OutboxView) (n : ℕ) → 1 ≤ n → n ≤ room_of o → takes o n ≡ true
+takes-room o n some room = takes_by (nat_lt (length o.frames) 4096) (length (concat o.frames)) n some room

@@ -9,3 +9,4 @@ mod records;
 pub use frames::{FRAMES_ROOM, FrameCut, Frames, streams_are_cut_into_frames};
 pub use outbox::{OUTBOX, Outbox, outboxes_give_frames_in_order};
 pub use records::{Cut, RECORDS_ROOM, Records, streams_are_cut_into_records};
+pub use share_frame::Field;

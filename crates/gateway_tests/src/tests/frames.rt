@@ -2,8 +2,7 @@
 
 use crate::tests::assertions::same;
 use share_base::FlowNo;
-use share_frame::Field;
-use share_gateway::{FrameCut, Frames, streams_are_cut_into_frames};
+use share_gateway::{Field, FrameCut, Frames, streams_are_cut_into_frames};
 use std::alloc::Global;
 use std::process::Abort;
 
@@ -18,30 +17,30 @@ enum Ends {
 /// the payload `hi`, the first packet of flow 1, under tariff 1.
 const STREAMS: [(&[u8], usize, usize, Ends); 15] = [
     (b"", 0, 0, Ends::More),
-    (b"\x4c\x02\x01\x00\x00\x00\x01\x00\x00\x00\x00\x00\x00\x00\x01\x00\x02hi", 1, 2, Ends::More),
-    (b"\x4c\x02\x01\x00\x00\x00\x01\x00\x00\x00\x00\x00\x00\x00\x01\x00\x02h", 0, 0, Ends::More),
+    (b"L\x02\x01\0\0\0\x01\0\0\0\0\0\0\0\x01\0\x02hi", 1, 2, Ends::More),
+    (b"L\x02\x01\0\0\0\x01\0\0\0\0\0\0\0\x01\0\x02h", 0, 0, Ends::More),
     (
-        b"\x4c\x02\x01\x00\x00\x00\x01\x00\x00\x00\x00\x00\x00\x00\x01\x00\x01a\x4c\x02\x01\x00\x00\x00\x01\x00\x00\x00\x00\x00\x00\x00\x02\x00\x01b",
+        b"L\x02\x01\0\0\0\x01\0\0\0\0\0\0\0\x01\0\x01aL\x02\x01\0\0\0\x01\0\0\0\0\0\0\0\x02\0\x01b",
         2,
         2,
         Ends::More,
     ),
     (
-        b"\x4c\x02\x01\x00\x00\x00\x01\x00\x00\x00\x00\x00\x00\x00\x01\x00\x02hi\x4c\x01",
+        b"L\x02\x01\0\0\0\x01\0\0\0\0\0\0\0\x01\0\x02hiL\x01",
         1,
         2,
         Ends::Bad(Field::Version),
     ),
-    (b"\x4d", 0, 0, Ends::Bad(Field::Magic)),
-    (b"\x4c\x01", 0, 0, Ends::Bad(Field::Version)),
-    (b"\x4c\x01\x00\x00\x00\x01\x00\x00\x00\x01\x00\x02hi", 0, 0, Ends::Bad(Field::Version)),
-    (b"\x4c\x02\x00", 0, 0, Ends::Bad(Field::Tariff)),
-    (b"\x4c\x02\x09", 0, 0, Ends::Bad(Field::Tariff)),
-    (b"\x4c\x02\x01\x00\x00\x00\x00", 0, 0, Ends::Bad(Field::Flow)),
-    (b"\x4c\x02\x01\x00\x00\x00\x01\x00\x00\x00\x00\x00\x00\x00\x00", 0, 0, Ends::Bad(Field::Seq)),
-    (b"\x4c\x02\x01\x00\x00\x00\x01\x00\x00\x00\x00\x00\x00\x00\x01\x24", 0, 0, Ends::Bad(Field::Len)),
-    (b"\x4c\x02\x01\x00\x00\x00\x01\x00\x00\x00\x00\x00\x00\x00\x01\x23\x29", 0, 0, Ends::Bad(Field::Len)),
-    (b"\x4c\x02\x01\x00\x00\x00\x01\x00\x00\x00\x00\x00\x00\x00\x01\x00\x00", 0, 0, Ends::Bad(Field::Len)),
+    (b"M", 0, 0, Ends::Bad(Field::Magic)),
+    (b"L\x01", 0, 0, Ends::Bad(Field::Version)),
+    (b"L\x01\0\0\0\x01\0\0\0\x01\0\x02hi", 0, 0, Ends::Bad(Field::Version)),
+    (b"L\x02\0", 0, 0, Ends::Bad(Field::Tariff)),
+    (b"L\x02\x09", 0, 0, Ends::Bad(Field::Tariff)),
+    (b"L\x02\x01\0\0\0\0", 0, 0, Ends::Bad(Field::Flow)),
+    (b"L\x02\x01\0\0\0\x01\0\0\0\0\0\0\0\0", 0, 0, Ends::Bad(Field::Seq)),
+    (b"L\x02\x01\0\0\0\x01\0\0\0\0\0\0\0\x01\x24", 0, 0, Ends::Bad(Field::Len)),
+    (b"L\x02\x01\0\0\0\x01\0\0\0\0\0\0\0\x01\x23\x29", 0, 0, Ends::Bad(Field::Len)),
+    (b"L\x02\x01\0\0\0\x01\0\0\0\0\0\0\0\x01\0\0", 0, 0, Ends::Bad(Field::Len)),
 ];
 
 fn frames(rt: &impl Abort, alloc: Global) -> Frames {
@@ -87,7 +86,7 @@ fn streams_are_cut_at_each_byte(rt: HostRuntime) {
 #[test]
 fn a_frame_is_its_numbers_and_its_payload(rt: HostRuntime) {
     let mut frames = frames(&rt, rt.alloc());
-    let stream = b"\x4c\x02\x03\x00\x00\x01\x02\x00\x00\x00\x00\x00\x00\x01\x00\x00\x02hi";
+    let stream = b"L\x02\x03\0\0\x01\x02\0\0\0\0\0\0\x01\0\0\x02hi";
     same(&rt, "fed", frames.feed(stream), 19);
     match frames.next() {
         FrameCut::Frame {

@@ -7,9 +7,9 @@ use std::alloc::{AllocError, Global};
 use std::process::Abort;
 
 /// The frames of the first two packets of flow 1, `a` and `b`, of 18 bytes each.
-const FIRST: &[u8] = b"\x4c\x02\x01\x00\x00\x00\x01\x00\x00\x00\x00\x00\x00\x00\x01\x00\x01a";
+const FIRST: &[u8] = b"L\x02\x01\0\0\0\x01\0\0\0\0\0\0\0\x01\0\x01a";
 
-const SECOND: &[u8] = b"\x4c\x02\x01\x00\x00\x00\x01\x00\x00\x00\x00\x00\x00\x00\x02\x00\x01b";
+const SECOND: &[u8] = b"L\x02\x01\0\0\0\x01\0\0\0\0\0\0\0\x02\0\x01b";
 
 /// How many bytes the longest frame has.
 const LONGEST: usize = 9017;
@@ -27,11 +27,11 @@ enum Step {
 const STEPS: [(Step, &[u8], usize); 12] = [
     (Step::Put(FIRST), b"", 65518),
     (Step::Again, b"", 65518),
-    (Step::Allow(2), b"\x4c\x02", 65518),
-    (Step::Put(SECOND), b"\x4c\x02", 65500),
-    (Step::Allow(18), b"\x4c\x02\x01\x00\x00\x00\x01\x00\x00\x00\x00\x00\x00\x00\x01\x00\x01a\x4c\x02", 65500),
+    (Step::Allow(2), b"L\x02", 65518),
+    (Step::Put(SECOND), b"L\x02", 65500),
+    (Step::Allow(18), b"L\x02\x01\0\0\0\x01\0\0\0\0\0\0\0\x01\0\x01aL\x02", 65500),
     (Step::Sent(20), b"", 65518),
-    (Step::Allow(100), b"\x01\x00\x00\x00\x01\x00\x00\x00\x00\x00\x00\x00\x02\x00\x01b", 65518),
+    (Step::Allow(100), b"\x01\0\0\0\x01\0\0\0\0\0\0\0\x02\0\x01b", 65518),
     (Step::Again, SECOND, 65518),
     (Step::Sent(17), b"b", 65518),
     (Step::Again, SECOND, 65518),

@@ -16,24 +16,24 @@ enum Ends {
 /// Streams for the tenant `a`, how many items each has, how many bytes the payloads have together, and how it ends.
 const STREAMS: [(&[u8], usize, usize, Ends); 19] = [
     (b"", 0, 0, Ends::More),
-    (b"\x01a\x00\x01a", 1, 1, Ends::More),
-    (b"\x01a\x00\x01a\x01a\x00\x02b", 1, 1, Ends::More),
-    (b"\x01a\x00\x01a\x00", 1, 1, Ends::Bad),
-    (b"\x01a\x00\x01a\x01a\x05\xd3", 1, 1, Ends::More),
-    (b"\x01a\x00\x01a\x01a\x23\x28", 1, 1, Ends::More),
-    (b"\x01a\x00\x01a\x01a\x23\x29", 1, 1, Ends::Bad),
+    (b"\x01a\0\x01a", 1, 1, Ends::More),
+    (b"\x01a\0\x01a\x01a\0\x02b", 1, 1, Ends::More),
+    (b"\x01a\0\x01a\0", 1, 1, Ends::Bad),
+    (b"\x01a\0\x01a\x01a\x05\xd3", 1, 1, Ends::More),
+    (b"\x01a\0\x01a\x01a\x23\x28", 1, 1, Ends::More),
+    (b"\x01a\0\x01a\x01a\x23\x29", 1, 1, Ends::Bad),
     (b"\x01A", 0, 0, Ends::Bad),
     (b"\x11", 0, 0, Ends::Bad),
-    (b"\x00", 0, 0, Ends::Bad),
-    (b"\x01a\x00", 0, 0, Ends::More),
-    (b"\x01a\x00\x00", 0, 0, Ends::Bad),
+    (b"\0", 0, 0, Ends::Bad),
+    (b"\x01a\0", 0, 0, Ends::More),
+    (b"\x01a\0\0", 0, 0, Ends::Bad),
     (b"\x03aB", 0, 0, Ends::More),
-    (b"\x01a\x00\x01b\x01a\x00\x02cd", 2, 3, Ends::More),
+    (b"\x01a\0\x01b\x01a\0\x02cd", 2, 3, Ends::More),
     (b"\x01b", 0, 0, Ends::Bad),
-    (b"\x01b\x00\x01a", 0, 0, Ends::Bad),
-    (b"\x02aa\x00\x01a", 0, 0, Ends::Bad),
+    (b"\x01b\0\x01a", 0, 0, Ends::Bad),
+    (b"\x02aa\0\x01a", 0, 0, Ends::Bad),
     (b"\x02a", 0, 0, Ends::More),
-    (b"\x01a\x00\x01b\x01a\x00\x02cd\x01b\x00\x01b", 2, 3, Ends::Bad),
+    (b"\x01a\0\x01b\x01a\0\x02cd\x01b\0\x01b", 2, 3, Ends::Bad),
 ];
 
 fn records(rt: &impl Abort, alloc: Global) -> Records {
@@ -89,10 +89,10 @@ fn gives(rt: &impl Abort, row: &str, records: &mut Records, wanted: &[u8]) {
 #[test]
 fn payloads_are_given_in_order(rt: HostRuntime) {
     let mut records = records(&rt, rt.alloc());
-    same(&rt, "fed", records.feed(b"\x01a\x00\x01b\x01a\x00\x02c"), 10);
+    same(&rt, "fed", records.feed(b"\x01a\0\x01b\x01a\0\x02c"), 10);
     gives(&rt, "first", &mut records, b"b");
     same(&rt, "part", counted(&mut records), (0, 0, Ends::More));
-    same(&rt, "fed", records.feed(b"d\x01a\x00\x03efg"), 8);
+    same(&rt, "fed", records.feed(b"d\x01a\0\x03efg"), 8);
     gives(&rt, "in two pieces", &mut records, b"cd");
     gives(&rt, "third", &mut records, b"efg");
     same(&rt, "end", counted(&mut records), (0, 0, Ends::More));

@@ -1,6 +1,6 @@
 -- Frames that are cut out of a stream.
 use Rattle.std.proofs.Common.{◌≡◌, ℕ, ◌+◌, ◌-◌, ◌<◌, ◌≤◌, List, [], ◌∷◌, ◌++◌, length, take, drop, min}
-use Rattle.std.proofs.Common.{arith, refl, sym, ap, ◌∙◌}
+use Rattle.std.proofs.Common.{arith, refl, sym, ap, ◌∙◌, subst}
 use Rattle.std.proofs.lemmas.List.{append_assoc, append-nil, take_at, drop_at, length-append, length-take}
 use Rattle.share_base.specs.declared.version.Version.TheVariants.{Two}
 use Rattle.share_frame.specs.Reading.{BeginsWithFrame}
@@ -19,24 +19,46 @@ part_short bytes b =
     ap (λ t. length t) b.is ∙ length-take b.at (frame Two b.tariff b.head) in
     omega (arith, b.few, all, few, long)
 
-pub gives_frame : (bytes payload rest : List ℕ) (flow seq tariff len : ℕ) → BeginsWithFrame Two flow seq tariff len bytes
-    → payload ≡ take (17 + len - 17) (drop 17 bytes) → rest ≡ drop (17 + len) bytes
-    → GivesFrame bytes tariff (record { flow = flow; seq = seq; payload = payload }) rest
+-- the frame in front is within the bytes
+pub frame_fits : (bytes slice : List ℕ) (flow seq tariff len size : ℕ) → slice ≡ bytes → size ≡ len
+    → BeginsWithFrame Two flow seq tariff len slice → (17 ≤ 17 + size) × (17 + size ≤ length bytes)
+frame_fits bytes slice flow seq tariff len size slice_is size_is b =
+    let all = ap (λ t. length t) (sym slice_is ∙ b.is) ∙ length-append (frame Two tariff b.head) b.rest in
+    let long = length-frame Two tariff b.head in
+    (omega arith, omega (arith, all, long, b.len_is, size_is))
+
+frame_is : (slice : List ℕ) (flow seq tariff len : ℕ) → (b : BeginsWithFrame Two flow seq tariff len slice)
+    → (take len (drop 17 slice) ≡ b.head.payload) × (drop (17 + len) slice ≡ b.rest)
 unfolding frame
-gives_frame bytes payload rest flow seq tariff len b payload_is rest_is =
+frame_is slice flow seq tariff len b =
     let front = header Two tariff b.head.flow b.head.seq (length b.head.payload) in
     let long : length front ≡ 17 = length-header Two tariff b.head.flow b.head.seq (length b.head.payload) in
-    let after : drop 17 bytes ≡ b.head.payload ++ b.rest =
+    let after : drop 17 slice ≡ b.head.payload ++ b.rest =
     ap (λ t. drop 17 t) (b.is ∙ append_assoc front b.head.payload b.rest)
     ∙ drop_at front (b.head.payload ++ b.rest) 17 long in
-    let size_same : 17 + len - 17 ≡ len = omega arith in
-    let is : payload ≡ b.head.payload =
-    rw size_same at payload_is ∙ ap (λ t. take len t) after ∙ take_at b.head.payload b.rest len b.len_is in
     let all : length (front ++ b.head.payload) ≡ 17 + len =
     omega (arith, length-append front b.head.payload, long, b.len_is) in
-    let left : rest ≡ b.rest =
-    rest_is ∙ ap (λ t. drop (17 + len) t) b.is ∙ drop_at (front ++ b.head.payload) b.rest (17 + len) all in
-    rw (is, left, ← b.flow_is, ← b.seq_is) record { fits = b.fits; bytes = b.is }
+    (
+      ap (λ t. take len t) after ∙ take_at b.head.payload b.rest len b.len_is,
+      ap (λ t. drop (17 + len) t) b.is ∙ drop_at (front ++ b.head.payload) b.rest (17 + len) all,
+    )
+
+pub gives_frame : (bytes slice payload rest : List ℕ) (flow seq tariff len size : ℕ) → slice ≡ bytes → size ≡ len
+    → BeginsWithFrame Two flow seq tariff len slice
+    → payload ≡ take (17 + size - 17) (drop 17 bytes) → rest ≡ drop (17 + size) bytes
+    → GivesFrame bytes tariff (record { flow = flow; seq = seq; payload = payload }) rest
+gives_frame bytes slice payload rest flow seq tariff len size slice_is size_is b payload_is rest_is =
+    let parts = frame_is slice flow seq tariff len b in
+    let same : 17 + size - 17 ≡ len = omega (arith, size_is) in
+    let given : payload ≡ b.head.payload =
+    payload_is ∙ (λ k. take (same k) (drop 17 (sym slice_is k))) ∙ parts.0 in
+    let left : rest ≡ b.rest = rest_is ∙ (λ k. drop (17 + size_is k) (sym slice_is k)) ∙ parts.1 in
+    let packet : b.head ≡ record { flow = flow; seq = seq; payload = payload } =
+    (λ k. record { flow = b.flow_is k; seq = b.seq_is k; payload = sym given k }) in
+    record {
+      fits = subst (λ h. FitsFrame Two tariff h) packet b.fits;
+      bytes = sym slice_is ∙ b.is ∙ (λ k. frame Two tariff (packet k) ++ sym left k);
+    }
 
 framed_bytes-one : (packets : List Framed) (f : Framed)
     → framed_bytes (packets ++ f ∷ []) ≡ framed_bytes packets ++ frame Two f.tariff f.packet

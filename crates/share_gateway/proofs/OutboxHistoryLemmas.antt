@@ -1,7 +1,7 @@
 -- What an outbox gave out is the frames that went in, in order.
 use Rattle.std.proofs.Common.{◌≡◌, ◌⊎◌, inl, inr, ℕ, ◌+◌, ◌-◌, ◌<◌, ◌≤◌, min, Bool, true, false, nat_le}
 use Rattle.std.proofs.Common.{if◌then◌else◌, List, [], ◌∷◌, ◌++◌, length, take, drop, arith, refl, sym, ap, ◌∙◌, subst}
-use Rattle.std.proofs.lemmas.Bool.Decides.{nat_tests}
+use Rattle.std.proofs.lemmas.Bool.{leb-true, leb-false}
 use Rattle.std.proofs.lemmas.List.{append_assoc, append-nil, take-append-drop, take-append-le, take-take, drop-take, length-append}
 use Rattle.std.proofs.lemmas.List.{length-take}
 use Rattle.std.proofs.lemmas.List.Folds.{concat-append}
@@ -27,6 +27,33 @@ record Passed (frames : List (List ℕ)) (out allowed : ℕ) (o : OutboxView) : 
   pub allowed_is : allowed ≡ length (concat gone) + o.allowed
   pub within : IsWithinFirst o.out o.frames
 
+module _ (frame : List ℕ) (frames : List (List ℕ)) (out allowed : ℕ) (less : out ≤ allowed) where
+  passed_by : (b : Bool) → nat_le (length frame) out ≡ b
+      → (length frame ≤ out
+      → Passed frames (out - length frame) (allowed - length frame)
+      (passed frames (out - length frame) (allowed - length frame)))
+      → Passed (frame ∷ frames) out allowed (if b then passed frames (out - length frame) (allowed - length frame)
+      else record { frames = frame ∷ frames; out = out; allowed = allowed })
+  passed_by true test more =
+      let past : length frame ≤ out = leb-true (length frame) out test in
+      let p = more past in
+      let size = length-append frame (concat p.gone) in
+      record {
+        gone = frame ∷ p.gone;
+        frames_are = ap (λ t. frame ∷ t) p.frames_are;
+        out_is = omega (arith, p.out_is, size, past);
+        allowed_is = omega (arith, p.allowed_is, size, past, less);
+        within = p.within;
+      }
+  passed_by false test more =
+      record {
+        gone = [];
+        frames_are = refl;
+        out_is = omega arith;
+        allowed_is = omega arith;
+        within = inr (leb-false (length frame) out test);
+      }
+
 passed_is : (frames : List (List ℕ)) (out allowed : ℕ) → out ≤ length (concat frames) → out ≤ allowed
     → Passed frames out allowed (passed frames out allowed)
 unfolding passed
@@ -38,34 +65,11 @@ passed_is [] out allowed few less =
       allowed_is = omega arith;
       within = omega (arith, few);
     }
-passed_is (frame ∷ frames) out allowed few less = by_test (nat_le (length frame) out) refl
-  where
-    long : length (concat (frame ∷ frames)) ≡ length frame + length (concat frames)
-    long = length-append frame (concat frames)
-    by_test : (b : Bool) → nat_le (length frame) out ≡ b
-        → Passed (frame ∷ frames) out allowed (if b then passed frames (out - length frame) (allowed - length frame)
-        else record { frames = frame ∷ frames; out = out; allowed = allowed })
-    by_test true test =
-        let past : length frame ≤ out = grind (arith, nat_tests, test) in
-        let p = passed_is frames (out - length frame) (allowed - length frame) (omega (arith, long, few, past))
-        (omega (arith, less)) in
-        let size = length-append frame (concat p.gone) in
-        record {
-          gone = frame ∷ p.gone;
-          frames_are = ap (λ t. frame ∷ t) p.frames_are;
-          out_is = omega (arith, p.out_is, size, past);
-          allowed_is = omega (arith, p.allowed_is, size, past, less);
-          within = p.within;
-        }
-    by_test false test =
-        let before : out < length frame = grind (arith, nat_tests, test) in
-        record {
-          gone = [];
-          frames_are = refl;
-          out_is = omega arith;
-          allowed_is = omega arith;
-          within = inr before;
-        }
+passed_is (frame ∷ frames) out allowed few less =
+    let long = length-append frame (concat frames) in
+    passed_by frame frames out allowed less (nat_le (length frame) out) refl
+    (λ past. passed_is frames (out - length frame) (allowed - length frame) (omega (arith, long, few, past))
+    (omega (arith, less)))
 
 -- Parts
 
@@ -120,7 +124,7 @@ parts-more frames (first ∷ parts) left given last is part =
 
 -- A history
 
-record InOrder (frames : List (List ℕ)) (before : List (List ℕ)) (given : List ℕ) (o : OutboxView) : Type 0 where
+pub record InOrder (frames : List (List ℕ)) (before : List (List ℕ)) (given : List ℕ) (o : OutboxView) : Type 0 where
   pub start : List (List ℕ)
   pub parts : AreParts frames before start
   pub gone : List (List ℕ)
@@ -128,12 +132,12 @@ record InOrder (frames : List (List ℕ)) (before : List (List ℕ)) (given : Li
   pub given_is : given ≡ concat gone ++ take o.out (concat o.frames)
   pub within : IsWithinFirst o.out o.frames
 
-record IsAllowed (frames : List (List ℕ)) (allowed : ℕ) (o : OutboxView) : Type 0 where
+pub record IsAllowed (frames : List (List ℕ)) (allowed : ℕ) (o : OutboxView) : Type 0 where
   pub few : length (concat frames) + o.allowed ≤ allowed + length (concat o.frames)
   pub out : o.out ≤ o.allowed
   pub there : o.allowed ≤ length (concat o.frames)
 
-record IsInOrder (frames : List (List ℕ)) (allowed : ℕ) (before : List (List ℕ)) (given : List ℕ) (o : OutboxView)
+pub record IsInOrder (frames : List (List ℕ)) (allowed : ℕ) (before : List (List ℕ)) (given : List ℕ) (o : OutboxView)
     : Type 0 where
   pub order : InOrder frames before given o
   pub fits : IsAllowed frames allowed o
@@ -185,7 +189,7 @@ allow-fits frames allowed o n f =
     }
 
 -- the bytes that are out after n more of those that are ready
-sends_few : (o : OutboxView) (n : ℕ) → o.out ≤ o.allowed → n ≤ length (ready_of o) → o.out + n ≤ o.allowed
+pub sends_few : (o : OutboxView) (n : ℕ) → o.out ≤ o.allowed → n ≤ length (ready_of o) → o.out + n ≤ o.allowed
 sends_few o n less ready =
     let size = length-take (o.allowed - o.out) (drop o.out (concat o.frames)) in
     omega (arith, less, ready, size)

@@ -8,18 +8,23 @@ use Rattle.share_model.specs.run.History.{IsBeginning}
 use Rattle.share_gateway.specs.declared.frames.FrameCut.{FrameCut}
 use Rattle.share_gateway.specs.declared.frames.FrameCut.TheVariants.{Frame, More, Bad}
 
+-- the bytes of the stream that were not given yet; and the payload that was given last, until more of the stream comes
+pub record FramesView : Type 0 where
+  pub bytes : List ℕ
+  pub payload : List ℕ
+
 -- the frame of a packet is in front
 pub record GivesFrame (old : List ℕ) (tariff : ℕ) (packet : Packet) (new : List ℕ) : Type 0 where
   pub fits : FitsFrame Two tariff packet
   pub bytes : old ≡ frame Two tariff packet ++ new
 
--- the answer that is right, and what it leaves: the packet of the frame in front; or the bytes are the beginning of one,
--- and not the whole; or this is the first field that no frame has
-abbrev pub CutsFrame : List ℕ → FrameCut → List ℕ → Type 0
-CutsFrame old (Frame flow seq tariff payload) new =
-    GivesFrame old tariff (record { flow = flow; seq = seq; payload = payload.now }) new
-CutsFrame old More new = IsBeginning Two old × (new ≡ old)
-CutsFrame old (Bad place) new = IsFirstBad Two place old × (new ≡ old)
+-- the answer that is right, and what it leaves: the packet of the frame in front is given; or the bytes are the beginning
+-- of one, and not the whole; or this is the first field that no frame has
+abbrev pub CutsFrame : FramesView → FrameCut → FramesView → Type 0
+CutsFrame old (Frame flow seq tariff) new =
+    GivesFrame old.bytes tariff (record { flow = flow; seq = seq; payload = new.payload }) new.bytes
+CutsFrame old More new = IsBeginning Two old.bytes × (new ≡ old)
+CutsFrame old (Bad place) new = IsFirstBad Two place old.bytes × (new ≡ old)
 
 -- a packet, and the tariff in its frame
 pub record Framed : Type 0 where

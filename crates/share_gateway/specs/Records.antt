@@ -6,10 +6,12 @@ use Rattle.share_ingress.specs.Found.{NeedsMore}
 use Rattle.share_gateway.specs.declared.records.Cut.{Cut}
 use Rattle.share_gateway.specs.declared.records.Cut.TheVariants.{Item as ItemCut, More, Bad}
 
--- the name of the tenant, and the bytes of the stream that were not given yet
+-- the name of the tenant; the bytes of the stream that were not given yet; and the payload that was given last, until
+-- more of the stream comes
 pub record RecordsView : Type 0 where
   pub name : List ℕ
   pub bytes : List ℕ
+  pub payload : List ℕ
 
 -- the item of a payload for the tenant
 abbrev pub item_for : List ℕ → List ℕ → Item
@@ -29,16 +31,16 @@ NamesOnly name bytes =
     (other rest : List ℕ) → is_name_length (length other) ≡ true → bytes ≡ (length other ∷ other) ++ rest
     → other ≡ name
 
--- a record of the tenant is in front, and its payload is this
-pub record GivesItem (old : RecordsView) (payload : List ℕ) (new : RecordsView) : Type 0 where
-  pub good : IsItem (item_for old.name payload)
-  pub bytes : old.bytes ≡ record_of (item_for old.name payload) ++ new.bytes
+-- a record of the tenant was in front, and its payload is given
+pub record GivesItem (old new : RecordsView) : Type 0 where
+  pub good : IsItem (item_for old.name new.payload)
+  pub bytes : old.bytes ≡ record_of (item_for old.name new.payload) ++ new.bytes
   pub name : new.name ≡ old.name
 
--- the answer that is right, and what it leaves: the payload of the record in front; or no record is whole, and none of
--- its fields that are whole is bad; or one is out of its range, or the name of another
+-- the answer that is right, and what it leaves: the record in front is given; or no record is whole, and none of its
+-- fields that are whole is bad; or one is out of its range, or the name of another
 abbrev pub CutsRecord : RecordsView → Cut → RecordsView → Type 0
-CutsRecord old (ItemCut payload) new = GivesItem old payload.now new
+CutsRecord old ItemCut new = GivesItem old new
 CutsRecord old More new = NeedsMore old.bytes × NamesOnly old.name old.bytes × (new ≡ old)
 CutsRecord old Bad new = (IsBad old.bytes ⊎ NamesOther old.name old.bytes) × (new ≡ old)
 

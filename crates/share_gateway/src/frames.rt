@@ -15,23 +15,18 @@ use std::marker::Model;
 pub const FRAMES_ROOM: usize = 65536;
 
 /// What the bytes of a stream begin with.
-#[derive(Clone, Copy, Debug)]
-pub enum FrameCut<'a> {
-    /// A frame of version 2: the numbers of its packet and of its flow's tariff, and the payload.
-    Frame {
-        flow: FlowNo,
-        seq: u64,
-        tariff: u8,
-        payload: &'a [u8],
-    },
+#[derive(Clone, Copy, Debug, PartialEq, Eq)]
+pub enum FrameCut {
+    /// A frame of version 2, with the numbers of its packet and of its flow's tariff.
+    Frame { flow: FlowNo, seq: u64, tariff: u8 },
     /// No whole frame.
     More,
     /// The first field that no frame has.
     Bad(Field),
 }
 
-/// Cuts frames of version 2 out of a stream that comes in pieces. Its memory is made once. A payload is given where it
-/// was put when its piece came; only the part of a frame that a piece ends with may be moved when the next piece comes.
+/// Cuts frames of version 2 out of a stream that comes in pieces. Its memory is made once. A payload is lent where it
+/// was put when its piece came. Only the part of a frame that a piece ends with may be moved once more.
 #[derive(Drop)]
 pub struct Frames {
     // The bytes that were fed and not given yet.
@@ -39,11 +34,12 @@ pub struct Frames {
 }
 
 impl Model for Frames {
-    ghost use Rattle.std.specs.Prelude.{◌≡◌, ◌≤◌, List, ℕ, length};
+    ghost use Rattle.std.specs.Prelude.{◌≡◌, ◌≤◌, length};
+    ghost use Rattle.share_gateway.specs.Frames.{FramesView};
 
-    ghost Value = { List ℕ };
+    ghost Value = { FramesView };
 
-    ghost view = { λ f. f.bytes.bytes };
+    ghost view = { λ f. record { bytes = f.bytes.bytes; payload = f.bytes.given } };
 
     ghost invariant = { λ f. (f.bytes.most ≡ 65536) × (length f.bytes.bytes ≤ 65536) };
 }
@@ -51,7 +47,7 @@ impl Model for Frames {
 impl Frames {
     /// The frames of a stream that nothing came of yet. `NoMemory` if memory is refused.
     pub fn new(alloc: Global) -> Result<Frames, Refusal>
-        ensures ok { IfOk result (λ f. f ≡ []) }
+        ensures ok { IfOk result (λ f. f ≡ record { bytes = []; payload = [] }) }
         ensures refused { IfErr result (IsRefused None) }
     {
         let bytes = ByteQueue::new(alloc, FRAMES_ROOM, FRAMES_ROOM)?;
@@ -60,17 +56,18 @@ impl Frames {
 
     /// Takes the next piece of the stream, as far as there is room, and returns how many bytes of it were taken.
     pub fn feed(&mut self, piece: &[u8]) -> usize
-        ensures count { result ≡ min (length piece.now) (65536 - length self.old) }
-        ensures bytes { self.new ≡ self.old ++ take result piece.now }
+        ensures count { result ≡ min (length piece.now) (65536 - length self.old.bytes) }
+        ensures bytes { self.new ≡ record { bytes = self.old.bytes ++ take result piece.now; payload = [] } }
     {
         let count = piece.len().min(self.bytes.room());
         self.bytes.push(&piece[..count]);
         count
     }
 
-    /// What the bytes begin with. A frame is taken away. `Bad` is answered by each later call too. After `More` most of
-    /// the room is free, so the next piece is taken at least in part.
-    pub fn next(&mut self) -> FrameCut<'_>
+    /// What the bytes begin with. A frame is taken away, and its payload is lent by `payload` until the next piece
+    /// comes. `Bad` is answered by each later call too. After `More` most of the room is free, so the next piece is
+    /// taken at least in part.
+    pub fn next(&mut self) -> FrameCut
         ensures { CutsFrame self.old result self.new }
     {
         match read_frame2(self.bytes.as_slice()) {
@@ -82,15 +79,17 @@ impl Frames {
                 tariff,
                 len,
             } => {
-                let payload = self.bytes.take(HEADER2, HEADER2 + usize::from(len));
-                FrameCut::Frame {
-                    flow,
-                    seq,
-                    tariff,
-                    payload,
-                }
+                self.bytes.give(HEADER2, HEADER2 + usize::from(len));
+                FrameCut::Frame { flow, seq, tariff }
             }
         }
+    }
+
+    /// The payload of the frame that was taken last, or no bytes once more of the stream came.
+    pub fn payload(&self) -> &[u8]
+        ensures { result.now ≡ self.now.payload }
+    {
+        self.bytes.given()
     }
 }
 

@@ -126,7 +126,7 @@ impl Outbox {
             return false;
         }
         self.lengths.pop_front();
-        self.bytes.pass(length);
+        self.bytes.give(0, length);
         self.out -= length;
         self.allowed -= length;
         true

@@ -1,5 +1,5 @@
 //! The records of a tenant.
-ghost use Rattle.std.specs.Prelude.{◌≡◌, ◌<◌, ◌-◌, ℕ, List, [], ◌++◌, length, map, min, take};
+ghost use Rattle.std.specs.Prelude.{◌≡◌, ◌<◌, ◌-◌, ℕ, List, [], ◌∷◌, ◌++◌, length, map, min, take};
 ghost use Rattle.std.specs.Prelude.{IfOk, IfErr, None, MatchBool};
 ghost use Rattle.share_base.specs.Refusal.{IsRefused};
 ghost use Rattle.share_ingress.specs.Found.{NeedsMore};
@@ -19,19 +19,18 @@ use std::marker::Model;
 pub const RECORDS_ROOM: usize = 16384;
 
 /// What the bytes of a stream begin with.
-#[derive(Clone, Copy, Debug)]
-pub enum Cut<'a> {
-    /// A record of the tenant, with this payload.
-    Item(&'a [u8]),
+#[derive(Clone, Copy, Debug, PartialEq, Eq)]
+pub enum Cut {
+    /// A record of the tenant.
+    Item,
     /// No whole record.
     More,
     /// A field that is out of its range, or the name of another tenant.
     Bad,
 }
 
-/// Cuts the records of one tenant out of a stream that comes in pieces. Its memory is made once. A payload is given
-/// where it was put when its piece came; only the part of a record that a piece ends with may be moved when the next
-/// piece comes.
+/// Cuts the records of one tenant out of a stream that comes in pieces. Its memory is made once. A payload is lent where
+/// it was put when its piece came. Only the part of a record that a piece ends with may be moved once more.
 #[derive(Drop)]
 pub struct Records {
     name: Name,
@@ -45,7 +44,7 @@ impl Model for Records {
 
     ghost Value = { RecordsView };
 
-    ghost view = { λ r. record { name = r.name; bytes = r.bytes.bytes } };
+    ghost view = { λ r. record { name = r.name; bytes = r.bytes.bytes; payload = r.bytes.given } };
 
     ghost invariant = { λ r. (r.bytes.most ≡ 16384) × (length r.bytes.bytes ≤ 16384) };
 }
@@ -53,7 +52,7 @@ impl Model for Records {
 impl Records {
     /// The records for the tenant of this name, of a stream that nothing came of yet. `NoMemory` if memory is refused.
     pub fn new(alloc: Global, name: Name) -> Result<Records, Refusal>
-        ensures ok { IfOk result (λ r. r ≡ record { name = name; bytes = [] }) }
+        ensures ok { IfOk result (λ r. r ≡ record { name = name; bytes = []; payload = [] }) }
         ensures refused { IfErr result (IsRefused None) }
     {
         let bytes = ByteQueue::new(alloc, RECORDS_ROOM, RECORDS_ROOM)?;
@@ -63,16 +62,18 @@ impl Records {
     /// Takes the next piece of the stream, as far as there is room, and returns how many bytes of it were taken.
     pub fn feed(&mut self, piece: &[u8]) -> usize
         ensures count { result ≡ min (length piece.now) (16384 - length self.old.bytes) }
-        ensures bytes { self.new ≡ record self.old { bytes = self.old.bytes ++ take result piece.now } }
+        ensures bytes { self.new
+            ≡ record self.old { bytes = self.old.bytes ++ take result piece.now; payload = [] } }
     {
         let count = piece.len().min(self.bytes.room());
         self.bytes.push(&piece[..count]);
         count
     }
 
-    /// What the bytes begin with. A record is taken away. `Bad` is answered as soon as the first bad field is whole, and
-    /// again by each later call. After `More` most of the room is free, so the next piece is taken at least in part.
-    pub fn next(&mut self) -> Cut<'_>
+    /// What the bytes begin with. A record is taken away, and its payload is lent by `payload` until the next piece
+    /// comes. `Bad` is answered as soon as the first bad field is whole, and again by each later call. After `More`
+    /// most of the room is free, so the next piece is taken at least in part.
+    pub fn next(&mut self) -> Cut
         ensures { CutsRecord self.old result self.new }
     {
         let bytes = self.bytes.as_slice();
@@ -84,9 +85,17 @@ impl Records {
             Found::Part => Cut::More,
             Found::Whole(name, size) => {
                 let from = FRAMING + name.as_bytes().len();
-                Cut::Item(self.bytes.take(from, from + size))
+                self.bytes.give(from, from + size);
+                Cut::Item
             }
         }
+    }
+
+    /// The payload of the record that was taken last, or no bytes once more of the stream came.
+    pub fn payload(&self) -> &[u8]
+        ensures { result.now ≡ self.now.payload }
+    {
+        self.bytes.given()
     }
 }
 
@@ -94,19 +103,27 @@ impl Records {
 fn names_other(name: &Name, bytes: &[u8]) -> bool
     ensures { MatchBool result (NamesOther name.now bytes.now) (NamesOnly name.now bytes.now) }
 {
-    let Some((first, rest)) = bytes.split_first() else {
-        return false;
-    };
-    let length = usize::from(*first);
-    if length == 0 || length > MAX_NAME || length > rest.len() {
-        return false;
+    match bytes.split_first() {
+        None => false,
+        Some((first, rest)) => is_other(name, *first, rest),
     }
-    &rest[..length] != name.as_bytes()
 }
 
-/// What holds of each stream, however it was cut into pieces. The payloads that were given are those of the first records
-/// of its one reading (`streams_have_one_reading` of share_ingress). Once `More` or `Bad` for a field out of its range is
-/// answered, they are those of all its records.
+// The same, of the first byte and those after it.
+fn is_other(name: &Name, first: u8, rest: &[u8]) -> bool
+    ensures { MatchBool result (NamesOther name.now (first ∷ rest.now)) (NamesOnly name.now (first ∷ rest.now)) }
+{
+    let length = usize::from(first);
+    if length == 0 || length > MAX_NAME || rest.len() < length {
+        return false;
+    }
+    let is_same = &rest[..length] == name.as_bytes();
+    !is_same
+}
+
+/// What holds of each stream, however it was cut into pieces. The payloads that were given are those of the first
+/// records of its one reading (`streams_have_one_reading` of share_ingress). Once `More` is answered, or `Bad` for a
+/// field out of its range, they are those of all its records.
 pub fn streams_are_cut_into_records()
     ensures front { (name stream : List ℕ) (payloads : List (List ℕ)) (bytes : List ℕ)
         → Reads name stream payloads bytes → Front stream (map (item_for name) payloads) bytes }

@@ -258,10 +258,8 @@ def no_descriptor_for_an_accept(run):
 @contextlib.contextmanager
 def without_memory(process):
     """Refuses each growth of a program that runs, until the end of the block."""
-    with open("/proc/%d/statm" % process.pid, encoding="ascii") as source:
-        size = int(source.read().split()[0]) * resource.getpagesize()
     before = resource.prlimit(process.pid, resource.RLIMIT_AS)
-    resource.prlimit(process.pid, resource.RLIMIT_AS, (size, before[1]))
+    resource.prlimit(process.pid, resource.RLIMIT_AS, (address_space(process), before[1]))
     yield
     if process.poll() is None:
         resource.prlimit(process.pid, resource.RLIMIT_AS, before)

@@ -1,9 +1,8 @@
-/* An allocator that the program above it steers, for tests (.ci/memory): it refuses requests in turn, and reports
-   whether blocks were kept, and how much they hold. A program speaks with it by requests of sizes that nothing else
-   asks for. Such a question is itself no request; it is answered yes by a refusal, and no by a block. The same words
-   stand in crates/share_model/src/allocator.rt, and MORE in crates/parts_tests/src/tests/allocator.rt. At the end it
-   writes what it was asked and did on standard error. No header is included, so that the toolchain's clang is all that
-   it takes. */
+/* An allocator that the program above it steers, for tests (.ci/memory): it refuses requests in turn, and tells
+   whether blocks were kept. A program speaks with it by requests of sizes that nothing else asks for. Such a question
+   is itself no request; it is answered yes by a refusal, and no by a block. The same words stand in
+   crates/share_model/src/allocator.rt. At the end it writes what it was asked and did on standard error. No header is
+   included, so that the toolchain's clang is all that it takes. */
 
 typedef unsigned long size;
 
@@ -17,24 +16,19 @@ enum {
     EACH = 4095,            /* each request from here on is refused; a number n below: the n-th is */
     REFUSED = 4096,         /* none is refused from here on; was one? */
     MARK = 4097,            /* keep how many blocks are held */
-    CHANGED = 4098,         /* is another number held than was kept? */
-    MORE = 4099,            /* do blocks hold more bytes than at the mark, by more than so many KiB: none, */
-    MOST = 4099 + 1024      /* or as many as are added? */
+    CHANGED = 4098          /* is another number held than was kept? */
 };
 
 static void *(*next_malloc)(size);
 static void *(*next_realloc)(void *, size);
 static void (*next_free)(void *);
 static void (*next_exit)(int);
-static size (*next_size)(void *);
 
 static long wanted;     /* the number of the request to refuse, 0 where none is */
 static long requests;   /* the requests since then */
 static long refused;    /* the refusals since then */
-static long held;       /* the blocks that are held, and the bytes that they have room for */
-static long held_bytes;
+static long held;       /* the blocks that are held */
 static long marked;
-static long marked_bytes;
 static long questions;  /* all questions, and all refusals */
 static long refusals;
 
@@ -43,7 +37,6 @@ __attribute__((constructor)) static void find_next(void) {
     next_realloc = (void *(*)(void *, size))dlsym(NEXT, "realloc");
     next_free = (void (*)(void *))dlsym(NEXT, "free");
     next_exit = (void (*)(int))dlsym(NEXT, "_exit");
-    next_size = (size (*)(void *))dlsym(NEXT, "malloc_usable_size");
 }
 
 static int refuses(void) {
@@ -71,24 +64,20 @@ static int says_yes(long question) {
     }
     if (question == MARK) {
         marked = held;
-        marked_bytes = held_bytes;
         return 0;
     }
-    if (question == CHANGED)
-        return held != marked;
-    return held_bytes - marked_bytes > (question - MORE) * 1024;
+    return held != marked;
 }
 
 static void *block(void *made) {
     held += made != 0;
-    held_bytes += made ? (long)next_size(made) : 0;
     return made;
 }
 
 void *malloc(size count) {
     if (!next_malloc)
         find_next();
-    if (count > QUESTION && count <= QUESTION + MOST)
+    if (count > QUESTION && count <= QUESTION + CHANGED)
         return says_yes((long)(count - QUESTION)) ? 0 : block(next_malloc(1));
     return refuses() ? 0 : block(next_malloc(count));
 }
@@ -96,17 +85,11 @@ void *malloc(size count) {
 void *realloc(void *old, size count) {
     if (!old)
         return malloc(count);
-    if (refuses())
-        return 0;
-    long before = (long)next_size(old);
-    void *made = next_realloc(old, count);
-    held_bytes += made ? (long)next_size(made) - before : 0;
-    return made;
+    return refuses() ? 0 : next_realloc(old, count);
 }
 
 void free(void *old) {
     held -= old != 0;
-    held_bytes -= old ? (long)next_size(old) : 0;
     next_free(old);
 }
 

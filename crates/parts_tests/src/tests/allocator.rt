@@ -8,10 +8,6 @@ use std::alloc::Global;
 use std::fmt::Debug;
 use std::process::Abort;
 
-/// With up to 1024 added: whether blocks hold more bytes than when their number was remembered, by more than so many
-/// KiB.
-const HOLDS_MORE: u16 = 4099;
-
 /// Refuses the request of this number from here on.
 pub(super) fn refuse(alloc: Global, request: u16) {
     let _no = asks!(alloc, request);
@@ -30,12 +26,6 @@ pub(super) fn mark(alloc: Global) {
 /// As many blocks are held as were remembered.
 pub(super) fn keeps_none<R: Debug + Copy>(rt: &impl Abort, row: R, alloc: Global) {
     holds(rt, (row, "keeps no block"), !asks!(alloc, IS_HELD_OTHER));
-}
-
-/// Blocks hold no more bytes than were remembered but for so many KiB.
-pub(super) fn holds_at_most<R: Debug + Copy>(rt: &impl Abort, row: R, alloc: Global, kib: u16) {
-    let is_more = asks!(alloc, HOLDS_MORE.saturating_add(kib));
-    holds(rt, (row, "holds few bytes"), !is_more);
 }
 
 /// Whether the allocator is the one that refuses.

@@ -1,9 +1,7 @@
 //! share_base: spellings of names, lengths of payloads and headers, and the texts of refusals.
 ghost use Rattle.std.specs.Prelude.{◌≤◌};
 
-use crate::tests::allocator::{
-    holds_at_most, is_steered, keeps_none, mark, refuse, took_none, was_refused,
-};
+use crate::tests::allocator::{is_steered, keeps_none, mark, refuse, took_none, was_refused};
 use crate::tests::assertions::{holds, same};
 use share_base::{
     Body, FlowNo, HEADER_ROOM, MAX_IN_PLACE, MAX_PAYLOAD, Name, Parcel, Refusal, Reply, TicketNo,
@@ -374,27 +372,6 @@ fn payloads_are_copied_once_their_memory_is_found(rt: HostRuntime) {
             keeps_none(&rt, row, alloc);
         }
     }
-}
-
-/// Lengths of payloads, and how many KiB eight of each hold at most.
-const EIGHT_HOLD: [(usize, u16); 3] = [(17, 1), (1490, 12), (9000, 71)];
-
-#[test]
-fn payloads_hold_few_more_bytes_than_they_have(rt: HostRuntime) {
-    let alloc = rt.alloc();
-    let bytes = [7; 9000];
-    for (length, kib) in EIGHT_HOLD {
-        let mut bodies = Vec::with_capacity(alloc, 8).expect(&rt, "memory");
-        mark(alloc);
-        for _ in 0..8 {
-            let body = Body::new(alloc, &bytes[..length]).expect(&rt, "a payload");
-            holds(&rt, length, bodies.push(body).is_ok());
-        }
-        holds_at_most(&rt, length, alloc, kib);
-        drop::<Vec<Body>>(bodies);
-    }
-    refuse(alloc, 1);
-    took_none(&rt, "payloads", alloc);
 }
 
 // Whether all calls that take no memory answer as they should. The vectors hold the room and the payload.

@@ -446,7 +446,7 @@ fn a_piece_is_taken_once_its_memory_is_found(rt: HostRuntime) {
         mark(alloc);
         let mut tape = Tape::new(alloc);
         is_refused_on(&rt, alloc, &mut tape, request, is_steered && request <= 2);
-        drop(tape.into_bytes());
+        drop(tape);
         keeps_none(&rt, request, alloc);
     }
 }

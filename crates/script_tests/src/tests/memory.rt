@@ -104,26 +104,6 @@ fn only_a_long_packet_takes_memory_to_be_read(rt: HostRuntime) {
     }
 }
 
-/// What follows one byte less than a frame carries on lines that are no packets: half a byte, a byte with a letter, a
-/// further word, and one byte too many.
-const NO_PACKETS: [&[u8]; 4] = [b"0", b"0g", b" 1", b"0000"];
-
-#[test]
-fn long_lines_that_are_no_packets_keep_nothing(rt: HostRuntime) {
-    let alloc = rt.alloc();
-    for version in VERSIONS {
-        for after in NO_PACKETS {
-            let line = with_zeros(&rt, alloc, b"send a ", version.payload() - 1, after);
-            mark(alloc);
-            let is_refused = read_line(alloc, version, line.as_slice()).is_err();
-            keeps_none(&rt, (version, after), alloc);
-            holds(&rt, (version, after), is_refused);
-            drop(line);
-        }
-    }
-    takes_none(&rt, "no line", alloc);
-}
-
 // Whether the line sends this payload.
 fn sends(line: &Line, payload: &[u8]) -> bool {
     match line {

@@ -1,5 +1,6 @@
-//! Servers that find no memory before they run. A request is refused by the allocator of `.ci/allocator.c` alone, with
-//! which `.ci/memory` runs this test; with any other one server runs and ends.
+//! Servers that find no memory before they run: each of their requests is refused in turn, up to that of the first
+//! thread. Requests are refused by the allocator of `.ci/allocator.c` alone, with which `.ci/memory` runs this test; with
+//! any other one server runs and ends.
 
 use crate::tests::serving::{InMemory, PLAN, journal_of, open_sockets};
 use running_tests::ByByte;
@@ -15,8 +16,8 @@ use std::sync::Wait;
 use std::thread::Threads;
 use std::time::Clock;
 
-/// How many requests a server makes before it starts a thread.
-const REQUESTS: u16 = 20;
+/// More requests than a server makes before it starts a thread.
+const REQUESTS: u16 = 200;
 
 // Serves a link whose standard input has ended, if no request or not the one of this number is refused. Gives the
 // result, whether a request was refused, and whether nothing was kept and shown.
@@ -55,18 +56,17 @@ where
 
 #[test]
 fn servers_run_once_their_memory_is_found(rt: HostRuntime) {
-    for request in 1..=REQUESTS + 1 {
+    for request in 1..REQUESTS {
         let (served, was_refused, is_silent) = serves(&rt, rt.alloc(), request);
-        let wanted = if !was_refused {
-            (Ok(()), false)
-        } else if request <= REQUESTS {
-            (Err(ServeFault::NoMemory), true)
-        } else {
-            (Err(ServeFault::Thread), false)
-        };
-        assert!(&rt; (served, is_silent) == wanted, "request {request}: {served:?}, {is_silent}");
         if !was_refused {
+            assert!(&rt; served == Ok(()), "{served:?}");
             return;
         }
+        if !is_silent {
+            assert!(&rt; served == Err(ServeFault::Thread), "{request}: {served:?}");
+            return;
+        }
+        assert!(&rt; served == Err(ServeFault::NoMemory), "{request}: {served:?}");
     }
+    panic!(&rt; "no thread is started");
 }

@@ -9,7 +9,7 @@ use share_ingress::{IngressEnd, Intake, queue};
 use share_journal::Recorder;
 use share_locked::{
     Admit, Attendant, LinkBrand, LinkEnd, Locked, Pace, Port, Stop, run_paced_link,
-    serve_paced_while,
+    serve_while,
 };
 use share_model::allocator::WAS_REFUSED;
 use share_model::{Rates, Tape, asks};
@@ -152,7 +152,7 @@ where
     };
     let (paced, hears) = (&pace, &heard);
     let _no = asks!(alloc, request);
-    let (end, seen) = serve_paced_while(rt, port, paced, hears, |is_served| -> Seen {
+    let (end, seen) = serve_while(rt, port, paced, hears, |is_served| -> Seen {
         if !is_served {
             paced.wait(rt, 1, 2);
         }

@@ -247,7 +247,7 @@ class Server:
     empty one leaves the word out, and so does None for other words."""
 
     def __init__(self, folder, uplink, workers=1, clerks=None, life=65536, audit=None, ingress=LOOPBACK + ":0",
-                 control=LOOPBACK + ":0", verbose=True, until_eof=False, further=(), stdout=None, before=None,
+                 control=LOOPBACK + ":0", verbose=True, until_eof=False, further=(), stdin=None, stdout=None, before=None,
                  program=PROGRAM):
         self.folder = folder
         self.life = life
@@ -262,8 +262,10 @@ class Server:
                 command += ["--" + word, str(value)]
         command += ["--verbose"] * verbose + ["--until-eof"] * until_eof + list(further)
         with open(self.path("stdout"), "wb") as out, open(self.path("stderr"), "wb") as errors:
-            self.process = subprocess.Popen(command, stdin=subprocess.PIPE if until_eof else subprocess.DEVNULL,
-                                            stdout=stdout or out, stderr=errors, preexec_fn=before)
+            if stdin is None:
+                stdin = subprocess.PIPE if until_eof else subprocess.DEVNULL
+            self.process = subprocess.Popen(command, stdin=stdin, stdout=stdout or out, stderr=errors,
+                                            preexec_fn=before)
 
     def path(self, name):
         return os.path.join(self.folder, name)
@@ -355,6 +357,12 @@ def is_blocked(server, senders, most=QUIET_SHARE):
     return all(sender.is_alive() for sender in senders) and server.processor_seconds() - used < 0.3 * most
 
 
+def address_space(process):
+    """How many bytes of addresses a program has."""
+    with open("/proc/%d/statm" % process.pid, encoding="ascii") as source:
+        return int(source.read().split()[0]) * resource.getpagesize()
+
+
 def lower(server, what, limit):
     """Takes a resource away from a server that runs."""
     most = resource.prlimit(server.process.pid, what)[1]
@@ -364,6 +372,13 @@ def lower(server, what, limit):
 def lowest_free(server):
     taken = {int(name) for name in os.listdir("/proc/%d/fd" % server.process.pid)}
     return next(number for number in range(1 << 20) if number not in taken)
+
+
+def send_on(connection, data):
+    """Sends the same bytes again and again, until the other side ends the connection."""
+    with contextlib.suppress(OSError):
+        while True:
+            connection.sendall(data)
 
 
 def one_packet(server):
@@ -540,10 +555,19 @@ class Run:
         return process
 
     def thread(self, work, *words):
-        """Works beside. `join` of what is answered waits for the end, and raises what went wrong."""
+        """Works beside. `finish` of what is answered waits for the end, and raises what went wrong."""
         task = Task(work, words)
         task.start()
         return task
+
+    def side_by_side(self, parts, seconds):
+        """Does the parts of a case, each a function with its words, at the same time."""
+        tasks = [(part, words, self.thread(part, self, *words)) for part, *words in parts]
+        for part, words, task in tasks:
+            try:
+                task.finish(seconds)
+            except Failure as fault:
+                raise Failure("%s%s: %s" % (part.__name__, tuple(words) or "", fault)) from None
 
 
 def discard(process):

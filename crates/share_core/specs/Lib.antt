@@ -1,4 +1,6 @@
 pub mod Held
+pub mod Lent
 pub mod Levels
 pub mod Life
 pub mod NextWrite
+pub mod Room

@@ -1,13 +1,13 @@
 //! The engine of a link: a link and the writer of its frames.
 ghost use Rattle.std.specs.Prelude.{◌≡◌, ◌<◌, ◌≤◌, ◌^◌, length, find, IfOk, IfErr, IfSome};
-ghost use Rattle.std.specs.Prelude.{None, option_map, is_some, false};
+ghost use Rattle.std.specs.Prelude.{None, option_map, is_some};
 ghost use Rattle.share_base.specs.Refusal.{IsRefused};
 ghost use Rattle.share_base.specs.Version.{max_payload};
 ghost use Rattle.share_base.specs.declared.version.Version.TheVariants.{One};
 ghost use Rattle.share_model.specs.stride.Moves.{global_part};
 ghost use Rattle.share_model.specs.link.Readings.{position_at, tickets_at};
 ghost use Rattle.share_model.specs.link.Totals.{totals, row};
-ghost use Rattle.share_model.specs.link.Calls.{is_spent, Steps, CommandCall, OfferDecided, TurnCall, TearCall};
+ghost use Rattle.share_model.specs.link.Calls.{is_spent, Steps, CommandCall, TurnCall, TearCall};
 ghost use Rattle.share_model.specs.funding.Changes.{flow_named};
 ghost use Rattle.share_model.specs.link.Live.{empty_link};
 ghost use Rattle.share_model.specs.link.Books.{is_book_of};
@@ -18,15 +18,15 @@ ghost use Rattle.share_model.specs.link.View.{LinkView};
 ghost use Rattle.share_model.specs.link.Fields.{IsName, IsBody, HasCommandFields};
 ghost use Rattle.share_model.specs.run.Sound.{Sound};
 ghost use Rattle.share_model.specs.link.Tariff.{AreInRange};
-ghost use Rattle.share_core.specs.NextWrite.{IsNextWriteOf};
-ghost use Rattle.share_flows.specs.Places.{Stands};
+ghost use Rattle.share_core.specs.Lent.{lent};
 ghost use Rattle.share_core.specs.Life.{life_refusal};
+ghost use Rattle.share_core.specs.Room.{has_room};
 
 use crate::fields;
 use crate::link::Link;
-use crate::next_write::NextWrite;
+use crate::payload_buffers::PayloadBuffers;
 use share_base::{Body, Command, FlowNo, Name, Refusal, Reply, Turn, Version};
-use share_model::{Answer, Backlog, GlobalPart, Position, Rates, Row, TellingWriter, Totals};
+use share_model::{Backlog, GlobalPart, Position, Rates, Row, TellingWriter, Totals};
 use std::alloc::Global;
 use std::marker::Model;
 
@@ -170,6 +170,16 @@ impl<W, S: Rates> Engine<W, S> {
         self.link.backlog(flow)
     }
 
+    /// Whether a packet finds room: a flow of this name is open, and its buffer holds fewer packets than its limit.
+    pub fn has_room(&self, flow: Name) -> bool
+        ensures { result ≡ has_room self.now.live flow }
+    {
+        match self.link.flow(&flow) {
+            None => false,
+            Some(number) => self.link.has_room(number),
+        }
+    }
+
     /// What the flows share: the tickets of those that compete, the global pass and the clock at its last update, and
     /// the clock, in units.
     pub fn global(&self) -> GlobalPart
@@ -257,30 +267,16 @@ impl<W, S: Rates> Engine<W, S> {
         requires { 1 ≤ most }
         ensures { TurnCall W.answers self.old most result self.new }
     {
-        match self.link.due() {
-            Err(turn) => turn,
-            Ok(place) => self.send(place, most),
-        }
+        self.link.turn(&mut self.writer, most)
     }
 
-    // Offers the writer the next bytes of the frame that is sent.
-    fn send(&mut self, place: NextWrite, most: u32) -> Turn
-    where
-        W: TellingWriter,
-        requires some { 1 ≤ most }
-        requires living { is_spent self.old ≡ false }
-        requires unbroken { self.old.live.broken ≡ false }
-        requires sends { IsNextWriteOf (sending self.old.live) place }
-        requires stands { Stands self.old.live.buffers place.buffer }
-        ensures { IfSome (sending self.old.live)
-            (λ s. OfferDecided W.answers self.old most s result self.new) }
+    /// The same turn of a link that is lent a writer by its caller: its own writer is not called, and stays as it is.
+    pub fn turn_into<X: TellingWriter>(&mut self, writer: &mut X, most: u32) -> Turn
+        requires { 1 ≤ most }
+        ensures did { TurnCall X.answers (lent self.old writer.old) most result (lent self.new writer.new) }
+        ensures own { self.new.writer ≡ self.old.writer }
     {
-        match self.link.offer(&place, most, &mut self.writer) {
-            Answer::Accepted(0) => self.link.fail(place),
-            Answer::Accepted(count) => self.link.write(place, count as u32),
-            Answer::Interrupted => Turn::Again,
-            Answer::Failed => self.link.fail(place),
-        }
+        self.link.turn(writer, most)
     }
 
     /// The caller declares that the writer failed, and the writer is not called: `Torn`, one event, where there is a
@@ -303,5 +299,15 @@ impl<W, S: Rates + Drop> Engine<W, S> {
         let Engine { link, writer } = self;
         drop(link);
         writer
+    }
+
+    /// The writer, and the buffers of the open flows with the packets that wait in them; the rest is dropped. It takes
+    /// no memory.
+    pub fn into_parts(self) -> (W, PayloadBuffers)
+        ensures writer { result.0 ≡ self.writer }
+        ensures buffers { result.1 ≡ self.live.buffers }
+    {
+        let Engine { link, writer } = self;
+        (writer, link.into_buffers())
     }
 }

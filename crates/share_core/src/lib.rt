@@ -11,6 +11,7 @@ mod payload_buffers;
 
 pub use engine::Engine;
 pub use laws::{idle_links_are_done, shares_of_calls, tickets_are_shares};
+pub use payload_buffers::PayloadBuffers;
 pub use share_base::Turn;
 use share_base::{HEADER_ROOM, MAX_PAYLOAD};
 pub use share_model::{Row, Totals};

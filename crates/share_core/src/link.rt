@@ -14,6 +14,7 @@ mod flows;
 mod levelling;
 mod readers;
 mod sending;
+mod turns;
 
 use crate::books::Books;
 use crate::payload_buffers::PayloadBuffers;
@@ -129,6 +130,16 @@ const NO_COUNTS: Counts = Counts {
     sent: 0,
     past: 0,
 };
+
+impl<S: Rates + Drop> Link<S> {
+    /// The buffers; the rest is dropped.
+    pub fn into_buffers(self) -> PayloadBuffers
+        ensures { result ≡ self.live.buffers }
+    {
+        let Link { buffers, .. } = self;
+        buffers
+    }
+}
 
 impl<S: Rates> Link<S> {
     /// Makes a link that made no event a new one of this version.

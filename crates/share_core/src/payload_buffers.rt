@@ -34,7 +34,7 @@ impl Model for PayloadBuffers {
 
 impl PayloadBuffers {
     /// No buffers. `NoMemory` if the memory for their places is refused.
-    pub fn new(alloc: Global) -> Result<PayloadBuffers, Refusal>
+    pub(crate) fn new(alloc: Global) -> Result<PayloadBuffers, Refusal>
         ensures ok { IfOk result (λ b. b ≡ []) }
         ensures refused { IfErr result (λ e. e ≡ NoMemory) }
     {
@@ -43,7 +43,7 @@ impl PayloadBuffers {
     }
 
     /// Opens the buffer of a flow that has none, with all its room.
-    pub fn open(&mut self, flow: FlowNo, limit: u64) -> Result<(), Refusal>
+    pub(crate) fn open(&mut self, flow: FlowNo, limit: u64) -> Result<(), Refusal>
         requires { buffer_of self.old flow ≡ None }
         ensures ok { OnOk result
             ((self.new ≡ open_in self.old flow limit) × (limit_refusal limit ≡ None)) }
@@ -54,7 +54,7 @@ impl PayloadBuffers {
     }
 
     /// Where the buffer of a flow is. `None` if the flow is not open.
-    pub fn find(&self, flow: FlowNo) -> Option<Place>
+    pub(crate) fn find(&self, flow: FlowNo) -> Option<Place>
         ensures { MatchOption result (buffer_of self.now flow ≡ None)
             (λ place. (place.flow ≡ flow) × IsSome (buffer_of self.now flow) × Stands self.now place) }
     {
@@ -63,7 +63,7 @@ impl PayloadBuffers {
 
     /// Puts a packet at the back of the buffer at a place, and gives its sequence number. If the buffer is full, it
     /// gives the packet back and changes nothing.
-    pub fn push_at(&mut self, place: &Place, body: Body) -> Result<u32, Body>
+    pub(crate) fn push_at(&mut self, place: &Place, body: Body) -> Result<u32, Body>
         requires there { Stands self.old place.now }
         requires numbers { IfSome (buffer_of self.old place.now.flow)
             (λ b. is_full b ≡ false → b.next < 2 ^ 32) }
@@ -79,7 +79,7 @@ impl PayloadBuffers {
     }
 
     /// The sequence number and the body of the head packet at a place. `None` if the buffer is empty.
-    pub fn head_at(&self, place: &Place) -> Option<(u32, &Body)>
+    pub(crate) fn head_at(&self, place: &Place) -> Option<(u32, &Body)>
         requires { Stands self.now place.now }
         ensures { MatchOption result (head_of self.now place.now.flow ≡ None) (λ h.
             head_of self.now place.now.flow
@@ -89,7 +89,7 @@ impl PayloadBuffers {
     }
 
     /// Takes the head packet out of the buffer at a place, which holds one. The place stays good.
-    pub fn pop_at(&mut self, place: &Place) -> Body
+    pub(crate) fn pop_at(&mut self, place: &Place) -> Body
         requires there { Stands self.old place.now }
         requires busy { IsTrue (is_busy self.old place.now.flow) }
         ensures head { option_map (λ h. h.payload) (head_of self.old place.now.flow) ≡ Some result.payload }
@@ -99,7 +99,22 @@ impl PayloadBuffers {
         self.buffers.pop_at(place)
     }
 
-    /// How many packets a flow's buffer holds; 0 if the flow is not open.
+    /// Takes the head packet out of a flow's buffer, with its payload as it is: nothing is copied. `None` if the flow
+    /// is not open or its buffer is empty; nothing changes then. It takes no memory.
+    pub fn pop(&mut self, flow: FlowNo) -> Option<Body>
+        ensures { MatchOption result ((head_of self.old flow ≡ None) × (self.new ≡ self.old)) (λ body.
+            (option_map (λ h. h.payload) (head_of self.old flow) ≡ Some body.payload)
+            × (self.new ≡ pop_in self.old flow)) }
+    {
+        let place = self.find(flow)?;
+        if self.is_busy_at(&place) {
+            Some(self.pop_at(&place))
+        } else {
+            None
+        }
+    }
+
+    /// How many packets a flow's buffer holds; 0 if the flow is not open. It takes no memory.
     pub fn len(&self, flow: FlowNo) -> u32
         ensures { result ≡ count_in self.now flow }
     {
@@ -107,21 +122,21 @@ impl PayloadBuffers {
     }
 
     /// How full a flow's buffer is. `None` if the flow is not open.
-    pub fn backlog(&self, flow: FlowNo) -> Option<Backlog>
+    pub(crate) fn backlog(&self, flow: FlowNo) -> Option<Backlog>
         ensures { result ≡ backlog_of self.now flow }
     {
         self.buffers.backlog(flow)
     }
 
     /// Whether a flow is open and its buffer holds a packet.
-    pub fn is_busy(&self, flow: FlowNo) -> bool
+    pub(crate) fn is_busy(&self, flow: FlowNo) -> bool
         ensures { result ≡ is_busy self.now flow }
     {
         self.buffers.is_busy(flow)
     }
 
     /// Whether the buffer at a place holds a packet.
-    pub fn is_busy_at(&self, place: &Place) -> bool
+    pub(crate) fn is_busy_at(&self, place: &Place) -> bool
         requires { Stands self.now place.now }
         ensures { result ≡ is_busy self.now place.now.flow }
     {
@@ -129,7 +144,7 @@ impl PayloadBuffers {
     }
 
     /// Closes the buffer of a flow, and says how many packets it held.
-    pub fn close(&mut self, flow: FlowNo) -> u32
+    pub(crate) fn close(&mut self, flow: FlowNo) -> u32
         requires { IsSome (buffer_of self.old flow) }
         ensures held { result ≡ count_in self.old flow }
         ensures after { self.new ≡ close_in self.old flow }
@@ -140,7 +155,7 @@ impl PayloadBuffers {
     /// Offers a writer the next bytes of the head packet at a place with this header before it, of which `out` bytes
     /// are out: at most `most` bytes, in one call. They are one slice of the buffer's own memory, header and payload,
     /// and nothing is copied but the header.
-    pub fn offer_at<W: TellingWriter>(
+    pub(crate) fn offer_at<W: TellingWriter>(
         &mut self,
         place: &Place,
         header: &[u8],

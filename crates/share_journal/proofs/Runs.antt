@@ -40,7 +40,7 @@ unfolding out
 told_nothing version None was = tt
 told_nothing version (Some t) was = record { bytes = was.bytes; counts = was.counts }
 
-empty_run : (version : Version) (told : Option Told) (life : ℕ) (rates : List Rate) → AreInRange rates
+pub empty_run : (version : Version) (told : Option Told) (life : ℕ) (rates : List Rate) → AreInRange rates
     → IfSome told AcceptedNothing → IsRun told life rates (empty_link version) []
 unfolding MayFollow state_after outcomes
 empty_run version told life rates range nothing = record {
@@ -90,7 +90,7 @@ module _ {told : Option Told} {version : Version} {life : ℕ} {rates : List Rat
 
 module _ {W : Type 0} (told : W → Option Told) (version : Version) (old new : LinkView W) (es fs : List Event)
     (os ps : List Outcome) where
-  run_on : IsRunOf (told old.writer) version old.life old.rates old.live es os → Ran told old fs ps new
+  pub run_on : IsRunOf (told old.writer) version old.life old.rates old.live es os → Ran told old fs ps new
       → IsRunOf (told new.writer) version old.life old.rates new.live (es ++ fs) (os ++ ps)
   run_on was ran = record {
     range = was.range;
@@ -112,7 +112,7 @@ module _ {W : Type 0} (told : W → Option Told) (version : Version) (old new : 
         (ran.tells (run version old.rates es) (writes_in es) was.ends was.tells));
   }
 
-  run_more : IsRunOf (told old.writer) version old.life old.rates old.live es os → Ran told old fs ps new
+  pub run_more : IsRunOf (told old.writer) version old.life old.rates old.live es os → Ran told old fs ps new
       → IsRunOf (told new.writer) new.live.version new.life new.rates new.live (es ++ fs) (os ++ ps)
   run_more was ran =
       let now = run_on was ran in

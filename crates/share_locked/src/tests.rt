@@ -1,18 +1,15 @@
 //! Worked examples of a running link, and what no contract says.
 
 mod asking;
-mod eight;
 mod faults;
 mod holding;
 mod longest;
 mod made;
 mod memory;
-mod running;
 mod settling;
 mod spending;
 mod stopping;
 mod tariffs;
-mod whole_run;
 mod writing;
 
 use crate::tests::tariffs::ByByte;
@@ -41,19 +38,4 @@ fn links_refuse_what_finds_no_memory_and_keep_nothing(rt: HostRuntime) {
 #[test]
 fn offer_while_writing(rt: HostRuntime) {
     writing::writes_while_an_offer_is_made(&rt, rt.alloc(), ByByte);
-}
-
-#[test]
-fn served_while_others_work(rt: HostRuntime) {
-    running::serve_one(&rt, rt.alloc(), ByByte);
-}
-
-#[test]
-fn settled(rt: HostRuntime) {
-    whole_run::settles(&rt, rt.alloc(), ByByte);
-}
-
-#[test]
-fn eight_of_each(rt: HostRuntime) {
-    eight::settles(&rt, rt.alloc(), ByByte);
 }

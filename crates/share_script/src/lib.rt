@@ -12,6 +12,7 @@ mod payload;
 mod reading;
 mod replies;
 mod script;
+mod spelled;
 mod spelling;
 mod spool;
 mod text;
@@ -24,4 +25,8 @@ pub use lines::{Incoming, IncomingLines};
 pub use reading::read_line;
 pub use script::{ScriptFault, run_script};
 pub use share_model::{Fault, Line, Tape};
+pub use spelled::{
+    MAX_SEND_LINE, MAX_SHORT_LINE, spelled_arrival, spelled_command, spelled_length, spelled_turn,
+};
+pub use text::ShortText;
 pub use writing::{write_event, write_line, write_reply, write_turn};

@@ -4,6 +4,7 @@ ghost use Rattle.std.specs.List.{join_with_byte, list_all};
 ghost use Rattle.share_model.specs.text.Audit.{event_line};
 ghost use Rattle.share_model.specs.text.Lines.{IsName, IsNumber, IsPayload, HasCommandFields, IsLine, before_stamp};
 ghost use Rattle.share_model.specs.text.Lines.{hex, is_byte, command_words, version_word, spelling_of};
+ghost use Rattle.share_script.specs.Lengths.{length_words};
 
 use crate::hex::spell;
 use crate::text::{MAX_DIGITS, ROOM, ShortText, Text};
@@ -16,8 +17,8 @@ pub(crate) const MAX_SPELLED: usize = 4 + 1 + MAX_NAME + 1 + 2 * MAX_PAYLOAD;
 /// How many bytes of a payload are spelled at a time.
 const PIECE: usize = 512;
 
-/// More bytes than the spelling of a command has.
-const MAX_COMMAND: usize = 100;
+/// How many bytes the spelling of a command has at most: that of a flow that is opened.
+pub(crate) const MAX_COMMAND: usize = 4 + 1 + MAX_NAME + 2 * (1 + MAX_DIGITS);
 
 /// Adds the spelling of a line to an empty text. What the types of its fields say is enough for it to be a line.
 pub fn push_spelled(text: &mut ShortText, line: &Line)
@@ -63,7 +64,8 @@ pub fn push_event(text: &mut ShortText, event: &Event)
     }
 }
 
-fn push_command(text: &mut ShortText, command: &Command)
+/// Adds the spelling of a command to an empty text.
+pub fn push_command(text: &mut ShortText, command: &Command)
     requires { text.old ≡ [] }
     ensures bytes { text.new ≡ join_with_byte 32 (command_words command.now) }
     ensures few { length text.new ≤ MAX_COMMAND }
@@ -114,8 +116,8 @@ fn push_fund(text: &mut ShortText, ticket: u64, kind: &str, name: &Name)
     push_name(text, name);
 }
 
-// The packet of a payload.
-fn push_send(text: &mut ShortText, flow: &Name, body: &Body)
+/// Adds the packet of a payload to an empty text.
+pub fn push_send(text: &mut ShortText, flow: &Name, body: &Body)
     requires { text.old ≡ [] }
     ensures bytes { text.new ≡ join_with_byte 32 (codes "send" ∷ flow.now ∷ hex body.now.payload ∷ []) }
     ensures few { length text.new ≤ MAX_SPELLED }
@@ -125,6 +127,16 @@ fn push_send(text: &mut ShortText, flow: &Name, body: &Body)
     push_named(text, "send", flow);
     text.push_str(" ");
     push_hex(text, body.as_slice());
+}
+
+/// Adds a packet of which the length alone is spelled to an empty text.
+pub fn push_length(text: &mut ShortText, flow: &Name, count: u64)
+    requires { text.old ≡ [] }
+    ensures bytes { text.new ≡ join_with_byte 32 (length_words flow.now count) }
+    ensures few { length text.new ≤ MAX_COMMAND }
+{
+    push_named(text, "send", flow);
+    push_number(text, count);
 }
 
 // A keyword and a name.
@@ -139,8 +151,8 @@ fn push_named(text: &mut ShortText, keyword: &str, name: &Name)
     push_name(text, name);
 }
 
-// A keyword and a number.
-fn push_numbered(text: &mut ShortText, keyword: &str, number: u64)
+/// Adds a keyword and a number to an empty text.
+pub fn push_numbered(text: &mut ShortText, keyword: &str, number: u64)
     requires none { text.old ≡ [] }
     requires short { length keyword.now ≤ 6 }
     ensures bytes { text.new ≡ keyword.now ++ 32 ∷ decimal number }

@@ -48,7 +48,7 @@ impl Model for ShortText {
 
 impl ShortText {
     /// A text of no bytes.
-    pub fn new() -> ShortText
+    pub(crate) fn new() -> ShortText
         ensures { result ≡ [] }
     {
         ShortText {
@@ -64,7 +64,7 @@ impl ShortText {
     }
 
     /// Adds bytes at the end.
-    pub fn push(&mut self, bytes: &[u8])
+    pub(crate) fn push(&mut self, bytes: &[u8])
         requires { length self.old + length bytes.now ≤ ROOM }
         ensures bytes { self.new ≡ self.old ++ bytes.now }
         ensures long { length self.new ≡ length self.old + length bytes.now }

@@ -6,7 +6,7 @@ use crate::faults::FoundFaults;
 use crate::ingress::{why_text, work};
 use crate::slots::{LinkedEnd, Slot};
 use crate::uplink::Uplink;
-use share_locked::{Clerk, LinkBrand, LinkEnd, Port, serve_paced_while};
+use share_locked::{Clerk, LinkBrand, LinkEnd, Port, serve_while};
 use share_model::{PlainReader, PlainWriter, Rates};
 use share_script::IncomingLines;
 use std::alloc::Global;
@@ -257,7 +257,7 @@ where
             found.thread = true;
             connections.end(rt);
         }
-        let (end, mut found) = serve_paced_while(
+        let (end, mut found) = serve_while(
             rt,
             &server.port,
             connections.pace(),

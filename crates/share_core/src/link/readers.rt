@@ -5,12 +5,13 @@ ghost use Rattle.share_model.specs.funding.Changes.{flow_named};
 ghost use Rattle.share_model.specs.funding.Graph.{tickets};
 ghost use Rattle.share_model.specs.link.Calls.{is_spent};
 ghost use Rattle.share_model.specs.link.Books.{is_book_of};
-ghost use Rattle.share_model.specs.link.Buffers.{backlog_of};
+ghost use Rattle.share_model.specs.link.Buffers.{backlog_of, buffer_of};
 ghost use Rattle.share_model.specs.link.Tariff.{AreInRange};
 ghost use Rattle.share_model.specs.link.Totals.{torn_count, waiting, state_by, totals, row};
 ghost use Rattle.share_model.specs.run.Sound.{Sound};
 ghost use Rattle.share_model.specs.stride.Moves.{global_part};
 ghost use Rattle.share_model.specs.stride.Moves.{position as position_of};
+ghost use Rattle.share_core.specs.Room.{has_place};
 
 use super::Link;
 use share_base::{FlowNo, Name, Version};
@@ -107,6 +108,16 @@ impl<S: Rates> Link<S> {
         ensures { result ≡ backlog_of self.now.live.buffers flow }
     {
         self.buffers.backlog(flow)
+    }
+
+    /// Whether a flow is open, and its buffer is not full.
+    pub fn has_room(&self, flow: FlowNo) -> bool
+        ensures { result ≡ has_place (buffer_of self.now.live.buffers flow) }
+    {
+        match self.buffers.backlog(flow) {
+            None => false,
+            Some(backlog) => backlog.packets < backlog.limit,
+        }
     }
 
     /// What the flows share in the queue.

@@ -3,9 +3,8 @@ ghost use Rattle.std.specs.Prelude.{◌≡◌, []};
 ghost use Rattle.share_base.specs.declared.version.Version.TheVariants.{Two};
 ghost use Rattle.share_model.specs.lists.Each.{Each};
 
-use crate::tests::made::{LONG, offering, one, open_and_fund, queued, recording, settled};
+use crate::tests::made::{LONG, offering, one, open_and_fund, queued, recording, replays, settled};
 use crate::tests::settling::admits_one;
-use crate::tests::whole_run::replays;
 use crate::{LinkBrand, Locked};
 use share_base::{FlowNo, Turn};
 use share_ingress::{IngressEnd, Intake};

@@ -9,7 +9,8 @@ use share_base::{Command, FlowNo, Name, Parcel, Reply, TicketNo, Turn, Version};
 use share_core::Engine;
 use share_ingress::{IngressEnd, Intake, Offered, queue};
 use share_journal::{Journal, Recorder};
-use share_model::{Rates, Tape, TellingWriter};
+use share_model::{PlainReader, Rates, Tape, TellingWriter};
+use share_script::run_script;
 use std::alloc::Global;
 use std::process::Abort;
 use std::sync::Wait;
@@ -227,6 +228,29 @@ pub(super) fn settled<W: TellingWriter + Drop, S: Rates + Copy, L: LinkBrand>(
 /// Whether a recorder has `entries` entries, and its writer these bytes.
 pub(super) fn has<S: Rates>(recorder: &Recorder<Tape, S>, entries: u64, bytes: &[u8]) -> bool {
     recorder.journal().len() == entries && recorder.engine().writer().bytes() == bytes
+}
+
+/// Checks that the audit, run as a script in a life as long, gives the bytes of the writer, and how many they are.
+pub(super) fn replays<S: Rates + Copy>(
+    rt: &impl Abort,
+    alloc: Global,
+    shelf: S,
+    life: u64,
+    recorder: &Recorder<Tape, S>,
+    bytes: usize,
+) {
+    let written = recorder.engine().writer().bytes();
+    assert!(rt; written.len() == bytes);
+    let mut audit = Tape::new(alloc);
+    assert!(rt; recorder.journal().audit(&mut audit).is_ok());
+    let mut output = Tape::new(alloc);
+    let engine = Engine::new(alloc, shelf, life, Tape::new(alloc)).expect(rt, "a link");
+    let ran = run_script(alloc, engine, &mut PlainReader(audit.bytes()), &mut output);
+    let engine = ran.ok().expect(rt, "a run");
+    assert!(rt; engine.writer().bytes() == written);
+    drop(engine);
+    drop(output);
+    drop(audit);
 }
 
 /// How many entries the journal of a link has.

@@ -1,4 +1,4 @@
-use Rattle.std.proofs.Common.{◌≡◌, ◌≤◌, ◌∙◌, ◌++◌, ℕ, List, Option, IsSome, IfSome, length, take, drop, ap, refl}
+use Rattle.std.proofs.Common.{◌≤◌, ◌++◌, ℕ, List, Option, IsSome, IfSome, length, take, drop, ap, refl}
 use Rattle.std.proofs.Common.{subst, sym, arith}
 use Rattle.share_model.specs.io.Told.{Fits}
 use Rattle.share_model.specs.link.Frame.{Packet}

@@ -1,0 +1,6 @@
+//! A gateway's core in use: worked examples, and what no contract says.
+
+mod assertions;
+mod frames;
+mod outbox;
+mod records;

@@ -1,0 +1,4 @@
+pub mod FramesLemmas
+pub mod OutboxHistoryLemmas
+pub mod OutboxLemmas
+pub mod RecordsLemmas

@@ -376,7 +376,8 @@ fn payloads_are_copied_once_their_memory_is_found(rt: HostRuntime) {
         }
         mark(alloc);
         let answer = makes(alloc, kind, payload);
-        let bytes = requests * (HEADER_ROOM + payload.len()) as u16;
+        let each = u16::try_from(payload.len().saturating_add(HEADER_ROOM)).unwrap_or(u16::MAX);
+        let bytes = requests.saturating_mul(each);
         let row = (kind, payload.len(), bytes);
         asked_for(&rt, row, alloc, bytes, is_steered);
         same(&rt, row, answer, Ok(true));

@@ -145,7 +145,8 @@ const ENDS: [(usize, &[u8], Option<Refusal>); 4] = [
 fn gives_back(rt: &impl Abort, alloc: Global, line: &[u8], count: usize, wanted: Option<Refusal>) {
     mark(alloc);
     let read = read_line(alloc, Version::Two, line);
-    asks_for_few(rt, count, alloc, (HEADER_ROOM + count) as u16);
+    let bytes = u16::try_from(count.saturating_add(HEADER_ROOM)).unwrap_or(u16::MAX);
+    asks_for_few(rt, count, alloc, bytes);
     same(rt, count, read.err(), wanted);
     keeps_none(rt, count, alloc);
 }

@@ -779,7 +779,7 @@ def stalled(run, some, frames_before):
     control = server.control()
     control.fund()
     sending = run.thread(send_quietly, server.ingress(), some)
-    wait_for(lambda: is_blocked(server, []), "a link that waits for its peer")
+    wait_for(lambda: server.unread() and is_blocked(server, []), "a link that waits for its peer")
     return peer, server, sending
 
 
@@ -805,7 +805,7 @@ def peer_that_dies(run):
     """A peer that reads when the end begins, and soon no more: the uplink is torn at a later look."""
     def read_for_a_while(peer):
         while not is_over.is_set() and peer.read(1017):
-            time.sleep(0.02)
+            time.sleep(0.005)
         peer.go_on.wait()
 
     is_over = threading.Event()
@@ -824,23 +824,24 @@ def peer_that_dies(run):
 
 
 def slow_peer(run):
-    """A peer that takes little, but always more, gets all, however long it takes."""
+    """A peer that takes little, but always more, gets all that was admitted, however long it takes."""
     def read_slowly(peer):
         while not peer.go_on.is_set() and peer.read(1017):
-            time.sleep(0.05)
+            time.sleep(0.01)
 
     peer = run.peer(read_slowly, narrow=True)
     server = run.server(peer, until_eof=True)
     control = server.control()
     control.fund()
-    some = packets("a", 0, 600, 1000)
-    server.ingress(records(some)).close()
-    wait_for(lambda: ENDED % ("ingress", 1) + ", End, 600 packets\n" in server.text("stderr"), "all packets")
+    some = packets("a", 0, 3000, 1000)
+    sending = run.thread(send_quietly, server.ingress(), some)
+    wait_for(lambda: len(peer.got) > 50850, "some frames")
     server.end_input()
     time.sleep(2.1 * GRACE)
     peer.go_on.set()
     server.ends(seconds=END)
-    check(server, peer, [("whole", some)])
+    sending.finish()
+    check(server, peer, [("part", some)])
 
 
 def idle_uplink(run, count):
@@ -850,10 +851,9 @@ def idle_uplink(run, count):
         peer.go_on.wait()
         peer.connection.sendall(b"thanks")
         while peer.read(1017):
-            time.sleep(0.01)
             peer.connection.sendall(b"thanks")
 
-    peer = run.peer(read_late, narrow=True)
+    peer = run.peer(read_late)
     server = run.server(peer, until_eof=True, clerks=2)
     control, deaf = server.control(), server.control()
     control.fund()

@@ -27,8 +27,8 @@ sys.dont_write_bytecode = True
 from measured import Load, check_changes, check_currency, check_load, flooded
 from serving import (ENDED, END, LOOPBACK, ONE_PACKET, PATIENCE, QUIET_SECONDS, Failure, address_space, check,
                      ends_by_itself, expect, expect_equal, frame, frames, is_blocked, listeners, lower, lowest_free,
-                     one_packet, packets, packets_until_torn, record, records, reset, send_on, total, try_cases,
-                     wait_for)
+                     one_packet, packets, packets_until_torn, record, records, reset, send_on, tcp_connections, total,
+                     try_cases, wait_for)
 
 # Seconds for a case, and for all of them.
 LIMIT = 60
@@ -732,7 +732,7 @@ def idle_client(run):
     some = packets("a", 0, 3000, 1000)
     waits, rests = server.ingress(), server.ingress()
     sending = run.thread(send_quietly, waits, some)
-    wait_for(lambda: is_blocked(server, []), "a link that waits for its peer")
+    wait_for(lambda: server.unread() and is_blocked(server, []), "a link that waits for its peer")
     server.end_input()
     ends_by_itself(rests)
     time.sleep(1)
@@ -779,20 +779,15 @@ def stalled(run, some, frames_before):
     control = server.control()
     control.fund()
     sending = run.thread(send_quietly, server.ingress(), some)
-    wait_for(lambda: is_blocked(server, []), "a link that waits for its peer")
+    wait_for(lambda: server.unread() and is_blocked(server, []), "a link that waits for its peer")
     return peer, server, sending
 
 
 def written_to(peer):
     """How many bytes the system has taken for the peer of an uplink: those that it read, and those on their way."""
-    port = ":%04X" % int(peer.address.split(":")[1])
-    count = len(peer.got)
-    with open("/proc/net/tcp", encoding="ascii") as source:
-        for line in source:
-            words = line.split()
-            sending, receiving = (int(digits, 16) for digits in words[4].split(":")) if words[3] == "01" else (0, 0)
-            count += sending * words[2].endswith(port) + receiving * words[1].endswith(port)
-    return count
+    port = int(peer.address.split(":")[1])
+    return len(peer.got) + sum(sent * (other == port) + received * (own == port)
+                               for own, other, sent, received in tcp_connections())
 
 
 def torn_at_the_end(server, peer, some):
@@ -810,7 +805,7 @@ def peer_that_dies(run):
     """A peer that reads when the end begins, and soon no more: the uplink is torn at a later look."""
     def read_for_a_while(peer):
         while not is_over.is_set() and peer.read(1017):
-            time.sleep(0.02)
+            time.sleep(0.005)
         peer.go_on.wait()
 
     is_over = threading.Event()
@@ -829,23 +824,24 @@ def peer_that_dies(run):
 
 
 def slow_peer(run):
-    """A peer that takes little, but always more, gets all, however long it takes."""
+    """A peer that takes little, but always more, gets all that was admitted, however long it takes."""
     def read_slowly(peer):
         while not peer.go_on.is_set() and peer.read(1017):
-            time.sleep(0.2)
+            time.sleep(0.01)
 
     peer = run.peer(read_slowly, narrow=True)
     server = run.server(peer, until_eof=True)
     control = server.control()
     control.fund()
-    some = packets("a", 0, 200, 1000)
-    server.ingress(records(some)).close()
-    wait_for(lambda: len(peer.got) > 5085, "some frames")
+    some = packets("a", 0, 3000, 1000)
+    sending = run.thread(send_quietly, server.ingress(), some)
+    wait_for(lambda: len(peer.got) > 50850, "some frames")
     server.end_input()
     time.sleep(2.1 * GRACE)
     peer.go_on.set()
     server.ends(seconds=END)
-    check(server, peer, [("whole", some)])
+    sending.finish()
+    check(server, peer, [("part", some)])
 
 
 def idle_uplink(run, count):
@@ -855,10 +851,9 @@ def idle_uplink(run, count):
         peer.go_on.wait()
         peer.connection.sendall(b"thanks")
         while peer.read(1017):
-            time.sleep(0.01)
             peer.connection.sendall(b"thanks")
 
-    peer = run.peer(read_late, narrow=True)
+    peer = run.peer(read_late)
     server = run.server(peer, until_eof=True, clerks=2)
     control, deaf = server.control(), server.control()
     control.fund()
@@ -877,8 +872,8 @@ def idle_uplink(run, count):
 
 
 def until_eof_beside_slow_ones(run):
-    """The end of standard input beside clients and peers that are slow, idle or dead. They are tried side by side, since
-    each takes seconds."""
+    """The end of standard input beside clients and peers that are slow, idle or dead. They are tried side by side,
+    since each takes seconds."""
     run.side_by_side(((unread_replies,), (what_had_come,), (idle_client,), (dead_peer, False), (dead_peer, True),
                       (peer_that_dies,), (slow_peer,), (idle_uplink, 7), (idle_uplink, 8)), LIMIT)
 

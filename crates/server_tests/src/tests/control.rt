@@ -101,7 +101,8 @@ const APART: &[u8] = b"open a 4 1\n|mktkt 1 base\n|fund 1 flow a\n";
 const TOGETHER: &[u8] = b"open a 4 1\nmktkt 1 base\nfund 1 flow a\n";
 
 /// Lines of all kinds, of which three make commands.
-const ALL_KINDS: &[u8] = b"report\nturn 65535\nsend a 61\ntorn\naudit 2\nnonsense\nmkcur x\nhold a\nresume a\n";
+const ALL_KINDS: &[u8] =
+    b"report\nturn 65535\nsend a 61\ntorn\naudit 2\nnonsense\nmkcur x\nhold a\nresume a\n";
 
 /// The answers to this many empty lines are more than the 65536 bytes that wait for a write call.
 const EMPTY_LINES: usize = 5500;
@@ -458,10 +459,16 @@ where
         whole(ALL_KINDS),
         &mut written,
     );
-    assert!(rt; totals_of(rt, &port) == before, "a turn was made, or an arrival");
+    assert!(rt;
+        totals_of(rt, &port) == before,
+        "a turn was made, or an arrival"
+    );
     assert!(rt; is_unwritten(rt, &port), "something was written");
     assert!(rt; entries_of(rt, &port) == 7, "there are other entries");
-    assert!(rt; asked.clerk.receipts().len() == 6, "there are other commands");
+    assert!(rt;
+        asked.clerk.receipts().len() == 6,
+        "there are other commands"
+    );
     admits(rt, &port, 2);
     drop(asked);
     drop(port);

@@ -44,7 +44,15 @@ where
     let until = Some(b"".as_slice());
     let _no = asks!(alloc, request);
     let served = serve_on(
-        rt, alloc, ByByte, journal, sockets, PLAN, until, keep, &mut report,
+        rt,
+        alloc,
+        ByByte,
+        journal,
+        sockets,
+        PLAN,
+        until,
+        keep,
+        &mut report,
     );
     let was_refused = asks!(alloc, WAS_REFUSED);
     let is_silent = audit.bytes().is_empty() && report.bytes().is_empty();
@@ -66,7 +74,10 @@ fn servers_run_once_their_memory_is_found(rt: HostRuntime) {
             assert!(&rt; served == Err(ServeFault::Thread), "{request}: {served:?}");
             return;
         }
-        assert!(&rt; served == Err(ServeFault::NoMemory), "{request}: {served:?}");
+        assert!(&rt;
+            served == Err(ServeFault::NoMemory),
+            "{request}: {served:?}"
+        );
     }
     panic!(&rt; "no thread is started");
 }

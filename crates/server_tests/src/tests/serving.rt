@@ -549,10 +549,21 @@ where
     });
     let mut report = Tape::new(alloc);
     let served = serve_on(
-        rt, alloc, shelf, journal, sockets, plan, until, OfWorkers, &mut report,
+        rt,
+        alloc,
+        shelf,
+        journal,
+        sockets,
+        plan,
+        until,
+        OfWorkers,
+        &mut report,
     );
     assert!(rt; served == Ok(()), "two connections: {served:?}");
-    assert!(rt; clients.join(rt), "the clients and the peer got what they should");
+    assert!(rt;
+        clients.join(rt),
+        "the clients and the peer got what they should"
+    );
     drop(report);
 }
 

@@ -8,8 +8,7 @@ use running_tests::ByByte;
 use share_ingress::{IngressEnd, Intake, queue};
 use share_journal::Recorder;
 use share_locked::{
-    Admit, Attendant, LinkBrand, LinkEnd, Locked, Pace, Port, Stop, run_paced_link,
-    serve_while,
+    Admit, Attendant, LinkBrand, LinkEnd, Locked, Pace, Port, Stop, run_paced_link, serve_while,
 };
 use share_model::allocator::WAS_REFUSED;
 use share_model::{Rates, Tape, asks};
@@ -180,11 +179,26 @@ where
     for request in 1..REQUESTS {
         let (end, seen, was_refused) = served_or_not(rt, alloc, &port, request);
         let wanted = if was_refused {
-            (None, Seen { is_served: false, has_ended: true })
+            (
+                None,
+                Seen {
+                    is_served: false,
+                    has_ended: true,
+                },
+            )
         } else {
-            (Some(LinkEnd::Drained), Seen { is_served: true, has_ended: false })
+            (
+                Some(LinkEnd::Drained),
+                Seen {
+                    is_served: true,
+                    has_ended: false,
+                },
+            )
         };
-        assert!(rt; (end, seen) == wanted, "request {request}: {end:?}, {seen:?}");
+        assert!(rt;
+            (end, seen) == wanted,
+            "request {request}: {end:?}, {seen:?}"
+        );
         if !was_refused {
             break;
         }

@@ -8,7 +8,7 @@ use Rattle.share_frame.specs.declared.reading.FrameRead2.{FrameRead2}
 use Rattle.share_frame.specs.declared.reading.FrameRead2.TheVariants.{Frame}
 use Rattle.share_model.proofs.lemmas.link.FrameLaws.{length-header, length-frame, frame_length-few, frame-prefix}
 use Rattle.share_model.proofs.lemmas.lists.Laws.{each-append, each-one}
-use Rattle.share_model.specs.link.Frame.{Packet, FitsFrame, header, frame}
+use Rattle.share_model.specs.link.Frame.{FitsFrame, header, frame}
 use Rattle.share_model.specs.lists.Each.{Each}
 use Rattle.share_model.specs.run.History.{IsBeginning}
 use Rattle.share_gateway.specs.Frames.{GivesFrame, Framed, framed_bytes, AreFrames, NoFrame, Reads, began, fed, given}
@@ -39,8 +39,7 @@ frame_is slice flow seq tariff len b =
     ap (λ t. drop 17 t) (b.is ∙ append_assoc front b.head.payload b.rest)
     ∙ drop_at front (b.head.payload ++ b.rest) 17 long in
     let all : length (front ++ b.head.payload) ≡ 17 + len =
-    omega (arith, length-append front b.head.payload, long, b.len_is) in
-    (
+    omega (arith, length-append front b.head.payload, long, b.len_is) in (
       ap (λ t. take len t) after ∙ take_at b.head.payload b.rest len b.len_is,
       ap (λ t. drop (17 + len) t) b.is ∙ drop_at (front ++ b.head.payload) b.rest (17 + len) all,
     )

@@ -1,22 +1,20 @@
 -- Records that are cut out of a stream.
-use Rattle.std.proofs.Common.{◌≡◌, ◌≢◌, ◌⊎◌, inl, inr, ℕ, ◌+◌, ◌-◌, ◌*◌, ◌<◌, ◌≤◌, Bool, true, false, ◌&&◌, nat_le}
-use Rattle.std.proofs.Common.{List, [], ◌∷◌, ◌++◌, length, map, take, drop, arith, refl, sym, ap, ◌∙◌, subst}
+use Rattle.std.proofs.Common.{◌≡◌, ◌≢◌, inl, inr, ℕ, ◌+◌, ◌-◌, ◌*◌, ◌<◌, ◌≤◌, Bool, true, false}
+use Rattle.std.proofs.Common.{List, [], ◌∷◌, ◌++◌, length, map, take, drop, arith, refl, sym, ap, ◌∙◌}
 use Rattle.std.proofs.Common.{not, true≢false}
 use Rattle.std.proofs.lemmas.Bool.Decides.{nat_tests}
 use Rattle.std.proofs.lemmas.List.{append_assoc, append-nil, map-append, take_at, drop_at, length-append}
 use Rattle.std.proofs.lemmas.List.{length-take-le, take-append-drop}
 use Rattle.std.specs.Bool.{Decides, MatchBool}
 use Rattle.share_base.specs.Name.{is_name}
-use Rattle.share_base.specs.Body.{is_payload_length}
 use Rattle.share_model.proofs.lemmas.lists.Laws.{each-append, each-one}
 use Rattle.share_model.specs.declared.ingress.Ended.{Ended}
 use Rattle.share_model.specs.declared.ingress.Ended.TheVariants.{End, Cut, BadRecord}
-use Rattle.share_model.specs.ingress.Records.{Item, IsItem, record_of, records_of, two_bytes, is_name_length, IsCut}
+use Rattle.share_model.specs.ingress.Records.{Item, IsItem, record_of, records_of, two_bytes, is_name_length}
 use Rattle.share_model.specs.ingress.Records.{cut_in_name, cut_in_length, cut_in_payload, IsBad, Front, IsRecords}
-use Rattle.share_model.specs.lists.Each.{Each}
 use Rattle.share_ingress.specs.Found.{BeginsWhole, NeedsMore}
 use Rattle.share_ingress.specs.Streams.{EndsStream}
-use Rattle.share_gateway.specs.Records.{RecordsView, item_for, NamesOther, NamesOnly, GivesItem, Reads, began, fed, given}
+use Rattle.share_gateway.specs.Records.{item_for, NamesOther, NamesOnly, GivesItem, Reads, began, fed, given}
 
 -- The name in front
 

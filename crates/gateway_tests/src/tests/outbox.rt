@@ -29,9 +29,17 @@ const STEPS: [(Step, &[u8], usize); 12] = [
     (Step::Again, b"", 65518),
     (Step::Allow(2), b"L\x02", 65518),
     (Step::Put(SECOND), b"L\x02", 65500),
-    (Step::Allow(18), b"L\x02\x01\0\0\0\x01\0\0\0\0\0\0\0\x01\0\x01aL\x02", 65500),
+    (
+        Step::Allow(18),
+        b"L\x02\x01\0\0\0\x01\0\0\0\0\0\0\0\x01\0\x01aL\x02",
+        65500,
+    ),
     (Step::Sent(20), b"", 65518),
-    (Step::Allow(100), b"\x01\0\0\0\x01\0\0\0\0\0\0\0\x02\0\x01b", 65518),
+    (
+        Step::Allow(100),
+        b"\x01\0\0\0\x01\0\0\0\0\0\0\0\x02\0\x01b",
+        65518,
+    ),
     (Step::Again, SECOND, 65518),
     (Step::Sent(17), b"b", 65518),
     (Step::Again, SECOND, 65518),
@@ -141,7 +149,12 @@ fn frames_go_round(rt: HostRuntime) -> Result<(), AllocError> {
             outbox.allow(100);
         }
     }
-    same(&rt, "all bytes", (at, outbox.room()), (60 * LONGEST, OUTBOX));
+    same(
+        &rt,
+        "all bytes",
+        (at, outbox.room()),
+        (60 * LONGEST, OUTBOX),
+    );
     drop(outbox);
     Ok(())
 }

@@ -38,7 +38,9 @@ const STREAMS: [(&[u8], usize, usize, Ends); 19] = [
 
 fn records(rt: &impl Abort, alloc: Global) -> Records {
     let name = Name::read(b"a").expect(rt, "a name");
-    Records::new(alloc, name).ok().expect(rt, "room for records")
+    Records::new(alloc, name)
+        .ok()
+        .expect(rt, "room for records")
 }
 
 // How many items are whole, how many bytes their payloads have together, and what comes after them.
@@ -55,14 +57,23 @@ fn counted(records: &mut Records) -> (usize, usize, Ends) {
 }
 
 // The same of a stream that comes in these two pieces.
-fn counted_in_two(rt: &impl Abort, alloc: Global, first: &[u8], last: &[u8]) -> (usize, usize, Ends) {
+fn counted_in_two(
+    rt: &impl Abort,
+    alloc: Global,
+    first: &[u8],
+    last: &[u8],
+) -> (usize, usize, Ends) {
     let mut records = records(rt, alloc);
     same(rt, "fed", records.feed(first), first.len());
     let (items, bytes, _) = counted(&mut records);
     same(rt, "fed", records.feed(last), last.len());
     let (more, more_bytes, ends) = counted(&mut records);
     drop(records);
-    (items.saturating_add(more), bytes.saturating_add(more_bytes), ends)
+    (
+        items.saturating_add(more),
+        bytes.saturating_add(more_bytes),
+        ends,
+    )
 }
 
 #[test]

@@ -36,7 +36,11 @@ fn streams_are_made_once_their_memory_is_found(rt: HostRuntime) {
             let _no = asks!(rt.alloc(), request);
             let got = refusal(&rt, rt.alloc(), made);
             let was_refused = asks!(rt.alloc(), WAS_REFUSED);
-            let wanted = if was_refused { Some(Refusal::NoMemory) } else { None };
+            let wanted = if was_refused {
+                Some(Refusal::NoMemory)
+            } else {
+                None
+            };
             same(&rt, (made, request), got, wanted);
             if !was_refused {
                 break;
@@ -77,7 +81,9 @@ fn streams_take_no_memory_once_made(rt: HostRuntime) -> Result<(), AllocError> {
     let frame = vec![in rt.alloc(); 7u8; 9017]?;
     let mut outbox = Outbox::new(rt.alloc()).ok().expect(&rt, "an outbox");
     let name = Name::read(b"a").expect(&rt, "a name");
-    let mut records = Records::new(rt.alloc(), name).ok().expect(&rt, "room for records");
+    let mut records = Records::new(rt.alloc(), name)
+        .ok()
+        .expect(&rt, "room for records");
     let mut frames = Frames::new(rt.alloc()).ok().expect(&rt, "room for frames");
     let _no = asks!(rt.alloc(), REFUSE_EACH);
     records.feed(b"\x01a");

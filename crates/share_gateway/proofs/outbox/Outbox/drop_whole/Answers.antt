@@ -1,4 +1,4 @@
-use Rattle.std.proofs.Common.{◌≡◌, length, arith, ap}
+use Rattle.std.proofs.Common.{arith, ap}
 use Rattle.share_gateway.specs.ByteQueue.{ByteQueueView}
 use Rattle.share_gateway.proofs.OutboxLemmas.{first_is, none_whole, first_stays, first_goes}
 use Rattle.share_gateway.proofs.outbox.Outbox.drop_whole.Goals as goal

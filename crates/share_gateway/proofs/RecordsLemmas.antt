@@ -84,7 +84,8 @@ pub gives_item : (name bytes old other payload rest : List ℕ) (size start : �
 gives_item name bytes old other payload rest size start only whole start_is payload_is rest_is =
     let front = (length other ∷ other) ++ two_bytes (length whole.payload) in
     let item : Item = record { name = other; payload = whole.payload } in
-    let all_are : bytes ≡ (length other ∷ other) ++ (two_bytes (length whole.payload) ++ (whole.payload ++ whole.rest)) =
+    let all_are : bytes
+    ≡ (length other ∷ other) ++ (two_bytes (length whole.payload) ++ (whole.payload ++ whole.rest)) =
     whole.bytes ∙ append_assoc front whole.payload whole.rest
     ∙ append_assoc (length other ∷ other) (two_bytes (length whole.payload)) (whole.payload ++ whole.rest) in
     let same : other ≡ name = only other _ (name_in_range other whole.item.name) all_are in
@@ -104,7 +105,8 @@ gives_item name bytes old other payload rest size start only whole start_is payl
 
 -- The whole stream
 
-records_of-one : (items : List Item) (item : Item) → records_of (items ++ item ∷ []) ≡ records_of items ++ record_of item
+records_of-one : (items : List Item) (item : Item)
+    → records_of (items ++ item ∷ []) ≡ records_of items ++ record_of item
 records_of-one [] item = append-nil (record_of item)
 records_of-one (i ∷ items) item =
     ap (λ t. record_of i ++ t) (records_of-one items item)

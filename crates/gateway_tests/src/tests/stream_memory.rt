@@ -32,7 +32,7 @@ fn refusal(rt: &impl Abort, alloc: Global, made: Made) -> Option<Refusal> {
 #[test]
 fn streams_are_made_once_their_memory_is_found(rt: HostRuntime) {
     for made in ALL {
-        for request in 1..8 {
+        for request in 1..8u16 {
             let _no = asks!(rt.alloc(), request);
             let got = refusal(&rt, rt.alloc(), made);
             let was_refused = asks!(rt.alloc(), WAS_REFUSED);

@@ -4,3 +4,4 @@ mod assertions;
 mod frames;
 mod outbox;
 mod records;
+mod stream_memory;

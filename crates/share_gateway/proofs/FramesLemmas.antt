@@ -1,15 +1,17 @@
 -- Frames that are cut out of a stream.
-use Rattle.std.proofs.Common.{◌≡◌, ℕ, ◌+◌, ◌-◌, ◌<◌, ◌≤◌, List, [], ◌∷◌, ◌++◌, length, take, drop, min}
+use Rattle.std.proofs.Common.{◌≡◌, ◌↔◌, ℕ, ◌+◌, ◌-◌, ◌<◌, ◌≤◌, List, [], ◌∷◌, ◌++◌, length, take, drop, min}
 use Rattle.std.proofs.Common.{arith, refl, sym, ap, ◌∙◌, subst}
 use Rattle.std.proofs.lemmas.List.{append_assoc, append-nil, take_at, drop_at, length-append, length-take}
 use Rattle.share_base.specs.declared.version.Version.TheVariants.{Two}
 use Rattle.share_frame.specs.Reading.{BeginsWithFrame}
-use Rattle.share_model.proofs.lemmas.link.FrameLaws.{length-header, length-frame, frame_length-few}
+use Rattle.share_frame.specs.declared.reading.FrameRead2.{FrameRead2}
+use Rattle.share_frame.specs.declared.reading.FrameRead2.TheVariants.{Frame}
+use Rattle.share_model.proofs.lemmas.link.FrameLaws.{length-header, length-frame, frame_length-few, frame-prefix}
 use Rattle.share_model.proofs.lemmas.lists.Laws.{each-append, each-one}
-use Rattle.share_model.specs.link.Frame.{Packet, FitsFrame, header, frame}
+use Rattle.share_model.specs.link.Frame.{FitsFrame, header, frame}
 use Rattle.share_model.specs.lists.Each.{Each}
 use Rattle.share_model.specs.run.History.{IsBeginning}
-use Rattle.share_gateway.specs.Frames.{GivesFrame, Framed, framed_bytes, AreFrames, Reads, began, fed, given}
+use Rattle.share_gateway.specs.Frames.{GivesFrame, Framed, framed_bytes, AreFrames, NoFrame, Reads, began, fed, given}
 
 pub part_short : (bytes : List ℕ) → IsBeginning Two bytes → length bytes < 9017
 part_short bytes b =
@@ -37,8 +39,7 @@ frame_is slice flow seq tariff len b =
     ap (λ t. drop 17 t) (b.is ∙ append_assoc front b.head.payload b.rest)
     ∙ drop_at front (b.head.payload ++ b.rest) 17 long in
     let all : length (front ++ b.head.payload) ≡ 17 + len =
-    omega (arith, length-append front b.head.payload, long, b.len_is) in
-    (
+    omega (arith, length-append front b.head.payload, long, b.len_is) in (
       ap (λ t. take len t) after ∙ take_at b.head.payload b.rest len b.len_is,
       ap (λ t. drop (17 + len) t) b.is ∙ drop_at (front ++ b.head.payload) b.rest (17 + len) all,
     )
@@ -86,3 +87,49 @@ frames_are _ _ _ (given stream packets bytes reads tariff packet rest gives) =
           ∙ sym (append_assoc (framed_bytes packets) (frame Two tariff packet) rest)
           ∙ ap (λ t. t ++ rest) (sym (framed_bytes-one packets last));
     }
+
+-- One reading
+
+begins : (bytes : List ℕ) (f : Framed) (rest : List ℕ) → FitsFrame Two f.tariff f.packet
+    → bytes ≡ frame Two f.tariff f.packet ++ rest
+    → BeginsWithFrame Two f.packet.flow f.packet.seq f.tariff (length f.packet.payload) bytes
+begins bytes f rest fits is =
+    record { head = f.packet; fits = fits; flow_is = refl; seq_is = refl; len_is = refl; rest = rest; is = is }
+
+-- packets that stand in front of others
+abbrev MoreThan : List Framed → List Framed → Type 0
+MoreThan packets all = (more : List Framed) × (all ≡ packets ++ more)
+
+first_by : (packets : List Framed) (bytes : List ℕ) (all : List Framed) (rest : List ℕ)
+    → Each (λ (f : Framed). FitsFrame Two f.tariff f.packet) packets
+    → Each (λ (f : Framed). FitsFrame Two f.tariff f.packet) all
+    → framed_bytes packets ++ bytes ≡ framed_bytes all ++ rest → NoFrame rest → MoreThan packets all
+first_by [] bytes all rest good goods same none = (all, refl)
+first_by (p ∷ packets) bytes [] rest good goods same none =
+    let is : rest ≡ frame Two p.tariff p.packet ++ (framed_bytes packets ++ bytes) =
+    sym same ∙ append_assoc (frame Two p.tariff p.packet) (framed_bytes packets) bytes in
+    absurd (none _ _ _ _ (begins rest p (framed_bytes packets ++ bytes) good.0 is))
+first_by (p ∷ packets) bytes (q ∷ all) rest good goods same none =
+    let heads = frame-prefix Two p.tariff q.tariff p.packet q.packet (framed_bytes packets ++ bytes)
+    (framed_bytes all ++ rest) good.0 goods.0
+    (sym (append_assoc (frame Two p.tariff p.packet) (framed_bytes packets) bytes) ∙ same
+    ∙ append_assoc (frame Two q.tariff q.packet) (framed_bytes all) rest) in
+    let more = first_by packets bytes all rest good.1 goods.1 heads.rest none in
+    let one : p ≡ q = (λ k. record { tariff = heads.tariff refl k; packet = heads.head k }) in
+    (more.0, (λ k. sym one k ∷ more.1 k))
+
+pub first_are : (stream : List ℕ) (packets : List Framed) (bytes : List ℕ) (all : List Framed) (rest : List ℕ)
+    → Reads stream packets bytes → AreFrames stream all rest → NoFrame rest
+    → (more : List Framed) × (all ≡ packets ++ more)
+first_are stream packets bytes all rest reads others none =
+    let f = frames_are stream packets bytes reads in
+    first_by packets bytes all rest f.good others.good (sym f.bytes ∙ others.bytes) none
+
+-- what is read as something else begins with no frame
+pub reads_none : (bytes slice : List ℕ) (r : FrameRead2) → slice ≡ bytes
+    → ((flow seq tariff len : ℕ) → (r ≡ Frame flow seq tariff len) ↔ BeginsWithFrame Two flow seq tariff len slice)
+    → ((flow seq tariff len : ℕ) → r ≡ Frame flow seq tariff len → ⊥) → NoFrame bytes
+reads_none bytes slice r is exact other =
+    λ flow seq tariff len b.
+    other flow seq tariff len
+    ((exact flow seq tariff len).1 (subst (λ t. BeginsWithFrame Two flow seq tariff len t) (sym is) b))

@@ -8,7 +8,7 @@ use Rattle.std.proofs.lemmas.List.{take-append-drop, take-append-le, drop-append
 use Rattle.std.proofs.lemmas.List.{nil_from_length, take_all}
 use Rattle.std.proofs.lemmas.List.Sums.{sum_by-cons}
 use Rattle.std.specs.List.{concat}
-use Rattle.share_gateway.specs.Outbox.{OutboxView, takes, room_of, with_frame, allow_more, ready_of, passed}
+use Rattle.share_gateway.specs.Outbox.{OutboxView, frame_bytes, takes, room_of, with_frame, allow_more, ready_of, passed}
 use Rattle.share_gateway.specs.Outbox.{without_whole, frames_in}
 
 sum-cons : (n : ℕ) (ns : List ℕ) → sum (n ∷ ns) ≡ n + sum ns
@@ -121,6 +121,9 @@ module _ (ns bs : List ℕ) (out allowed : ℕ) (long : sum ns ≡ length bs) wh
       let same : allowed + more ≡ min (allowed + count) (length (concat (frames_in ns bs))) =
       omega (arith, few, is, bytes_long) in
       (λ k. record { frames = frames_in ns bs; out = out; allowed = same k })
+
+  pub waiting_is : (held : ℕ) → held ≡ length bs → held - out ≡ length (frame_bytes seen) - out
+  waiting_is held is = ap (λ n. n - out) (is ∙ sym bytes_long)
 
   pub ready_same : (slice : List ℕ) → slice ≡ bs → take (allowed - out) (drop out slice) ≡ ready_of seen
   ready_same slice is = ap (λ t. take (allowed - out) (drop out t)) (is ∙ sym (frames-bytes ns bs long))

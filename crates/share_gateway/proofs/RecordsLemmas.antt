@@ -1,22 +1,20 @@
 -- Records that are cut out of a stream.
-use Rattle.std.proofs.Common.{◌≡◌, ◌≢◌, ◌⊎◌, inl, inr, ℕ, ◌+◌, ◌-◌, ◌*◌, ◌<◌, ◌≤◌, Bool, true, false, ◌&&◌, nat_le}
-use Rattle.std.proofs.Common.{List, [], ◌∷◌, ◌++◌, length, map, take, drop, arith, refl, sym, ap, ◌∙◌, subst}
+use Rattle.std.proofs.Common.{◌≡◌, ◌≢◌, inl, inr, ℕ, ◌+◌, ◌-◌, ◌*◌, ◌<◌, ◌≤◌, Bool, true, false}
+use Rattle.std.proofs.Common.{List, [], ◌∷◌, ◌++◌, length, map, take, drop, arith, refl, sym, ap, ◌∙◌}
 use Rattle.std.proofs.Common.{not, true≢false}
 use Rattle.std.proofs.lemmas.Bool.Decides.{nat_tests}
 use Rattle.std.proofs.lemmas.List.{append_assoc, append-nil, map-append, take_at, drop_at, length-append}
 use Rattle.std.proofs.lemmas.List.{length-take-le, take-append-drop}
 use Rattle.std.specs.Bool.{Decides, MatchBool}
 use Rattle.share_base.specs.Name.{is_name}
-use Rattle.share_base.specs.Body.{is_payload_length}
 use Rattle.share_model.proofs.lemmas.lists.Laws.{each-append, each-one}
 use Rattle.share_model.specs.declared.ingress.Ended.{Ended}
 use Rattle.share_model.specs.declared.ingress.Ended.TheVariants.{End, Cut, BadRecord}
-use Rattle.share_model.specs.ingress.Records.{Item, IsItem, record_of, records_of, two_bytes, is_name_length, IsCut}
+use Rattle.share_model.specs.ingress.Records.{Item, IsItem, record_of, records_of, two_bytes, is_name_length}
 use Rattle.share_model.specs.ingress.Records.{cut_in_name, cut_in_length, cut_in_payload, IsBad, Front, IsRecords}
-use Rattle.share_model.specs.lists.Each.{Each}
 use Rattle.share_ingress.specs.Found.{BeginsWhole, NeedsMore}
 use Rattle.share_ingress.specs.Streams.{EndsStream}
-use Rattle.share_gateway.specs.Records.{RecordsView, item_for, NamesOther, NamesOnly, GivesItem, Reads, began, fed, given}
+use Rattle.share_gateway.specs.Records.{item_for, NamesOther, NamesOnly, GivesItem, Reads, began, fed, given}
 
 -- The name in front
 
@@ -86,7 +84,8 @@ pub gives_item : (name bytes old other payload rest : List ℕ) (size start : �
 gives_item name bytes old other payload rest size start only whole start_is payload_is rest_is =
     let front = (length other ∷ other) ++ two_bytes (length whole.payload) in
     let item : Item = record { name = other; payload = whole.payload } in
-    let all_are : bytes ≡ (length other ∷ other) ++ (two_bytes (length whole.payload) ++ (whole.payload ++ whole.rest)) =
+    let all_are : bytes
+    ≡ (length other ∷ other) ++ (two_bytes (length whole.payload) ++ (whole.payload ++ whole.rest)) =
     whole.bytes ∙ append_assoc front whole.payload whole.rest
     ∙ append_assoc (length other ∷ other) (two_bytes (length whole.payload)) (whole.payload ++ whole.rest) in
     let same : other ≡ name = only other _ (name_in_range other whole.item.name) all_are in
@@ -106,7 +105,8 @@ gives_item name bytes old other payload rest size start only whole start_is payl
 
 -- The whole stream
 
-records_of-one : (items : List Item) (item : Item) → records_of (items ++ item ∷ []) ≡ records_of items ++ record_of item
+records_of-one : (items : List Item) (item : Item)
+    → records_of (items ++ item ∷ []) ≡ records_of items ++ record_of item
 records_of-one [] item = append-nil (record_of item)
 records_of-one (i ∷ items) item =
     ap (λ t. record_of i ++ t) (records_of-one items item)

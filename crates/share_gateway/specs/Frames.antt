@@ -1,7 +1,7 @@
 -- What a contract sees of frames of version 2, cut out of a stream that comes in pieces.
-use Rattle.std.specs.Prelude.{◌≡◌, ℕ, List, [], ◌∷◌, ◌++◌}
+use Rattle.std.specs.Prelude.{◌≡◌, ⊤, ℕ, List, [], ◌∷◌, ◌++◌}
 use Rattle.share_base.specs.declared.version.Version.TheVariants.{Two}
-use Rattle.share_frame.specs.Reading.{IsFirstBad}
+use Rattle.share_frame.specs.Reading.{BeginsWithFrame, IsFirstBad}
 use Rattle.share_model.specs.lists.Each.{Each}
 use Rattle.share_model.specs.link.Frame.{Packet, FitsFrame, frame}
 use Rattle.share_model.specs.run.History.{IsBeginning}
@@ -18,13 +18,23 @@ pub record GivesFrame (old : List ℕ) (tariff : ℕ) (packet : Packet) (new : L
   pub fits : FitsFrame Two tariff packet
   pub bytes : old ≡ frame Two tariff packet ++ new
 
--- the answer that is right, and what it leaves: the packet of the frame in front is given; or the bytes are the beginning
--- of one, and not the whole; or this is the first field that no frame has
+-- the answer that is right, and what it leaves: the packet of the frame in front is given; or the bytes are the
+-- beginning of one, and not the whole; or this is the first field that no frame has
 abbrev pub CutsFrame : FramesView → FrameCut → FramesView → Type 0
 CutsFrame old (Frame flow seq tariff) new =
     GivesFrame old.bytes tariff (record { flow = flow; seq = seq; payload = new.payload }) new.bytes
 CutsFrame old More new = IsBeginning Two old.bytes × (new ≡ old)
 CutsFrame old (Bad place) new = IsFirstBad Two place old.bytes × (new ≡ old)
+
+-- no frame is in front of the bytes
+abbrev pub NoFrame : List ℕ → Type 0
+NoFrame bytes = (flow seq tariff len : ℕ) → BeginsWithFrame Two flow seq tariff len bytes → ⊥
+
+-- if the answer is no frame, none is in front
+abbrev pub IsNoFrame : FrameCut → List ℕ → Type 0
+IsNoFrame (Frame flow seq tariff) bytes = ⊤
+IsNoFrame More bytes = NoFrame bytes
+IsNoFrame (Bad place) bytes = NoFrame bytes
 
 -- a packet, and the tariff in its frame
 pub record Framed : Type 0 where

@@ -1,7 +1,8 @@
 -- What an outbox gave out, over its whole life.
 use Rattle.std.specs.Prelude.{◌≡◌, ◌≤◌, ◌<◌, ◌⊎◌, ℕ, ◌+◌, List, [], ◌∷◌, ◌++◌, length, take}
 use Rattle.std.specs.List.{concat}
-use Rattle.share_gateway.specs.Outbox.{OutboxView, empty_outbox, with_frame, allow_more, ready_of, send_more, begun_again}
+use Rattle.share_gateway.specs.Outbox.{OutboxView, empty_outbox, with_frame, allow_more, ready_of, send_more}
+use Rattle.share_gateway.specs.Outbox.{begun_again}
 
 -- The calls of an outbox from its beginning on: the frames that went in; how many bytes were allowed; what was given
 -- out before each `again`, the earliest first; what was given out since the last one; and the outbox as it is.

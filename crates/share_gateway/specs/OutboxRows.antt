@@ -1,5 +1,5 @@
 -- An outbox with two frames, checked against a worked example.
-use Rattle.std.specs.Prelude.{◌≡◌, ℕ, List, [], ◌∷◌, ◌++◌, replicate, true, false, refl}
+use Rattle.std.specs.Prelude.{◌≡◌, ℕ, List, [], ◌∷◌, ◌++◌, true, false, refl}
 use Rattle.share_gateway.specs.Outbox.{OutboxView, empty_outbox, takes, room_of, with_frame, allow_more, ready_of}
 use Rattle.share_gateway.specs.Outbox.{passed, send_more, begun_again}
 

@@ -1,12 +1,12 @@
 -- What an outbox does is what it tells.
-use Rattle.std.specs.Prelude.{◌≡◌, ℕ, ◌≤◌, List, [], ◌∷◌, ◌++◌, length, map, take, Some, refl}
+use Rattle.std.specs.Prelude.{◌≡◌, ℕ, List, [], ◌∷◌, ◌++◌, length, take, Some}
 use Rattle.std.specs.List.{concat}
 use Rattle.std.proofs.Common.{arith, ap, sym, ◌∙◌}
 use Rattle.std.proofs.lemmas.List.{append-nil, map-append, take_all}
 use Rattle.std.proofs.lemmas.List.Folds.{concat-append}
 use Rattle.share_model.specs.declared.writer.Answer.{Answer}
 use Rattle.share_model.specs.declared.writer.Answer.TheVariants.{Accepted, Interrupted, Failed}
-use Rattle.share_model.specs.io.Told.{Told, WasTold, with_first}
+use Rattle.share_model.specs.io.Told.{WasTold, with_first}
 use Rattle.share_gateway.specs.Outbox.{OutboxView, OutboxAnswers, with_frame, outbox_told}
 
 -- one more frame is told as one more call

@@ -1,6 +1,5 @@
 -- What a contract sees of the records of a tenant, cut out of a stream that comes in pieces.
-use Rattle.std.specs.Prelude.{◌≡◌, ◌≢◌, ◌⊎◌, ℕ, true, List, [], ◌∷◌, ◌++◌, length, map}
-use Rattle.share_base.specs.Name.{is_name}
+use Rattle.std.specs.Prelude.{◌≡◌, ◌≢◌, ◌⊎◌, ℕ, true, List, [], ◌∷◌, ◌++◌, length}
 use Rattle.share_model.specs.ingress.Records.{Item, IsItem, record_of, is_name_length, IsBad}
 use Rattle.share_ingress.specs.Found.{NeedsMore}
 use Rattle.share_gateway.specs.declared.records.Cut.{Cut}

@@ -23,9 +23,9 @@ impl Model for ByteQueue {
     ghost Value = { ByteQueueView };
 
     ghost view = { λ q. record {
-        bytes = drop q.start q.bytes.items;
-        given = take (q.start - q.given) (drop q.given q.bytes.items);
-        most = q.most;
+      bytes = drop q.start q.bytes.items;
+      given = take (q.start - q.given) (drop q.given q.bytes.items);
+      most = q.most;
     } };
 
     ghost invariant = { λ q.

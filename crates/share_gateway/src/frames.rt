@@ -3,7 +3,7 @@ ghost use Rattle.std.specs.Prelude.{◌≡◌, ◌<◌, ◌-◌, ℕ, List, [], 
 ghost use Rattle.share_base.specs.Refusal.{IsRefused};
 ghost use Rattle.share_base.specs.declared.version.Version.TheVariants.{Two};
 ghost use Rattle.share_model.specs.run.History.{IsBeginning};
-ghost use Rattle.share_gateway.specs.Frames.{Framed, AreFrames, CutsFrame, Reads};
+ghost use Rattle.share_gateway.specs.Frames.{Framed, AreFrames, CutsFrame, IsNoFrame, NoFrame, Reads};
 
 use crate::byte_queue::ByteQueue;
 use share_base::{FlowNo, Refusal};
@@ -68,7 +68,8 @@ impl Frames {
     /// comes. `Bad` is answered by each later call too. After `More` most of the room is free, so the next piece is
     /// taken at least in part.
     pub fn next(&mut self) -> FrameCut
-        ensures { CutsFrame self.old result self.new }
+        ensures cut { CutsFrame self.old result self.new }
+        ensures none { IsNoFrame result self.old.bytes }
     {
         match read_frame2(self.bytes.as_slice()) {
             FrameRead2::More => FrameCut::More,
@@ -93,11 +94,15 @@ impl Frames {
     }
 }
 
-/// What holds of each stream, however it was cut into pieces: it is the frames of the packets that were given, and then
-/// the bytes that were not given yet. So two readings of one stream give the same packets, as far as both go.
+/// What holds of each stream, however it was cut into pieces. It is the frames of the packets that were given, and then
+/// the bytes that were not given yet. If it is the frames of other packets, and then bytes with no frame in front, the
+/// packets that were given are the first of those. So a stream has one reading.
 pub fn streams_are_cut_into_frames()
     ensures frames { (stream : List ℕ) (packets : List Framed) (bytes : List ℕ)
         → Reads stream packets bytes → AreFrames stream packets bytes }
+    ensures first { (stream : List ℕ) (packets : List Framed) (bytes : List ℕ) (all : List Framed) (rest : List ℕ)
+        → Reads stream packets bytes → AreFrames stream all rest → NoFrame rest
+        → (more : List Framed) × (all ≡ packets ++ more) }
     // So after `More` there is room for a piece.
     ensures room { (bytes : List ℕ) → IsBeginning Two bytes → length bytes < 9017 }
 {}

@@ -1,5 +1,6 @@
 //! Frames on their way to the wire.
-ghost use Rattle.std.specs.Prelude.{◌≡◌, ◌≤◌, ◌<◌, ◌+◌, ◌++◌, [], ◌∷◌, List, ℕ, true, false, length, IfOk, IfErr, None};
+ghost use Rattle.std.specs.Prelude.{◌≡◌, ◌≤◌, ◌<◌, ◌+◌, ◌-◌, ◌++◌, [], ◌∷◌, List, ℕ};
+ghost use Rattle.std.specs.Prelude.{true, false, length, IfOk, IfErr, None};
 ghost use Rattle.std.specs.List.{concat};
 ghost use Rattle.share_base.specs.Refusal.{IsRefused};
 ghost use Rattle.share_gateway.specs.Outbox.{OutboxView, empty_outbox, room_of, takes, with_frame, allow_more};
@@ -79,6 +80,13 @@ impl Outbox {
         } else {
             0
         }
+    }
+
+    /// How many bytes of its frames are not out.
+    pub fn waiting(&self) -> usize
+        ensures { result ≡ length (frame_bytes self.now) - self.now.out }
+    {
+        self.bytes.len() - self.out
     }
 
     /// Allows that so many bytes more are out, as far as there are frames.

@@ -29,8 +29,8 @@ pub enum Cut {
     Bad,
 }
 
-/// Cuts the records of one tenant out of a stream that comes in pieces. Its memory is made once. A payload is lent where
-/// it was put when its piece came. Only the part of a record that a piece ends with may be moved once more.
+/// Cuts the records of one tenant out of a stream that comes in pieces. Its memory is made once. A payload is lent
+/// where it was put when its piece came. Only a part of a record that a piece ends with may be moved once more.
 #[derive(Drop)]
 pub struct Records {
     name: Name,

@@ -17,8 +17,18 @@ enum Ends {
 /// the payload `hi`, the first packet of flow 1, under tariff 1.
 const STREAMS: [(&[u8], usize, usize, Ends); 15] = [
     (b"", 0, 0, Ends::More),
-    (b"L\x02\x01\0\0\0\x01\0\0\0\0\0\0\0\x01\0\x02hi", 1, 2, Ends::More),
-    (b"L\x02\x01\0\0\0\x01\0\0\0\0\0\0\0\x01\0\x02h", 0, 0, Ends::More),
+    (
+        b"L\x02\x01\0\0\0\x01\0\0\0\0\0\0\0\x01\0\x02hi",
+        1,
+        2,
+        Ends::More,
+    ),
+    (
+        b"L\x02\x01\0\0\0\x01\0\0\0\0\0\0\0\x01\0\x02h",
+        0,
+        0,
+        Ends::More,
+    ),
     (
         b"L\x02\x01\0\0\0\x01\0\0\0\0\0\0\0\x01\0\x01aL\x02\x01\0\0\0\x01\0\0\0\0\0\0\0\x02\0\x01b",
         2,
@@ -33,14 +43,39 @@ const STREAMS: [(&[u8], usize, usize, Ends); 15] = [
     ),
     (b"M", 0, 0, Ends::Bad(Field::Magic)),
     (b"L\x01", 0, 0, Ends::Bad(Field::Version)),
-    (b"L\x01\0\0\0\x01\0\0\0\x01\0\x02hi", 0, 0, Ends::Bad(Field::Version)),
+    (
+        b"L\x01\0\0\0\x01\0\0\0\x01\0\x02hi",
+        0,
+        0,
+        Ends::Bad(Field::Version),
+    ),
     (b"L\x02\0", 0, 0, Ends::Bad(Field::Tariff)),
     (b"L\x02\x09", 0, 0, Ends::Bad(Field::Tariff)),
     (b"L\x02\x01\0\0\0\0", 0, 0, Ends::Bad(Field::Flow)),
-    (b"L\x02\x01\0\0\0\x01\0\0\0\0\0\0\0\0", 0, 0, Ends::Bad(Field::Seq)),
-    (b"L\x02\x01\0\0\0\x01\0\0\0\0\0\0\0\x01\x24", 0, 0, Ends::Bad(Field::Len)),
-    (b"L\x02\x01\0\0\0\x01\0\0\0\0\0\0\0\x01\x23\x29", 0, 0, Ends::Bad(Field::Len)),
-    (b"L\x02\x01\0\0\0\x01\0\0\0\0\0\0\0\x01\0\0", 0, 0, Ends::Bad(Field::Len)),
+    (
+        b"L\x02\x01\0\0\0\x01\0\0\0\0\0\0\0\0",
+        0,
+        0,
+        Ends::Bad(Field::Seq),
+    ),
+    (
+        b"L\x02\x01\0\0\0\x01\0\0\0\0\0\0\0\x01\x24",
+        0,
+        0,
+        Ends::Bad(Field::Len),
+    ),
+    (
+        b"L\x02\x01\0\0\0\x01\0\0\0\0\0\0\0\x01\x23\x29",
+        0,
+        0,
+        Ends::Bad(Field::Len),
+    ),
+    (
+        b"L\x02\x01\0\0\0\x01\0\0\0\0\0\0\0\x01\0\0",
+        0,
+        0,
+        Ends::Bad(Field::Len),
+    ),
 ];
 
 fn frames(rt: &impl Abort, alloc: Global) -> Frames {
@@ -61,14 +96,23 @@ fn counted(frames: &mut Frames) -> (usize, usize, Ends) {
 }
 
 // The same of a stream that comes in these two pieces.
-fn counted_in_two(rt: &impl Abort, alloc: Global, first: &[u8], last: &[u8]) -> (usize, usize, Ends) {
+fn counted_in_two(
+    rt: &impl Abort,
+    alloc: Global,
+    first: &[u8],
+    last: &[u8],
+) -> (usize, usize, Ends) {
     let mut frames = frames(rt, alloc);
     same(rt, "fed", frames.feed(first), first.len());
     let (count, bytes, _) = counted(&mut frames);
     same(rt, "fed", frames.feed(last), last.len());
     let (more, more_bytes, ends) = counted(&mut frames);
     drop(frames);
-    (count.saturating_add(more), bytes.saturating_add(more_bytes), ends)
+    (
+        count.saturating_add(more),
+        bytes.saturating_add(more_bytes),
+        ends,
+    )
 }
 
 #[test]

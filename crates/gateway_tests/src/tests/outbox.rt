@@ -29,9 +29,17 @@ const STEPS: [(Step, &[u8], usize); 12] = [
     (Step::Again, b"", 65518),
     (Step::Allow(2), b"L\x02", 65518),
     (Step::Put(SECOND), b"L\x02", 65500),
-    (Step::Allow(18), b"L\x02\x01\0\0\0\x01\0\0\0\0\0\0\0\x01\0\x01aL\x02", 65500),
+    (
+        Step::Allow(18),
+        b"L\x02\x01\0\0\0\x01\0\0\0\0\0\0\0\x01\0\x01aL\x02",
+        65500,
+    ),
     (Step::Sent(20), b"", 65518),
-    (Step::Allow(100), b"\x01\0\0\0\x01\0\0\0\0\0\0\0\x02\0\x01b", 65518),
+    (
+        Step::Allow(100),
+        b"\x01\0\0\0\x01\0\0\0\0\0\0\0\x02\0\x01b",
+        65518,
+    ),
     (Step::Again, SECOND, 65518),
     (Step::Sent(17), b"b", 65518),
     (Step::Again, SECOND, 65518),
@@ -101,19 +109,21 @@ const FILLED: [(usize, bool); 13] = [
 #[test]
 fn a_frame_is_taken_whole_or_not_at_all(rt: HostRuntime) -> Result<(), AllocError> {
     let mut outbox = outbox(&rt, rt.alloc());
-    let mut held = 0;
+    let mut held: usize = 0;
     for (row, (length, is_taken)) in FILLED.iter().enumerate() {
         let frame = frame_of(rt.alloc(), 7, *length)?;
         puts(&rt, row, &mut outbox, frame.as_slice(), *is_taken);
-        held += if *is_taken { *length } else { 0 };
+        if *is_taken {
+            held = held.saturating_add(*length);
+        }
         same(&rt, row, outbox.room(), OUTBOX.saturating_sub(held));
     }
     drop(outbox);
     Ok(())
 }
 
-// Sends what is ready in parts of 1000 bytes, and checks that each byte is that of its frame, of LONGEST bytes, from the
-// byte of this number on. Returns the number of the byte after them.
+// Sends what is ready in parts of 1000 bytes, and checks that each byte is that of its frame, from the byte of this
+// number on. Each frame has LONGEST bytes. Returns the number of the byte after them.
 fn gives(rt: &impl Abort, outbox: &mut Outbox, from: usize) -> usize {
     let mut at = from;
     for _part in 0..100 {
@@ -141,7 +151,12 @@ fn frames_go_round(rt: HostRuntime) -> Result<(), AllocError> {
             outbox.allow(100);
         }
     }
-    same(&rt, "all bytes", (at, outbox.room()), (60 * LONGEST, OUTBOX));
+    same(
+        &rt,
+        "all bytes",
+        (at, outbox.room()),
+        (60 * LONGEST, OUTBOX),
+    );
     drop(outbox);
     Ok(())
 }

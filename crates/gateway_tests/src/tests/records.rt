@@ -2,7 +2,7 @@
 
 use crate::tests::assertions::same;
 use share_base::Name;
-use share_gateway::{Cut, Records, streams_are_cut_into_records};
+use share_gateway::{Cut, RECORDS_ROOM, Records, streams_are_cut_into_records};
 use std::alloc::{AllocError, Global};
 use std::process::Abort;
 
@@ -38,7 +38,9 @@ const STREAMS: [(&[u8], usize, usize, Ends); 19] = [
 
 fn records(rt: &impl Abort, alloc: Global) -> Records {
     let name = Name::read(b"a").expect(rt, "a name");
-    Records::new(alloc, name).ok().expect(rt, "room for records")
+    Records::new(alloc, name)
+        .ok()
+        .expect(rt, "room for records")
 }
 
 // How many items are whole, how many bytes their payloads have together, and what comes after them.
@@ -55,14 +57,23 @@ fn counted(records: &mut Records) -> (usize, usize, Ends) {
 }
 
 // The same of a stream that comes in these two pieces.
-fn counted_in_two(rt: &impl Abort, alloc: Global, first: &[u8], last: &[u8]) -> (usize, usize, Ends) {
+fn counted_in_two(
+    rt: &impl Abort,
+    alloc: Global,
+    first: &[u8],
+    last: &[u8],
+) -> (usize, usize, Ends) {
     let mut records = records(rt, alloc);
     same(rt, "fed", records.feed(first), first.len());
     let (items, bytes, _) = counted(&mut records);
     same(rt, "fed", records.feed(last), last.len());
     let (more, more_bytes, ends) = counted(&mut records);
     drop(records);
-    (items.saturating_add(more), bytes.saturating_add(more_bytes), ends)
+    (
+        items.saturating_add(more),
+        bytes.saturating_add(more_bytes),
+        ends,
+    )
 }
 
 #[test]
@@ -108,17 +119,19 @@ fn the_longest_records_come_in_pieces(rt: HostRuntime) -> Result<(), AllocError>
     let record = longest(rt.alloc())?;
     let mut records = records(&rt, rt.alloc());
     for row in 1..40 {
-        let at = (row * 229).min(9004);
+        let at = (row * 229).min(record.len());
         let (first, last) = record.as_slice().split_at(at);
         same(&rt, row, records.feed(first), at);
         same(&rt, row, counted(&mut records), (0, 0, Ends::More));
-        same(&rt, row, records.feed(last), 9004 - at);
+        same(&rt, row, records.feed(last), last.len());
         same(&rt, row, counted(&mut records), (1, 9000, Ends::More));
     }
-    same(&rt, "room", records.feed(record.as_slice()), 9004);
-    same(&rt, "part", records.feed(record.as_slice()), 7380);
+    let room = RECORDS_ROOM.saturating_sub(record.len());
+    let (_, rest) = record.as_slice().split_at(room.min(record.len()));
+    same(&rt, "whole", records.feed(record.as_slice()), record.len());
+    same(&rt, "part", records.feed(record.as_slice()), room);
     same(&rt, "one", counted(&mut records), (1, 9000, Ends::More));
-    same(&rt, "rest", records.feed(&record[7380..]), 1624);
+    same(&rt, "rest", records.feed(rest), rest.len());
     same(&rt, "two", counted(&mut records), (1, 9000, Ends::More));
     drop(records);
     Ok(())

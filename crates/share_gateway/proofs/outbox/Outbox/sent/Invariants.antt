@@ -1,4 +1,4 @@
-use Rattle.std.proofs.Common.{◌≡◌, ◌+◌, length}
+use Rattle.std.proofs.Common.{◌≡◌, length}
 use Rattle.share_gateway.specs.Outbox.{send_more, without_whole}
 use Rattle.share_gateway.proofs.outbox.Outbox.sent.Given as goal
 

@@ -1,0 +1,4 @@
+pub mod Opening
+pub mod OpeningLeft
+pub mod OpeningRows
+pub mod Plan

@@ -1,3 +1,5 @@
+pub mod Making
+pub mod Opened
 pub mod Opening
 pub mod OpeningLeft
 pub mod OpeningRows

@@ -1,5 +1,4 @@
-use Rattle.std.proofs.Common.{◌≡◌, ◌≤◌, ◌∙◌, ap, sym, arith, length, subst}
-use Rattle.share_gateway.specs.Opening.{grants_to}
+use Rattle.std.proofs.Common.{◌∙◌, ap, arith, length}
 use Rattle.share_gateway.specs.OpeningLeft.{seen}
 use Rattle.share_gateway.proofs.OpeningLemmas.{grants-past}
 use Rattle.share_gateway.proofs.openings.find_grant.Goals as goal

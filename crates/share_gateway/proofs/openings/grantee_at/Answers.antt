@@ -1,6 +1,6 @@
-use Rattle.std.proofs.Common.{◌≡◌, ◌≤◌, ◌<◌, ◌+◌, ◌-◌, ◌∙◌, ap, sym, arith, Some, length, subst}
+use Rattle.std.proofs.Common.{◌-◌, ◌∙◌, ap, sym, arith, length}
 use Rattle.std.specs.Prelude.{slice_get, List}
-use Rattle.share_gateway.specs.Plan.{CurrencyView, TenantView}
+use Rattle.share_gateway.specs.Plan.{CurrencyView}
 use Rattle.share_gateway.specs.OpeningLeft.{seen}
 use Rattle.share_gateway.proofs.OpeningLemmas.{get-item, length-grantees, grantee-currency, grantee-mapped}
 use Rattle.share_gateway.proofs.openings.grantee_at.Goals as goal

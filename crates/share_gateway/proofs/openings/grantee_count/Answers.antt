@@ -1,4 +1,4 @@
-use Rattle.std.proofs.Common.{◌≡◌, ◌+◌, ◌∙◌, sym, length}
+use Rattle.std.proofs.Common.{sym}
 use Rattle.share_gateway.proofs.OpeningLemmas.{length-grantees}
 use Rattle.share_gateway.proofs.openings.grantee_count.Goals as goal
 

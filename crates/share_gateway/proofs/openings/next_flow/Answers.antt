@@ -1,4 +1,4 @@
-use Rattle.std.proofs.Common.{◌≡◌, ◌≤◌, ◌∙◌, ap, sym, arith, Some}
+use Rattle.std.proofs.Common.{◌∙◌, ap, sym, arith}
 use Rattle.std.specs.Prelude.{slice_get, List}
 use Rattle.share_gateway.specs.Plan.{TenantView}
 use Rattle.share_gateway.proofs.OpeningLemmas.{get-item, left-gap, flow-within}

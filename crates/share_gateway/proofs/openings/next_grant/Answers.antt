@@ -1,8 +1,6 @@
-use Rattle.std.proofs.Common.{◌≡◌, ◌≤◌, ◌∙◌, ap, sym, arith, length, subst}
+use Rattle.std.proofs.Common.{◌∙◌, ap, sym, arith, length}
 use Rattle.std.specs.Prelude.{slice_get, List}
 use Rattle.share_gateway.specs.declared.plan.Grant.{Grant}
-use Rattle.share_gateway.specs.Opening.{grants_to}
-use Rattle.share_gateway.specs.OpeningLeft.{seen}
 use Rattle.share_gateway.proofs.OpeningLemmas.{get-item, left-grant, fit-grant}
 use Rattle.share_gateway.proofs.openings.next_grant.Goals as goal
 

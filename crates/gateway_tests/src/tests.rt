@@ -1,0 +1,4 @@
+//! What no contract says of a gateway's core.
+
+mod assertions;
+mod plans;

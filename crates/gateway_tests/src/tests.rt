@@ -3,5 +3,6 @@
 mod assertions;
 mod frames;
 mod outbox;
+mod plans;
 mod records;
 mod stream_memory;

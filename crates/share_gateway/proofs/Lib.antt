@@ -1,4 +1,6 @@
 pub mod FramesLemmas
+pub mod OpenedLemmas
+pub mod OpeningLemmas
 pub mod OutboxHistoryLemmas
 pub mod OutboxLemmas
 pub mod RecordsLemmas

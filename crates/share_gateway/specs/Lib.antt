@@ -1,7 +1,13 @@
 pub mod ByteQueue
 pub mod Frames
+pub mod Making
+pub mod Opened
+pub mod Opening
+pub mod OpeningLeft
+pub mod OpeningRows
 pub mod Outbox
 pub mod OutboxHistory
 pub mod OutboxRows
 pub mod OutboxTold
+pub mod Plan
 pub mod Records

@@ -3,10 +3,16 @@
 
 mod byte_queue;
 mod frames;
+mod opened;
+mod openings;
 mod outbox;
+mod plan;
 mod records;
 
 pub use frames::{FRAMES_ROOM, FrameCut, Frames, streams_are_cut_into_frames};
+pub use opened::{MIN_EVENTS, NotOpened, open_engine};
+pub use openings::{OpeningCommands, PlanCommand, opening};
 pub use outbox::{OUTBOX, Outbox, outboxes_give_frames_in_order};
+pub use plan::{Currency, Entry, Grant, MAX_FLOW_NUMBER, MAX_FUNDING_COMMANDS, Plan, PlanFault, Tenant};
 pub use records::{Cut, RECORDS_ROOM, Records, streams_are_cut_into_records};
 pub use share_frame::Field;

@@ -1,4 +1,5 @@
 pub mod Digits
+pub mod Lengths
 pub mod Lines
 pub mod Printing
 pub mod Script

@@ -1,0 +1,3 @@
+//! What no contract says of a gateway's core.
+
+mod bills;

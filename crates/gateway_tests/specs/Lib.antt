@@ -1,1 +1,2 @@
+pub mod BillTariffs
 pub mod Tariffs

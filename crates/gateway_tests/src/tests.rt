@@ -1,6 +1,7 @@
 //! A gateway's core in use: worked examples, and what no contract says.
 
 mod assertions;
+mod bills;
 mod frames;
 mod outbox;
 mod plans;

@@ -1,6 +1,9 @@
 pub mod FramesLemmas
+pub mod MakingLemmas
 pub mod OpenedLemmas
 pub mod OpeningLemmas
 pub mod OutboxHistoryLemmas
 pub mod OutboxLemmas
 pub mod RecordsLemmas
+pub mod SeenLemmas
+pub mod SumsLemmas

@@ -1,6 +1,10 @@
+pub mod Bills
+pub mod BookLines
 pub mod ByteQueue
+pub mod Discard
 pub mod Frames
 pub mod Making
+pub mod Makings
 pub mod Opened
 pub mod Opening
 pub mod OpeningLeft
@@ -11,3 +15,5 @@ pub mod OutboxRows
 pub mod OutboxTold
 pub mod Plan
 pub mod Records
+pub mod Seen
+pub mod Sums

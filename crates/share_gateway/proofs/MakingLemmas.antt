@@ -290,8 +290,10 @@ module _ {W : Type 0} (old new : LinkView W) (book : IsBookLink old) (sound : So
     }
 
     turn_step : live_step old.rates old.live (Written (length (rest_of did.frame)))
-        ≡ turn_outcome (whole old.rates old.live did.frame (length (rest_of did.frame)),
-        wrote_turn did.frame (length (rest_of did.frame)) true)
+        ≡ turn_outcome (
+          whole old.rates old.live did.frame (length (rest_of did.frame)),
+          wrote_turn did.frame (length (rest_of did.frame)) true,
+        )
     turn_step =
         let s = did.frame in
         let k = length (rest_of s) in

@@ -19,6 +19,8 @@ pub use laws::lengths_decide;
 pub use opened::{MIN_EVENTS, NotOpened, open_engine};
 pub use openings::{OpeningCommands, PlanCommand, opening};
 pub use outbox::{OUTBOX, Outbox, outboxes_give_frames_in_order};
-pub use plan::{Currency, Entry, Grant, MAX_FLOW_NUMBER, MAX_FUNDING_COMMANDS, Plan, PlanFault, Tenant};
+pub use plan::{
+    Currency, Entry, Grant, MAX_FLOW_NUMBER, MAX_FUNDING_COMMANDS, Plan, PlanFault, Tenant,
+};
 pub use records::{Cut, RECORDS_ROOM, Records, streams_are_cut_into_records};
 pub use share_frame::Field;

@@ -7,13 +7,12 @@ use share_gateway::{BookBill, NotBilled, TenantTotal, add_rows, bill_text};
 use share_model::{PatientWriter, PlainReader, PlainWriter, put};
 use share_script::ScriptFault;
 use std::alloc::{AllocError, Global};
-use std::fmt;
 use std::fmt::{Display, Formatter};
 use std::fs::Files;
 use std::io::{Eprint, Print};
 use std::process::ExitCode;
 use std::str::from_utf8;
-use std::{fs, io};
+use std::{fmt, fs, io};
 
 /// How a bill is printed.
 #[derive(Clone, Copy, Debug, PartialEq, Eq)]
@@ -58,7 +57,10 @@ fn write_row<W: fmt::Write>(f: &mut Formatter<W>, name: &str, row: &TenantTotal)
         amount,
         ..
     } = *row;
-    write!(f, "{name:<16} {packets:>12} {bytes:>16} {units:>16} {amount:>20}\n")
+    write!(
+        f,
+        "{name:<16} {packets:>12} {bytes:>16} {units:>16} {amount:>20}\n"
+    )
 }
 
 // The sums of all rows, under a name that is not shown.
@@ -74,11 +76,7 @@ fn write_table<W: fmt::Write>(f: &mut Formatter<W>, tenants: &[TenantTotal]) -> 
     write!(
         f,
         "{:<16} {:>12} {:>16} {:>16} {:>20}\n",
-        "tenant",
-        "packets",
-        "bytes",
-        "units",
-        "amount"
+        "tenant", "packets", "bytes", "units", "amount"
     )?;
     for tenant in tenants {
         write_row(f, letters(&tenant.name), tenant)?;

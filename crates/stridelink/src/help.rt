@@ -133,7 +133,8 @@ Exit statuses:
   2  the words of the command line are wrong";
 
 /// On bills: what a book is, what a bill has, and the statuses.
-pub const BOOKS: &str = "A book is the text of a gateway's life, a line for each of its events. Its first line is
+pub const BOOKS: &str =
+    "A book is the text of a gateway's life, a line for each of its events. Its first line is
 'audit 2', and each packet is 'send NAME HEX', with its payload; or 'lengths 2', and
 each packet is 'send NAME LENGTH', with the length of its payload. The lines are run
 again on a new link. Each has to be what that link does next: a command, a packet that

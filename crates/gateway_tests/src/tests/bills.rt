@@ -215,7 +215,9 @@ fn are_rows(rows: &[TenantBill], wanted: &[WantedRow]) -> bool {
 fn has_bill<I: TellingReader + Drop>(alloc: Global, reader: I, wanted: &Billed) -> bool {
     match bill_text(alloc, Four, reader) {
         Ok(BookBill { kind, rows, cut }) => {
-            let is = kind == wanted.kind && cut == wanted.cut && are_rows(rows.as_slice(), wanted.rows);
+            let is = kind == wanted.kind
+                && cut == wanted.cut
+                && are_rows(rows.as_slice(), wanted.rows);
             drop(rows);
             is
         }
@@ -244,7 +246,10 @@ fn texts_are_billed(rt: HostRuntime) {
     let alloc = rt.alloc();
     for wanted in &BILLED {
         let text = wanted.text;
-        assert!(&rt; has_bill(alloc, PlainReader(text.as_bytes()), wanted), "{text:?}");
+        assert!(&rt;
+            has_bill(alloc, PlainReader(text.as_bytes()), wanted),
+            "{text:?}"
+        );
     }
 }
 
@@ -253,6 +258,9 @@ fn texts_are_refused(rt: HostRuntime) {
     let alloc = rt.alloc();
     for wanted in &REFUSED {
         let text = wanted.text;
-        assert!(&rt; has_none(alloc, PlainReader(text.as_bytes()), wanted), "{text:?}");
+        assert!(&rt;
+            has_none(alloc, PlainReader(text.as_bytes()), wanted),
+            "{text:?}"
+        );
     }
 }

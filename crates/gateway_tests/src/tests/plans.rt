@@ -88,7 +88,13 @@ fn plans_open(rt: HostRuntime) {
 }
 
 // The plan is not opened, and why.
-fn is_not_opened(rt: &impl Abort, alloc: Global, what: &'static str, plan: &Plan, wanted: NotOpened) {
+fn is_not_opened(
+    rt: &impl Abort,
+    alloc: Global,
+    what: &'static str,
+    plan: &Plan,
+    wanted: NotOpened,
+) {
     match open_engine(alloc, plan, Four, LIFE) {
         Err(why) => same(rt, what, why, wanted),
         Ok(engine) => {
@@ -110,7 +116,13 @@ fn a_currency_backs_itself(rt: HostRuntime) {
         grant: 2,
     };
     let wanted = refused(entry, Refusal::Cycle);
-    is_not_opened(&rt, rt.alloc(), "a currency that backs itself", &plan, wanted);
+    is_not_opened(
+        &rt,
+        rt.alloc(),
+        "a currency that backs itself",
+        &plan,
+        wanted,
+    );
 }
 
 #[test]

@@ -22,7 +22,10 @@ const WHOLE: u32 = 65535;
 #[derive(Clone, Copy, Debug)]
 pub(super) enum Made {
     /// A flow of this name was opened.
-    Opened { name: Name, flow: FlowNo },
+    Opened {
+        name: Name,
+        flow: FlowNo,
+    },
     /// A whole frame was sent: its flow, its bytes, its units, and what all that the flow sent costs.
     Sent {
         flow: FlowNo,
@@ -42,10 +45,7 @@ pub(super) struct Frame {
 }
 
 /// Makes the event of a line, if it is the next one of a book.
-pub(super) fn make<S: Rates>(
-    engine: &mut Engine<Discard, S>,
-    line: Line,
-) -> Result<Made, LineFault>
+pub(super) fn make<S: Rates>(engine: &mut Engine<Discard, S>, line: Line) -> Result<Made, LineFault>
     requires book { IsBookLink engine.old }
     requires unstamped { IsUnstampedLine line }
     ensures made { MakesOrNot engine.old line result engine.new }
@@ -63,10 +63,7 @@ pub(super) fn make<S: Rates>(
 }
 
 // A command, whatever its answer.
-fn change<S: Rates>(
-    engine: &mut Engine<Discard, S>,
-    command: Command,
-) -> Result<Made, LineFault>
+fn change<S: Rates>(engine: &mut Engine<Discard, S>, command: Command) -> Result<Made, LineFault>
     requires book { IsBookLink engine.old }
     ensures made { MakesOrNot engine.old (Change command) result engine.new }
     ensures book { IsBookLink engine.new }
@@ -139,10 +136,7 @@ fn taken_as(reply: &Reply) -> Result<Made, LineFault>
 }
 
 // A turn that sends a whole frame of this many bytes.
-fn send<S: Rates>(
-    engine: &mut Engine<Discard, S>,
-    count: u64,
-) -> Result<Made, LineFault>
+fn send<S: Rates>(engine: &mut Engine<Discard, S>, count: u64) -> Result<Made, LineFault>
     requires book { IsBookLink engine.old }
     ensures made { MakesOrNot engine.old (TurnLine count) result engine.new }
     ensures book { IsBookLink engine.new }

@@ -84,7 +84,11 @@ impl Sent {
 fn sums_at(entries: &[Sums], at: usize) -> Sums
     ensures { result ≡ sums_at entries.now at }
 {
-    if at < entries.len() { entries[at] } else { NOTHING }
+    if at < entries.len() {
+        entries[at]
+    } else {
+        NOTHING
+    }
 }
 
 // Makes the list long enough for the flow of a number.

@@ -46,7 +46,12 @@ fn tenant(name: Name, flow: u32, tariff: u64, grants: Vec<Grant>) -> Tenant {
 // The tenants a and b with 1 and 2 of x, the second with these.
 fn pair(rt: &impl Abort, alloc: Global, flow: u32, tariff: u64, held: bool) -> Vec<Tenant> {
     let first = tenant(named(rt, "a"), 1, 1, granted(rt, alloc, &[(1, "x")]));
-    let mut second = tenant(named(rt, "b"), flow, tariff, granted(rt, alloc, &[(2, "x")]));
+    let mut second = tenant(
+        named(rt, "b"),
+        flow,
+        tariff,
+        granted(rt, alloc, &[(2, "x")]),
+    );
     second.held = held;
     let mut tenants = Vec::new(alloc);
     tenants.push(first).expect(rt, "memory");

@@ -835,7 +835,7 @@ def slow_peer(run):
     control.fund()
     some = packets("a", 0, 3000, 1000)
     sending = run.thread(send_quietly, server.ingress(), some)
-    wait_for(lambda: len(peer.got) > 50850, "some frames")
+    wait_for(lambda: len(peer.got) > 10170, "some frames")
     server.end_input()
     time.sleep(2.1 * GRACE)
     peer.go_on.set()

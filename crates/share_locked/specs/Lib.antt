@@ -2,5 +2,4 @@ pub mod Calls
 pub mod Chains
 pub mod Receipts
 pub mod Settles
-pub mod Tariffs
 pub mod Views

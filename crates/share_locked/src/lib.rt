@@ -9,8 +9,6 @@ mod locked;
 mod pace;
 mod paced;
 mod running;
-#[cfg(test)]
-mod tests;
 mod threads;
 
 pub use clerk::{Clerk, Receipt};

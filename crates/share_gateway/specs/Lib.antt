@@ -4,3 +4,4 @@ pub mod Opening
 pub mod OpeningLeft
 pub mod OpeningRows
 pub mod Plan
+pub mod Planned

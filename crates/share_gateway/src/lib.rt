@@ -4,7 +4,9 @@
 mod opened;
 mod openings;
 mod plan;
+mod plan_laws;
 
 pub use opened::{MIN_EVENTS, NotOpened, open_engine};
 pub use openings::{OpeningCommands, PlanCommand, opening};
 pub use plan::{Currency, Entry, Grant, MAX_FLOW_NUMBER, MAX_FUNDING_COMMANDS, Plan, PlanFault, Tenant};
+pub use plan_laws::opened_links_hold_their_plans;

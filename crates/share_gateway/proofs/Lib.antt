@@ -4,6 +4,7 @@ pub mod OpenedLemmas
 pub mod OpeningLemmas
 pub mod OutboxHistoryLemmas
 pub mod OutboxLemmas
+pub mod PlannedLemmas
 pub mod RecordsLemmas
 pub mod SeenLemmas
 pub mod SumsLemmas

@@ -14,6 +14,7 @@ pub mod OutboxHistory
 pub mod OutboxRows
 pub mod OutboxTold
 pub mod Plan
+pub mod Planned
 pub mod Records
 pub mod Seen
 pub mod Sums

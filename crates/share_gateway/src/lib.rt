@@ -9,6 +9,7 @@ mod opened;
 mod openings;
 mod outbox;
 mod plan;
+mod plan_laws;
 mod records;
 
 pub use bill::{
@@ -22,5 +23,6 @@ pub use outbox::{OUTBOX, Outbox, outboxes_give_frames_in_order};
 pub use plan::{
     Currency, Entry, Grant, MAX_FLOW_NUMBER, MAX_FUNDING_COMMANDS, Plan, PlanFault, Tenant,
 };
+pub use plan_laws::opened_links_hold_their_plans;
 pub use records::{Cut, RECORDS_ROOM, Records, streams_are_cut_into_records};
 pub use share_frame::Field;

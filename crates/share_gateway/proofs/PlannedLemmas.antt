@@ -296,24 +296,24 @@ module _ (rates : List Rate) (cs : List NameBytes) where
   gap_opens : (e : Entry) (n : ℕ) (done : List TenantView)
       → Leads rates (FlowsMade cs n done) (planned e (OpenFlow gap 1 1) ∷ []) (GapOpen cs n done)
   gap_opens e n done = leads_one rates (FlowsMade cs n done) (GapOpen cs n done) (planned e (OpenFlow gap 1 1))
-    (λ l was allowed. record {
-      holds = record {
-        graph = ap (λ (g : Graph). add_flow g gap) was.holds.graph;
-        buffers =
-            ap (λ (g : Graph). open_in l.buffers g.next_flow 1) was.holds.graph
-            ∙ ap (λ (bs : List Buffer). open_in bs n 1) was.holds.buffers;
-        books =
-            ap (λ (g : Graph). l.books ++ new_book g.next_flow 1 ∷ []) was.holds.graph
-            ∙ ap (λ (ks : List Book). ks ++ new_book n 1 ∷ []) was.holds.books;
-      };
-      named = was.named;
-      free = ap (λ (g : Graph). lookup (bytes_eq gap) g.flows) (sym was.holds.graph) ∙ name_free rates l gap 1 1 allowed;
-    })
+      (λ l was allowed. record {
+        holds = record {
+          graph = ap (λ (g : Graph). add_flow g gap) was.holds.graph;
+          buffers =
+              ap (λ (g : Graph). open_in l.buffers g.next_flow 1) was.holds.graph
+              ∙ ap (λ (bs : List Buffer). open_in bs n 1) was.holds.buffers;
+          books =
+              ap (λ (g : Graph). l.books ++ new_book g.next_flow 1 ∷ []) was.holds.graph
+              ∙ ap (λ (ks : List Book). ks ++ new_book n 1 ∷ []) was.holds.books;
+        };
+        named = was.named;
+        free = ap (λ (g : Graph). lookup (bytes_eq gap) g.flows) (sym was.holds.graph) ∙ name_free rates l gap 1 1 allowed;
+      })
 
   gap_closes : (e : Entry) (n : ℕ) (done : List TenantView) → Each (λ (t : TenantView). t.flow < n) done
       → Leads rates (GapOpen cs n done) (planned e (CloseFlow gap) ∷ []) (FlowsMade cs (n + 1) done)
   gap_closes e n done below = leads_one rates (GapOpen cs n done) (FlowsMade cs (n + 1) done) (planned e (CloseFlow gap))
-    (λ l was allowed.
+      (λ l was allowed.
       let own : nat_eq n n ≡ true = grind (arith, nat_tests) in
       let f : flow_number (flow_named l.graph gap) ≡ n =
       ap flow_number (ap (λ (g : Graph). lookup (bytes_eq gap) g.flows) was.holds.graph
@@ -345,18 +345,18 @@ module _ (rates : List Rate) (cs : List NameBytes) where
       let e = TenantEntry i in
       let whole : n + 1 + k ≡ n + suc k = omega arith in
       let one = leads_on rates (FlowsMade cs n done) (GapOpen cs n done) (FlowsMade cs (n + 1) done)
-        (planned e (OpenFlow gap 1 1) ∷ []) (planned e (CloseFlow gap) ∷ []) (gap_opens e n done) (gap_closes e n done below) in
+      (planned e (OpenFlow gap 1 1) ∷ []) (planned e (CloseFlow gap) ∷ []) (gap_opens e n done) (gap_closes e n done below) in
       let all = leads_on rates (FlowsMade cs n done) (FlowsMade cs (n + 1) done) (FlowsMade cs (n + 1 + k) done)
-        (gap_commands e) (gap_list e k) one
-        (gaps_made i k (n + 1) done (below_more n (n + 1) done (omega arith) below)) in
+      (gap_commands e) (gap_list e k) one
+      (gaps_made i k (n + 1) done (below_more n (n + 1) done (omega arith) below)) in
       subst (λ m. FlowsMade cs m done (after_all rates l (gap_list e (suc k)))) whole (all l was allowed)
 
   flow_opens : (i : ℕ) (t : TenantView) (done : List TenantView)
       → Leads rates (FlowsMade cs t.flow done) (open_command (i, t) ∷ []) (FlowsMade cs (t.flow + 1) (done ++ t ∷ []))
   flow_opens i t done = leads_one rates (FlowsMade cs t.flow done) (FlowsMade cs (t.flow + 1) (done ++ t ∷ [])) (open_command (i, t))
-    (λ l was allowed.
+      (λ l was allowed.
       let free = ap (λ (g : Graph). lookup (bytes_eq t.name) g.flows) (sym was.holds.graph)
-        ∙ name_free rates l t.name t.limit t.tariff allowed in
+      ∙ name_free rates l t.name t.limit t.tariff allowed in
       let own : IsNamed (done ++ t ∷ []) t =
       ap (lookup (bytes_eq t.name)) (map-append planned_flow done (t ∷ []))
       ∙ lookup_last t.name (map planned_flow done) (planned_flow t).1 free in
@@ -392,14 +392,14 @@ module _ (rates : List Rate) (cs : List NameBytes) where
       let whole : m + 1 + gaps ≡ t.flow = omega (arith, past.0) in
       let first : Leads rates (FlowsMade cs (m + 1) done) (gap_list (TenantEntry i) gaps) (FlowsMade cs t.flow done) =
       λ l was allowed. subst (λ n. FlowsMade cs n done (after_all rates l (gap_list (TenantEntry i) gaps))) whole
-        (gaps_made i gaps (m + 1) done below l was allowed) in
+      (gaps_made i gaps (m + 1) done below l was allowed) in
       let earlier = below_more (m + 1) (t.flow + 1) done (omega (arith, past.0)) below in
       let later = each-append (λ (u : TenantView). u.flow < t.flow + 1) done (t ∷ []) earlier (omega arith, tt) in
       let rest = leads_on rates (FlowsMade cs t.flow done) (FlowsMade cs (t.flow + 1) (done ++ t ∷ []))
-        (AllOpen (done ++ t ∷ [] ++ ts)) (open_command (i, t) ∷ []) (flows_from (i + 1) (t.flow + 1) ts)
-        (flow_opens i t done) (flows_made ts (i + 1) t.flow (done ++ t ∷ []) later past.1) in
+      (AllOpen (done ++ t ∷ [] ++ ts)) (open_command (i, t) ∷ []) (flows_from (i + 1) (t.flow + 1) ts)
+      (flow_opens i t done) (flows_made ts (i + 1) t.flow (done ++ t ∷ []) later past.1) in
       let all = leads_on rates (FlowsMade cs (m + 1) done) (FlowsMade cs t.flow done) (AllOpen (done ++ t ∷ [] ++ ts))
-        (gap_list (TenantEntry i) gaps) (open_command (i, t) ∷ flows_from (i + 1) (t.flow + 1) ts) first rest in
+      (gap_list (TenantEntry i) gaps) (open_command (i, t) ∷ flows_from (i + 1) (t.flow + 1) ts) first rest in
       subst (λ us. AllOpen us (after_all rates l (flows_from i (m + 1) (t ∷ ts)))) (append_assoc done (t ∷ []) ts)
       (all l was allowed)
 
@@ -427,79 +427,79 @@ tickets_below n m [] le all = tt
 tickets_below n m (t ∷ tickets) le all = (omega (arith, le, all.0), tickets_below n m tickets le all.1)
 
 module _ (rates : List Rate) (cs : List NameBytes) (ts : List TenantView) (nf : ℕ) (bs : List Buffer) (ks : List Book)
-    where
-  abbrev Issued : ℕ → List Ticket → Live → Type 0
-  Issued n tickets l = Holds (drawn cs tickets n (map planned_flow ts) nf) bs ks l
+  where
+    abbrev Issued : ℕ → List Ticket → Live → Type 0
+    Issued n tickets l = Holds (drawn cs tickets n (map planned_flow ts) nf) bs ks l
 
-  ticket_made : (e : Entry) (n amount : ℕ) (denomination : NameBytes) (tickets : List Ticket)
-      → Leads rates (Issued n tickets) (planned e (MakeTicket amount denomination) ∷ [])
-      (Issued (n + 1) (tickets ++ unfunded n amount denomination ∷ []))
-  ticket_made e n amount denomination tickets =
-      leads_one rates (Issued n tickets) (Issued (n + 1) (tickets ++ unfunded n amount denomination ∷ []))
-      (planned e (MakeTicket amount denomination)) (λ l was allowed. record {
-        graph = ap (λ (g : Graph). make_ticket g amount denomination) was.graph;
-        buffers = was.buffers;
-        books = was.books;
-      })
+    ticket_made : (e : Entry) (n amount : ℕ) (denomination : NameBytes) (tickets : List Ticket)
+        → Leads rates (Issued n tickets) (planned e (MakeTicket amount denomination) ∷ [])
+        (Issued (n + 1) (tickets ++ unfunded n amount denomination ∷ []))
+    ticket_made e n amount denomination tickets =
+        leads_one rates (Issued n tickets) (Issued (n + 1) (tickets ++ unfunded n amount denomination ∷ []))
+        (planned e (MakeTicket amount denomination)) (λ l was allowed. record {
+          graph = ap (λ (g : Graph). make_ticket g amount denomination) was.graph;
+          buffers = was.buffers;
+          books = was.books;
+        })
 
-  ticket_funds : (e : Entry) (n amount : ℕ) (denomination : NameBytes) (tickets : List Ticket) (to : Grantee)
-      → Each (λ (t : Ticket). t.number < n) tickets → IsToNamed ts to
-      → Leads rates (Issued (n + 1) (tickets ++ unfunded n amount denomination ∷ [])) (planned e (fund_command to n) ∷ [])
-      (Issued (n + 1) (tickets ++ held_by (holder_of to) (unfunded n amount denomination) ∷ []))
-  ticket_funds e n amount denomination tickets (ToCurrency i c) below named =
-      let own : nat_eq n n ≡ true = grind (arith, nat_tests) in
-      let made = unfunded n amount denomination in
-      leads_one rates (Issued (n + 1) (tickets ++ made ∷ [])) (Issued (n + 1) (tickets ++ held_by (Currency c.name) made ∷ []))
-      (planned e (FundCurrency n c.name)) (λ l was allowed. record {
-        graph =
-            ap (λ (g : Graph). fund_currency g n c.name) was.graph
-            ∙ ap (λ tickets. drawn cs tickets (n + 1) (map planned_flow ts) nf)
-            (last_changed (is_numbered n) (held_by (Currency c.name)) tickets [] made (other_tickets n tickets below) own);
-        buffers = was.buffers;
-        books = was.books;
-      })
-  ticket_funds e n amount denomination tickets (ToTenant i t) below named =
-      let own : nat_eq n n ≡ true = grind (arith, nat_tests) in
-      let made = unfunded n amount denomination in
-      leads_one rates (Issued (n + 1) (tickets ++ made ∷ [])) (Issued (n + 1) (tickets ++ held_by (Flow t.flow) made ∷ []))
-      (planned e (FundFlow n t.name)) (λ l was allowed. record {
-        graph =
-            ap (λ (g : Graph). fund_flow g n t.name) was.graph
-            ∙ ap (λ (o : Option FlowEntry). drawn cs (with_holder n (Flow (flow_number o)) (tickets ++ made ∷ [])) (n + 1)
+    ticket_funds : (e : Entry) (n amount : ℕ) (denomination : NameBytes) (tickets : List Ticket) (to : Grantee)
+        → Each (λ (t : Ticket). t.number < n) tickets → IsToNamed ts to
+        → Leads rates (Issued (n + 1) (tickets ++ unfunded n amount denomination ∷ [])) (planned e (fund_command to n) ∷ [])
+        (Issued (n + 1) (tickets ++ held_by (holder_of to) (unfunded n amount denomination) ∷ []))
+    ticket_funds e n amount denomination tickets (ToCurrency i c) below named =
+        let own : nat_eq n n ≡ true = grind (arith, nat_tests) in
+        let made = unfunded n amount denomination in
+        leads_one rates (Issued (n + 1) (tickets ++ made ∷ [])) (Issued (n + 1) (tickets ++ held_by (Currency c.name) made ∷ []))
+        (planned e (FundCurrency n c.name)) (λ l was allowed. record {
+          graph =
+              ap (λ (g : Graph). fund_currency g n c.name) was.graph
+              ∙ ap (λ tickets. drawn cs tickets (n + 1) (map planned_flow ts) nf)
+              (last_changed (is_numbered n) (held_by (Currency c.name)) tickets [] made (other_tickets n tickets below) own);
+          buffers = was.buffers;
+          books = was.books;
+        })
+    ticket_funds e n amount denomination tickets (ToTenant i t) below named =
+        let own : nat_eq n n ≡ true = grind (arith, nat_tests) in
+        let made = unfunded n amount denomination in
+        leads_one rates (Issued (n + 1) (tickets ++ made ∷ [])) (Issued (n + 1) (tickets ++ held_by (Flow t.flow) made ∷ []))
+        (planned e (FundFlow n t.name)) (λ l was allowed. record {
+          graph =
+              ap (λ (g : Graph). fund_flow g n t.name) was.graph
+              ∙ ap (λ (o : Option FlowEntry). drawn cs (with_holder n (Flow (flow_number o)) (tickets ++ made ∷ [])) (n + 1)
               (map planned_flow ts) nf) named
-            ∙ ap (λ tickets. drawn cs tickets (n + 1) (map planned_flow ts) nf)
-            (last_changed (is_numbered n) (held_by (Flow t.flow)) tickets [] made (other_tickets n tickets below) own);
-        buffers = was.buffers;
-        books = was.books;
-      })
+              ∙ ap (λ tickets. drawn cs tickets (n + 1) (map planned_flow ts) nf)
+              (last_changed (is_numbered n) (held_by (Flow t.flow)) tickets [] made (other_tickets n tickets below) own);
+          buffers = was.buffers;
+          books = was.books;
+        })
 
-  abbrev AllIssued : List Ticket → Live → Type 0
-  AllIssued tickets l = (n : ℕ) × Issued n tickets l
+    abbrev AllIssued : List Ticket → Live → Type 0
+    AllIssued tickets l = (n : ℕ) × Issued n tickets l
 
-  grants_made : (gs : List GrantTo) (n : ℕ) (tickets : List Ticket) → Each (λ (t : Ticket). t.number < n) tickets
-      → Each (λ (g : GrantTo). IsToNamed ts g.grantee) gs
-      → Leads rates (Issued n tickets) (flat_map grant_commands (enumerate_from n gs))
-      (AllIssued (tickets ++ map planned_ticket (enumerate_from n gs)))
-  grants_made [] n tickets below named l was allowed =
-      subst (λ tickets. AllIssued tickets l) (sym (append-nil tickets)) (n, was)
-  grants_made (g ∷ gs) n tickets below named l was allowed =
-      let e = grant_entry g.grantee g.number in
-      let amount = g.grant.amount in
-      let denomination = g.grant.denomination in
-      let made = unfunded n amount denomination in
-      let all = tickets ++ planned_ticket (n, g) ∷ [] in
-      let later = each-append (λ (t : Ticket). t.number < n + 1) tickets (planned_ticket (n, g) ∷ [])
+    grants_made : (gs : List GrantTo) (n : ℕ) (tickets : List Ticket) → Each (λ (t : Ticket). t.number < n) tickets
+        → Each (λ (g : GrantTo). IsToNamed ts g.grantee) gs
+        → Leads rates (Issued n tickets) (flat_map grant_commands (enumerate_from n gs))
+        (AllIssued (tickets ++ map planned_ticket (enumerate_from n gs)))
+    grants_made [] n tickets below named l was allowed =
+        subst (λ tickets. AllIssued tickets l) (sym (append-nil tickets)) (n, was)
+    grants_made (g ∷ gs) n tickets below named l was allowed =
+        let e = grant_entry g.grantee g.number in
+        let amount = g.grant.amount in
+        let denomination = g.grant.denomination in
+        let made = unfunded n amount denomination in
+        let all = tickets ++ planned_ticket (n, g) ∷ [] in
+        let later = each-append (λ (t : Ticket). t.number < n + 1) tickets (planned_ticket (n, g) ∷ [])
         (tickets_below n (n + 1) tickets (omega arith) below) (omega arith, tt) in
-      let one = leads_on rates (Issued n tickets) (Issued (n + 1) (tickets ++ made ∷ [])) (Issued (n + 1) all)
+        let one = leads_on rates (Issued n tickets) (Issued (n + 1) (tickets ++ made ∷ [])) (Issued (n + 1) all)
         (planned e (MakeTicket amount denomination) ∷ []) (planned e (fund_command g.grantee n) ∷ [])
         (ticket_made e n amount denomination tickets) (ticket_funds e n amount denomination tickets g.grantee below named.0) in
-      let whole = leads_on rates (Issued n tickets) (Issued (n + 1) all)
+        let whole = leads_on rates (Issued n tickets) (Issued (n + 1) all)
         (AllIssued (all ++ map planned_ticket (enumerate_from (n + 1) gs)))
         (grant_commands (n, g)) (flat_map grant_commands (enumerate_from (n + 1) gs)) one
         (grants_made gs (n + 1) all later named.1) in
-      subst (λ tickets. AllIssued tickets (after_all rates l (flat_map grant_commands (enumerate_from n (g ∷ gs)))))
-      (append_assoc tickets (planned_ticket (n, g) ∷ []) (map planned_ticket (enumerate_from (n + 1) gs)))
-      (whole l was allowed)
+        subst (λ tickets. AllIssued tickets (after_all rates l (flat_map grant_commands (enumerate_from n (g ∷ gs)))))
+        (append_assoc tickets (planned_ticket (n, g) ∷ []) (map planned_ticket (enumerate_from (n + 1) gs)))
+        (whole l was allowed)
 
 -- Holds
 
@@ -542,33 +542,33 @@ module _ (rates : List Rate) (cs : List NameBytes) (ts : List TenantView) (nf nt
     books =
         was.books
         ∙ ap (λ (held : Bool). map planned_book done
-          ++ record { flow = t.flow; tariff = t.tariff; account = 0; held = held } ∷ map opened_book rest) (sym free)
+        ++ record { flow = t.flow; tariff = t.tariff; account = 0; held = held } ∷ map opened_book rest) (sym free)
         ∙ next_books t done rest;
   }
   hold_made i t done rest below named true is_held l was allowed =
       leads_one rates (HeldSo done (t ∷ rest)) (HeldSo (done ++ t ∷ []) rest) (planned (TenantEntry i) (Hold t.name))
       (λ l was allowed.
-        let own : nat_eq t.flow t.flow ≡ true = grind (arith, nat_tests) in
-        let f : flow_number (flow_named l.graph t.name) ≡ t.flow =
-        ap flow_number (ap (λ (g : Graph). lookup (bytes_eq t.name) g.flows) was.graph ∙ named) in
-        record {
-          graph =
-              ap (λ (b : Bool). set_active l.graph (flow_number (flow_named l.graph t.name)) b)
-              (not_both (is_busy l.buffers (flow_number (flow_named l.graph t.name))))
-              ∙ ap (λ (g : Graph). set_active g (flow_number (flow_named l.graph t.name)) false) was.graph
-              ∙ ap (λ flows. drawn cs tickets nt flows nf)
-              (same_changed (is_open_as (flow_number (flow_named l.graph t.name))) (active_as false) (map planned_flow ts)
-              (inactive ts));
-          buffers = was.buffers;
-          books =
-              ap (λ ks. books_with_hold ks (flow_number (flow_named l.graph t.name)) true) was.books
-              ∙ ap (λ f. books_with_hold (map planned_book done ++ opened_book t ∷ map opened_book rest) f true) f
-              ∙ last_changed (is_book_of t.flow) (with_hold true) (map planned_book done) (map opened_book rest)
-              (opened_book t) (held_before t.flow done below) own
-              ∙ ap (λ (held : Bool). map planned_book done
-                ++ record { flow = t.flow; tariff = t.tariff; account = 0; held = held } ∷ map opened_book rest) (sym is_held)
-              ∙ next_books t done rest;
-        }) l was allowed
+      let own : nat_eq t.flow t.flow ≡ true = grind (arith, nat_tests) in
+      let f : flow_number (flow_named l.graph t.name) ≡ t.flow =
+      ap flow_number (ap (λ (g : Graph). lookup (bytes_eq t.name) g.flows) was.graph ∙ named) in
+      record {
+        graph =
+            ap (λ (b : Bool). set_active l.graph (flow_number (flow_named l.graph t.name)) b)
+            (not_both (is_busy l.buffers (flow_number (flow_named l.graph t.name))))
+            ∙ ap (λ (g : Graph). set_active g (flow_number (flow_named l.graph t.name)) false) was.graph
+            ∙ ap (λ flows. drawn cs tickets nt flows nf)
+            (same_changed (is_open_as (flow_number (flow_named l.graph t.name))) (active_as false) (map planned_flow ts)
+            (inactive ts));
+        buffers = was.buffers;
+        books =
+            ap (λ ks. books_with_hold ks (flow_number (flow_named l.graph t.name)) true) was.books
+            ∙ ap (λ f. books_with_hold (map planned_book done ++ opened_book t ∷ map opened_book rest) f true) f
+            ∙ last_changed (is_book_of t.flow) (with_hold true) (map planned_book done) (map opened_book rest)
+            (opened_book t) (held_before t.flow done below) own
+            ∙ ap (λ (held : Bool). map planned_book done
+            ++ record { flow = t.flow; tariff = t.tariff; account = 0; held = held } ∷ map opened_book rest) (sym is_held)
+            ∙ next_books t done rest;
+      }) l was allowed
 
   holds_made : (rest : List TenantView) (i m : ℕ) (done : List TenantView)
       → Each (λ (u : TenantView). u.flow < m + 1) done → ascends m (flows_of rest) ≡ true → Each (IsNamed ts) rest
@@ -579,11 +579,11 @@ module _ (rates : List Rate) (cs : List NameBytes) (ts : List TenantView) (nf nt
       let past = ascends-past m t rest ascend in
       let earlier = below_more (m + 1) t.flow done (omega (arith, past.0)) below in
       let later = each-append (λ (u : TenantView). u.flow < t.flow + 1) done (t ∷ [])
-        (below_more (m + 1) (t.flow + 1) done (omega (arith, past.0)) below) (omega arith, tt) in
+      (below_more (m + 1) (t.flow + 1) done (omega (arith, past.0)) below) (omega arith, tt) in
       let all = leads_on rates (HeldSo done (t ∷ rest)) (HeldSo (done ++ t ∷ []) rest) (HeldSo (done ++ t ∷ [] ++ rest) [])
-        (hold_commands (i, t)) (flat_map hold_commands (enumerate_from (i + 1) rest))
-        (hold_made i t done rest earlier named.0 t.held refl)
-        (holds_made rest (i + 1) t.flow (done ++ t ∷ []) later past.1 named.1) in
+      (hold_commands (i, t)) (flat_map hold_commands (enumerate_from (i + 1) rest))
+      (hold_made i t done rest earlier named.0 t.held refl)
+      (holds_made rest (i + 1) t.flow (done ++ t ∷ []) later past.1 named.1) in
       subst (λ us. HeldSo us [] (after_all rates l (flat_map hold_commands (enumerate_from i (t ∷ rest)))))
       (append_assoc done (t ∷ []) rest) (all l was allowed)
 
@@ -639,20 +639,20 @@ opened_holds rates p limits allowed =
     let l3 = after_all rates l0 (made ++ flows ++ grants) in
     let first = currencies_made rates 1 [] p.currencies l0 (record { graph = refl; buffers = refl; books = refl }) one.0 in
     let second_of : AllOpen rates cs p.tenants (after_all rates l1 flows) =
-      subst (λ commands. AreAllowed rates l1 commands → AllOpen rates cs p.tenants (after_all rates l1 commands))
-      (sym (flows-one-by-one p.tenants limits.flows))
-      (flows_made rates cs p.tenants 1 0 [] tt ascend l1 (record { holds = first; named = tt })) one.1 in
+    subst (λ commands. AreAllowed rates l1 commands → AllOpen rates cs p.tenants (after_all rates l1 commands))
+    (sym (flows-one-by-one p.tenants limits.flows))
+    (flows_made rates cs p.tenants 1 0 [] tt ascend l1 (record { holds = first; named = tt })) one.1 in
     let second = subst (AllOpen rates cs p.tenants) (sym (after_append rates l0 made flows)) second_of in
     let named = second.1.named in
     let third_of = grants_made rates cs p.tenants second.0 (map planned_buffer p.tenants) (map opened_book p.tenants)
-      (all_grants p) 1 [] tt (named_all p named) l2 second.1.holds two.1 in
+    (all_grants p) 1 [] tt (named_all p named) l2 second.1.holds two.1 in
     let tickets = map planned_ticket (numbered (all_grants p)) in
     let third = subst (AllIssued rates cs p.tenants second.0 (map planned_buffer p.tenants) (map opened_book p.tenants) tickets)
-      (sym (after_append rates l0 (made ++ flows) grants)) third_of in
+    (sym (after_append rates l0 (made ++ flows) grants)) third_of in
     let fourth_of = holds_made rates cs p.tenants second.0 third.0 tickets (map planned_buffer p.tenants) p.tenants 1 0 [] tt
-      ascend named l3 third.1 three.1 in
+    ascend named l3 third.1 three.1 in
     let fourth = subst (HeldSo rates cs p.tenants second.0 third.0 tickets (map planned_buffer p.tenants) p.tenants [])
-      (sym (after_append rates l0 (made ++ flows ++ grants) holds)) fourth_of in
+    (sym (after_append rates l0 (made ++ flows ++ grants) holds)) fourth_of in
     record {
       currencies = ap (λ (g : Graph). g.currencies) fourth.graph;
       flows = ap (λ (g : Graph). g.flows) fourth.graph;

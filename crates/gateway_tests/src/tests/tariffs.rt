@@ -1,14 +1,14 @@
 //! Tariffs without boxes, which are dear to prove.
 ghost use Rattle.std.specs.Prelude.{◌≡◌, ◌≤◌, true, IfSome};
 ghost use Rattle.share_model.specs.link.Tariff.{rate_at, is_rate};
-ghost use Rattle.gateway_tests.specs.BillTariffs.{four_rates};
+ghost use Rattle.gateway_tests.specs.Tariffs.{four_rates};
 
 use share_model::{Rate, Rates};
 use share_tariff::{account_after, units_by_division};
 
 /// Four tariffs: by the byte, and by cells of 48, of 1024 and of 2048.
 #[derive(Clone, Copy, Drop)]
-pub(super) struct Four;
+pub struct Four;
 
 // The tariff of this number.
 fn tariff(number: u64) -> Option<Rate>
@@ -30,7 +30,7 @@ fn tariff(number: u64) -> Option<Rate>
 }
 
 impl Rates for Four {
-    ghost use Rattle.gateway_tests.specs.BillTariffs.{are_in_range, four_rates};
+    ghost use Rattle.gateway_tests.specs.Tariffs.{are_in_range, four_rates};
 
     ghost rates = { λ _. four_rates };
 

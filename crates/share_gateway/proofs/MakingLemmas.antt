@@ -1,7 +1,8 @@
 -- What a line makes on the link of a bill.
-use Rattle.std.specs.Prelude.{◌≡◌, ◌≢◌, ◌⊎◌, ◌<◌, ◌≤◌, ◌+◌, ◌==◌, ◌^◌, ℕ, Bool, true, false, List, [], ◌∷◌, length, take}
+use Rattle.std.specs.Prelude.{◌≡◌, ◌≢◌, ◌⊎◌, ◌<◌, ◌≤◌, ◌+◌, ◌==◌, ◌^◌, ◌&&◌, not, ℕ, Bool, true, false, List, [], ◌∷◌, length, take}
 use Rattle.std.specs.Prelude.{Option, None, Some, Result, Ok, Err, MatchBool, MatchOption, if◌then◌else◌}
-use Rattle.std.proofs.Common.{refl, ap, sym, ◌∙◌, subst, arith, inl, inr, length-take, nat_tests}
+use Rattle.std.proofs.Common.{refl, ap, sym, ◌∙◌, subst, arith, inl, inr, length-take}
+use Rattle.std.proofs.lemmas.Bool.Decides.{nat_tests}
 use Rattle.std.proofs.lemmas.Bool.{eq-eqb, ne_eqb}
 use Rattle.share_base.specs.Body.{BodyView, IsUnstamped}
 use Rattle.share_base.specs.declared.command.Command.{Command}
@@ -16,6 +17,7 @@ use Rattle.share_base.specs.declared.command.Turn.{Turn}
 use Rattle.share_base.specs.declared.command.Turn.TheVariants.{Broken, Spent}
 use Rattle.share_base.specs.declared.command.Reply.{Reply}
 use Rattle.share_base.specs.declared.command.Reply.TheVariants.{Done, Ticket, Flow, Closed, Packet, Refused}
+use Rattle.share_base.specs.declared.refusal.Refusal.TheVariants.{Spent as SpentRefusal}
 use Rattle.share_model.specs.declared.line.Line.{Line}
 use Rattle.share_model.specs.declared.line.Line.TheVariants.{Change, Send, Turn as TurnLine}
 use Rattle.share_model.specs.declared.rates.Rate.{Rate}
@@ -23,11 +25,13 @@ use Rattle.share_model.specs.declared.writer.Answer.{Answer}
 use Rattle.share_model.specs.declared.writer.Answer.TheVariants.{Accepted, Interrupted, Failed}
 use Rattle.share_model.specs.funding.Graph.{NameBytes}
 use Rattle.share_model.specs.link.Arrivals.{arrive_step}
-use Rattle.share_model.specs.link.Books.{account_of, units_due}
+use Rattle.share_model.specs.funding.Changes.{set_active}
+use Rattle.share_model.specs.link.Books.{account_of, units_due, is_held}
+use Rattle.share_model.specs.link.Buffers.{is_busy, pop_in}
 use Rattle.share_model.specs.link.Calls.{is_spent, Stepped, Steps, CommandCall, TurnCall, OffersSome, step_by_answer}
 use Rattle.share_model.specs.link.Commands.{command_step}
 use Rattle.share_model.specs.link.Fields.{IsName, IsBody, HasCommandFields}
-use Rattle.share_model.specs.link.Live.{Live, life_is_spent}
+use Rattle.share_model.specs.link.Live.{Live, life_is_spent, tickets_of_all}
 use Rattle.share_model.specs.link.Step.{live_step, turn_outcome}
 use Rattle.share_model.specs.link.Turns.{Sending, sending, rest_of, frame_of, is_whole, in_part, whole, wrote_turn}
 use Rattle.share_model.specs.link.Turns.{write_step, fault_step}
@@ -78,34 +82,34 @@ module _ {W : Type 0} (old : LinkView W) (book : IsBookLink old) where
 -- Commands
 
 as_kept : (flow : ℕ) (c : Command) (old new : Live) → IsKept (made_as flow c) old (Commanded c) (Replied (Flow flow)) new
-as_kept flow (MakeCurrency name) old new = (refl, refl)
-as_kept flow (RemoveCurrency name) old new = (refl, refl)
-as_kept flow (MakeTicket amount currency) old new = (refl, refl)
-as_kept flow (RemoveTicket ticket) old new = (refl, refl)
-as_kept flow (FundCurrency ticket currency) old new = (refl, refl)
-as_kept flow (FundFlow ticket funded) old new = (refl, refl)
-as_kept flow (Unfund ticket) old new = (refl, refl)
+as_kept flow (MakeCurrency name) old new = (refl, refl, λ t. refl)
+as_kept flow (RemoveCurrency name) old new = (refl, refl, λ t. refl)
+as_kept flow (MakeTicket amount currency) old new = (refl, refl, λ t. refl)
+as_kept flow (RemoveTicket ticket) old new = (refl, refl, λ t. refl)
+as_kept flow (FundCurrency ticket currency) old new = (refl, refl, λ t. refl)
+as_kept flow (FundFlow ticket funded) old new = (refl, refl, λ t. refl)
+as_kept flow (Unfund ticket) old new = (refl, refl, λ t. refl)
 as_kept flow (OpenFlow name limit tariff) old new = (limit, tariff, refl, refl)
-as_kept flow (CloseFlow name) old new = (refl, refl)
-as_kept flow (Hold name) old new = (refl, refl)
-as_kept flow (Resume name) old new = (refl, refl)
-as_kept flow (Amend ticket amount) old new = (refl, refl)
+as_kept flow (CloseFlow name) old new = (refl, refl, λ t. refl)
+as_kept flow (Hold name) old new = (refl, refl, λ t. refl)
+as_kept flow (Resume name) old new = (refl, refl, λ t. refl)
+as_kept flow (Amend ticket amount) old new = (refl, refl, λ t. refl)
 
 command_kept : (c : Command) (reply : Reply) (old new : Live)
     → IsKept (made_by c reply) old (Commanded c) (Replied reply) new
-command_kept c Done old new = (refl, refl)
-command_kept c (Ticket number) old new = (refl, refl)
+command_kept c Done old new = (refl, refl, λ t. refl)
+command_kept c (Ticket number) old new = (refl, refl, λ t. refl)
 command_kept c (Flow flow) old new = as_kept flow c old new
-command_kept c (Closed flow dropped account) old new = (refl, refl)
-command_kept c (Packet flow seq) old new = (refl, refl)
-command_kept c (Refused why) old new = (refl, refl)
+command_kept c (Closed flow dropped account) old new = (refl, refl, λ t. refl)
+command_kept c (Packet flow seq) old new = (refl, refl, λ t. refl)
+command_kept c (Refused why) old new = (refl, refl, λ t. refl)
 
 module _ {W : Type 0} (old new : LinkView W) (book : IsBookLink old) (sound : Sound old.life old.rates old.live)
     (living : is_spent old ≡ false) (c : Command) (reply : Reply) (did : CommandCall old c reply new) where
   command_stepped : (none : is_lack reply ≡ false) → Stepped (command_step old.rates old.live c) old reply new
   command_stepped none = elim did [
     | inl found ↦ let lack : is_lack reply ≡ true = ap is_lack found.reply_is in cc
-    | inr stepped ↦ subst (λ b. MatchBool b _ (Stepped (command_step old.rates old.live c) old reply new)) living stepped
+    | inr stepped ↦ subst (λ b. MatchBool b ((reply ≡ Refused SpentRefusal) × (new ≡ old)) (Stepped (command_step old.rates old.live c) old reply new)) living stepped
   ]
 
   pub command-made : HasCommandFields c → is_lack reply ≡ false → MakesLine old (Change c) (made_by c reply) new
@@ -135,14 +139,14 @@ module _ {W : Type 0} (old new : LinkView W) (book : IsBookLink old) (sound : So
   command-book = elim did [
     | inl found ↦ book-same old book new found.unchanged
     | inr stepped ↦ book_stepped
-        (subst (λ b. MatchBool b _ (Stepped (command_step old.rates old.live c) old reply new)) living stepped)
+        (subst (λ b. MatchBool b ((reply ≡ Refused SpentRefusal) × (new ≡ old)) (Stepped (command_step old.rates old.live c) old reply new)) living stepped)
   ]
 
   pub command-rates : new.rates ≡ old.rates
   command-rates = elim did [
     | inl found ↦ ap (λ (s : LinkView W). s.rates) found.unchanged
     | inr stepped ↦
-        (subst (λ b. MatchBool b _ (Stepped (command_step old.rates old.live c) old reply new)) living stepped).rest.rates
+        (subst (λ b. MatchBool b ((reply ≡ Refused SpentRefusal) × (new ≡ old)) (Stepped (command_step old.rates old.live c) old reply new)) living stepped).rest.rates
   ]
 
 -- Packets
@@ -152,7 +156,7 @@ module _ {W : Type 0} (old new : LinkView W) (book : IsBookLink old) (sound : So
     (did : Steps (λ _ l. arrive_step l flow body.payload) old reply new) where
   arrival_stepped : Stepped (arrive_step old.live flow body.payload) old reply new
   arrival_stepped =
-      subst (λ b. MatchBool b _ (Stepped (arrive_step old.live flow body.payload) old reply new)) living did
+      subst (λ b. MatchBool b ((reply ≡ Refused SpentRefusal) × (new ≡ old)) (Stepped (arrive_step old.live flow body.payload) old reply new)) living did
 
   arrival_is : event_of old.live (Send flow body) ≡ taken_by flow body reply
   arrival_is =
@@ -173,7 +177,7 @@ module _ {W : Type 0} (old new : LinkView W) (book : IsBookLink old) (sound : So
         life = arrival_stepped.rest.life;
         rates = arrival_stepped.rest.rates;
       };
-      kept = (refl, refl);
+      kept = (refl, refl, λ t. refl);
     }
     arrival_made (Refused why) is = arrival_is ∙ ap (taken_by flow body) is
     arrival_made Done is = arrival_is ∙ ap (taken_by flow body) is
@@ -257,7 +261,9 @@ pub clock-written : (rates : List Rate) (l : Live) (s : Sending) (k : ℕ)
     → (whole rates l s k).queue.clock
     ≡ l.queue.clock + units_due rates l.books s.head.flow (length (frame_of s))
 clock-written rates l s k =
-    clock-level_all (charge l.queue s.head.flow (units_due rates l.books s.head.flow (length (frame_of s)))) _
+    clock-level_all (charge l.queue s.head.flow (units_due rates l.books s.head.flow (length (frame_of s))))
+    (tickets_of_all (set_active l.graph s.head.flow
+    (is_busy (pop_in l.buffers s.head.flow) s.head.flow && not (is_held l.books s.head.flow))))
 
 module _ {W : Type 0} (old new : LinkView W) (book : IsBookLink old) (sound : Sound old.life old.rates old.live)
     (living : is_spent old ≡ false) (count : ℕ) where

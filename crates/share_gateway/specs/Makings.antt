@@ -1,5 +1,6 @@
 -- What a line makes on the link of a bill.
-use Rattle.std.specs.Prelude.{◌≡◌, ◌<◌, ◌≤◌, ◌+◌, ◌^◌, ℕ, Bool, true, false, List, [], ◌∷◌, length, Option, None, Some}
+use Rattle.std.specs.Prelude.{◌≡◌, ◌<◌, ◌≤◌, ◌+◌, ◌^◌, ℕ, Bool, true, false, List, [], ◌∷◌, ◌++◌, length, nat_eq, Option, None, Some}
+use Rattle.std.specs.Prelude.{if◌then◌else◌}
 use Rattle.std.specs.Prelude.{Result, Ok, Err, MatchResult, ⊤}
 use Rattle.share_base.specs.declared.refusal.Refusal.{Refusal}
 use Rattle.share_base.specs.declared.command.Command.{Command}
@@ -23,7 +24,7 @@ use Rattle.share_model.specs.link.Step.{live_step}
 use Rattle.share_model.specs.link.Turns.{Sending, sending, rest_of, whole}
 use Rattle.share_model.specs.link.View.{LinkView}
 use Rattle.share_model.specs.run.Events.{MayCome}
-use Rattle.share_model.specs.run.Fold.{sent_by_event}
+use Rattle.share_model.specs.run.Fold.{TornFrame, sent_by_event, torn_after}
 use Rattle.share_model.specs.run.Sound.{max_life}
 use Rattle.share_gateway.specs.declared.bill.line.LineFault.{LineFault}
 use Rattle.share_gateway.specs.declared.bill.line.LineFault.TheVariants.{NoMemory, Wrong as WrongLine}
@@ -32,8 +33,12 @@ use Rattle.share_gateway.specs.declared.bill.line.Wrong.TheVariants.{Untaken, Fo
 use Rattle.share_gateway.specs.declared.bill.making.Frame.{Frame}
 use Rattle.share_gateway.specs.declared.bill.making.Made.{Made}
 use Rattle.share_gateway.specs.declared.bill.making.Made.TheVariants.{Opened, Sent, Other}
-use Rattle.share_gateway.specs.Bills.{opened_by}
-use Rattle.share_gateway.specs.BookLines.{event_of}
+use Rattle.share_gateway.specs.declared.bill.kind.Kind.{Kind}
+use Rattle.share_gateway.specs.declared.bill.running.TenantFlow.{TenantFlow}
+use Rattle.share_gateway.specs.declared.bill.sums.Sums.{Sums}
+use Rattle.share_gateway.specs.Bills.{opened_by, tenant_flow}
+use Rattle.share_gateway.specs.BookLines.{event_of, book_reading}
+use Rattle.share_gateway.specs.Sums.{sums_at, one_more}
 
 -- a link of version 2 with the longest life, which no fault broke
 pub record IsBookLink {W : Type 0} (link : LinkView W) : Type 0 where
@@ -67,7 +72,8 @@ abbrev pub IsKept : Made → Live → Event → Outcome → Live → Type 0
 IsKept (Opened name flow) old e o new =
     (limit tariff : ℕ) × (e ≡ Commanded (OpenFlow name limit tariff)) × (o ≡ Replied (Flow flow))
 IsKept (Sent flow bytes units amount) old e o new = IsSentFrame old flow bytes units amount e new
-IsKept Other old e o new = (opened_by e o ≡ []) × (sent_by_event old e ≡ [])
+IsKept Other old e o new =
+    (opened_by e o ≡ []) × (sent_by_event old e ≡ []) × ((t : Option TornFrame) → torn_after old e t ≡ t)
 
 pub record MakesLine {W : Type 0} (old : LinkView W) (line : Line) (made : Made) (new : LinkView W) : Type 0 where
   pub event : Event
@@ -84,6 +90,39 @@ IsFault found (WrongLine why) = found ≡ Err why
 abbrev pub MakesOrNot : {W : Type 0} → LinkView W → Line → Result Made LineFault → LinkView W → Type 0
 MakesOrNot old line result new =
     MatchResult result (λ made. MakesLine old line made new) (λ fault. IsFault (event_of old.live line) fault)
+
+-- What a bill keeps: the flows of tenants, and what each flow sent
+
+abbrev pub KeepsMade : Made → List TenantFlow → List Sums → List TenantFlow → List Sums → Type 0
+KeepsMade (Opened name flow) tenants sent now_tenants now_sent =
+    (now_tenants ≡ tenants ++ tenant_flow name flow) × (now_sent ≡ sent)
+KeepsMade (Sent flow bytes units amount) tenants sent now_tenants now_sent =
+    (now_tenants ≡ tenants)
+    × ((other : ℕ) → sums_at now_sent other
+    ≡ (if nat_eq other flow then one_more (sums_at sent flow) bytes units amount else sums_at sent other))
+KeepsMade Other tenants sent now_tenants now_sent = (now_tenants ≡ tenants) × (now_sent ≡ sent)
+
+-- units that a link can charge
+abbrev pub HasFewUnits : Made → Type 0
+HasFewUnits (Opened name flow) = ⊤
+HasFewUnits (Sent flow bytes units amount) = units ≤ 2 ^ 38
+HasFewUnits Other = ⊤
+
+-- the kind of the book, the link of its run, the flows of tenants, and what each flow sent
+pub record BillView (W : Type 0) : Type 0 where
+  pub kind : Kind
+  pub link : LinkView W
+  pub tenants : List TenantFlow
+  pub sent : List Sums
+
+-- the bytes are read as a line, its event was made, and what a bill keeps of it was kept
+pub record TakesLine {W : Type 0} (old : BillView W) (bytes : List ℕ) (new : BillView W) : Type 0 where
+  pub line : Line
+  pub made : Made
+  pub reads : book_reading old.kind bytes ≡ Ok line
+  pub makes : MakesLine old.link line made new.link
+  pub keeps : KeepsMade made old.tenants old.sent new.tenants new.sent
+  pub kind : new.kind ≡ old.kind
 
 -- Commands
 

@@ -1,5 +1,4 @@
 //! Bills: what each tenant sent, by the text of a book, whose lines are run again.
-ghost use Rattle.std.specs.Prelude.{◌≡◌};
 
 mod discard;
 mod kind;

@@ -1,8 +1,10 @@
 //! What each flow of a book sent.
-ghost use Rattle.std.specs.Prelude.{◌≡◌, ◌<◌, ◌≤◌, ◌*◌, ◌^◌, [], ℕ, IfOk, length, nat_eq, if◌then◌else◌};
-ghost use Rattle.share_gateway.specs.Sums.{sums_at, one_more, AreSmall};
+ghost use Rattle.std.specs.Prelude.{◌≡◌, ◌<◌, ◌≤◌, ◌*◌, ◌^◌, [], ℕ, IfOk, OnOk, length, nat_eq, if◌then◌else◌};
+ghost use Rattle.share_gateway.specs.Sums.{sums_at, one_more, IsSmall, AreSmall};
 
+use super::LineFault;
 use share_base::FlowNo;
+use share_core::MAX_LIFE;
 use std::alloc::{AllocError, Global};
 use std::marker::Model;
 
@@ -58,31 +60,34 @@ impl Sent {
         sums_at(self.entries.as_slice(), flow.0 as usize)
     }
 
-    /// A flow sent one more frame of this many bytes and units, and all that it sent costs this amount.
+    /// A flow sent one more frame of this many bytes and units, and all that it sent costs this amount. `NoMemory` if
+    /// memory was refused, or the flow sent as many frames as the longest life has events, which no book does.
     pub(super) fn add(
         &mut self,
         flow: FlowNo,
         bytes: u32,
         units: u64,
         amount: u64,
-    ) -> Result<(), AllocError>
-        requires few { (sums_at self.old flow).packets < 2 ^ 24 }
-        requires units { units ≤ 2 ^ 38 }
-        ensures { IfOk result (λ _. (other : ℕ) → sums_at self.new other
+    ) -> Result<(), LineFault>
+        requires { units ≤ 2 ^ 38 }
+        ensures { OnOk result ((other : ℕ) → sums_at self.new other
             ≡ (if nat_eq other flow then one_more (sums_at self.old flow) bytes units amount
             else sums_at self.old other)) }
     {
         let at = flow.0 as usize;
-        let sums = more(sums_at(self.entries.as_slice(), at), bytes, units, amount);
-        reach(&mut self.entries, at)?;
-        self.entries[at] = sums;
+        let old = sums_at(self.entries.as_slice(), at);
+        if old.packets >= MAX_LIFE || reach(&mut self.entries, at).is_err() {
+            return Err(LineFault::NoMemory);
+        }
+        self.entries[at] = more(old, bytes, units, amount);
         Ok(())
     }
 }
 
 // What the flow of a number sent.
 fn sums_at(entries: &[Sums], at: usize) -> Sums
-    ensures { result ≡ sums_at entries.now at }
+    ensures value { result ≡ sums_at entries.now at }
+    ensures small { AreSmall entries.now → IsSmall result }
 {
     if at < entries.len() {
         entries[at]

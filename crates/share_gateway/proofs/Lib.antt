@@ -1,10 +1,7 @@
 pub mod FramesLemmas
-pub mod MakingLemmas
 pub mod OpenedLemmas
 pub mod OpeningLemmas
 pub mod OutboxHistoryLemmas
 pub mod OutboxLemmas
 pub mod PlannedLemmas
 pub mod RecordsLemmas
-pub mod SeenLemmas
-pub mod SumsLemmas

@@ -1,10 +1,6 @@
-pub mod Bills
-pub mod BookLines
 pub mod ByteQueue
-pub mod Discard
 pub mod Frames
 pub mod Making
-pub mod Makings
 pub mod Opened
 pub mod Opening
 pub mod OpeningLeft
@@ -16,5 +12,3 @@ pub mod OutboxTold
 pub mod Plan
 pub mod Planned
 pub mod Records
-pub mod Seen
-pub mod Sums

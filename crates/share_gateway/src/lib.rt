@@ -1,10 +1,8 @@
-//! The pure core of a gateway: plans, books, the outbox, records and frames that come in pieces, and bills.
+//! The pure core of a gateway: plans, the outbox, and records and frames that come in pieces.
 #![tactic(auto)]
 
-mod bill;
 mod byte_queue;
 mod frames;
-mod laws;
 mod opened;
 mod openings;
 mod outbox;
@@ -12,11 +10,7 @@ mod plan;
 mod plan_laws;
 mod records;
 
-pub use bill::{
-    Bill, BookBill, Kind, LineFault, NotBilled, TenantBill, TenantTotal, Wrong, add_rows, bill_text,
-};
 pub use frames::{FRAMES_ROOM, FrameCut, Frames, streams_are_cut_into_frames};
-pub use laws::lengths_decide;
 pub use opened::{MIN_EVENTS, NotOpened, open_engine};
 pub use openings::{OpeningCommands, PlanCommand, opening};
 pub use outbox::{OUTBOX, Outbox, outboxes_give_frames_in_order};

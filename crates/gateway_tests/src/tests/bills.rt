@@ -2,7 +2,7 @@
 
 use super::tariffs::Four;
 use share_base::Refusal;
-use share_gateway::{BookBill, Kind, NotBilled, TenantBill, Wrong, bill_text};
+use share_bill::{BookBill, Kind, NotBilled, TenantBill, Wrong, bill_text};
 use share_model::{Got, PlainReader, ScriptedReader, TellingReader};
 use std::alloc::Global;
 use std::process::Abort;

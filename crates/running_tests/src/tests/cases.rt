@@ -80,16 +80,16 @@ struct Case<'a> {
     queue: (usize, usize),
     clerks: u64,
     life: u64,
-    rows: &'a [&'a str],
-    meanwhile: &'a [&'a str],
-    brings: &'a [(&'a str, &'a str)],
+    rows: &'static [&'static str],
+    meanwhile: &'static [&'static str],
+    brings: &'static [(&'static str, &'static str)],
     // Then it is not settled without these, for these reasons.
-    tries: &'a [(Without, WhyUnsettled)],
-    after: &'a [&'a str],
+    tries: &'static [(Without, WhyUnsettled)],
+    after: &'static [&'static str],
     // It is settled with these books, if there are some, and has written so many bytes, which begin with these pieces.
-    books: Option<Books<'a>>,
+    books: Option<Books<'static>>,
     bytes: usize,
-    pieces: &'a [&'a [u8]],
+    pieces: &'a [&'static [u8]],
 }
 
 const NOTHING: Case<'static> = Case {
@@ -456,10 +456,17 @@ fn links_settle_as_worked(rt: HostRuntime) {
 }
 
 /// The link is served after its stop, and then nothing more is done.
-const BROKEN: &str =
-    "E1 a a = 1; E1 a b = 2; stop = broken; turn 65535 = no 20 Broken; stop = broken";
+const BROKEN: &[&str] = &[
+    "E1 a a = 1; E1 a b = 2; stop = broken; turn 65535 = no 20 Broken; stop = broken",
+];
 
-const DRAINED: &str = "E1 a a = 1; E1 a b = 2; stop = drained; turn 65535 = idle; stop = drained";
+const DRAINED: &[&str] = &[
+    "E1 a a = 1; E1 a b = 2; stop = drained; turn 65535 = idle; stop = drained",
+];
+
+fn served(is_torn: bool) -> &'static [&'static str] {
+    if is_torn { BROKEN } else { DRAINED }
+}
 
 // Two packets are written in so many writes, up to a fault if there is one: that is no reason not to settle.
 fn is_written<T>(rt: &T, alloc: Global, answers: &[Answer], bytes: usize, writes: usize)
@@ -468,11 +475,10 @@ where
 {
     let is_torn = bytes < FRAMES.len();
     let turns = writes.saturating_add(usize::from(is_torn)) as u64;
-    let rows = if is_torn { BROKEN } else { DRAINED };
     let frames = FRAMES.get(..bytes).expect(rt, "two frames");
     let case = Case {
         name: "two frames, and how their writer answers",
-        after: &[rows],
+        after: served(is_torn),
         books: Some((&[2], 2, 3, turns.saturating_add(5))),
         bytes,
         pieces: &[frames],

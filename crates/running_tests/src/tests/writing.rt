@@ -58,30 +58,21 @@ fn offers_again<T: Abort + Wait, L: LinkBrand>(
     rt: &T,
     alloc: Global,
     stage: &Stage<Waiting, L>,
-    words: (&Stop, &Stop),
+    waiting: &Waiting,
 ) {
-    holds(rt, "the writer is called", is_seen(words.0));
+    holds(rt, "the writer is called", is_seen(&waiting.called));
     plays(rt, alloc, stage, &["E1 a b = 2"]);
-    words.1.set();
+    waiting.offered.set();
 }
 
 // The first packet is written while the second one is offered.
-fn is_written<T, L>(rt: &T, alloc: Global, new: NewLink<Waiting>, words: (&Stop, &Stop))
+fn writes_meanwhile<T, L>(rt: &T, alloc: Global, stage: &Stage<Waiting, L>, waiting: &Waiting)
 where
     T: Abort + Threads + Wait + Sync,
     L: LinkBrand + Send,
-    requires { new ≡ L.link }
 {
-    let made = staged::<Waiting, L>(rt, alloc, new, 1);
-    let stage = &made;
-    plays(
-        rt,
-        alloc,
-        stage,
-        &[OPENED, "E1 a a = 1; admit = 1 1 packet 1 1"],
-    );
     thread::scope(thread::scope_env(), rt, |scope| {
-        let started = scope.spawn(move || offers_again(rt, alloc, stage, words));
+        let started = scope.spawn(move || offers_again(rt, alloc, stage, waiting));
         holds(rt, "a thread", started.is_ok());
         plays(
             rt,
@@ -90,7 +81,23 @@ where
             &["turn 65535 = wrote 1 1 18 whole; admit = 1 2 packet 1 2"],
         );
     });
-    drop(made);
+}
+
+fn is_written<T, L>(rt: &T, alloc: Global, new: NewLink<Waiting>, waiting: &Waiting)
+where
+    T: Abort + Threads + Wait + Sync,
+    L: LinkBrand + Send,
+    requires { new ≡ L.link }
+{
+    let stage = staged::<Waiting, L>(rt, alloc, new, 1);
+    plays(
+        rt,
+        alloc,
+        &stage,
+        &[OPENED, "E1 a a = 1; admit = 1 1 packet 1 1"],
+    );
+    writes_meanwhile(rt, alloc, &stage, waiting);
+    drop(stage);
 }
 
 fn word(rt: &impl Abort, alloc: Global) -> Arc<Stop> {
@@ -104,13 +111,15 @@ fn shared(rt: &impl Abort, word: &Arc<Stop>) -> Arc<Stop> {
 #[test]
 fn offer_while_writing(rt: HostRuntime) {
     let alloc = rt.alloc();
-    let (called, offered) = (word(&rt, alloc), word(&rt, alloc));
     let waiting = Waiting {
-        called: shared(&rt, &called),
-        offered: shared(&rt, &offered),
+        called: word(&rt, alloc),
+        offered: word(&rt, alloc),
     };
-    let new = new_link(&rt, alloc, 4, 1, 64, waiting);
-    is_written::<HostRuntime, Brand>(&rt, alloc, new, (&called, &offered));
-    drop(called);
-    drop(offered);
+    let writer = Waiting {
+        called: shared(&rt, &waiting.called),
+        offered: shared(&rt, &waiting.offered),
+    };
+    let new = new_link(&rt, alloc, 4, 1, 64, writer);
+    is_written::<HostRuntime, Brand>(&rt, alloc, new, &waiting);
+    drop(waiting);
 }

@@ -1,7 +1,6 @@
 //! A gateway's core in use: worked examples, and what no contract says.
 
 mod assertions;
-mod bills;
 mod frames;
 mod outbox;
 mod plans;

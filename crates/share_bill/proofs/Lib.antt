@@ -1,3 +1,0 @@
-pub mod MakingLemmas
-pub mod SeenLemmas
-pub mod SumsLemmas

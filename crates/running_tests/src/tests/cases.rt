@@ -358,15 +358,17 @@ where
 fn came(rt: &impl Abort, journal: &Journal, brings: &(&str, &str)) {
     let (name_of_flow, bytes) = *brings;
     let name = name(rt, name_of_flow.as_bytes());
-    let mut wanted = bytes.as_bytes().iter();
+    let wanted = bytes.as_bytes();
+    let mut found: usize = 0;
     for entry in journal.entries() {
         if let Event::Arrived { flow, body } = &entry.event {
             if *flow == name {
-                same(rt, name_of_flow, body.as_slice().first(), wanted.next());
+                same(rt, name_of_flow, body.as_slice().first(), wanted.get(found));
+                found = found.saturating_add(1);
             }
         }
     }
-    holds(rt, name_of_flow, wanted.next().is_none());
+    same(rt, name_of_flow, found, wanted.len());
 }
 
 // The audit, run as a script in a life as long, gives these bytes.

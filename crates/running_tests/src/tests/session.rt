@@ -174,7 +174,8 @@ impl<'a, T: Abort + Wait, W: TellingWriter, L: LinkBrand> Session<'a, T, W, L> {
     }
 
     fn turns(&mut self, most: u64) {
-        let turn = self.stage.port.lock(self.rt).turn((most as u32).max(1));
+        let most = u32::try_from(most).unwrap_or(u32::MAX).max(1);
+        let turn = self.stage.port.lock(self.rt).turn(most);
         write_turn(&turn, &mut self.said).expect(self.rt, "room");
     }
 

@@ -106,7 +106,7 @@ struct OfWorkers;
 fn is_of_its_worker(entry: &Entry) -> bool {
     match (&entry.event, &entry.source) {
         (Event::Arrived { body, .. }, Source::Worker(worker)) => {
-            body.as_slice() == [*worker as u8].as_slice()
+            body.as_slice() == [u8::try_from(*worker).unwrap_or(u8::MAX)].as_slice()
         }
         _ => true,
     }

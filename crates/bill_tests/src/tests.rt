@@ -1,0 +1,4 @@
+//! Bills in use: worked books, and what no contract says.
+
+mod bills;
+mod tariffs;

@@ -1,2 +1,11 @@
+pub mod CarryAllLemmas
+pub mod CarryLemmas
+pub mod ChangeLemmas
+pub mod OpenLemmas
 pub mod OpenedLemmas
 pub mod OpeningLemmas
+pub mod OutboxHistoryLemmas
+pub mod OutboxLemmas
+pub mod RunTextLemmas
+pub mod SendLemmas
+pub mod TakeLemmas

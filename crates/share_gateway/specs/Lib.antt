@@ -1,6 +1,10 @@
+pub mod Audited
+pub mod Book
+pub mod Carry
 pub mod Making
 pub mod Opened
 pub mod Opening
 pub mod OpeningLeft
 pub mod OpeningRows
 pub mod Plan
+pub mod Texts

@@ -25,10 +25,7 @@ pub enum NotOpened {
     #[error("the events of a book are 131072 to 16777216")]
     Range,
     #[error("{entry}: {refusal}")]
-    Refused {
-        entry: Entry,
-        refusal: Refusal,
-    },
+    Refused { entry: Entry, refusal: Refusal },
 }
 
 /// A new engine of version 2 with a life of this many events, on which the plan's opening was made. Otherwise, in this
@@ -54,7 +51,11 @@ pub fn open_engine<S: Rates + Drop>(
 }
 
 // A new engine of version 2.
-fn new_engine<S: Rates + Drop>(alloc: Global, shelf: S, events: u64) -> Result<Engine<(), S>, NotOpened>
+fn new_engine<S: Rates + Drop>(
+    alloc: Global,
+    shelf: S,
+    events: u64,
+) -> Result<Engine<(), S>, NotOpened>
     ensures ok { IfOk result (λ engine. (is_book_life events ≡ true)
         × (engine.life ≡ events)
         × (engine.rates ≡ S.rates shelf)
@@ -92,7 +93,10 @@ fn make_all<S: Rates>(engine: &mut Engine<(), S>, plan: &Plan) -> Result<(), Not
 }
 
 /// Makes a command of an opening on an engine whose life is not spent: one event, unless memory was refused.
-pub(crate) fn make<S: Rates>(engine: &mut Engine<(), S>, planned: PlanCommand) -> Result<(), NotOpened>
+pub(crate) fn make<S: Rates>(
+    engine: &mut Engine<(), S>,
+    planned: PlanCommand,
+) -> Result<(), NotOpened>
     requires { is_spent engine.old ≡ false }
     ensures ok { OnOk result (IsMade engine.old planned engine.new) }
     ensures not { IfErr result (IsNotMade engine.old planned) }

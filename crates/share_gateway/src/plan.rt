@@ -69,14 +69,8 @@ impl Model for Tenant {
 pub enum Entry {
     Currency(usize),
     Tenant(usize),
-    CurrencyGrant {
-        currency: usize,
-        grant: usize,
-    },
-    TenantGrant {
-        tenant: usize,
-        grant: usize,
-    },
+    CurrencyGrant { currency: usize, grant: usize },
+    TenantGrant { tenant: usize, grant: usize },
 }
 
 impl fmt::Display for Entry {
@@ -84,7 +78,10 @@ impl fmt::Display for Entry {
         match self {
             Entry::Currency(currency) => write!(f, "currency {currency}"),
             Entry::Tenant(tenant) => write!(f, "tenant {tenant}"),
-            Entry::CurrencyGrant { currency, grant } => write!(f, "grant {grant} of currency {currency}"),
+            Entry::CurrencyGrant { currency, grant } => write!(
+                f,
+                "grant {grant} of currency {currency}"
+            ),
             Entry::TenantGrant { tenant, grant } => write!(f, "grant {grant} of tenant {tenant}"),
         }
     }
@@ -133,7 +130,10 @@ impl Plan {
     {
         match plan_fault(&currencies, &tenants) {
             Some(fault) => Err(fault),
-            None => Ok(Plan { currencies, tenants }),
+            None => Ok(Plan {
+                currencies,
+                tenants,
+            }),
         }
     }
 
@@ -212,7 +212,9 @@ fn shares_name(currencies: &[Currency], tenants: &[Tenant]) -> bool
 fn is_shared(currencies: &[Currency], tenant: &Tenant) -> bool
     ensures { result ≡ is_shared currencies.now tenant.now }
 {
-    currencies.iter().any(|currency| has_name(tenant.name, currency))
+    currencies
+        .iter()
+        .any(|currency| has_name(tenant.name, currency))
 }
 
 fn has_name(name: Name, currency: &Currency) -> bool
@@ -227,7 +229,8 @@ fn is_short(currencies: &[Currency], tenants: &[Tenant]) -> bool
         ≡ nat_le (funding_commands (record { currencies = currencies.now; tenants = tenants.now })) 65536 }
 {
     let grants = grants_to_currencies(currencies).saturating_add(grants_to_tenants(tenants));
-    currencies.len() <= MAX_FUNDING_COMMANDS && grants <= (MAX_FUNDING_COMMANDS - currencies.len()) / 2
+    currencies.len() <= MAX_FUNDING_COMMANDS
+        && grants <= (MAX_FUNDING_COMMANDS - currencies.len()) / 2
 }
 
 fn grants_to_currencies(currencies: &[Currency]) -> usize

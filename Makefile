@@ -1,17 +1,14 @@
-# stridelink: 'make try' runs an example unproved, 'make run' proves and builds the program and runs it, 'make serve'
-# plays a session over sockets with it, 'make check' proves what changed and runs tests and examples, and 'make test'
-# passes the gate. 'make soak' puts a server under a long load and beside a hostile client, and counts shares at the far
-# end of the uplink for each kind of load; 'make fuzz' compares
-# the program with plain models for MINUTES minutes (10) of drawn scripts and servers. The toolchain's command rt has
-# to be on the PATH. 'make tools' installs what the tools around a server use, and 'make tools-test' tries these with
-# the program, or with that of the variable STRIDELINK. 'make deb' builds a Debian package of all this in bin/.
+# stridelink: 'make help' lists what can be made. The toolchain's command rt has to be on the PATH.
 
 # How many jobs each proof of 'make run' has; .ci/prove chooses if it is empty.
 JOBS ?=
 
 SOURCES := crates.txt $(shell find crates -name '*.rt' -o -name '*.antt' | grep -v /out/)
 
-.PHONY: run serve try build check test edits bench soak fuzz tools tools-test deb
+.PHONY: help run serve try build check test edits bench soak fuzz tools tools-test deb install fmt clean
+
+# Where 'make install' puts the program.
+PREFIX ?= /usr/local
 
 TOOL_PACKAGES := mandoc man-db tshark gnuplot-nox python3 python3-prometheus-client postgresql systemd bash-completion \
     binutils dpkg-dev lintian
@@ -31,6 +28,24 @@ examples/serve.py
 examples/hostile.py
 examples/fuzz.py
 endef
+
+help:
+	@echo 'make try         runs an example, with nothing proved'
+	@echo 'make run         proves and builds the program, and runs the example; JOBS=N for each proof'
+	@echo 'make serve       proves and builds the program, and plays a session over sockets'
+	@echo 'make build       proves and builds bin/stridelink'
+	@echo 'make check       proves what changed since the last check, then runs the tests and the examples'
+	@echo 'make test        passes the gate: docs/GATE.md'
+	@echo 'make edits       tries the wrong bodies that the gate leaves out'
+	@echo 'make bench       measures the program'
+	@echo 'make soak        puts long loads on a server, and counts shares at the far end of the uplink'
+	@echo 'make fuzz        compares the program with plain models for MINUTES minutes (10)'
+	@echo 'make tools       installs what the tools around a server use (apt-get)'
+	@echo 'make tools-test  tries these tools with the program, or with that of the variable STRIDELINK'
+	@echo 'make deb         builds a Debian package in bin/'
+	@echo 'make install     installs the program, its manual and its completion below PREFIX (/usr/local) in DESTDIR'
+	@echo 'make fmt         lays out the sources of each crate'
+	@echo 'make clean       removes what was proved and built'
 
 run: bin/stridelink
 	bin/stridelink run < examples/one-packet.script
@@ -84,7 +99,7 @@ tools:
 	DEBIAN_FRONTEND=noninteractive apt-get install -y --no-install-recommends $(TOOL_PACKAGES)
 
 ifndef STRIDELINK
-deb tools-test: bin/stridelink
+deb tools-test install: bin/stridelink
 endif
 deb:
 	mkdir -p bin
@@ -100,3 +115,16 @@ tools-test:
 	tools/tests/unit.py
 	tools/tests/links.py
 	tools/tests/package.py
+
+install:
+	install -D -m 755 -t $(DESTDIR)$(PREFIX)/bin $(or $(STRIDELINK),bin/stridelink)
+	install -D -m 644 -t $(DESTDIR)$(PREFIX)/share/man/man1 docs/man/*.1
+	install -D -m 644 -t $(DESTDIR)$(PREFIX)/share/man/man5 docs/man/*.5
+	install -D -m 644 tools/completion/stridelink.bash \
+	    $(DESTDIR)$(PREFIX)/share/bash-completion/completions/stridelink
+
+fmt:
+	for crate in crates/*/; do (cd $$crate && rt fmt) || exit 1; done
+
+clean:
+	rm -rf bin crates/*/out

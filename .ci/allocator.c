@@ -1,7 +1,7 @@
-/* An allocator that the program above it steers, for tests (.ci/memory): it refuses requests in turn, and tells
-   whether blocks were kept. A program speaks with it by requests of sizes that nothing else asks for. Such a question
+/* An allocator that the program above it steers, for tests (.ci/memory): it refuses requests in turn, tells whether
+   blocks were kept, and whether more bytes were asked for than should be. A program speaks with it by requests of sizes that nothing else asks for. Such a question
    is itself no request; it is answered yes by a refusal, and no by a block. The same words stand in
-   crates/share_model/src/allocator.rt. At the end it writes what it was asked and did on standard error. No header is
+   crates/share_model/src/allocator.rt, and LONGER in the tests that ask so. At the end it writes what it was asked and did on standard error. No header is
    included, so that the toolchain's clang is all that it takes. */
 
 typedef unsigned long size;
@@ -16,7 +16,9 @@ enum {
     EACH = 4095,            /* each request from here on is refused; a number n below: the n-th is */
     REFUSED = 4096,         /* none is refused from here on; was one? */
     MARK = 4097,            /* keep how many blocks are held */
-    CHANGED = 4098          /* is another number held than was kept? */
+    CHANGED = 4098,         /* is another number held than was kept? */
+    LONGER = 8192,          /* and n more: were more than n bytes asked for since the mark? */
+    LAST = 65535
 };
 
 static void *(*next_malloc)(size);
@@ -29,6 +31,7 @@ static long requests;   /* the requests since then */
 static long refused;    /* the refusals since then */
 static long held;       /* the blocks that are held */
 static long marked;
+static size asked;      /* the bytes of the requests since the mark */
 static long questions;  /* all questions, and all refusals */
 static long refusals;
 
@@ -64,8 +67,11 @@ static int says_yes(long question) {
     }
     if (question == MARK) {
         marked = held;
+        asked = 0;
         return 0;
     }
+    if (question >= LONGER)
+        return asked > (size)(question - LONGER);
     return held != marked;
 }
 
@@ -77,14 +83,16 @@ static void *block(void *made) {
 void *malloc(size count) {
     if (!next_malloc)
         find_next();
-    if (count > QUESTION && count <= QUESTION + CHANGED)
+    if (count > QUESTION && count <= QUESTION + LAST)
         return says_yes((long)(count - QUESTION)) ? 0 : block(next_malloc(1));
+    asked += count;
     return refuses() ? 0 : block(next_malloc(count));
 }
 
 void *realloc(void *old, size count) {
     if (!old)
         return malloc(count);
+    asked += count;
     return refuses() ? 0 : next_realloc(old, count);
 }
 

@@ -19,13 +19,14 @@ import sys
 
 sys.dont_write_bytecode = True
 
-from serving import (END, FUNDED, LOOPBACK, ONE_PACKET, PATIENCE, PROGRAM, Failure, check, connected, expect,
-                     expect_equal, frame, is_blocked, listeners, lowest_free, one_packet, packets, packets_until_torn,
-                     records, reset, total, try_cases, wait_for)
+from serving import (END, FUNDED, LOOPBACK, ONE_PACKET, PATIENCE, PROGRAM, Failure, address_space, check, connected,
+                     expect, expect_equal, frame, is_blocked, listeners, lowest_free, one_packet, packets,
+                     packets_until_torn, records, reset, total, try_cases, wait_for)
 
-# Seconds for a case, and for all of them.
+# Seconds for a case, and for all of them, and for a server that ends before anything comes.
 LIMIT = 20
 LIMIT_OF_ALL = 60
+QUICK = 10
 
 # Where a server listens whose ports are found without what it tells.
 ELSEWHERE = {"ingress": "127.0.0.2:0", "control": "127.0.0.3:0"}
@@ -255,13 +256,29 @@ def no_descriptor_for_an_accept(run):
         expect_equal(sorted(commands), ["mkcur x0", "mkcur x1"][:len(controls)], "the commands")
 
 
+def no_memory_for_the_first_threads(run):
+    """A server starts a thread for each of these, if it is to end with its input: the input, the watch of the end, and
+    the link. The last of them finds no memory, or the last two, or all: the server ends at once, with its audit."""
+    sizes = {}
+    for is_until_eof in (False, True):
+        server = run.server(run.peer(), until_eof=is_until_eof)
+        wait_for(lambda: len(os.listdir("/proc/%d/task" % server.process.pid)) == 3 + is_until_eof, "threads")
+        sizes[is_until_eof] = address_space(server.process)
+    stack = sizes[True] - sizes[False]
+    for is_until_eof, size in sizes.items():
+        for refused in range(1, 3 + is_until_eof):
+            peer = run.peer()
+            limit = size - (refused - 1) * stack - stack // 8
+            server = run.start(peer.address, until_eof=is_until_eof, before=limited(resource.RLIMIT_AS, limit))
+            server.ends(1, "cannot start a worker", seconds=QUICK)
+            check(server, peer, [])
+
+
 @contextlib.contextmanager
 def without_memory(process):
     """Refuses each growth of a program that runs, until the end of the block."""
-    with open("/proc/%d/statm" % process.pid, encoding="ascii") as source:
-        size = int(source.read().split()[0]) * resource.getpagesize()
     before = resource.prlimit(process.pid, resource.RLIMIT_AS)
-    resource.prlimit(process.pid, resource.RLIMIT_AS, (size, before[1]))
+    resource.prlimit(process.pid, resource.RLIMIT_AS, (address_space(process), before[1]))
     yield
     if process.poll() is None:
         resource.prlimit(process.pid, resource.RLIMIT_AS, before)
@@ -449,8 +466,9 @@ def outputs_are_gone(run):
 
 CASES = (script_is_reset, script_reader_goes, peer_goes_between_writes, peer_goes_in_a_write, peer_goes_unseen,
          clients_reset_before_they_are_accepted, clients_reset_while_the_link_waits, no_descriptor_to_begin,
-         no_descriptor_for_an_accept, script_without_memory, strict_script_without_memory, tape_without_memory,
-         disk_is_full, audit_cannot_take_its_name, audit_reader_goes, outputs_are_gone)
+         no_descriptor_for_an_accept, no_memory_for_the_first_threads, script_without_memory,
+         strict_script_without_memory, tape_without_memory, disk_is_full, audit_cannot_take_its_name, audit_reader_goes,
+         outputs_are_gone)
 
 
 if __name__ == "__main__":

@@ -12,20 +12,23 @@ import os
 import random
 import re
 import resource
+import select
 import signal
 import socket
 import statistics
 import struct
 import sys
 import termios
+import threading
 import time
 
 sys.dont_write_bytecode = True
 
 from measured import Load, check_changes, check_currency, check_load, flooded
-from serving import (ENDED, END, LOOPBACK, ONE_PACKET, PATIENCE, QUIET_SECONDS, Failure, check,
+from serving import (ENDED, END, LOOPBACK, ONE_PACKET, PATIENCE, QUIET_SECONDS, Failure, address_space, check,
                      ends_by_itself, expect, expect_equal, frame, frames, is_blocked, listeners, lower, lowest_free,
-                     one_packet, packets, packets_until_torn, record, records, reset, total, try_cases, wait_for)
+                     one_packet, packets, packets_until_torn, record, records, reset, send_on, tcp_connections, total,
+                     try_cases, wait_for)
 
 # Seconds for a case, and for all of them.
 LIMIT = 60
@@ -49,6 +52,15 @@ SLOW_END = 1e6
 
 # A server that has nothing to do, or waits for its far end, may use this share of a core: its threads sleep.
 ASLEEP_SHARE = 0.0005
+
+# A connection gives so many bytes at most once the end has begun, and before that any number.
+LAST_BYTES = 1 << 24
+
+# For so many seconds after the beginning of the end replies may wait, and a write call on the uplink.
+GRACE = 5
+
+# So many servers are started at most until the number of write calls of one is odd, or even.
+TRIES = 12
 
 REPORT = """\
 clock                           18
@@ -163,6 +175,19 @@ def long_packets(run):
     expect(sorted(frames(replay.out)[0]) == wanted, "other frames were sent")
     owed = {line.split()[2]: int(line.split()[5]) for line in replay.report.splitlines() if line.startswith("flow ")}
     expect_equal(owed, OWED, "what the flows owe")
+
+
+def much_of_one_connection(run):
+    """All that one connection brings arrives, if it is more than a connection gives once the end has begun."""
+    peer = run.peer()
+    server = run.server(peer)
+    control = server.control()
+    control.fund()
+    some = packets("a", 0, LAST_BYTES // 9000 + 120, 9000)
+    send_all(server.ingress(), some)
+    control.close()
+    server.ends()
+    check(server, peer, [("whole", some)])
 
 
 def accepted_in_order(run):
@@ -518,6 +543,23 @@ def spent_life(run):
     expect_equal(len(replay.lines), 5, "events in the audit")
 
 
+def spent_life_late_clients(run):
+    """An ingress client that connects once the life is spent sees the end, whether it sends or is idle."""
+    peer = run.peer()
+    server = run.server(peer, workers=3, life=3)
+    control = server.control()
+    control.fund()
+    control.ask_wanted(["mkcur x"], ["no 2 Spent"])
+    time.sleep(0.2)
+    for data in (b"", record("a", b"late"), b"\x01a"):
+        client = server.ingress(data)
+        ends_by_itself(client)
+        client.close()
+    control.close()
+    server.ends(1, "the life is spent")
+    check(server, peer, [])
+
+
 def spent_life_under_load(run):
     """Offers that no event is left for are dropped; what was admitted is in the audit."""
     peer = run.peer()
@@ -587,31 +629,6 @@ def until_eof_idle(run):
         check(server, peer, [("whole", some)])
 
 
-def until_eof_gives_what_had_come(run):
-    """What had come when standard input ended is answered, admitted, sent and settled."""
-    peer = run.peer(lambda peer: peer.go_on.wait(), narrow=True)
-    server = run.server(peer, until_eof=True)
-    control = server.control()
-    control.fund()
-    some = packets("a", 0, 660, 1000)
-    connection = server.ingress(records(some[:60]))
-    wait_for(lambda: is_blocked(server, []), "a link that waits for its peer")
-    sending = run.thread(connection.sendall, records(some[60:]))
-    control.send(b"mkcur x\nmkcur y\nmkcur")
-    sending.finish()
-    time.sleep(0.2)
-    came = len(records(some)) - unacknowledged(connection)
-    server.end_input()
-    time.sleep(0.3)
-    peer.go_on.set()
-    server.ends(seconds=END)
-    expect_equal(control.close(), b"ok\nok\n", "the replies")
-    connection.close()
-    totals = check(server, peer, [("part", some)]).totals()
-    expect(totals["written"] >= came // len(record(*some[0])), "%d bytes had come, and %d frames of 1000 were sent"
-           % (came, totals["written"]))
-
-
 def unacknowledged(connection):
     """How many bytes of those that were sent the other side does not have yet."""
     return struct.unpack("i", fcntl.ioctl(connection, termios.TIOCOUTQ, bytes(4)))[0]
@@ -624,17 +641,7 @@ def until_eof_floods(run):
     server = run.server(peer, until_eof=True, life=1 << 20)
     control = server.control()
     control.ask_wanted(["open a 1 1"], ["flow 1"])
-    connection = server.ingress()
-    chunk = record("a", b"0" * 9) * 100000
-
-    def flood():
-        try:
-            while True:
-                connection.sendall(chunk)
-        except OSError:
-            pass
-
-    flooding = run.thread(flood)
+    flooding = run.thread(send_on, server.ingress(), record("a", b"0" * 9) * 100000)
     wait_for(lambda: total("accepted", 1) in control.ask("report")[0], "the first packet's arrival")
     server.end_input()
     server.ends(seconds=END)
@@ -642,6 +649,16 @@ def until_eof_floods(run):
     replay = check(server, peer)
     expect(set(replay.lines[1:]) == {"send a " + "30" * 9}, "other packets arrived than were sent")
     expect_equal(replay.totals()["waiting"], 1, "packets that wait")
+
+
+def until_eof_of_no_input(run):
+    """Standard input that cannot be read, such as a folder, has ended."""
+    peer = run.peer()
+    folder = os.open(run.folder(), os.O_RDONLY)
+    run.stack.callback(os.close, folder)
+    server = run.start(peer.address, until_eof=True, stdin=folder)
+    server.ends()
+    check(server, peer, [])
 
 
 def until_eof_before_a_slow_far_end(run):
@@ -655,22 +672,21 @@ def until_eof_before_a_slow_far_end(run):
     floods.server.ends(seconds=END)
 
 
-def until_eof_unread_replies(run):
+def send_quietly(connection, some):
+    try:
+        connection.sendall(records(some))
+    except OSError:
+        pass
+
+
+def unread_replies(run):
     """A client that never reads its replies cannot hold up the end."""
     peer = run.peer()
     server = run.server(peer, until_eof=True)
     control = server.control()
     control.fund()
     control.socket.settimeout(None)
-
-    def ask_on():
-        try:
-            while True:
-                control.send(b"report\n" * 1000)
-        except OSError:
-            pass
-
-    asking = run.thread(ask_on)
+    asking = run.thread(send_on, control.socket, b"report\n" * 1000)
     some = packets("a", 0, 10, 100)
     server.ingress(records(some)).close()
     wait_for(lambda: len(peer.got) == 10 * 117, "the frames of a client")
@@ -681,30 +697,185 @@ def until_eof_unread_replies(run):
     check(server, peer, [("whole", some)])
 
 
-def until_eof_dead_peer(run):
-    """An uplink that takes nothing is torn, so that a dead peer costs no audit."""
+def what_had_come(run):
+    """What had come when standard input ended is answered, admitted, sent and settled, if the peer takes it in time."""
     peer = run.peer(lambda peer: peer.go_on.wait(), narrow=True)
     server = run.server(peer, until_eof=True)
     control = server.control()
     control.fund()
-    some = packets("a", 0, 3000, 1000)
-    sending = run.thread(send_quietly, server.ingress(), some)
+    some = packets("a", 0, 660, 1000)
+    connection = server.ingress(records(some[:60]))
     wait_for(lambda: is_blocked(server, []), "a link that waits for its peer")
-    server.end_input()
-    status = server.wait(END)
+    sending = run.thread(connection.sendall, records(some[60:]))
+    control.send(b"mkcur x\nmkcur y\nmkcur")
     sending.finish()
+    time.sleep(0.2)
+    came = len(records(some)) - unacknowledged(connection)
+    server.end_input()
+    time.sleep(0.6 * GRACE)
+    peer.go_on.set()
+    server.ends(seconds=END)
+    expect_equal(control.close(), b"ok\nok\n", "the replies")
+    connection.close()
+    totals = check(server, peer, [("part", some)]).totals()
+    expect(totals["written"] >= came // len(record(*some[0])), "%d bytes had come, and %d frames of 1000 were sent"
+           % (came, totals["written"]))
+
+
+def idle_client(run):
+    """At the end of input a client that sends nothing sees the end of its connection at once, and one whose packets
+    wait for the link sees none before they are taken."""
+    peer = run.peer(lambda peer: peer.go_on.wait(), narrow=True)
+    server = run.server(peer, workers=2, until_eof=True)
+    control = server.control()
+    control.fund()
+    some = packets("a", 0, 3000, 1000)
+    waits, rests = server.ingress(), server.ingress()
+    sending = run.thread(send_quietly, waits, some)
+    wait_for(lambda: server.unread() and is_blocked(server, []), "a link that waits for its peer")
+    server.end_input()
+    ends_by_itself(rests)
+    time.sleep(1)
+    expect(not has_more(waits), "a client whose packets wait sees the end of its connection")
+    peer.go_on.set()
+    server.ends(seconds=END)
+    sending.finish()
+    for connection in (waits, rests):
+        connection.close()
+    check(server, peer, [("part", some)])
+
+
+def has_more(connection):
+    """Whether something came on a connection, or its end."""
+    return bool(select.select([connection], [], [], 0)[0])
+
+
+def dead_peer(run, is_odd):
+    """An uplink that takes nothing is torn, so that a dead peer costs no audit: whether the number of write calls that
+    began is odd or even."""
+    some = packets("a", 0, 3000, 1000)
+    for frames_before in range(TRIES):
+        peer, server, sending = stalled(run, some, frames_before)
+        if (written_to(peer) // 1017 + 1) % 2 == is_odd:
+            server.end_input()
+            torn_at_the_end(server, peer, some)
+            sending.finish()
+            return
+        server.close()
+        peer.close()
+    raise Failure("no number of write calls is %s" % ("odd" if is_odd else "even"))
+
+
+def stalled(run, some, frames_before):
+    """A server whose link waits for a peer that reads so many frames of 1017 bytes, and then nothing until it is told
+    to: the peer, the server, and what sends these packets."""
+    def die(peer):
+        while len(peer.got) < 1017 * frames_before and peer.read(1017 * frames_before - len(peer.got)):
+            pass
+        peer.go_on.wait()
+
+    peer = run.peer(die, narrow=True)
+    server = run.server(peer, until_eof=True)
+    control = server.control()
+    control.fund()
+    sending = run.thread(send_quietly, server.ingress(), some)
+    wait_for(lambda: server.unread() and is_blocked(server, []), "a link that waits for its peer")
+    return peer, server, sending
+
+
+def written_to(peer):
+    """How many bytes the system has taken for the peer of an uplink: those that it read, and those on their way."""
+    port = int(peer.address.split(":")[1])
+    return len(peer.got) + sum(sent * (other == port) + received * (own == port)
+                               for own, other, sent, received in tcp_connections())
+
+
+def torn_at_the_end(server, peer, some):
+    """Wants that the uplink is torn for a peer that reads on once the server has ended; the audit's replay."""
+    status = server.wait(END)
     peer.go_on.set()
     expect_equal(status, 1, "status")
     server.ends(1, "the uplink failed")
     replay = check(server, peer, [("part", some)], torn=True)
     expect_equal(replay.lines.count("torn"), 1, "faults in the audit")
+    return replay
 
 
-def send_quietly(connection, some):
-    try:
-        connection.sendall(records(some))
-    except OSError:
-        pass
+def peer_that_dies(run):
+    """A peer that reads when the end begins, and soon no more: the uplink is torn at a later look."""
+    def read_for_a_while(peer):
+        while not is_over.is_set() and peer.read(1017):
+            time.sleep(0.005)
+        peer.go_on.wait()
+
+    is_over = threading.Event()
+    peer = run.peer(read_for_a_while, narrow=True)
+    server = run.server(peer, until_eof=True)
+    control = server.control()
+    control.fund()
+    some = packets("a", 0, 3000, 1000)
+    sending = run.thread(send_quietly, server.ingress(), some)
+    wait_for(lambda: len(peer.got) > 10170, "some frames")
+    server.end_input()
+    time.sleep(1)
+    is_over.set()
+    torn_at_the_end(server, peer, some)
+    sending.finish()
+
+
+def slow_peer(run):
+    """A peer that takes little, but always more, gets all that was admitted, however long it takes."""
+    def read_slowly(peer):
+        while not peer.go_on.is_set() and peer.read(1017):
+            time.sleep(0.01)
+
+    peer = run.peer(read_slowly, narrow=True)
+    server = run.server(peer, until_eof=True)
+    control = server.control()
+    control.fund()
+    some = packets("a", 0, 3000, 1000)
+    sending = run.thread(send_quietly, server.ingress(), some)
+    wait_for(lambda: len(peer.got) > 10170, "some frames")
+    server.end_input()
+    time.sleep(2.1 * GRACE)
+    peer.go_on.set()
+    server.ends(seconds=END)
+    sending.finish()
+    check(server, peer, [("part", some)])
+
+
+def idle_uplink(run, count):
+    """While replies wait, an uplink on which nothing is left to write is no dead one: its peer gets the frames that are
+    on their way, though it reads them late and writes back, which would reset an uplink that was torn."""
+    def read_late(peer):
+        peer.go_on.wait()
+        peer.connection.sendall(b"thanks")
+        while peer.read(1017):
+            peer.connection.sendall(b"thanks")
+
+    peer = run.peer(read_late)
+    server = run.server(peer, until_eof=True, clerks=2)
+    control, deaf = server.control(), server.control()
+    control.fund()
+    deaf.socket.settimeout(None)
+    asking = run.thread(send_on, deaf.socket, b"report\n" * 1000)
+    some = packets("a", 0, count, 1000)
+    server.ingress(records(some)).close()
+    wait_for(lambda: total("written", count) in control.ask("report")[0], "the writes of the frames")
+    time.sleep(0.5)
+    server.end_input()
+    time.sleep(GRACE + 0.5)
+    peer.go_on.set()
+    server.ends(seconds=END)
+    asking.finish()
+    check(server, peer, [("whole", some)])
+
+
+def until_eof_beside_slow_ones(run):
+    """The end of standard input beside clients and peers that are slow, idle or dead. They are tried side by side,
+    since each takes seconds."""
+    run.side_by_side(((unread_replies,), (what_had_come,), (idle_client,), (dead_peer, False), (dead_peer, True),
+                      (peer_that_dies,), (slow_peer,), (idle_uplink, 7), (idle_uplink, 8)), LIMIT)
 
 
 def until_eof_open(run):
@@ -778,11 +949,14 @@ def tears(run, is_awake):
     ends.is_ended(1, "the uplink failed", torn=True)
 
 
+def refuse_threads(server):
+    """Leaves a server too little memory for another thread."""
+    lower(server, resource.RLIMIT_AS, address_space(server.process) + (1 << 20))
+
+
 def refuses_a_thread(run, is_awake):
     ends = Ends(run, is_awake, clerks=1, workers=3)
-    with open("/proc/%d/statm" % ends.server.process.pid) as source:
-        size = int(source.read().split()[0]) * resource.getpagesize()
-    lower(ends.server, resource.RLIMIT_AS, size + (1 << 20))
+    refuse_threads(ends.server)
     late = ends.server.ingress()
     ends_by_itself(late)
     ends.is_ended(1, "cannot start a worker")
@@ -879,15 +1053,27 @@ def fault_thread(run):
     control.fund()
     first = server.ingress(record("a", b"1st"))
     wait_for(lambda: len(peer.got) == 20, "the frame of a client")
-    with open("/proc/%d/statm" % server.process.pid) as source:
-        size = int(source.read().split()[0]) * resource.getpagesize()
-    lower(server, resource.RLIMIT_AS, size + (1 << 20))
+    refuse_threads(server)
     second = server.ingress()
     server.ends(1, "cannot start a worker", seconds=END)
     for connection in (first, second):
         connection.close()
     control.vanish()
     check(server, peer, [("whole", [("a", b"1st")])])
+
+
+def fault_control_thread(run):
+    """So does one of a control connection. Those that are there are ended."""
+    peer = run.peer()
+    server = run.server(peer, clerks=2)
+    first = server.control()
+    first.fund()
+    refuse_threads(server)
+    second = server.control()
+    server.ends(1, "cannot start a worker", seconds=END)
+    expect_equal(first.close(), b"", "what is said at the end")
+    second.vanish()
+    check(server, peer, [])
 
 
 def fault_files(run):
@@ -970,14 +1156,14 @@ def ended_by_a_signal(run):
         control.vanish()
 
 
-CASES = (served, quiet, control_lines, long_packets, accepted_in_order, idle, ends_held, lone_packets, full_queue,
-         shares_at_slow_far_ends, shares_of_tariffs, shares_beside_busy_loops, shares_as_tickets_change,
-         few_are_refused, malformed, cut, clients_vanish, clients_stall, peer_closes_at_once, peer_resets_at_once,
-         peer_closes_after_some_bytes, peer_reads_slowly, peer_writes_back, spent_life, spent_life_under_load,
-         spent_life_blocked_often, until_eof_idle, until_eof_gives_what_had_come, until_eof_floods,
-         until_eof_before_a_slow_far_end, until_eof_unread_replies, until_eof_dead_peer, until_eof_open,
-         ends_asleep_and_awake, fault_words, fault_addresses, fault_memory, fault_accept, fault_thread, fault_files,
-         audit_files, ended_by_a_signal)
+CASES = (served, quiet, control_lines, long_packets, much_of_one_connection, accepted_in_order, idle, ends_held,
+         lone_packets, full_queue, shares_at_slow_far_ends, shares_of_tariffs, shares_beside_busy_loops,
+         shares_as_tickets_change, few_are_refused, malformed, cut, clients_vanish, clients_stall, peer_closes_at_once,
+         peer_resets_at_once, peer_closes_after_some_bytes, peer_reads_slowly, peer_writes_back, spent_life,
+         spent_life_late_clients, spent_life_under_load, spent_life_blocked_often, until_eof_idle, until_eof_floods,
+         until_eof_of_no_input, until_eof_before_a_slow_far_end,
+         until_eof_beside_slow_ones, until_eof_open, ends_asleep_and_awake, fault_words, fault_addresses, fault_memory,
+         fault_accept, fault_thread, fault_control_thread, fault_files, audit_files, ended_by_a_signal)
 
 
 if __name__ == "__main__":

@@ -247,8 +247,8 @@ class Server:
     empty one leaves the word out, and so does None for other words."""
 
     def __init__(self, folder, uplink, workers=1, clerks=None, life=65536, audit=None, ingress=LOOPBACK + ":0",
-                 control=LOOPBACK + ":0", verbose=True, until_eof=False, further=(), stdout=None, before=None,
-                 program=PROGRAM):
+                 control=LOOPBACK + ":0", verbose=True, until_eof=False, further=(), stdin=None, stdout=None,
+                 before=None, program=PROGRAM):
         self.folder = folder
         self.life = life
         self.audit_path = audit or os.path.join(folder, "audit")
@@ -262,8 +262,10 @@ class Server:
                 command += ["--" + word, str(value)]
         command += ["--verbose"] * verbose + ["--until-eof"] * until_eof + list(further)
         with open(self.path("stdout"), "wb") as out, open(self.path("stderr"), "wb") as errors:
-            self.process = subprocess.Popen(command, stdin=subprocess.PIPE if until_eof else subprocess.DEVNULL,
-                                            stdout=stdout or out, stderr=errors, preexec_fn=before)
+            if stdin is None:
+                stdin = subprocess.PIPE if until_eof else subprocess.DEVNULL
+            self.process = subprocess.Popen(command, stdin=stdin, stdout=stdout or out, stderr=errors,
+                                            preexec_fn=before)
 
     def path(self, name):
         return os.path.join(self.folder, name)
@@ -321,6 +323,19 @@ class Server:
                 used += int(source.read().split()[0])
         return used / 1e9
 
+    def is_asleep(self):
+        """Whether each of its threads sleeps."""
+        folder = "/proc/%d/task" % self.process.pid
+        for thread in os.listdir(folder):
+            with open("%s/%s/stat" % (folder, thread), encoding="ascii", errors="replace") as source:
+                if source.read().rpartition(")")[2].split()[0] != "S":
+                    return False
+        return True
+
+    def unread(self):
+        """How many bytes of its ingress connections it has not read."""
+        return sum(received for own, _, _, received in tcp_connections() if own == int(self.ports["ingress"]))
+
     def close(self):
         if self.process.poll() is None:
             self.process.kill()
@@ -348,11 +363,30 @@ def listeners(process):
     return found if len(found) == 2 else None
 
 
+def tcp_connections():
+    """The connections of this machine: the own port and the other one, how many bytes are sent and not acknowledged, or
+    are to be sent, and how many are to be read."""
+    with open("/proc/net/tcp", encoding="ascii") as source:
+        lines = [line.split() for line in source]
+    for words in lines:
+        if words[3] == "01":
+            ports = [int(address.split(":")[1], 16) for address in words[1:3]]
+            yield (*ports, *(int(count, 16) for count in words[4].split(":")))
+
+
 def is_blocked(server, senders, most=QUIET_SHARE):
-    """Whether the server has used at most this share of a core for a while, with all clients at work."""
+    """Whether the server has used at most this share of a core for a while, with all clients at work, and its threads
+    sleep: on a machine that has other work they may wait for a processor instead."""
     used = server.processor_seconds()
     time.sleep(0.3)
-    return all(sender.is_alive() for sender in senders) and server.processor_seconds() - used < 0.3 * most
+    is_quiet = server.processor_seconds() - used < 0.3 * most
+    return is_quiet and server.is_asleep() and all(sender.is_alive() for sender in senders)
+
+
+def address_space(process):
+    """How many bytes of addresses a program has."""
+    with open("/proc/%d/statm" % process.pid, encoding="ascii") as source:
+        return int(source.read().split()[0]) * resource.getpagesize()
 
 
 def lower(server, what, limit):
@@ -364,6 +398,13 @@ def lower(server, what, limit):
 def lowest_free(server):
     taken = {int(name) for name in os.listdir("/proc/%d/fd" % server.process.pid)}
     return next(number for number in range(1 << 20) if number not in taken)
+
+
+def send_on(connection, data):
+    """Sends the same bytes again and again, until the other side ends the connection."""
+    with contextlib.suppress(OSError):
+        while True:
+            connection.sendall(data)
 
 
 def one_packet(server):
@@ -540,10 +581,19 @@ class Run:
         return process
 
     def thread(self, work, *words):
-        """Works beside. `join` of what is answered waits for the end, and raises what went wrong."""
+        """Works beside. `finish` of what is answered waits for the end, and raises what went wrong."""
         task = Task(work, words)
         task.start()
         return task
+
+    def side_by_side(self, parts, seconds):
+        """Does the parts of a case, each a function with its words, at the same time."""
+        tasks = [(part, words, self.thread(part, self, *words)) for part, *words in parts]
+        for part, words, task in tasks:
+            try:
+                task.finish(seconds)
+            except Failure as fault:
+                raise Failure("%s%s: %s" % (part.__name__, tuple(words) or "", fault)) from None
 
 
 def discard(process):

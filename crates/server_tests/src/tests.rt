@@ -3,4 +3,7 @@
 mod audit;
 mod control;
 mod faults;
+mod made;
+mod memory;
 mod serving;
+mod stopping;

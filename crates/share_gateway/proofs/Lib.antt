@@ -1,3 +1,10 @@
+pub mod FramesLemmas
+pub mod MakingLemmas
 pub mod OpenedLemmas
 pub mod OpeningLemmas
+pub mod OutboxHistoryLemmas
+pub mod OutboxLemmas
+pub mod RecordsLemmas
 pub mod RunTextLemmas
+pub mod SeenLemmas
+pub mod SumsLemmas

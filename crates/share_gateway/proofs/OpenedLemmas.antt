@@ -95,7 +95,7 @@ length-opening p limits =
     let first = length-map (numbered p.currencies) make_command in
     let currencies = length-enumerate_from 1 p.currencies in
     let second = length_flat_map_le (number_commands p.tenants) 2 (λ n. few_by_number n (find (reaches n) (numbered p.tenants)))
-      (range_with_len 1 (greatest_flow p.tenants)) in
+    (range_with_len 1 (greatest_flow p.tenants)) in
     let numbers = length-range_with_len 1 (greatest_flow p.tenants) in
     let third = length_flat_map_le grant_commands 2 few_grants (numbered (all_grants p)) in
     let granted = length-enumerate_from 1 (all_grants p) in
@@ -223,45 +223,45 @@ book-lasts events lasts =
 
 module _ {W : Type 0} (rates : List Rate) (p : PlanView) (life : ℕ) (old new : LinkView W) (commands : List PlanCommand)
     (same_rates : old.rates ≡ rates) (was : GoesOn rates p life old.live commands) (lasts : is_book_life life ≡ true)
-    where
-  -- while a command is left, the life is not spent
-  pub still-living : (c : PlanCommand) (left : List PlanCommand) → old.life ≡ life → commands ≡ c ∷ left
-      → is_spent old ≡ false
-  still-living c left same_life is =
-      let here = subst (GoesOn rates p life old.live) is was in
-      let living = goes-living here (book-lasts life lasts) in
-      ne_eqb old.live.counts.events old.life (λ same. omega (arith, same, same_life, living))
+  where
+    -- while a command is left, the life is not spent
+    pub still-living : (c : PlanCommand) (left : List PlanCommand) → old.life ≡ life → commands ≡ c ∷ left
+        → is_spent old ≡ false
+    still-living c left same_life is =
+        let here = subst (GoesOn rates p life old.live) is was in
+        let living = goes-living here (book-lasts life lasts) in
+        ne_eqb old.live.counts.events old.life (λ same. omega (arith, same, same_life, living))
 
-  module _ (c : PlanCommand) (left : List PlanCommand) (is : commands ≡ c ∷ left) where
-    here : GoesOn rates p life old.live (c ∷ left)
-    here = subst (GoesOn rates p life old.live) is was
+    module _ (c : PlanCommand) (left : List PlanCommand) (is : commands ≡ c ∷ left) where
+      here : GoesOn rates p life old.live (c ∷ left)
+      here = subst (GoesOn rates p life old.live) is was
 
-    -- it is made
-    pub made-goes_on : IsMade old c new → GoesOn rates p life new.live left
-    made-goes_on made =
-        let allowed = subst (λ (rs : List Rate). refusals_in (answer_to rs old.live c.command) ≡ []) same_rates made.allowed in
-        let next = goes-made here (goes-living here (book-lasts life lasts)) made.fields allowed in
-        let live : new.live ≡ (command_step rates old.live c.command).0 =
-        made.live ∙ ap (λ (rs : List Rate). (command_step rs old.live c.command).0) same_rates in
-        subst (λ (l : Live). GoesOn rates p life l left) (sym live) next
+      -- it is made
+      pub made-goes_on : IsMade old c new → GoesOn rates p life new.live left
+      made-goes_on made =
+          let allowed = subst (λ (rs : List Rate). refusals_in (answer_to rs old.live c.command) ≡ []) same_rates made.allowed in
+          let next = goes-made here (goes-living here (book-lasts life lasts)) made.fields allowed in
+          let live : new.live ≡ (command_step rates old.live c.command).0 =
+          made.live ∙ ap (λ (rs : List Rate). (command_step rs old.live c.command).0) same_rates in
+          subst (λ (l : Live). GoesOn rates p life l left) (sym live) next
 
-    -- it is not
-    pub unmade-is_not : (why : NotOpened) → IsNotMade old c why → IsNotOpened rates p life why
-    unmade-is_not NoMemory unmade = lasts
-    unmade-is_not Range unmade = absurd unmade
-    unmade-is_not (RefusedEntry entry refusal) unmade =
-        let one = subst (λ (rs : List Rate). refusals_in (answer_to rs old.live c.command) ≡ refusal ∷ []) same_rates unmade.1 in
-        (lasts, goes-refused here refusal one ∙ ap (λ (e : Entry). Some (e, refusal)) (sym unmade.0))
+      -- it is not
+      pub unmade-is_not : (why : NotOpened) → IsNotMade old c why → IsNotOpened rates p life why
+      unmade-is_not NoMemory unmade = lasts
+      unmade-is_not Range unmade = absurd unmade
+      unmade-is_not (RefusedEntry entry refusal) unmade =
+          let one = subst (λ (rs : List Rate). refusals_in (answer_to rs old.live c.command) ≡ refusal ∷ []) same_rates unmade.1 in
+          (lasts, goes-refused here refusal one ∙ ap (λ (e : Entry). Some (e, refusal)) (sym unmade.0))
 
-  -- no command is left
-  pub done-is_opened : old.life ≡ life → commands ≡ [] → AreInRange rates → IsOpened rates p life old
-  done-is_opened same_life none range =
-      let done = subst (GoesOn rates p life old.live) none was in
-      record {
-        life = same_life;
-        rates_are = same_rates;
-        lasts = lasts;
-        sound = done-sound done;
-        live = done-live done;
-        run_is = done-run done range;
-      }
+    -- no command is left
+    pub done-is_opened : old.life ≡ life → commands ≡ [] → AreInRange rates → IsOpened rates p life old
+    done-is_opened same_life none range =
+        let done = subst (GoesOn rates p life old.live) none was in
+        record {
+          life = same_life;
+          rates_are = same_rates;
+          lasts = lasts;
+          sound = done-sound done;
+          live = done-live done;
+          run_is = done-run done range;
+        }

@@ -112,27 +112,27 @@ made_of : List (ℕ × TenantView) → ℕ → List PlanCommand
 made_of ts k = number_by k (find (reaches k) ts)
 
 module _ (m i : ℕ) (t : TenantView) (before after : List (ℕ × TenantView)) (passed : Each (λ t. t.1.flow ≤ m) before)
-    where
-  found_next : (k : ℕ) → m < k → k ≤ t.flow → find (reaches k) (before ++ (i, t) ∷ after) ≡ Some (i, t)
-  found_next k more few =
-      let here : nat_le k t.flow ≡ true = grind (arith, nat_tests, few) in
-      find_passed m k before ((i, t) ∷ after) passed more ∙ rw here refl
+  where
+    found_next : (k : ℕ) → m < k → k ≤ t.flow → find (reaches k) (before ++ (i, t) ∷ after) ≡ Some (i, t)
+    found_next k more few =
+        let here : nat_le k t.flow ≡ true = grind (arith, nat_tests, few) in
+        find_passed m k before ((i, t) ∷ after) passed more ∙ rw here refl
 
-  gaps_before : (a n : ℕ) → m < a → a + n ≤ t.flow
-      → flat_map (made_of (before ++ (i, t) ∷ after)) (range_with_len a n) ≡ gap_list (Tenant i) n
-  unfolding made_of
-  gaps_before a zero more few = refl
-  gaps_before a (suc n) more few =
-      let other : nat_eq a t.flow ≡ false = grind (arith, nat_tests, few) in
-      let first : number_by a (find (reaches a) (before ++ (i, t) ∷ after)) ≡ gap_commands (Tenant i) =
-      ap (number_by a) (found_next a more (omega (arith, few))) ∙ rw other refl in
-      rw (first, gaps_before (a + 1) n (omega (arith, more)) (omega (arith, few))) refl
+    gaps_before : (a n : ℕ) → m < a → a + n ≤ t.flow
+        → flat_map (made_of (before ++ (i, t) ∷ after)) (range_with_len a n) ≡ gap_list (Tenant i) n
+    unfolding made_of
+    gaps_before a zero more few = refl
+    gaps_before a (suc n) more few =
+        let other : nat_eq a t.flow ≡ false = grind (arith, nat_tests, few) in
+        let first : number_by a (find (reaches a) (before ++ (i, t) ∷ after)) ≡ gap_commands (Tenant i) =
+        ap (number_by a) (found_next a more (omega (arith, few))) ∙ rw other refl in
+        rw (first, gaps_before (a + 1) n (omega (arith, more)) (omega (arith, few))) refl
 
-  opens_own : m < t.flow → made_of (before ++ (i, t) ∷ after) t.flow ≡ open_command (i, t) ∷ []
-  unfolding made_of
-  opens_own more =
-      let own : nat_eq t.flow t.flow ≡ true = grind (arith, nat_tests) in
-      ap (number_by t.flow) (found_next t.flow more (omega arith)) ∙ rw own refl
+    opens_own : m < t.flow → made_of (before ++ (i, t) ∷ after) t.flow ≡ open_command (i, t) ∷ []
+    unfolding made_of
+    opens_own more =
+        let own : nat_eq t.flow t.flow ≡ true = grind (arith, nat_tests) in
+        ap (number_by t.flow) (found_next t.flow more (omega arith)) ∙ rw own refl
 
 each_passed : (m n : ℕ) (ts : List (ℕ × TenantView)) → m ≤ n → Each (λ t. t.1.flow ≤ m) ts → Each (λ t. t.1.flow ≤ n) ts
 each_passed m n [] le passed = tt
@@ -261,8 +261,12 @@ grants-past p index grant to at few =
 pub length-grantees : (p : PlanView) → length (grantees p) ≡ length p.currencies + length p.tenants
 length-grantees p =
     length-append (map to_currency (numbered p.currencies)) (map to_tenant (numbered p.tenants))
-    ∙ rw (length-map (numbered p.currencies) to_currency, length-map (numbered p.tenants) to_tenant,
-      length-enumerate_from 1 p.currencies, length-enumerate_from 1 p.tenants) refl
+    ∙ rw (
+      length-map (numbered p.currencies) to_currency,
+      length-map (numbered p.tenants) to_tenant,
+      length-enumerate_from 1 p.currencies,
+      length-enumerate_from 1 p.tenants,
+    ) refl
 
 pub grantee-currency : (p : PlanView) (i : ℕ) (c : CurrencyView) → slice_get p.currencies i ≡ Some c
     → slice_get (grantees p) i ≡ Some (to_currency (i + 1, c))
@@ -340,8 +344,8 @@ opening-left p limits =
     append_assoc (made ++ flows) grants holds
     ∙ append_assoc made flows (grants ++ holds)
     ∙ (let one = flows-one-by-one p.tenants limits.flows in
-      let all = grants-all (grantees p) in
-      rw (one, all) refl)
+    let all = grants-all (grantees p) in
+    rw (one, all) refl)
 
 pub numbers-fit : (p : PlanView) → IsInLimits p → 1 + length (grants_after p 0 0) < 2 ^ 32
 numbers-fit p limits =
@@ -385,6 +389,6 @@ pub fit-grant : (p : PlanView) (cursor : GrantCursor) (found : Found) (g : Grant
     → cursor.ticket + 1 + length (grants_after p found.index (found.grant + 1)) < 2 ^ 32
 fit-grant p cursor found g finds is fit =
     let size : length (grants_after p cursor.grantee cursor.grant)
-      ≡ suc (length (grants_after p found.index (found.grant + 1))) =
+    ≡ suc (length (grants_after p found.index (found.grant + 1))) =
     ap length (finds.same ∙ grants-next p found.index found.grant (seen found.grantee) g finds.stands is) in
     omega (arith, size, fit)

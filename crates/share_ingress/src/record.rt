@@ -6,10 +6,10 @@ ghost use Rattle.share_ingress.specs.Found.{IsFound};
 use share_base::{MAX_NAME, MAX_PAYLOAD, Name};
 
 /// How many bytes a record has besides its name and its payload.
-pub(crate) const FRAMING: usize = 3;
+pub const FRAMING: usize = 3;
 
 /// What bytes begin with.
-pub(crate) enum Found {
+pub enum Found {
     /// A whole record with this name and a payload of this length.
     Whole(Name, usize),
     /// A whole field that is out of its range.
@@ -19,7 +19,7 @@ pub(crate) enum Found {
 }
 
 /// Says what bytes begin with. Fields are read in order, and each is checked when it is whole.
-pub(crate) fn first_record(bytes: &[u8]) -> Found
+pub fn first_record(bytes: &[u8]) -> Found
     ensures { IsFound bytes.now result }
 {
     let Some(first) = bytes.first() else {

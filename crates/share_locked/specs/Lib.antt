@@ -1,7 +1,5 @@
 pub mod Calls
 pub mod Chains
-pub mod Leaves
 pub mod Receipts
 pub mod Settles
-pub mod Tariffs
 pub mod Views

@@ -89,14 +89,6 @@ pub record IsSettled {W : Type 0} (l : LockedView W) (ends : List EndView) (cler
   pub ascend : Each (λ (c : ClerkView). Ascend 0 c.receipts) clerks
   pub ends_joined : IsJoined l ends recorder tallies arrived commands
 
--- a link that is settled, with this many clerks
-pub record IsSettledBy {W : Type 0} (count : ℕ) (ends : List EndView) (recorder : RecorderView W) (tallies : List ℕ)
-    (arrived commands : ℕ) : Type 0 where
-  pub locked : LockedView W
-  pub clerks : List ClerkView
-  pub counted : length clerks ≡ count
-  pub settled : IsSettled locked ends clerks recorder tallies arrived commands
-
 -- The audit of a recorder's journal, run as a script in a life that is not shorter, gives its writer's bytes again, if
 -- no line of the output says that there was no memory.
 abbrev pub Replays : {W : Type 0} → (W → Option Told) → RecorderView W → Type 0

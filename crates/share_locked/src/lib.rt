@@ -9,8 +9,6 @@ mod locked;
 mod pace;
 mod paced;
 mod running;
-#[cfg(test)]
-mod tests;
 mod threads;
 
 pub use clerk::{Clerk, Receipt};
@@ -20,7 +18,4 @@ pub use locked::{Admit, Locked, Settled, Unsettled, WhyUnsettled, settle};
 pub use pace::Pace;
 pub use paced::{Attendant, run_paced_link};
 pub use running::{LinkEnd, Port, Stop, run_link};
-pub use threads::{
-    Duty, Left, NotRun, Post, Ran, attend_while, run_and_settle, run_while, serve_paced_while,
-    serve_while,
-};
+pub use threads::serve_while;

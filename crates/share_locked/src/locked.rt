@@ -1,6 +1,5 @@
 //! What is behind the lock of a running link.
 ghost use Rattle.std.specs.Prelude.{◌≡◌, ◌<◌, ◌≤◌, ◌++◌, [], suc, length, IfOk, IfErr};
-ghost use Rattle.share_base.specs.Refusal.{IsRefused};
 ghost use Rattle.share_base.specs.declared.refusal.Refusal.TheVariants.{NoMemory};
 ghost use Rattle.share_base.specs.declared.version.Version.TheVariants.{Two};
 ghost use Rattle.share_model.specs.link.Answers.{answers_event};
@@ -110,14 +109,14 @@ impl<W: TellingWriter, S: Rates, L: LinkBrand> Locked<W, S, L> {
         self.intake.capacity()
     }
 
-    /// Makes one more clerk of this link. `TableFull` if there are eight already.
+    /// Makes one more clerk of this link. `TableFull` if there are eight already. It takes no memory.
     pub fn clerk(&mut self, alloc: Global) -> Result<Clerk<L>, Refusal>
         ensures ok { IfOk result (λ clerk.
             (clerk ≡ new_clerk (suc self.old.clerks) clerk.room)
             × (self.new ≡ with_clerk self.old)
             × (clerk_refusal self.old.clerks ≡ None)) }
         ensures refused { IfErr result (λ e.
-            IsRefused (clerk_refusal self.old.clerks) e × (self.new ≡ self.old)) }
+            (clerk_refusal self.old.clerks ≡ Some e) × (self.new ≡ self.old)) }
     {
         if self.clerks >= MAX_CLERKS {
             return Err(Refusal::TableFull);

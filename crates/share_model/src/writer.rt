@@ -34,13 +34,13 @@ pub trait TellingWriter {
         → answers before piece answer after → WasTold (told before) piece answer (told after) };
 }
 
-/// Wraps a writer of std, of which is known what its own contract tells: its bytes, if they are known, but no count of
-/// a call. It makes one call of `write` with the whole piece. An error of the kind `Interrupted` is told as an
-/// interruption, any other as a failure.
+/// Wraps a writer of std. Its `answers` are what std's contract says of the writer's contents. Its `told` is `None`,
+/// since std says nothing of the count of each call. It makes one call of `write` with the whole piece, and reports an
+/// error of the kind `Interrupted` as an interruption, any other as a failure.
 #[derive(Drop)]
 pub struct PlainWriter<W>(pub W);
 
-// What a failed write call is told as.
+// How a failed write call is reported.
 fn answer_to_error(error: &Error) -> Answer
     ensures interrupted { error_kind error.now ≡ ErrorKind.Interrupted → result ≡ Answer.Interrupted }
     ensures failed { error_kind error.now ≢ ErrorKind.Interrupted → result ≡ Answer.Failed }

@@ -7,6 +7,7 @@ mod carry;
 mod chunk;
 mod hex;
 mod laws;
+mod lengths;
 mod lines;
 mod payload;
 mod reading;
@@ -21,6 +22,7 @@ mod writing;
 
 pub use hex::print_bytes;
 pub use laws::{lines_given_are_of_the_text, written_lines_are_read};
+pub use lengths::{Length, read_length};
 pub use lines::{Incoming, IncomingLines};
 pub use reading::read_line;
 pub use script::{ScriptFault, run_script};

@@ -1,5 +1,5 @@
 //! The lines of a connection, each taken as soon as it came whole.
-ghost use Rattle.std.specs.Prelude.{◌≡◌, [], IfOk, if◌then◌else◌};
+ghost use Rattle.std.specs.Prelude.{◌≡◌, [], IfOk, length, nat_lt, if◌then◌else◌};
 ghost use Rattle.share_script.specs.Lines.{IsNextLine, IsUnfinished, IsPieceKept, Came};
 
 use crate::carry::Carry;
@@ -84,6 +84,16 @@ impl<R: TellingReader + Drop> IncomingLines<R> {
         } else {
             &[]
         }
+    }
+
+    /// Whether bytes came that were not taken.
+    pub fn has_more(&self) -> bool
+        ensures { result ≡ nat_lt 0 (length self.now.ahead) }
+    {
+        if !self.chunk.as_slice().is_empty() {
+            return true;
+        }
+        !self.is_given && !self.kept.as_slice().is_empty()
     }
 
     /// Makes one read call, and answers what came of it. The bytes that it gave come after those that are ahead. An

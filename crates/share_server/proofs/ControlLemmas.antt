@@ -14,10 +14,10 @@ use Rattle.share_model.specs.declared.line.Line.TheVariants.{Change, Send, Turn,
 use Rattle.share_model.specs.text.Lines.{ReadsLine, is_send}
 use Rattle.share_locked.specs.Calls.{CommandMade}
 use Rattle.share_locked.specs.Views.{LockedView, ClerkView, with_room}
-use Rattle.share_server.specs.Control.{request_by, request_of, request_in, MadeInHold, Changed, AnswersRequest}
-use Rattle.share_server.specs.Control.{control_reply_text}
+use Rattle.share_server.specs.Control.{request_by, request_of, request_in, ObeyedInHold}
 use Rattle.share_server.specs.declared.control.Request.{Request}
 use Rattle.share_server.specs.declared.control.Request.TheVariants.{Change as AsksChange, NoPlace}
+use Rattle.share_server.specs.declared.control.Said.{Said}
 
 packet_has_no_place : (l : Line) → is_send l ≡ true → request_by l ≡ NoPlace
 packet_has_no_place (Change c) is = absurd (true≢false (sym is))
@@ -45,22 +45,11 @@ pub at_err : {A E X : Type 0} (P : A → Type 0) {Q : E → Type 0} (r : Result 
 at_err P (Ok x) known is then_ = absurd (true≢false (sym is))
 at_err P (Err e) known is then_ = then_ e known
 
-pub made_in_hold : {W : Type 0} (before between after : ClerkView) (c : Command) (reply : Reply)
-    (held left : LockedView W) (number : ℕ) → between ≡ with_room before between.room
-    → CommandMade held between c number reply left after → MadeInHold W before c reply after
-made_in_hold before between after c reply held left number same made =
-    let P : ClerkView → Type 0 = λ clerk. CommandMade held clerk c number reply left after in
-    record { room = between.room; held = held; number = number; left = left; made = subst P same made }
-
-pub answers_change : (W : Type 0) (before : ClerkView) (request : Request) (c : Command) (reply : Reply)
-    (after : ClerkView) → request ≡ AsksChange c → Changed W before c reply after
-    → AnswersRequest W before request (control_reply_text reply) after
-answers_change W before request c reply after is did =
-    let P : Request → Type 0 = λ asked. AnswersRequest W before asked (control_reply_text reply) after in
-    subst P (sym is) (reply, did, refl)
-
-pub answers_no_place : (W : Type 0) (clerk : ClerkView) (request : Request) → request ≡ NoPlace
-    → AnswersRequest W clerk request (control_reply_text (Refused Syntax)) clerk
-answers_no_place W clerk request is =
-    let P : Request → Type 0 = λ asked. AnswersRequest W clerk asked (control_reply_text (Refused Syntax)) clerk in
-    subst P (sym is) (refl, refl)
+-- a clerk that has got room for a receipt is the clerk before with that room
+pub ready_in_hold : {W : Type 0} (before between after : ClerkView) (request : Request) (said : Said)
+    → between ≡ with_room before between.room → ObeyedInHold W between request said after
+    → ObeyedInHold W before request said after
+ready_in_hold {W = W} before between after request said same obeyed =
+    let P : ClerkView → Type 0 = λ clerk. ObeyedInHold W clerk request said after in
+    let did = subst P same obeyed in
+    record { room = did.room; held = did.held; left = did.left; obeyed = did.obeyed }

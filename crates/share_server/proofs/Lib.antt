@@ -1,2 +1,3 @@
+mod AttendsLemmas
 mod ControlLemmas
 mod ShutdownLemmas

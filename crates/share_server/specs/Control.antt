@@ -1,5 +1,5 @@
 -- The lines of a control connection, and their answers.
-use Rattle.std.specs.Prelude.{◌≡◌, ◌⊎◌, ℕ, List, Result, Ok, Err}
+use Rattle.std.specs.Prelude.{◌≡◌, ◌⊎◌, ◌<◌, ℕ, List, Result, Ok, Err, length}
 use Rattle.share_base.specs.declared.command.Command.{Command}
 use Rattle.share_base.specs.declared.command.Outcome.TheVariants.{Replied}
 use Rattle.share_base.specs.declared.command.Reply.{Reply}
@@ -17,6 +17,8 @@ use Rattle.share_locked.specs.Views.{LockedView, ClerkView, with_room}
 use Rattle.share_server.specs.declared.control.Request.{Request}
 use Rattle.share_server.specs.declared.control.Request.TheVariants.{Change as AsksChange, Report as AsksReport}
 use Rattle.share_server.specs.declared.control.Request.TheVariants.{NoPlace}
+use Rattle.share_server.specs.declared.control.Said.{Said}
+use Rattle.share_server.specs.declared.control.Said.TheVariants.{Reply as SaysReply, Report as SaysReport}
 
 -- which lines have a place on a control connection: the changes and the report
 abbrev pub request_by : Line → Request
@@ -35,31 +37,47 @@ request_of (Err refusal) = NoPlace
 abbrev pub request_in : List ℕ → Request
 request_in bytes = request_of (reading Two bytes)
 
--- the clerk, with room for a receipt, made the command in one hold of the lock, and this is the reply
-pub record MadeInHold (W : Type 0) (before : ClerkView) (c : Command) (reply : Reply) (after : ClerkView) : Type 0
-  where
-    pub room : ℕ
-    pub held : LockedView W
-    pub number : ℕ
-    pub left : LockedView W
-    pub made : CommandMade held (with_room before room) c number reply left after
-
--- the reply to a change: the reply to its command; or there was no memory for a receipt, and no command was made
-abbrev pub Changed : (W : Type 0) → ClerkView → Command → Reply → ClerkView → Type 0
-Changed W before c reply after =
-    MadeInHold W before c reply after ⊎ ((reply ≡ Refused NoMemory) × (after ≡ before))
+-- a request that has a place, and of a change the clerk has room for its receipt
+abbrev pub IsReady : ClerkView → Request → Type 0
+IsReady clerk (AsksChange c) = length clerk.receipts < clerk.room
+IsReady clerk AsksReport = Unit {0}
+IsReady clerk NoPlace = ⊥
 
 abbrev pub control_reply_text : Reply → List ℕ
 control_reply_text reply = line_text (Replied reply)
 
--- the report of the link in one hold of the lock, or the answer that there was no memory for it
-abbrev pub Reported : (W : Type 0) → List ℕ → Type 0
-Reported W text =
-    ((held : LockedView W) × (text ≡ report held.recorder.link.live)) ⊎ (text ≡ control_reply_text (Refused NoMemory))
+-- the text of what a link says
+abbrev pub said_text : Said → List ℕ
+said_text (SaysReply reply) = control_reply_text reply
+said_text (SaysReport text) = text.items
 
--- the text that answers a request, and the clerk after it: the reply to a change, the report, and Syntax to all else
+-- What a request does to a link and its clerk, and what the link says. A change is a command of this clerk, and what is
+-- said its reply. A report is that of this link as it is, or there was no memory for it; it changes nothing.
+abbrev pub Obeys : {W : Type 0} → LockedView W → ClerkView → Request → Said → LockedView W → ClerkView → Type 0
+Obeys old before (AsksChange c) (SaysReply reply) new after = (number : ℕ) × CommandMade old before c number reply new after
+Obeys old before (AsksChange c) (SaysReport text) new after = ⊥
+Obeys old before AsksReport (SaysReply reply) new after = (reply ≡ Refused NoMemory) × (new ≡ old) × (after ≡ before)
+Obeys old before AsksReport (SaysReport text) new after =
+    (text.items ≡ report old.recorder.link.live) × (new ≡ old) × (after ≡ before)
+Obeys old before NoPlace said new after = ⊥
+
+-- the clerk may have got room for a receipt, and then the request was obeyed in one hold of the lock
+pub record ObeyedInHold (W : Type 0) (before : ClerkView) (request : Request) (said : Said) (after : ClerkView) : Type 0
+  where
+    pub room : ℕ
+    pub held : LockedView W
+    pub left : LockedView W
+    pub obeyed : Obeys held (with_room before room) request said left after
+
+-- What is said to a request. To a change: the reply to its command, or that there was no memory for a receipt, and no
+-- command was made. To a report: the report. To all else: Syntax, without a hold of the lock.
+abbrev pub IsSaidTo : (W : Type 0) → ClerkView → Request → Said → ClerkView → Type 0
+IsSaidTo W before (AsksChange c) said after =
+    ObeyedInHold W before (AsksChange c) said after ⊎ ((said ≡ SaysReply (Refused NoMemory)) × (after ≡ before))
+IsSaidTo W before AsksReport said after = ObeyedInHold W before AsksReport said after
+IsSaidTo W before NoPlace said after = (said ≡ SaysReply (Refused Syntax)) × (after ≡ before)
+
+-- the text that answers a request, and the clerk after it
 abbrev pub AnswersRequest : (W : Type 0) → ClerkView → Request → List ℕ → ClerkView → Type 0
-AnswersRequest W before (AsksChange c) text after =
-    (reply : Reply) × Changed W before c reply after × (text ≡ control_reply_text reply)
-AnswersRequest W before AsksReport text after = (after ≡ before) × Reported W text
-AnswersRequest W before NoPlace text after = (after ≡ before) × (text ≡ control_reply_text (Refused Syntax))
+AnswersRequest W before request text after =
+    (said : Said) × IsSaidTo W before request said after × (text ≡ said_text said)

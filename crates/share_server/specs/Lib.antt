@@ -1,3 +1,4 @@
+pub mod Attends
 pub mod Control
 pub mod Faults
 pub mod Shutdown

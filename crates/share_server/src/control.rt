@@ -1,11 +1,13 @@
 //! The lines of a control connection, and their answers.
-ghost use Rattle.std.specs.Prelude.{◌≡◌, ℕ, List, OnOk};
+ghost use Rattle.std.specs.Prelude.{◌≡◌, ℕ, List, MatchResult, OnOk};
 ghost use Rattle.share_model.specs.io.Printing.{WritesText};
 ghost use Rattle.share_script.specs.Lines.{IsUnfinished};
-ghost use Rattle.share_server.specs.Control.{request_of, request_in, Changed, Reported, AnswersRequest};
+ghost use Rattle.share_server.specs.Attends.{AnswersAll, EndsAttending, IsNextRequest, LosesAnswer};
+ghost use Rattle.share_server.specs.Control.{request_of, request_in, said_text, IsReady, Obeys, ObeyedInHold};
+ghost use Rattle.share_server.specs.Control.{IsSaidTo, AnswersRequest};
 
 use share_base::{Command, Refusal, Reply, Version};
-use share_locked::{Clerk, LinkBrand, Pace, Port};
+use share_locked::{Clerk, LinkBrand, Locked, Pace, Port};
 use share_model::{
     Fault, Got, Line, PatientWriter, PlainWriter, Rates, TellingReader, TellingWriter, put,
 };
@@ -48,6 +50,15 @@ pub enum Request {
     NoPlace,
 }
 
+/// What a link says to a request.
+#[derive(Drop)]
+enum Said {
+    /// The reply to a command, or a refusal.
+    Reply(Reply),
+    /// Its report.
+    Report(Vec<u8>),
+}
+
 /// A writer of answers, which go out when they are flushed or there is no room for one more.
 type Output<O> = PatientWriter<PlainWriter<BufWriter<O>>>;
 
@@ -70,41 +81,91 @@ fn request_in(alloc: Global, bytes: &[u8]) -> Request
     request_of(&line)
 }
 
+// All that a request does to the link and to its clerk, and what the link says.
+fn obey<W: TellingWriter, S: Rates, L: LinkBrand>(
+    alloc: Global,
+    locked: &mut Locked<W, S, L>,
+    clerk: &mut Clerk<L>,
+    request: Request,
+) -> Said
+    requires { IsReady clerk.old request }
+    ensures { Obeys locked.old clerk.old request result locked.new clerk.new }
+{
+    match request {
+        Request::Change(command) => {
+            let (_number, reply) = locked.command(clerk, command);
+            Said::Reply(reply)
+        }
+        Request::Report => match locked.report(alloc) {
+            Ok(text) => Said::Report(text),
+            Err(refusal) => Said::Reply(Reply::Refused(refusal)),
+        },
+        Request::NoPlace => unreachable!(),
+    }
+}
+
+// Obeys a request in one hold of the lock.
+fn obey_in_hold<W: TellingWriter, S: Rates, L: LinkBrand, R: Wait>(
+    rt: &R,
+    alloc: Global,
+    port: &Port<W, S, L>,
+    clerk: &mut Clerk<L>,
+    request: Request,
+) -> Said
+    requires { IsReady clerk.old request }
+    ensures { ObeyedInHold W clerk.old request result clerk.new }
+{
+    obey(alloc, &mut port.lock(rt), clerk, request)
+}
+
 // Makes a command in one hold of the lock, after room for its receipt was made.
 fn change<W: TellingWriter, S: Rates, L: LinkBrand, R: Wait>(
     rt: &R,
+    alloc: Global,
     port: &Port<W, S, L>,
     pace: &Pace,
     clerk: &mut Clerk<L>,
     command: Command,
-) -> Reply
-    ensures { Changed W clerk.old command result clerk.new }
+) -> Said
+    ensures { IsSaidTo W clerk.old (Request.Change command) result clerk.new }
 {
     if clerk.ready().is_err() {
-        return Reply::Refused(Refusal::NoMemory);
+        return Said::Reply(Reply::Refused(Refusal::NoMemory));
     }
-    let (_number, reply) = port.lock(rt).command(clerk, command);
+    let said = obey_in_hold(rt, alloc, port, clerk, Request::Change(command));
     pace.ring();
-    reply
+    said
 }
 
-// Takes the report of the link in one hold of the lock, and writes it after the hold.
-fn answer_report<W: TellingWriter, S: Rates, L: LinkBrand, R: Wait, O: TellingWriter>(
+// Does what a line asks for.
+fn say<W: TellingWriter, S: Rates, L: LinkBrand, R: Wait>(
     rt: &R,
     alloc: Global,
     port: &Port<W, S, L>,
-    output: &mut O,
-) -> Result<(), Fault>
-    ensures { (text : List ℕ) × Reported W text × WritesText O.told O.answers output.old output.new text result }
+    pace: &Pace,
+    clerk: &mut Clerk<L>,
+    request: Request,
+) -> Said
+    ensures { IsSaidTo W clerk.old request result clerk.new }
 {
-    let found = port.lock(rt).report(alloc);
-    match found {
-        Ok(text) => put(output, text.as_slice()),
-        Err(refusal) => write_reply(&Reply::Refused(refusal), output),
+    match request {
+        Request::Change(command) => change(rt, alloc, port, pace, clerk, command),
+        Request::Report => obey_in_hold(rt, alloc, port, clerk, Request::Report),
+        Request::NoPlace => Said::Reply(Reply::Refused(Refusal::Syntax)),
     }
 }
 
-// Does what a line asks for, and writes the answer.
+// Writes what the link said.
+fn write_said<O: TellingWriter>(said: &Said, output: &mut O) -> Result<(), Fault>
+    ensures { WritesText O.told O.answers output.old output.new (said_text said.now) result }
+{
+    match said {
+        Said::Reply(reply) => write_reply(reply, output),
+        Said::Report(text) => put(output, text.as_slice()),
+    }
+}
+
+// Does what a line asks for, and writes the answer when the lock is let go.
 fn answer<W: TellingWriter, S: Rates, L: LinkBrand, R: Wait, O: TellingWriter>(
     rt: &R,
     alloc: Global,
@@ -117,17 +178,26 @@ fn answer<W: TellingWriter, S: Rates, L: LinkBrand, R: Wait, O: TellingWriter>(
     ensures { (text : List ℕ) × AnswersRequest W clerk.old request text clerk.new
         × WritesText O.told O.answers output.old output.new text result }
 {
-    match request {
-        Request::Change(command) => {
-            let reply = change(rt, port, pace, clerk, command);
-            write_reply(&reply, output)
-        }
-        Request::Report => answer_report(rt, alloc, port, output),
-        Request::NoPlace => write_reply(&Reply::Refused(Refusal::Syntax), output),
+    let said = say(rt, alloc, port, pace, clerk, request);
+    write_said(&said, output)
+}
+
+// What the next line asks for, if it came whole.
+fn next_request<I: TellingReader + Drop>(
+    alloc: Global,
+    input: &mut IncomingLines<I>,
+) -> Option<Request>
+    ensures next { IsNextRequest input.old.ahead result input.new.line input.new.ahead }
+    ensures reader { input.new.reader ≡ input.old.reader }
+{
+    match input.next() {
+        Incoming::Line => Some(request_in(alloc, input.line())),
+        Incoming::OverLong => Some(Request::NoPlace),
+        Incoming::Unfinished => None,
     }
 }
 
-// Answers all lines that came whole.
+// Answers all lines that came whole, until an answer cannot be written.
 fn answer_all<
     W: TellingWriter,
     S: Rates,
@@ -144,13 +214,16 @@ fn answer_all<
     input: &mut IncomingLines<I>,
     output: &mut O,
 ) -> Result<(), Fault>
-    ensures { OnOk result (IsUnfinished input.new.ahead) }
+    ensures answered { MatchResult result
+        (λ _. AnswersAll W O.told O.answers input.old clerk.old output.old input.new clerk.new output.new)
+        (λ _. LosesAnswer W O.told O.answers input.old.ahead clerk.old output.old input.new.ahead clerk.new
+        output.new) }
+    ensures reader { input.new.reader ≡ input.old.reader }
+    ensures unfinished { OnOk result (IsUnfinished input.new.ahead) }
 {
     for _ in rt.forever() {
-        let request = match input.next() {
-            Incoming::Line => request_in(alloc, input.line()),
-            Incoming::OverLong => Request::NoPlace,
-            Incoming::Unfinished => return Ok(()),
+        let Some(request) = next_request(alloc, input) else {
+            return Ok(());
         };
         answer(rt, alloc, port, pace, clerk, request, output)?;
     }
@@ -174,7 +247,9 @@ fn converse<
     clerk: &mut Clerk<L>,
     input: &mut IncomingLines<I>,
     output: &mut Output<O>,
-) -> How {
+) -> How
+    ensures { EndsAttending W I.left I.gives input.old clerk.old result clerk.new }
+{
     for _ in rt.forever() {
         if answer_all(rt, alloc, port, pace, clerk, input, output).is_err() {
             return How::WriteFault;
@@ -209,7 +284,9 @@ pub fn attend<
     clerk: Clerk<L>,
     input: IncomingLines<I>,
     output: O,
-) -> Attended<L> {
+) -> Attended<L>
+    ensures { EndsAttending W I.left I.gives input clerk result.how result.clerk }
+{
     let mut clerk = clerk;
     let mut input = input;
     let Ok(buffered) = BufWriter::with_capacity(alloc, ROOM, output) else {

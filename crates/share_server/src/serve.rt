@@ -1,16 +1,15 @@
 //! A link over sockets, from its first connection to its report.
-ghost use Rattle.std.specs.Prelude.{◌≡◌, ◌≤◌, [], None, Some, MatchResult, OnOk, true, vec_len, vec_capacity};
+ghost use Rattle.std.specs.Prelude.{◌≡◌, ◌≤◌, ◌⊎◌, [], Err, OnOk, vec_len, vec_capacity};
 ghost use Rattle.share_base.specs.declared.version.Version.TheVariants.{Two};
 ghost use Rattle.share_model.specs.lists.Each.{Each};
-ghost use Rattle.share_server.specs.Faults.{first_of, faults_of, no_fault};
-ghost use Rattle.share_server.specs.Shutdown.{IsAuditKept};
+ghost use Rattle.share_server.specs.Shutdown.{CanServe, HasNotBegun, IsResultOf, IsRunClosed, WasServed};
 
 use crate::audit_file::Keep;
 use crate::connections::end_at_eof;
 use crate::faults::{FoundFaults, ServeFault};
 use crate::setup::{Doors, Fresh, Plan, Setting, Sockets, set_up};
 use crate::shutdown::{EndedLink, close};
-use crate::slots::{Places, all_clerks, all_ends, filled, make_places};
+use crate::slots::{Places, all_clerks, all_ends, filled, make_places, with_clerks};
 use crate::threads::{Server, run};
 use share_ingress::IngressEnd;
 use share_journal::Journal;
@@ -26,7 +25,8 @@ use std::time::Clock;
 /// Serves a new link of version 2 with this journal, which is empty and of version 2, over these sockets: accepts the
 /// control connections and then the ingress connections, and runs until all have ended and what they brought is sent.
 /// Then it settles, keeps the audit, and writes the report to the output, both even if something went wrong. If a
-/// reader is given, its end ends the connections. The error is the first fault, in the order of `ServeFault`.
+/// reader is given, its end ends the connections. The error is the first fault, in the order of `ServeFault`. If the run
+/// cannot begin, nothing is kept and nothing is written.
 pub fn serve_on<R, S, I, K, O>(
     rt: &R,
     alloc: Global,
@@ -44,7 +44,10 @@ where
     I: Read + Send + Drop + 'static,
     K: Keep + Drop,
     O: TellingWriter,
-    ensures kept { OnOk result (IsAuditKept K.kept keep true) }
+    requires { CanServe plan.workers plan.clerks }
+    ensures served { OnOk result (WasServed K.kept O.told O.answers keep output.old output.new) }
+    ensures ends { IsRunClosed K.kept O.told O.answers keep output.old output.new result
+        ⊎ HasNotBegun journal output.old output.new result }
 {
     match set_up(rt, alloc, shelf, journal, sockets, plan) {
         Ok(setting) => { serve_as::<R, S, I, K, O, Brand>(rt, alloc, setting, until, keep, output) }
@@ -77,7 +80,9 @@ where
     requires link { setting.fresh.intake.link ≡ L.link }
     requires nothing { setting.fresh.intake.popped ≡ [] }
     requires linked { Each (λ e. e.link ≡ L.link) setting.fresh.ends.items }
-    ensures kept { OnOk result (IsAuditKept K.kept keep true) }
+    requires clerks { setting.clerks ≤ 8 }
+    ensures { IsRunClosed K.kept O.told O.answers keep output.old output.new result
+        ⊎ ((result ≡ Err ServeFault.NoMemory) × (output.new ≡ output.old)) }
 {
     match make_places(alloc, setting.fresh.ends.len(), setting.clerks) {
         Ok(places) => {
@@ -95,9 +100,7 @@ where
 
 // The result of a run with these faults.
 fn told(found: FoundFaults) -> Result<(), ServeFault>
-    ensures first { MatchResult result (λ _. first_of (faults_of found) ≡ None)
-        (λ fault. first_of (faults_of found) ≡ Some fault) }
-    ensures none { OnOk result (found ≡ no_fault) }
+    ensures { IsResultOf found result }
 {
     match found.first() {
         None => Ok(()),
@@ -123,11 +126,17 @@ where
     requires link { setting.fresh.intake.link ≡ L.link }
     requires nothing { setting.fresh.intake.popped ≡ [] }
     requires linked { Each (λ e. e.link ≡ L.link) setting.fresh.ends.items }
-    requires room { vec_len setting.fresh.ends ≤ vec_capacity places.ends }
-    requires vacant { places.ends.items ≡ [] }
+    requires clerks { setting.clerks ≤ 8 }
+    requires room { (vec_len setting.fresh.ends ≤ vec_capacity places.ends)
+        × (setting.clerks ≤ vec_capacity places.clerks) }
+    requires vacant { (places.ends.items ≡ []) × (places.clerks.items ≡ []) }
     ensures linked { Each (λ e. e.link ≡ L.link) result.ends.items }
 {
-    let Setting { fresh, doors, .. } = setting;
+    let Setting {
+        fresh,
+        doors,
+        clerks: count,
+    } = setting;
     let Fresh {
         recorder,
         intake,
@@ -145,9 +154,11 @@ where
     } = places;
     let mut spare = ends;
     let ends = filled(&mut spare, vacant);
+    let mut locked = Locked::new(recorder, intake);
+    let clerks = with_clerks(alloc, &mut locked, count, clerks);
     let server = Server::<S, L> {
         alloc,
-        port: Mutex::new(Locked::new(recorder, intake)),
+        port: Mutex::new(locked),
         connections,
         control,
         ingress,

@@ -1,7 +1,9 @@
 //! A new link over its sockets, before it is served.
-ghost use Rattle.std.specs.Prelude.{◌≡◌, [], IfOk};
+ghost use Rattle.std.specs.Prelude.{◌≡◌, ◌≤◌, ◌⊎◌, [], true, IfOk, IfErr};
 ghost use Rattle.share_base.specs.declared.version.Version.TheVariants.{Two};
 ghost use Rattle.share_model.specs.lists.Each.{Each};
+ghost use Rattle.share_ingress.specs.Ends.{new_ends, new_intake};
+ghost use Rattle.share_server.specs.Shutdown.{CanServe, RefusesToBegin, is_new};
 
 use crate::connections::Connections;
 use crate::faults::ServeFault;
@@ -73,6 +75,8 @@ fn recording<S: Rates + Drop>(
 ) -> Result<Recorder<PlainWriter<Uplink>, S>, ServeFault>
     ensures empty { IfOk result (λ r. r.entries ≡ []) }
     ensures version { IfOk result (λ r. r.link.live.version ≡ Two) }
+    ensures new { IfOk result (λ _. is_new journal ≡ true) }
+    ensures refused { IfErr result (RefusesToBegin journal) }
 {
     let mut engine = match Engine::new(alloc, shelf, journal.life(), PlainWriter(uplink)) {
         Ok(engine) => engine,
@@ -91,7 +95,7 @@ fn recording<S: Rates + Drop>(
     }
 }
 
-// A new link over the uplink, with a queue for these workers.
+// A new link over the uplink, with a queue of `PLACES` places for these workers.
 fn link_over<S: Rates + Drop>(
     alloc: Global,
     shelf: S,
@@ -99,10 +103,15 @@ fn link_over<S: Rates + Drop>(
     uplink: Uplink,
     workers: usize,
 ) -> Result<Fresh<S>, ServeFault>
+    requires { (1 ≤ workers) × (workers ≤ 8) }
     ensures empty { IfOk result (λ fresh. fresh.recorder.entries ≡ []) }
     ensures version { IfOk result (λ fresh. fresh.recorder.link.live.version ≡ Two) }
-    ensures nothing { IfOk result (λ fresh. fresh.intake.popped ≡ []) }
+    ensures new { IfOk result (λ _. is_new journal ≡ true) }
+    ensures queue { IfOk result (λ fresh.
+        (fresh.intake ≡ new_intake fresh.intake.link PLACES workers)
+        × (fresh.ends.items ≡ new_ends fresh.intake.link PLACES workers)) }
     ensures linked { IfOk result (λ fresh. Each (λ e. e.link ≡ fresh.intake.link) fresh.ends.items) }
+    ensures refused { IfErr result (RefusesToBegin journal) }
 {
     let recorder = recording(alloc, shelf, journal, uplink)?;
     match queue(alloc, PLACES, workers) {
@@ -119,14 +128,18 @@ fn link_over<S: Rates + Drop>(
 }
 
 // The listeners, with no connection yet, and the uplink as a writer.
-fn open_doors(alloc: Global, sockets: Sockets, plan: Plan) -> Result<(Doors, Uplink), ServeFault> {
+fn open_doors(alloc: Global, sockets: Sockets, plan: Plan) -> Result<(Doors, Uplink), ServeFault>
+    ensures { IfErr result (λ fault. (fault ≡ ServeFault.NoMemory) ⊎ (fault ≡ ServeFault.Accept)) }
+{
     let Sockets {
         ingress,
         control,
         uplink,
     } = sockets;
     let _ = uplink.set_nodelay(true);
-    let wire = Arc::new(alloc, Wire::new(uplink)).map_err(|_| ServeFault::NoMemory)?;
+    let Ok(wire) = Arc::new(alloc, Wire::new(uplink)) else {
+        return Err(ServeFault::NoMemory);
+    };
     let uplink = Uplink::new(&wire)?;
     let Ok(pace) = Pace::new(alloc, PLACES, plan.workers) else {
         return Err(ServeFault::NoMemory);
@@ -179,10 +192,16 @@ pub fn set_up<R: Eprint, S: Rates + Drop>(
     sockets: Sockets,
     plan: Plan,
 ) -> Result<Setting<S>, ServeFault>
+    requires { CanServe plan.workers plan.clerks }
     ensures empty { IfOk result (λ s. s.fresh.recorder.entries ≡ []) }
     ensures version { IfOk result (λ s. s.fresh.recorder.link.live.version ≡ Two) }
-    ensures nothing { IfOk result (λ s. s.fresh.intake.popped ≡ []) }
+    ensures new { IfOk result (λ _. is_new journal ≡ true) }
+    ensures queue { IfOk result (λ s.
+        (s.fresh.intake ≡ new_intake s.fresh.intake.link PLACES plan.workers)
+        × (s.fresh.ends.items ≡ new_ends s.fresh.intake.link PLACES plan.workers)) }
     ensures linked { IfOk result (λ s. Each (λ e. e.link ≡ s.fresh.intake.link) s.fresh.ends.items) }
+    ensures clerks { IfOk result (λ s. s.clerks ≡ plan.clerks) }
+    ensures refused { IfErr result (RefusesToBegin journal) }
 {
     let (doors, uplink) = match open_doors(alloc, sockets, plan) {
         Ok(both) => both,

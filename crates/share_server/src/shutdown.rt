@@ -1,8 +1,8 @@
 //! What is done with a link after its service.
-ghost use Rattle.std.specs.Prelude.{◌≡◌, false, true, not};
+ghost use Rattle.std.specs.Prelude.{◌≡◌, not};
 ghost use Rattle.share_model.specs.lists.Each.{Each};
-ghost use Rattle.share_server.specs.Shutdown.{journal_of, with_want, is_unsettled, IsAuditKept, KeepsRun};
-ghost use Rattle.share_server.specs.Shutdown.{LinkWasSettled};
+ghost use Rattle.share_model.specs.text.Report.{report};
+ghost use Rattle.share_server.specs.Shutdown.{journal_of, with_want, with_end, IsWritten, IsClosing};
 
 use crate::audit_file::Keep;
 use crate::connections::Connections;
@@ -53,7 +53,7 @@ fn counts_of(journal: &Journal) -> EntryCounts {
     counts
 }
 
-/// Writes the audit of the link and its report, and gives the uplink's peer time to take all that was sent.
+// Writes the audit of the link and its report, and gives the uplink's peer time to take all that was sent.
 fn finish<S: Rates, R: Clock + Eprint, K: Keep, O: TellingWriter>(
     rt: &R,
     recorder: &Recorder<PlainWriter<Uplink>, S>,
@@ -63,8 +63,8 @@ fn finish<S: Rates, R: Clock + Eprint, K: Keep, O: TellingWriter>(
     found: FoundFaults,
 ) -> FoundFaults
     ensures audit { K.kept keep (journal_of recorder.now) (not result.audit) }
-    ensures uplink { result.uplink ≡ recorder.now.link.live.broken }
-    ensures same { result ≡ record found { uplink = result.uplink; audit = result.audit; output = result.output } }
+    ensures output { IsWritten O.told O.answers output.old output.new (report recorder.now.link.live) result.output }
+    ensures faults { result ≡ with_end found recorder.now.link.live.broken result.audit result.output }
 {
     let mut found = found;
     let wire = connections.wire();
@@ -106,9 +106,10 @@ fn finish_unsettled<S: Rates + Drop, L: LinkBrand, R: Clock + Eprint, K: Keep, O
     found: FoundFaults,
 ) -> FoundFaults
     ensures audit { K.kept keep (journal_of back.locked.recorder) (not result.audit) }
-    ensures uplink { result.uplink ≡ back.locked.recorder.link.live.broken }
-    ensures told { is_unsettled result ≡ true }
-    ensures run { KeepsRun found result }
+    ensures output { IsWritten O.told O.answers output.old output.new (report back.locked.recorder.link.live)
+        result.output }
+    ensures faults { result
+        ≡ with_end (with_want found back.why) back.locked.recorder.link.live.broken result.audit result.output }
 {
     let found = with_want(found, back.why);
     let found = finish(rt, back.locked.recorder(), connections, keep, output, found);
@@ -116,7 +117,8 @@ fn finish_unsettled<S: Rates + Drop, L: LinkBrand, R: Clock + Eprint, K: Keep, O
     found
 }
 
-/// Settles the link, and writes its audit and its report, also if it was not settled.
+/// Settles the link, and writes its audit and its report, also if it was not settled. All that was found is among the
+/// faults, and nothing else.
 pub fn close<S: Rates + Drop, L: LinkBrand, R: Clock + Eprint, K: Keep, O: TellingWriter>(
     rt: &R,
     alloc: Global,
@@ -125,12 +127,8 @@ pub fn close<S: Rates + Drop, L: LinkBrand, R: Clock + Eprint, K: Keep, O: Telli
     output: &mut O,
 ) -> FoundFaults
     requires { Each (λ e. e.link ≡ L.link) ended.ends.items }
-    ensures audit { K.kept keep (journal_of ended.locked.recorder) (not result.audit) }
-    ensures kept { IsAuditKept K.kept keep (not result.audit) }
-    ensures uplink { result.uplink ≡ ended.locked.recorder.link.live.broken }
-    ensures settled { is_unsettled result ≡ false
-        → LinkWasSettled ended.locked ended.ends.items ended.clerks.items }
-    ensures run { KeepsRun ended.found result }
+    ensures { IsClosing K.kept O.told O.answers ended.locked ended.ends.items ended.clerks.items keep
+        output.old output.new ended.found result }
 {
     let EndedLink {
         locked,
@@ -139,6 +137,8 @@ pub fn close<S: Rates + Drop, L: LinkBrand, R: Clock + Eprint, K: Keep, O: Telli
         connections,
         found,
     } = ended;
+    // Its contract says that the link is of version 2, and that the journal is its run.
+    let _ = locked.recorder();
     match settle(alloc, locked, ends, clerks) {
         Ok(settled) => {
             let found = finish(rt, &settled.recorder, &connections, keep, output, found);

@@ -1,9 +1,10 @@
 //! What the threads of connections take, and give back at their ends.
-ghost use Rattle.std.specs.Prelude.{◌≡◌, ◌≤◌, [], IfOk, vec_len, vec_capacity};
+ghost use Rattle.std.specs.Prelude.{◌≡◌, ◌≤◌, ◌+◌, [], IfOk, vec_len, vec_capacity};
 ghost use Rattle.share_model.specs.lists.Each.{Each};
 
 use share_ingress::IngressEnd;
-use share_locked::{Clerk, LinkBrand};
+use share_locked::{Clerk, LinkBrand, Locked};
+use share_model::{Rates, TellingWriter};
 use std::alloc::{AllocError, Global};
 use std::marker::{Model, PhantomData};
 use std::sync::{Mutex, Wait};
@@ -75,24 +76,12 @@ impl<L: LinkBrand> LinkedEnd<L> {
     }
 }
 
-/// Places for clerks and ends while threads use them, and lists for them afterwards.
+/// Room for the places of clerks and ends while threads use them, and for lists of them afterwards.
 #[derive(Drop)]
 pub struct Places<L: LinkBrand> {
     pub clerks: Vec<Slot<Clerk<L>>>,
     pub ends: Vec<Slot<LinkedEnd<L>>>,
     pub spare_clerks: Vec<Clerk<L>>,
-}
-
-// A place for the clerk of each control connection.
-fn clerk_slots<L: LinkBrand>(
-    alloc: Global,
-    count: usize,
-) -> Result<Vec<Slot<Clerk<L>>>, AllocError> {
-    let mut slots = Vec::with_capacity(alloc, count)?;
-    for _ in 0..count {
-        slots.push(Slot::new(None))?;
-    }
-    Ok(slots)
 }
 
 /// Places for these numbers of ends and clerks.
@@ -101,16 +90,39 @@ pub fn make_places<L: LinkBrand>(
     ends: usize,
     clerks: usize,
 ) -> Result<Places<L>, AllocError>
-    ensures vacant { IfOk result (λ places. places.ends.items ≡ []) }
-    ensures room { IfOk result (λ places. ends ≤ vec_capacity places.ends) }
+    ensures vacant { IfOk result (λ places. (places.ends.items ≡ []) × (places.clerks.items ≡ [])) }
+    ensures room { IfOk result (λ places.
+        (ends ≤ vec_capacity places.ends) × (clerks ≤ vec_capacity places.clerks)) }
 {
     let spare_clerks = Vec::with_capacity(alloc, clerks)?;
-    let clerks = clerk_slots(alloc, clerks)?;
+    let places = Vec::with_capacity(alloc, clerks)?;
     Ok(Places {
-        clerks,
+        clerks: places,
         ends: Vec::with_capacity(alloc, ends)?,
         spare_clerks,
     })
+}
+
+/// Makes the clerks of a link, and puts each into a place.
+pub fn with_clerks<W: TellingWriter, S: Rates, L: LinkBrand>(
+    alloc: Global,
+    locked: &mut Locked<W, S, L>,
+    count: usize,
+    vacant: Vec<Slot<Clerk<L>>>,
+) -> Vec<Slot<Clerk<L>>>
+    requires few { locked.old.clerks + count ≤ 8 }
+    requires vacant { (vacant.items ≡ []) × (count ≤ vec_capacity vacant) }
+    ensures made { locked.new ≡ record locked.old { clerks = locked.old.clerks + count } }
+    ensures places { vec_len result ≡ count }
+{
+    let mut slots = vacant;
+    while slots.len() < count {
+        let Ok(clerk) = locked.clerk(alloc) else {
+            unreachable!();
+        };
+        slots.push_reserved(Slot::new(Some(clerk)));
+    }
+    slots
 }
 
 /// Puts the ends into places, in their order.
@@ -120,7 +132,8 @@ pub fn filled<L: LinkBrand>(
 ) -> Vec<Slot<LinkedEnd<L>>>
     requires linked { Each (λ e. e.link ≡ L.link) ends.old.items }
     requires vacant { (vacant.items ≡ []) × (vec_len ends.old ≤ vec_capacity vacant) }
-    ensures { ends.new.items ≡ [] }
+    ensures taken { ends.new.items ≡ [] }
+    ensures places { vec_len result ≡ vec_len ends.old }
 {
     let mut slots = vacant;
     while let Some(end) = ends.pop() {

@@ -6,11 +6,11 @@ use crate::faults::FoundFaults;
 use crate::ingress::{why_text, work};
 use crate::slots::{LinkedEnd, Slot};
 use crate::uplink::Uplink;
-use share_locked::{Clerk, LinkBrand, LinkEnd, Port, serve_paced_while};
+use share_locked::{Clerk, LinkBrand, LinkEnd, Port, serve_while};
 use share_model::{PlainReader, PlainWriter, Rates};
 use share_script::IncomingLines;
 use std::alloc::Global;
-use std::io::Eprint;
+use std::io::{Eprint, ErrorKind};
 use std::net::{TcpListener, TcpStream};
 use std::sync::{Arc, Wait};
 use std::thread;
@@ -24,7 +24,7 @@ pub struct Server<S: Rates, L: LinkBrand> {
     pub connections: Arc<Connections>,
     pub control: TcpListener,
     pub ingress: TcpListener,
-    // The clerk of each control connection, from when it is accepted.
+    // The clerk for each control connection.
     pub clerks: Vec<Slot<Clerk<L>>>,
     // The end of the queue for each ingress connection.
     pub ends: Vec<Slot<LinkedEnd<L>>>,
@@ -92,7 +92,7 @@ fn serve_ingress<R: Wait + Eprint, S: Rates, L: LinkBrand>(
     server.connections.remove(rt, Kind::Ingress, number);
 }
 
-// Accepts a connection. If that fails, the end begins.
+// Accepts a connection. If that fails, or there is no memory for the connection, the end begins.
 fn accept<R: Wait + Eprint, S: Rates, L: LinkBrand>(
     rt: &R,
     server: &Server<S, L>,
@@ -108,16 +108,20 @@ fn accept<R: Wait + Eprint, S: Rates, L: LinkBrand>(
     if server.connections.is_ending() {
         return None;
     }
-    if let Ok((stream, address)) = accepted {
-        server.connections.tell(
-            rt,
-            format_args!("{word} {number}: connected from {address}"),
-        );
-        if let Some(stream) = open(rt, server, kind, number, stream) {
-            return Some(stream);
+    match accepted {
+        Ok((stream, address)) => {
+            server.connections.tell(
+                rt,
+                format_args!("{word} {number}: connected from {address}"),
+            );
+            if let Some(stream) = open(rt, server, kind, number, stream) {
+                return Some(stream);
+            }
+            found.memory = true;
         }
+        Err(fault) if fault.kind() == ErrorKind::OutOfMemory => found.memory = true,
+        Err(_) => found.accept = true,
     }
-    found.accept = true;
     server.connections.end(rt);
     None
 }
@@ -168,12 +172,6 @@ where
         let Some(stream) = accept(rt, server, Kind::Control, number, found) else {
             return;
         };
-        let Ok(clerk) = server.port.lock(rt).clerk(server.alloc) else {
-            found.accept = true;
-            refuse(rt, server, Kind::Control, number);
-            return;
-        };
-        slot.put(rt, clerk);
         let started = scope.spawn(move || {
             let mine = stream;
             serve_control(rt, server, number, mine, slot)
@@ -257,7 +255,7 @@ where
             found.thread = true;
             connections.end(rt);
         }
-        let (end, mut found) = serve_paced_while(
+        let (end, mut found) = serve_while(
             rt,
             &server.port,
             connections.pace(),

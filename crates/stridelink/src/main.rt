@@ -23,6 +23,7 @@ macro_rules! program_shelf {
     };
 }
 
+mod billing;
 mod help;
 mod lines;
 mod serving;
@@ -31,6 +32,7 @@ mod strict;
 mod tariffs;
 mod words;
 
+use crate::billing::bill_books;
 use crate::lines::LineReader;
 use crate::serving::{Unserved, serve};
 use crate::streams::StandIns;
@@ -297,6 +299,7 @@ fn main(rt: HostRuntime) -> ExitCode {
         Ok(Asked::Text(text)) => show(&rt, &text),
         Ok(Asked::Run(orders)) => run_given(&rt, orders),
         Ok(Asked::Serve(orders)) => serve_given(&rt, rt.alloc(), orders, rt.reader()),
+        Ok(Asked::Bill(orders)) => bill_books(&rt, rt.alloc(), &orders),
         Err(fault) => Err(fault),
     };
     match obeyed {

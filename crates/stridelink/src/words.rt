@@ -5,6 +5,7 @@ ghost use Rattle.share_script.specs.declared.script.ScriptFault.TheVariants.{NoM
 ghost use Rattle.share_core.specs.Life.{life_refusal};
 ghost use Rattle.stridelink.specs.Orders.{CanBeServed};
 
+use crate::billing::{BillOrders, Form};
 use crate::help;
 use clap::builder::ValueParser;
 use clap::error::ErrorKind;
@@ -81,6 +82,8 @@ pub enum Asked<'a> {
     Run(Orders<'a>),
     /// To serve a link.
     Serve(ServeOrders<'a>),
+    /// To bill books.
+    Bill(BillOrders<'a>),
     /// To show a text: help, the version, or what is wrong with the words.
     Text(clap::Error),
 }
@@ -194,6 +197,24 @@ fn serve_command<'a>(alloc: Global) -> Result<Command<'a>, AllocError> {
         .arg(verbose)
 }
 
+// The words of `bill`.
+fn bill_command<'a>(alloc: Global) -> Result<Command<'a>, AllocError> {
+    let csv = flag(alloc, "csv", "print the bill as CSV, without sums");
+    let json = flag(alloc, "json", "print the bill as a line of JSON").conflicts_with("csv")?;
+    let books = Arg::new(alloc, "book")
+        .value_name("FILE")
+        .help("the text of a book, of either kind")
+        .num_args(1..)
+        .action(ArgAction::Append)
+        .required(true);
+    Command::new(alloc, "bill")
+        .about("bills what the tenants of books sent")
+        .after_long_help(help::BOOKS)
+        .arg(csv)?
+        .arg(json)?
+        .arg(books)
+}
+
 // The command line of the program, under its own name whatever the first word is.
 fn command_line<'a>(alloc: Global) -> Result<Command<'a>, AllocError> {
     Command::new(alloc, "stridelink")
@@ -203,7 +224,8 @@ fn command_line<'a>(alloc: Global) -> Result<Command<'a>, AllocError> {
         .after_long_help(help::SCRIPTS)
         .subcommand_required(true)
         .subcommand(run_command(alloc)?)?
-        .subcommand(serve_command(alloc)?)
+        .subcommand(serve_command(alloc)?)?
+        .subcommand(bill_command(alloc)?)
 }
 
 // What the words of `run` ask for.
@@ -228,6 +250,24 @@ fn serve_orders<'a>(serve: &ArgMatches<'a>) -> ServeOrders<'a> {
         is_until_eof: serve.get_flag("until-eof"),
         is_verbose: serve.get_flag("verbose"),
     }
+}
+
+// What the words of `bill` ask for.
+fn bill_orders<'a>(alloc: Global, bill: &ArgMatches<'a>) -> Result<BillOrders<'a>, AllocError> {
+    let mut files = Vec::new(alloc);
+    if let Some(books) = bill.get_strs("book") {
+        for book in books {
+            files.push(*book)?;
+        }
+    }
+    let form = if bill.get_flag("csv") {
+        Form::Csv
+    } else if bill.get_flag("json") {
+        Form::Json
+    } else {
+        Form::Table
+    };
+    Ok(BillOrders { files, form })
 }
 
 fn is_life(life: u64) -> bool
@@ -260,17 +300,18 @@ fn out_of_range(asked: &Asked<'_>) -> Option<&'static str>
 }
 
 // What the words ask for, before their numbers are tested.
-fn asked_by<'a>(matches: &ArgMatches<'a>) -> Asked<'a>
-    ensures { (text : _) → result ≢ Asked.Text text }
+fn asked_by<'a>(alloc: Global, matches: &ArgMatches<'a>) -> Result<Asked<'a>, AllocError>
+    ensures { IfOk result (λ asked. (text : _) → asked ≢ Asked.Text text) }
 {
     match matches.subcommand() {
-        Some(("serve", serve)) => Asked::Serve(serve_orders(serve)),
-        Some((_, run)) => Asked::Run(run_orders(run)),
-        None => Asked::Run(Orders {
+        Some(("serve", serve)) => Ok(Asked::Serve(serve_orders(serve))),
+        Some(("bill", bill)) => Ok(Asked::Bill(bill_orders(alloc, bill)?)),
+        Some((_, run)) => Ok(Asked::Run(run_orders(run))),
+        None => Ok(Asked::Run(Orders {
             life: LIFE,
             file: None,
             is_strict: false,
-        }),
+        })),
     }
 }
 
@@ -286,7 +327,7 @@ fn read_words<'a>(alloc: Global, words: &'a [String]) -> Result<Asked<'a>, Scrip
     let mut command = command_line(alloc)?;
     match command.try_get_matches_from_mut(words) {
         Ok(matches) => {
-            let asked = asked_by(&matches);
+            let asked = asked_by(alloc, &matches)?;
             match out_of_range(&asked) {
                 None => Ok(asked),
                 Some(wrong) => Ok(Asked::Text(command.error(ErrorKind::ValueValidation, wrong)?)),
@@ -378,5 +419,6 @@ pub fn parse<'a>(alloc: Global, words: Option<&'a [String]>) -> Result<Asked<'a>
         Asked::Text(text) => Ok(Asked::Text(readable(alloc, words, text)?)),
         Asked::Run(orders) => Ok(Asked::Run(orders)),
         Asked::Serve(orders) => Ok(Asked::Serve(orders)),
+        Asked::Bill(orders) => Ok(Asked::Bill(orders)),
     }
 }

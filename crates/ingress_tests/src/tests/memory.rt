@@ -4,7 +4,8 @@
 ghost use Rattle.std.specs.Prelude.{◌≡◌};
 ghost use Rattle.share_model.specs.lists.Each.{Each};
 
-use crate::tests::made::{count, holds, one_end, one_record, reader, same, taken};
+use crate::readers::TwoRecords;
+use crate::tests::made::{count, holds, one_end, one_record, reader, same, shared, taken, word};
 use crate::tests::queueing::takes_one;
 use share_base::{Name, Parcel, Refusal};
 use share_ingress::{
@@ -15,13 +16,23 @@ use share_model::allocator::{IS_HELD_OTHER, MARK_HELD, REFUSE_EACH, WAS_REFUSED}
 use share_model::{Got, ScriptedReader, asks};
 use std::alloc::Global;
 use std::process::Abort;
-use std::sync::Wait;
+use std::sync::{Arc, Wait};
 
 /// More requests than any call here makes.
 const REQUESTS: u16 = 64;
 
 /// A record for the flow a, whose payload is kept on the heap.
 const LONG: &[u8] = b"\x01a\x00\x14abcdefghijklmnopqrst";
+
+// Remembers how many blocks are held.
+fn mark(alloc: Global) {
+    let _no = asks!(alloc, MARK_HELD);
+}
+
+// As many blocks are held as were remembered.
+fn keeps_none(rt: &impl Abort, row: &str, alloc: Global) {
+    holds(rt, row, !asks!(alloc, IS_HELD_OTHER));
+}
 
 // Why a call answers nothing else.
 fn lack(was_refused: bool) -> Option<Refusal> {
@@ -62,23 +73,25 @@ fn leaves_one<T: Wait + Abort>(rt: &T, alloc: Global, end: &mut IngressEnd) {
 
 // Offers and takes. What is left in the queue is given back with it.
 fn hands_over<T: Wait + Abort>(rt: &T, alloc: Global) {
-    let _no = asks!(alloc, MARK_HELD);
+    mark(alloc);
     let (mut intake, mut end) = one_end(rt, alloc, 1);
     take_no_memory(rt, alloc, &mut intake, &mut end);
     leaves_one(rt, alloc, &mut end);
     drop(end);
     drop(intake);
-    holds(rt, "given back", !asks!(alloc, IS_HELD_OTHER));
+    keeps_none(rt, "given back", alloc);
 }
 
 #[test]
 fn a_queue_is_made_once_its_memory_is_found(rt: HostRuntime) {
     hands_over(&rt, rt.alloc());
     for request in 1..REQUESTS {
+        mark(rt.alloc());
         let _no = asks!(rt.alloc(), request);
         let made = queue(rt.alloc(), 4, 2);
         let was_refused = asks!(rt.alloc(), WAS_REFUSED);
         same(&rt, "queue", made.err(), lack(was_refused));
+        keeps_none(&rt, "a queue keeps no block", rt.alloc());
         if !was_refused {
             return;
         }
@@ -93,6 +106,7 @@ fn joined(rt: &impl Abort, alloc: Global, intake: Intake, ends: Vec<IngressEnd>)
     let mut intake = intake;
     let mut ends = ends;
     for request in 1..REQUESTS {
+        mark(alloc);
         let _no = asks!(alloc, request);
         let gathered = intake.gather(alloc, ends);
         let was_refused = asks!(alloc, WAS_REFUSED);
@@ -101,6 +115,7 @@ fn joined(rt: &impl Abort, alloc: Global, intake: Intake, ends: Vec<IngressEnd>)
             Ok((_intake, tallies)) => return tallies,
             Err(refused) => {
                 same(rt, "why", refused.why, WhyNot::NoMemory);
+                keeps_none(rt, "ends that come back keep no block", alloc);
                 intake = refused.intake;
                 ends = refused.ends;
             }
@@ -116,13 +131,22 @@ fn ends_are_joined_once_memory_for_their_tallies_is_found(rt: HostRuntime) {
     same(&rt, "tallies", tallies.as_slice(), [0, 0].as_slice());
 }
 
+// The reader of bytes is dropped with the reader of records, or in its place.
 #[test]
 fn a_reader_is_made_once_its_memory_is_found(rt: HostRuntime) {
+    let word = word(&rt, rt.alloc());
     for request in 1..REQUESTS {
+        let bytes = TwoRecords {
+            reads: 0,
+            word: shared(&rt, &word),
+        };
+        mark(rt.alloc());
         let _no = asks!(rt.alloc(), request);
-        let made = IngressReader::new(rt.alloc(), one_record(rt.alloc()), 100);
+        let made = IngressReader::new(rt.alloc(), bytes, 100);
         let was_refused = asks!(rt.alloc(), WAS_REFUSED);
         same(&rt, "reader", made.err(), lack(was_refused));
+        keeps_none(&rt, "a reader keeps no block", rt.alloc());
+        same(&rt, "it is dropped", Arc::strong_count(&word), 1);
         if !was_refused {
             return;
         }
@@ -135,6 +159,7 @@ fn an_item_is_given_once_memory_for_its_payload_is_found(rt: HostRuntime) {
     for request in 1..REQUESTS {
         let bytes = ScriptedReader::new(Vec::new(rt.alloc()), LONG);
         let mut reader = reader(&rt, rt.alloc(), bytes, 100);
+        mark(rt.alloc());
         let _no = asks!(rt.alloc(), request);
         let next = reader.next();
         let was_refused = asks!(rt.alloc(), WAS_REFUSED);
@@ -146,6 +171,7 @@ fn an_item_is_given_once_memory_for_its_payload_is_found(rt: HostRuntime) {
             Next::Ended(ended) => {
                 let wanted = (true, Ended::NoMemory);
                 same(&rt, "refused", (was_refused, ended), wanted);
+                keeps_none(&rt, "an item keeps no block", rt.alloc());
                 same(&rt, "again", count(&mut reader), (0, Ended::NoMemory));
             }
         }
@@ -238,11 +264,15 @@ fn all_done(rt: &impl Abort, all: &[Done<Impatient>]) -> bool {
 fn jobs_are_done_once_memory_for_their_threads_is_found(rt: HostRuntime) {
     for request in 1..REQUESTS {
         let jobs = one_item_each(&rt, rt.alloc());
+        mark(rt.alloc());
         let _no = asks!(rt.alloc(), request);
         let ran = run_workers(&rt, rt.alloc(), jobs);
         let was_refused = asks!(rt.alloc(), WAS_REFUSED);
         match ran {
-            Err(jobs) => same(&rt, "back", (was_refused, jobs.len()), (true, 2)),
+            Err(jobs) => {
+                same(&rt, "back", (was_refused, jobs.len()), (true, 2));
+                keeps_none(&rt, "jobs that come back keep no block", rt.alloc());
+            }
             Ok(all) => {
                 let is_done = all_done(&rt, all.as_slice());
                 holds(&rt, "done", is_done || was_refused);

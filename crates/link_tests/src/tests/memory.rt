@@ -142,7 +142,9 @@ fn is_refused_memory(rt: &impl Abort, alloc: Global, tokens: &Tokens) {
 fn gives_its_writer(rt: &impl Abort, alloc: Global, tokens: &Tokens) {
     mark(alloc);
     let link = tokens.engine(rt, alloc, 1).expect(rt, "a link");
+    refuse_each(alloc);
     let writer = link.into_writer();
+    takes_none(rt, "the writer is given back", alloc);
     tokens.are_held(rt, "the writer is given back", (false, true));
     drop(writer);
     tokens.are_held(rt, "the writer is dropped", (false, false));

@@ -6,7 +6,7 @@ use super::talk::play;
 use super::tariffs::Four;
 use share_base::{Refusal, Version};
 use share_core::Engine;
-use share_model::{Scripted, Tape};
+use share_model::{Answer, Scripted, Tape};
 use std::alloc::Global;
 use std::process::Abort;
 
@@ -324,6 +324,36 @@ const SESSIONS: [Session; 29] = [
     ),
 ];
 
+/// A frame of which the writer accepts five bytes and is interrupted, which changes nothing, and then accepts the rest;
+/// and one of which it accepts five bytes and fails.
+const INTERRUPTED: &str = "\
+    open a 4 1 = flow 1; mktkt 10 base = ticket 1; fund 1 flow a = ok; send a 6869 = packet 1 1; \
+    turn 65535 = wrote 1 1 5 part; events = 5; account 1 = 0; packets 1 = 1; all = 10 0 0 0; \
+    at 1 = in 10 109951162777 109951162777; turn 65535 = again; events = 5; account 1 = 0; packets 1 = 1; \
+    all = 10 0 0 0; at 1 = in 10 109951162777 109951162777; turn 65535 = wrote 1 1 9 whole; account 1 = 14";
+
+const FAILED: &str = "\
+    open a 4 1 = flow 1; mktkt 10 base = ticket 1; fund 1 flow a = ok; send a 6869 = packet 1 1; \
+    turn 65535 = wrote 1 1 5 part; turn 65535 = torn 1 1 5; account 1 = 5";
+
+/// The answers of a writer, the rows that a session plays with it, and the bytes that it has then.
+const ANSWERED: [(&[Answer], &str, &[u8]); 2] = [
+    (
+        &[
+            Answer::Accepted(5),
+            Answer::Interrupted,
+            Answer::Accepted(9),
+        ],
+        INTERRUPTED,
+        FRAME,
+    ),
+    (
+        &[Answer::Accepted(5), Answer::Failed],
+        FAILED,
+        b"\x4c\x01\0\0\0",
+    ),
+];
+
 fn plays(rt: &impl Abort, alloc: Global, link: &mut Engine<Scripted, Four>, session: &Session) {
     for rows in session.1 {
         play(rt, alloc, link, rows);
@@ -340,6 +370,13 @@ fn links_answer_as_worked(rt: HostRuntime) {
         let writer = scripted(&rt, alloc, &[]);
         let mut link = linked(&rt, alloc, Four, session.0, LIFE, writer);
         plays(&rt, alloc, &mut link, session);
+        drop(link);
+    }
+    for (answers, rows, bytes) in ANSWERED {
+        let writer = scripted(&rt, alloc, answers);
+        let mut link = linked(&rt, alloc, Four, Version::One, LIFE, writer);
+        play(&rt, alloc, &mut link, rows);
+        same(&rt, rows, link.writer().bytes(), bytes);
         drop(link);
     }
     for rows in STANDING {

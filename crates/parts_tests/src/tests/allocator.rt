@@ -8,6 +8,9 @@ use std::alloc::Global;
 use std::fmt::Debug;
 use std::process::Abort;
 
+/// The question of this number and n more is whether more than n bytes were asked for since the mark.
+const LONGER: u16 = 8192;
+
 /// Refuses the request of this number from here on.
 pub(super) fn refuse(alloc: Global, request: u16) {
     let _no = asks!(alloc, request);
@@ -26,6 +29,22 @@ pub(super) fn mark(alloc: Global) {
 /// As many blocks are held as were remembered.
 pub(super) fn keeps_none<R: Debug + Copy>(rt: &impl Abort, row: R, alloc: Global) {
     holds(rt, (row, "keeps no block"), !asks!(alloc, IS_HELD_OTHER));
+}
+
+/// So many bytes were asked for since the mark, and not one more.
+pub(super) fn asked_for<R: Debug + Copy>(
+    rt: &impl Abort,
+    row: R,
+    alloc: Global,
+    bytes: u16,
+    is_steered: bool,
+) {
+    let is_more = asks!(alloc, LONGER.saturating_add(bytes));
+    holds(rt, (row, "asks for no more"), !is_more);
+    if bytes > 0 {
+        let is_less = !asks!(alloc, LONGER.saturating_add(bytes - 1));
+        same(rt, (row, "asks for no less"), is_less, !is_steered);
+    }
 }
 
 /// Whether the allocator is the one that refuses.

@@ -1,7 +1,9 @@
 //! share_base: spellings of names, lengths of payloads and headers, and the texts of refusals.
 ghost use Rattle.std.specs.Prelude.{◌≤◌};
 
-use crate::tests::allocator::{is_steered, keeps_none, mark, refuse, took_none, was_refused};
+use crate::tests::allocator::{
+    asked_for, is_steered, keeps_none, mark, refuse, took_none, was_refused,
+};
 use crate::tests::assertions::{holds, same};
 use share_base::{
     Body, FlowNo, HEADER_ROOM, MAX_IN_PLACE, MAX_PAYLOAD, Name, Parcel, Refusal, Reply, TicketNo,
@@ -340,10 +342,11 @@ fn refusals_have_numbers_names_and_texts(rt: HostRuntime) {
 }
 
 /// What is made, its payload, and how many requests that takes. A body takes one if its payload and the room before it
-/// have more than 33 bytes, and a parcel has two bodies.
-const COPIES: [(Made, &[u8], u16); 7] = [
+/// have more than 33 bytes, and it is for no more than these. A parcel has two bodies.
+const COPIES: [(Made, &[u8], u16); 8] = [
     (Made::Body, b"0123456789abcdef", 0),
     (Made::Body, b"0123456789abcdefg", 1),
+    (Made::Body, &[7; 1491], 1),
     (Made::Body, &[7; 9000], 1),
     (Made::Parcel, b"0", 0),
     (Made::Parcel, b"0123456789abcdef", 0),
@@ -371,6 +374,13 @@ fn payloads_are_copied_once_their_memory_is_found(rt: HostRuntime) {
             same(&rt, row, answer, wanted);
             keeps_none(&rt, row, alloc);
         }
+        mark(alloc);
+        let answer = makes(alloc, kind, payload);
+        let each = u16::try_from(payload.len().saturating_add(HEADER_ROOM)).unwrap_or(u16::MAX);
+        let bytes = requests.saturating_mul(each);
+        let row = (kind, payload.len(), bytes);
+        asked_for(&rt, row, alloc, bytes, is_steered);
+        same(&rt, row, answer, Ok(true));
     }
 }
 

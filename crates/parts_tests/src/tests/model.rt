@@ -438,9 +438,21 @@ fn is_refused_on(rt: &impl Abort, alloc: Global, tape: &mut Tape, request: u16, 
     same(rt, (request, "counts"), was_refused(alloc), told);
 }
 
+// A tape that gives its bytes keeps nothing, and they are given back.
+fn gives_its_bytes(rt: &impl Abort, alloc: Global) {
+    mark(alloc);
+    let mut tape = Tape::new(alloc);
+    same(rt, "whole", tape.offer(b"ab"), Answer::Accepted(2));
+    let bytes = tape.into_bytes();
+    same(rt, "its bytes", bytes.as_slice(), b"ab".as_slice());
+    drop(bytes);
+    keeps_none(rt, "its bytes", alloc);
+}
+
 #[test]
 fn a_piece_is_taken_once_its_memory_is_found(rt: HostRuntime) {
     let alloc = rt.alloc();
+    gives_its_bytes(&rt, alloc);
     let is_steered = is_steered(alloc);
     for request in 1..4 {
         mark(alloc);

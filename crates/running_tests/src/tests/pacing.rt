@@ -1,22 +1,19 @@
 //! Workers, a clerk and a link that wake each other. A wake-up that is lost would leave one of them asleep: a watch
 //! then ends the run, and the test fails. `.ci/yields` runs it once more in a copy of the pace that lets other threads
 //! run at each of its steps.
-ghost use Rattle.std.specs.Prelude.{◌≡◌, []};
-ghost use Rattle.share_base.specs.declared.version.Version.TheVariants.{Two};
+ghost use Rattle.std.specs.Prelude.{◌≡◌};
 
-use crate::ByByte;
-use crate::tests::made::{name, recording};
-use share_base::{Command, Name, Parcel, Reply};
-use share_ingress::{IngressEnd, Intake, Offered, queue};
-use share_journal::Recorder;
-use share_locked::{
-    Attendant, Clerk, LinkBrand, LinkEnd, Locked, Pace, Port, Stop, run_paced_link,
-};
-use share_model::{Rates, Tape};
+use super::made::name;
+use super::session::plays;
+use super::stage::{NewLink, Slot, Stage, new_link, staged};
+use share_base::{Name, Parcel};
+use share_ingress::Offered;
+use share_locked::{LinkBrand, LinkEnd, Stop, run_paced_link};
+use share_model::Tape;
 use std::alloc::Global;
 use std::marker::Brand;
 use std::process::Abort;
-use std::sync::{Mutex, Wait};
+use std::sync::Wait;
 use std::thread;
 use std::thread::{Parker, Threads};
 use std::time::Duration;
@@ -26,14 +23,20 @@ const WORKERS: usize = 3;
 
 const PACKETS: u64 = 400;
 
-const HOLDS: u64 = 100;
+const HOLDS: usize = 100;
 
 const PLACES: usize = 256;
 
 const LIFE: u64 = 65536;
 
-/// The flows with the limits of their buffers, one for each worker. The last one is held meanwhile, and takes all.
-const FLOWS: [(&[u8], u64); WORKERS] = [(b"a", 1), (b"b", 2), (b"c", 1024)];
+/// The flows, one for each worker. Their buffers take 1, 2 and 1024 packets. The last one is held meanwhile.
+const FLOWS: [&[u8]; WORKERS] = [b"a", b"b", b"c"];
+
+const OPENED: &str = "\
+    C1 open a 1 1; C1 mktkt 1 base; C1 fund 1 flow a; C1 open b 2 1; C1 mktkt 1 base; C1 fund 2 flow b; \
+    C1 open c 1024 1; C1 mktkt 1 base; C1 fund 3 flow c";
+
+const HELD: &str = "C1 hold c; pause 1; C1 resume c";
 
 /// After so many packets a worker waits for its connection: each time but one of so many for a millisecond, so that the
 /// link falls asleep.
@@ -51,43 +54,32 @@ const LIMIT: u64 = 40_000;
 
 /// What the threads of a run share.
 #[derive(Drop)]
-struct Shared<S: Rates, L: LinkBrand> {
-    port: Port<Tape, S, L>,
-    pace: Pace,
+struct Shared<L: LinkBrand> {
+    stage: Stage<Tape, L>,
     stop: Stop,
     is_done: Stop,
     is_late: Stop,
-    has_ended: Stop,
-    // The end of the queue for each worker, which alone locks it.
-    ends: Vec<Mutex<IngressEnd>>,
-}
-
-impl<S: Rates, L: LinkBrand> Attendant for Shared<S, L> {
-    fn rests(&self) {}
-
-    fn ends<R: Wait>(&self, _rt: &R) {
-        self.has_ended.set();
-    }
 }
 
 // The flow that a worker fills.
 fn flow_of(rt: &impl Abort, worker: u64) -> Name {
     let at = worker as usize;
-    let (flow, _) = FLOWS.get(at.saturating_sub(1)).expect(rt, "a flow");
+    let flow = FLOWS.get(at.saturating_sub(1)).expect(rt, "a flow");
     name(rt, flow)
 }
 
 // Offers packets for a flow at the pace of the link. No offer finds the queue full.
-fn offers<T: Abort + Wait, S: Rates, L: LinkBrand>(
+fn offers<T: Abort + Wait, L: LinkBrand>(
     rt: &T,
     alloc: Global,
-    shared: &Shared<S, L>,
+    shared: &Shared<L>,
     worker: u64,
-    slot: &Mutex<IngressEnd>,
+    slot: &Slot<L>,
 ) {
-    let pace = &shared.pace;
+    let pace = &shared.stage.pace;
     let flow = flow_of(rt, worker);
-    let mut end = slot.lock(rt);
+    let mut held = slot.lock(rt);
+    let end = held.as_mut().expect(rt, "an end");
     let parker = Parker::new();
     pace.end_waiting(worker);
     for n in 1..=PACKETS {
@@ -112,69 +104,8 @@ fn offers<T: Abort + Wait, S: Rates, L: LinkBrand>(
     pace.begin_waiting(worker);
 }
 
-// Makes a command, and rings.
-fn commands<T: Abort + Wait, S: Rates, L: LinkBrand>(
-    rt: &T,
-    shared: &Shared<S, L>,
-    clerk: &mut Clerk<L>,
-    command: Command,
-) -> Reply {
-    clerk.ready().expect(rt, "room for a receipt");
-    let (_number, reply) = shared.port.lock(rt).command(clerk, command);
-    shared.pace.ring();
-    reply
-}
-
-// Opens and funds the flows.
-fn opens<T: Abort + Wait, S: Rates, L: LinkBrand>(
-    rt: &T,
-    shared: &Shared<S, L>,
-    clerk: &mut Clerk<L>,
-) {
-    for (at, (flow, limit)) in FLOWS.iter().enumerate() {
-        let name = name(rt, flow);
-        let open = Command::OpenFlow {
-            name,
-            limit: *limit,
-            tariff: 1,
-        };
-        let make = Command::MakeTicket {
-            amount: 1,
-            currency: name_of_base(rt),
-        };
-        let fund = Command::FundFlow {
-            ticket: at as u64 + 1,
-            flow: name,
-        };
-        for command in [open, make, fund] {
-            let reply = commands(rt, shared, clerk, command);
-            assert!(rt; !matches!(reply, Reply::Refused(_)), "flow {at}: {reply:?}");
-        }
-    }
-}
-
-fn name_of_base(rt: &impl Abort) -> Name {
-    name(rt, b"base")
-}
-
-// Holds and resumes the last flow, again and again.
-fn holds<T: Abort + Wait, S: Rates, L: LinkBrand>(
-    rt: &T,
-    shared: &Shared<S, L>,
-    clerk: &mut Clerk<L>,
-) {
-    let flow = name(rt, FLOWS[WORKERS - 1].0);
-    let parker = Parker::new();
-    for _ in 0..HOLDS {
-        let held = commands(rt, shared, clerk, Command::Hold(flow));
-        parker.park_timeout(rt, Duration::from_millis(1));
-        let resumed = commands(rt, shared, clerk, Command::Resume(flow));
-        assert!(rt; held == Reply::Done && resumed == Reply::Done);
-    }
-}
-
 // Lets everybody go on if the run takes too long.
-fn watches<T: Wait, S: Rates, L: LinkBrand>(rt: &T, shared: &Shared<S, L>) {
+fn watches<T: Wait, L: LinkBrand>(rt: &T, shared: &Shared<L>) {
     let parker = Parker::new();
     for _ in 0..LIMIT {
         if shared.is_done.is_set() {
@@ -184,32 +115,40 @@ fn watches<T: Wait, S: Rates, L: LinkBrand>(rt: &T, shared: &Shared<S, L>) {
     }
     shared.is_late.set();
     shared.stop.set();
-    shared.pace.end();
-    shared.pace.ring();
+    shared.stage.pace.end();
+    shared.stage.pace.ring();
 }
 
 // How many packets were sent.
-fn written<T: Wait, S: Rates, L: LinkBrand>(rt: &T, shared: &Shared<S, L>) -> u64 {
-    shared.port.lock(rt).recorder().engine().totals().written
+fn written<T: Wait, L: LinkBrand>(rt: &T, shared: &Shared<L>) -> u64 {
+    shared
+        .stage
+        .port
+        .lock(rt)
+        .recorder()
+        .engine()
+        .totals()
+        .written
 }
 
 // Offers packets one by one, each when the one before it was sent, so that a wake-up that is lost is not made up for.
-fn offers_alone<T: Abort + Wait, S: Rates, L: LinkBrand>(
+fn offers_alone<T: Abort + Wait, L: LinkBrand>(
     rt: &T,
     alloc: Global,
-    shared: &Shared<S, L>,
-    slot: &Mutex<IngressEnd>,
+    shared: &Shared<L>,
+    slot: &Slot<L>,
 ) {
     let flow = flow_of(rt, 1);
-    let mut end = slot.lock(rt);
+    let mut held = slot.lock(rt);
+    let end = held.as_mut().expect(rt, "an end");
     for n in 1..=LONE_PACKETS {
         let parcel = Parcel::new(alloc, b"x").expect(rt, "a payload");
-        shared.pace.end_waiting(1);
-        shared.pace.wait(rt, 1, n);
+        shared.stage.pace.end_waiting(1);
+        shared.stage.pace.wait(rt, 1, n);
         let offered = end.offer(rt, flow, parcel);
         assert!(rt; matches!(offered, Offered::Queued(_)), "packet {n}");
-        shared.pace.ring();
-        shared.pace.begin_waiting(1);
+        shared.stage.pace.ring();
+        shared.stage.pace.begin_waiting(1);
         while_unsent(rt, shared, n);
         for _ in 0..n % YIELDS {
             thread::yield_now();
@@ -218,7 +157,7 @@ fn offers_alone<T: Abort + Wait, S: Rates, L: LinkBrand>(
 }
 
 // Waits until so many packets were sent, or the run takes too long.
-fn while_unsent<T: Wait, S: Rates, L: LinkBrand>(rt: &T, shared: &Shared<S, L>, wanted: u64) {
+fn while_unsent<T: Wait, L: LinkBrand>(rt: &T, shared: &Shared<L>, wanted: u64) {
     for _ in rt.forever() {
         if written(rt, shared) >= wanted || shared.is_late.is_set() {
             return;
@@ -235,16 +174,14 @@ enum Load {
 }
 
 // Lets the workers and the clerk do their work.
-fn works<T, S, L>(rt: &T, alloc: Global, shared: &Shared<S, L>, clerk: Clerk<L>, load: Load)
+fn works<T, L>(rt: &T, alloc: Global, shared: &Shared<L>, load: Load)
 where
     T: Abort + Threads + Wait + Sync,
-    S: Rates + Send,
     L: LinkBrand + Send,
 {
-    let mut clerk = clerk;
-    opens(rt, shared, &mut clerk);
+    plays(rt, alloc, &shared.stage, &[OPENED]);
     thread::scope(thread::scope_env(), rt, |workers| {
-        for (at, slot) in shared.ends.iter().enumerate() {
+        for (at, slot) in shared.stage.ends.iter().enumerate() {
             let number = at as u64 + 1;
             let is_started = match load {
                 Load::Together => workers
@@ -258,81 +195,50 @@ where
             assert!(rt; is_started);
         }
         if load == Load::Together {
-            holds(rt, shared, &mut clerk);
+            plays(rt, alloc, &shared.stage, &[HELD; HOLDS]);
         }
     });
 }
 
 // Runs a link with its workers and its clerk. Gives how its service ended.
-fn runs<T, S, L>(
-    rt: &T,
-    alloc: Global,
-    shared: &Shared<S, L>,
-    clerk: Clerk<L>,
-    load: Load,
-) -> LinkEnd
+fn runs<T, L>(rt: &T, alloc: Global, shared: &Shared<L>, load: Load) -> LinkEnd
 where
     T: Abort + Threads + Wait + Sync,
-    S: Rates + Send,
     L: LinkBrand + Send,
 {
+    let stage = &shared.stage;
     thread::scope(thread::scope_env(), rt, move |scope| -> LinkEnd {
         let watch = scope.spawn(move || watches(rt, shared));
         assert!(rt; watch.is_ok());
         let link = scope.spawn(move || {
-            run_paced_link(rt, &shared.port, &shared.stop, &shared.pace, shared)
+            run_paced_link(rt, &stage.port, &shared.stop, &stage.pace, stage)
         });
-        works(rt, alloc, shared, clerk, load);
+        works(rt, alloc, shared, load);
         shared.stop.set();
-        shared.pace.ring();
+        stage.pace.ring();
         let end = link.ok().expect(rt, "a thread").join(rt);
         shared.is_done.set();
         end
     })
 }
 
-// The ends of the queue, each behind a lock of its own.
-fn slots(rt: &impl Abort, alloc: Global, ends: Vec<IngressEnd>) -> Vec<Mutex<IngressEnd>> {
-    let mut slots = Vec::new(alloc);
-    for end in ends {
-        assert!(rt; slots.push(Mutex::new(end)).is_ok());
-    }
-    slots
-}
-
 // All packets came to their flows, and all were sent.
-fn sends_all<T, S, L>(
-    rt: &T,
-    alloc: Global,
-    recorder: Recorder<Tape, S>,
-    intake: Intake,
-    ends: Vec<IngressEnd>,
-    load: Load,
-)
+fn sends_all<T, L>(rt: &T, alloc: Global, new: NewLink<Tape>, load: Load)
 where
     T: Abort + Threads + Wait + Sync,
-    S: Rates + Copy + Send,
     L: LinkBrand + Send,
-    requires empty { recorder.entries ≡ [] }
-    requires version { recorder.link.live.version ≡ Two }
-    requires link { intake.link ≡ L.link }
-    requires nothing { intake.popped ≡ [] }
+    requires { new ≡ L.link }
 {
-    let mut locked: Locked<Tape, S, L> = Locked::new(recorder, intake);
-    let clerk = locked.clerk(alloc).expect(rt, "a clerk");
-    let shared = Shared {
-        port: Mutex::new(locked),
-        pace: Pace::new(alloc, PLACES, WORKERS).expect(rt, "a pace"),
+    let shared: Shared<L> = Shared {
+        stage: staged(rt, alloc, new, 1),
         stop: Stop::new(),
         is_done: Stop::new(),
         is_late: Stop::new(),
-        has_ended: Stop::new(),
-        ends: slots(rt, alloc, ends),
     };
-    let end = runs(rt, alloc, &shared, clerk, load);
+    let end = runs(rt, alloc, &shared, load);
     assert!(rt; !shared.is_late.is_set(), "somebody sleeps for ever");
-    assert!(rt; end == LinkEnd::Drained && shared.has_ended.is_set());
-    let totals = shared.port.lock(rt).recorder().engine().totals();
+    assert!(rt; end == LinkEnd::Drained && shared.stage.has_ended.is_set());
+    let totals = shared.stage.port.lock(rt).recorder().engine().totals();
     let all = match load {
         Load::Together => WORKERS as u64 * PACKETS,
         Load::Alone => LONE_PACKETS,
@@ -346,9 +252,8 @@ where
 
 // Makes a link, and runs it under a load.
 fn passes<T: Abort + Threads + Wait + Sync>(rt: &T, alloc: Global, load: Load) {
-    let (intake, ends) = queue(alloc, PLACES, WORKERS).expect(rt, "a queue");
-    let recorder = recording(rt, alloc, ByByte, LIFE, Tape::new(alloc));
-    sends_all::<T, ByByte, Brand>(rt, alloc, recorder, intake, ends, load);
+    let new = new_link(rt, alloc, PLACES, WORKERS, LIFE, Tape::new(alloc));
+    sends_all::<T, Brand>(rt, alloc, new, load);
 }
 
 #[test]

@@ -1,6 +1,7 @@
 //! Lines and answers, read and written one at a time, and the lines of a connection.
 
 use super::VERSIONS;
+use super::allocator::{refuse_each, takes_none};
 use super::assertions::{holds, same};
 use super::script::with_zeros;
 use share_base::{FlowNo, Outcome, Refusal, Reply, TicketNo, Turn, Version};
@@ -320,9 +321,11 @@ fn come(rt: &impl Abort, alloc: Global, line: &[u8], long: &[u8]) {
     let reads = READS.to_vec(alloc).expect(rt, "memory");
     let reader = ScriptedReader::new(reads, bytes.as_slice());
     let mut lines = IncomingLines::new(alloc, reader).expect(rt, "memory");
+    refuse_each(alloc);
     for (place, want) in wanted(line).iter().enumerate() {
         comes(rt, &mut lines, place, want);
     }
+    takes_none(rt, "the lines of a connection", alloc);
     drop(lines);
     drop(bytes);
 }

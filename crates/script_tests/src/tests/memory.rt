@@ -2,13 +2,15 @@
 //! refused, then its second, and so on, until none is refused. Requests are refused by the allocator of
 //! `.ci/allocator.c` alone, with which `.ci/memory` runs these tests; with any other each run has its memory at once.
 
-use super::allocator::{REQUESTS, keeps_none, mark, refuse, refuse_each, takes_none, was_refused};
+use super::allocator::{
+    REQUESTS, asks_for_few, keeps_none, mark, refuse, refuse_each, takes_none, was_refused,
+};
 use super::assertions::{holds, prints, same};
 use super::faults::linewise;
 use super::script::{ITS_OUTPUT, ONE_PACKET, print_written, with_zeros};
 use super::tariffs::Four;
 use super::{LIFE, VERSIONS};
-use share_base::{Event, Outcome, Refusal, Reply, Turn, Version};
+use share_base::{Event, HEADER_ROOM, Outcome, Refusal, Reply, Turn, Version};
 use share_core::Engine;
 use share_model::allocator::REFUSE_EACH;
 use share_model::{Got, Line, PlainWriter, ScriptedReader, Tape, TellingReader};
@@ -115,6 +117,7 @@ fn sends(line: &Line, payload: &[u8]) -> bool {
 // The line is read as a packet of this payload, once its memory is found.
 fn is_read_at_last(rt: &impl Abort, alloc: Global, version: Version, line: &[u8], payload: &[u8]) {
     for request in 1..REQUESTS {
+        mark(alloc);
         refuse(alloc, request);
         let read = read_line(alloc, version, line);
         same(rt, request, read.is_err(), was_refused(alloc));
@@ -125,8 +128,27 @@ fn is_read_at_last(rt: &impl Abort, alloc: Global, version: Version, line: &[u8]
                 return;
             }
         }
+        keeps_none(rt, request, alloc);
     }
     panic!(rt; "there is none for good");
+}
+
+/// Lines that send so many zero bytes and end so, and why they are refused. Memory that is taken for one is given back
+/// with it, and it is for its payload and a header alone.
+const ENDS: [(usize, &[u8], Option<Refusal>); 4] = [
+    (9000, b"", None),
+    (9000, b"0", Some(Refusal::Syntax)),
+    (8999, b"0g", Some(Refusal::Syntax)),
+    (17, b"", None),
+];
+
+fn gives_back(rt: &impl Abort, alloc: Global, line: &[u8], count: usize, wanted: Option<Refusal>) {
+    mark(alloc);
+    let read = read_line(alloc, Version::Two, line);
+    let bytes = u16::try_from(count.saturating_add(HEADER_ROOM)).unwrap_or(u16::MAX);
+    asks_for_few(rt, count, alloc, bytes);
+    same(rt, count, read.err(), wanted);
+    keeps_none(rt, count, alloc);
 }
 
 #[test]
@@ -138,6 +160,11 @@ fn a_long_packet_is_read_once_its_memory_is_found(rt: HostRuntime) {
     let line = with_zeros(&rt, alloc, b"send a ", 9000, b"");
     is_read_at_last(&rt, alloc, Version::Two, line.as_slice(), &[0; 9000]);
     drop(line);
+    for (count, end, wanted) in ENDS {
+        let line = with_zeros(&rt, alloc, b"send a ", count, end);
+        gives_back(&rt, alloc, line.as_slice(), count, wanted);
+        drop(line);
+    }
 }
 
 // Each call that writes a line or an answer, to a writer with room.

@@ -95,8 +95,10 @@ pub(super) fn is_answered(rt: &impl Abort, alloc: Global, life: u64, script: &[u
 }
 
 /// Lives, scripts, and what they print.
-const SCRIPTS: [(u64, &[u8], &[u8]); 9] = [
+const SCRIPTS: [(u64, &[u8], &[u8]); 10] = [
     (LIFE, b"", b"out -\n"),
+    // The only line has no line feed.
+    (LIFE, b"mkcur x", b"ok\nout -\n"),
     // The last line has no line feed.
     (
         LIFE,
@@ -149,6 +151,28 @@ const SCRIPTS: [(u64, &[u8], &[u8]); 9] = [
     (LIFE, b"audit 2", b"out -\n"),
 ];
 
+/// Scripts on a new link each, and what they print: the refusals that need no more than a line or a few.
+const REFUSED: [(&[u8], &[u8]); 15] = [
+    (b"mkcur base\n", b"no 9 Taken\nout -\n"),
+    (b"rmcur base\n", b"no 10 Base\nout -\n"),
+    (b"mktkt 0 nope\n", b"no 4 Range\nout -\n"),
+    (b"mktkt 1048577 base\n", b"no 4 Range\nout -\n"),
+    (b"fund 9 flow zz\n", b"no 6 NoTicket\nout -\n"),
+    (b"open a 0 9\n", b"no 4 Range\nout -\n"),
+    (b"open a 1 9\n", b"no 8 NoTariff\nout -\n"),
+    (b"close zz\n", b"no 7 NoFlow\nout -\n"),
+    (b"mkcur X\n", b"no 3 Syntax\nout -\n"),
+    (b"fund 01 flow a\n", b"no 3 Syntax\nout -\n"),
+    (b"send a 6\n", b"no 3 Syntax\nout -\n"),
+    (b"turn 0\n", b"no 4 Range\nout -\n"),
+    (b"torn\n", b"idle\nout -\n"),
+    (b"mktkt 1 base\nunfund 1\n", b"ticket 1\nno 13 Unfunded\nout -\n"),
+    (
+        b"mkcur x\nmktkt 1 x\nmktkt 1 base\nfund 2 cur x\nrmcur x\nfund 1 cur x\nfund 2 cur base\nrmtkt 2\n",
+        b"ok\nticket 1\nticket 2\nok\nno 11 InUse\nno 15 Cycle\nno 10 Base\nno 12 Funding\nout -\n",
+    ),
+];
+
 /// Lines before the script of one packet, what they are answered, and the version that the script is then of. In
 /// another place than the first a line of an audit is none, and chooses nothing.
 const FIRST_LINES: [(&[u8], &[u8], Version); 12] = [
@@ -191,6 +215,9 @@ fn scripts_are_answered(rt: HostRuntime) {
     for (life, script, wanted) in SCRIPTS {
         is_answered(&rt, alloc, life, script, wanted);
     }
+    for (script, wanted) in REFUSED {
+        is_answered(&rt, alloc, LIFE, script, wanted);
+    }
     for (lines, answers, version) in FIRST_LINES {
         let script = [lines, ONE_PACKET].concat(alloc).expect(&rt, "memory");
         let wanted = [answers, output_of(version)]
@@ -218,24 +245,24 @@ pub(super) fn with_zeros(
     text
 }
 
-/// Lines that send so many zero bytes, and what they are answered before a declared fault. Of each version the line
+/// Lines that send so many zero bytes, and what they are answered before a currency is made. Of each version the line
 /// before the last has 20480 bytes, and the last 20481.
 const LONG_LINES: [(&[u8], usize, &[u8]); 11] = [
-    (b"send a ", 1490, b"no 7 NoFlow\nidle\nout -\n"),
-    (b"send a ", 1491, b"no 4 Range\nidle\nout -\n"),
-    (b"audit 1\nsend a ", 9000, b"no 4 Range\nidle\nout -\n"),
+    (b"send a ", 1490, b"no 7 NoFlow\nok\nout -\n"),
+    (b"send a ", 1491, b"no 4 Range\nok\nout -\n"),
+    (b"audit 1\nsend a ", 9000, b"no 4 Range\nok\nout -\n"),
     (
         b"torn\naudit 2\nsend a ",
         1491,
-        b"idle\nno 3 Syntax\nno 4 Range\nidle\nout -\n",
+        b"idle\nno 3 Syntax\nno 4 Range\nok\nout -\n",
     ),
-    (b"send ab ", 10236, b"no 4 Range\nidle\nout -\n"),
-    (b"send a ", 10237, b"no 3 Syntax\nidle\nout -\n"),
-    (b"audit 2\nsend a ", 1491, b"no 7 NoFlow\nidle\nout -\n"),
-    (b"audit 2\nsend a ", 9000, b"no 7 NoFlow\nidle\nout -\n"),
-    (b"audit 2\nsend a ", 9001, b"no 4 Range\nidle\nout -\n"),
-    (b"audit 2\nsend ab ", 10236, b"no 4 Range\nidle\nout -\n"),
-    (b"audit 2\nsend a ", 10237, b"no 3 Syntax\nidle\nout -\n"),
+    (b"send ab ", 10236, b"no 4 Range\nok\nout -\n"),
+    (b"send a ", 10237, b"no 3 Syntax\nok\nout -\n"),
+    (b"audit 2\nsend a ", 1491, b"no 7 NoFlow\nok\nout -\n"),
+    (b"audit 2\nsend a ", 9000, b"no 7 NoFlow\nok\nout -\n"),
+    (b"audit 2\nsend a ", 9001, b"no 4 Range\nok\nout -\n"),
+    (b"audit 2\nsend ab ", 10236, b"no 4 Range\nok\nout -\n"),
+    (b"audit 2\nsend a ", 10237, b"no 3 Syntax\nok\nout -\n"),
 ];
 
 /// Lines before the longest payload, its length, and what is printed before its bytes.
@@ -258,7 +285,7 @@ const LARGEST: [(&[u8], usize, &[u8]); 2] = [
 fn scripts_have_long_lines(rt: HostRuntime) {
     let alloc = rt.alloc();
     for (lines, count, wanted) in LONG_LINES {
-        let script = with_zeros(&rt, alloc, lines, count, b"\ntorn\n");
+        let script = with_zeros(&rt, alloc, lines, count, b"\nmkcur x\n");
         is_answered(&rt, alloc, LIFE, script.as_slice(), wanted);
         drop(script);
     }

@@ -3,13 +3,12 @@ ghost use Rattle.std.specs.Prelude.{◌≡◌, ◌≤◌, [], length};
 ghost use Rattle.share_base.specs.declared.version.Version.TheVariants.{Two};
 
 use crate::failing::{Taken, Taking};
+use crate::tests::made::{offers, recording};
 use running_tests::ByByte;
-use share_base::Version;
-use share_core::Engine;
 use share_ingress::{IngressEnd, Intake, queue};
-use share_journal::{Journal, Recorder};
-use share_locked::{LinkBrand, Locked, Pace, Port};
-use share_model::{PlainReader, Rates, Tape};
+use share_journal::Recorder;
+use share_locked::{Admit, Clerk, LinkBrand, Locked, Pace, Port};
+use share_model::{PlainReader, Rates, Tape, Totals};
 use share_script::IncomingLines;
 use share_server::{Attended, How, attend};
 use std::alloc::Global;
@@ -100,6 +99,13 @@ const CUTS: [(usize, usize, &[u8], usize); 8] = [
 const APART: &[u8] = b"open a 4 1\n|mktkt 1 base\n|fund 1 flow a\n";
 
 const TOGETHER: &[u8] = b"open a 4 1\nmktkt 1 base\nfund 1 flow a\n";
+
+/// Lines of all kinds, of which three make commands.
+const ALL_KINDS: &[u8] =
+    b"report\nturn 65535\nsend a 61\ntorn\naudit 2\nnonsense\nmkcur x\nhold a\nresume a\n";
+
+/// The answers to this many empty lines are more than the 65536 bytes that wait for a write call.
+const EMPTY_LINES: usize = 5500;
 
 const ALL: Taken = Taken::Most(usize::MAX);
 
@@ -333,6 +339,32 @@ fn entries_of<T: Wait, S: Rates, L: LinkBrand>(rt: &T, port: &Port<Tape, S, L>) 
     port.lock(rt).recorder().journal().len()
 }
 
+// Answers a connection to a link by this clerk.
+fn attended_by<T: Wait + Abort, S: Rates, L: LinkBrand>(
+    rt: &T,
+    alloc: Global,
+    port: &Port<Tape, S, L>,
+    clerk: Clerk<L>,
+    asked: Asked<'_>,
+    written: &mut Vec<u8>,
+) -> Attended<L> {
+    let pieces = Pieces {
+        rest: asked.bytes,
+        most: asked.most,
+        fails: asked.fails,
+    };
+    let input = IncomingLines::new(alloc, PlainReader(pieces))
+        .ok()
+        .expect(rt, "a chunk");
+    let output = Barred {
+        port,
+        bytes: written,
+        taking: Taking::new(asked.taken),
+    };
+    let pace = Pace::new(alloc, 1, 1).expect(rt, "a pace");
+    attend(rt, alloc, port, &pace, clerk, input, output)
+}
+
 // Answers a connection to a link of this name. Gives how it ended, and how many receipts its clerk has, which is how
 // many entries the journal has.
 fn attended<T, S, L>(
@@ -355,21 +387,7 @@ where
     let mut locked = Locked::<Tape, S, L>::new(recorder, intake);
     let clerk = locked.clerk(alloc).expect(rt, "a clerk");
     let port = Mutex::new(locked);
-    let pieces = Pieces {
-        rest: asked.bytes,
-        most: asked.most,
-        fails: asked.fails,
-    };
-    let input = IncomingLines::new(alloc, PlainReader(pieces))
-        .ok()
-        .expect(rt, "a chunk");
-    let output = Barred {
-        port: &port,
-        bytes: written,
-        taking: Taking::new(asked.taken),
-    };
-    let pace = Pace::new(alloc, 1, 1).expect(rt, "a pace");
-    let Attended { how, clerk } = attend(rt, alloc, &port, &pace, clerk, input, output);
+    let Attended { how, clerk } = attended_by(rt, alloc, &port, clerk, asked, written);
     let entries = entries_of(rt, &port);
     drop(port);
     let receipts = clerk.receipts().len();
@@ -381,24 +399,88 @@ where
     (how, receipts)
 }
 
-// A recorder of a new link of version 2.
-fn recording<S: Rates + Drop>(
-    rt: &impl Abort,
-    alloc: Global,
-    shelf: S,
-    life: u64,
-) -> Recorder<Tape, S>
-    ensures empty { result.entries ≡ [] }
-    ensures version { result.link.live.version ≡ Two }
-{
-    let mut engine = Engine::new(alloc, shelf, life, Tape::new(alloc)).expect(rt, "a link");
-    engine.choose(Version::Two);
-    let mut journal = Journal::new(alloc, life).expect(rt, "a journal");
-    journal.choose(Version::Two);
-    let Ok(recorder) = Recorder::new(engine, journal) else {
-        panic!(rt; "the link and its journal are not new");
+// What a link counted and holds.
+fn totals_of<T: Wait, S: Rates, L: LinkBrand>(rt: &T, port: &Port<Tape, S, L>) -> Totals {
+    port.lock(rt).recorder().engine().totals()
+}
+
+// Whether nothing was written on a link.
+fn is_unwritten<T: Wait, S: Rates, L: LinkBrand>(rt: &T, port: &Port<Tape, S, L>) -> bool {
+    port.lock(rt)
+        .recorder()
+        .engine()
+        .writer()
+        .bytes()
+        .is_empty()
+}
+
+// Checks that the next offer in the queue of a link is the n-th of its worker.
+fn admits<T: Wait + Abort, S: Rates, L: LinkBrand>(rt: &T, port: &Port<Tape, S, L>, wanted: u64) {
+    let found = port.lock(rt).admit(rt);
+    let is_next = match &found {
+        Admit::Admitted { n, .. } => *n == wanted,
+        _ => false,
     };
-    recorder
+    assert!(rt; is_next, "offer {wanted}: {found:?}");
+}
+
+// Checks that lines make commands and nothing else of a link with a frame to send and an offer in its queue.
+fn leaves_the_rest<T, S, L>(
+    rt: &T,
+    alloc: Global,
+    recorder: Recorder<Tape, S>,
+    intake: Intake,
+    end: IngressEnd,
+)
+where
+    T: Wait + Abort,
+    S: Rates + Drop,
+    L: LinkBrand,
+    requires empty { recorder.entries ≡ [] }
+    requires version { recorder.link.live.version ≡ Two }
+    requires link { intake.link ≡ L.link }
+    requires nothing { intake.popped ≡ [] }
+{
+    let mut end = end;
+    let mut written = Vec::new(alloc);
+    let mut locked = Locked::<Tape, S, L>::new(recorder, intake);
+    let clerk = locked.clerk(alloc).expect(rt, "a clerk");
+    let port = Mutex::new(locked);
+    let opened = attended_by(rt, alloc, &port, clerk, whole(TOGETHER), &mut written);
+    offers(rt, alloc, &mut end);
+    admits(rt, &port, 1);
+    offers(rt, alloc, &mut end);
+    let before = totals_of(rt, &port);
+    let asked = attended_by(
+        rt,
+        alloc,
+        &port,
+        opened.clerk,
+        whole(ALL_KINDS),
+        &mut written,
+    );
+    assert!(rt;
+        totals_of(rt, &port) == before,
+        "a turn was made, or an arrival"
+    );
+    assert!(rt; is_unwritten(rt, &port), "something was written");
+    assert!(rt; entries_of(rt, &port) == 7, "there are other entries");
+    assert!(rt;
+        asked.clerk.receipts().len() == 6,
+        "there are other commands"
+    );
+    admits(rt, &port, 2);
+    drop(asked);
+    drop(port);
+    drop(end);
+    drop(written);
+}
+
+fn connections_leave_the_rest<T: Wait + Abort, S: Rates + Drop>(rt: &T, alloc: Global, shelf: S) {
+    let recorder = recording(rt, alloc, shelf, LIFE);
+    let (intake, mut ends) = queue(alloc, 2, 1).expect(rt, "a queue");
+    let end = ends.pop().expect(rt, "an end");
+    leaves_the_rest::<T, S, Brand>(rt, alloc, recorder, intake, end);
 }
 
 // Answers a connection to a new link.
@@ -576,6 +658,26 @@ fn answers_are_written_outside_of_holds<T: Wait + Abort, S: Rates + Copy>(
     Ok(())
 }
 
+// Checks that no line is obeyed after an answer could not be written, even if they came together.
+fn lost_clients_are_not_obeyed<T: Wait + Abort, S: Rates + Copy>(
+    rt: &T,
+    alloc: Global,
+    shelf: S,
+) -> Result<(), Fail> {
+    let mut lines = Vec::new(alloc);
+    lines.resize(EMPTY_LINES, b'\n')?;
+    lines.extend_from_slice(b"mkcur x\n".as_slice())?;
+    let mut written = Vec::new(alloc);
+    let asked = Asked {
+        taken: &[BROKEN, BROKEN],
+        ..whole(lines.as_slice())
+    };
+    let ended = answered(rt, alloc, shelf, asked, &mut written);
+    assert_eq!(rt; ended, (How::WriteFault, 0));
+    assert!(rt; written.is_empty(), "something was written");
+    Ok(())
+}
+
 #[test]
 fn lines_of_control_connections(rt: HostRuntime) -> Result<(), Fail> {
     let alloc = rt.alloc();
@@ -586,5 +688,7 @@ fn lines_of_control_connections(rt: HostRuntime) -> Result<(), Fail> {
     cut_lines_are_no_lines(&rt, alloc, ByByte);
     answers_go_out_once(&rt, alloc, ByByte);
     short_writes_go_on(&rt, alloc, ByByte);
+    lost_clients_are_not_obeyed(&rt, alloc, ByByte)?;
+    connections_leave_the_rest(&rt, alloc, ByByte);
     Ok(())
 }

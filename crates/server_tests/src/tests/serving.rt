@@ -1,9 +1,9 @@
 //! Servers with both ends of their connections in one process.
 
 use running_tests::ByByte;
-use share_base::Version;
+use share_base::{Event, Version};
 use share_core::Engine;
-use share_journal::Journal;
+use share_journal::{Entry, Journal, Source};
 use share_model::{PlainReader, Rates, Tape};
 use share_report::report;
 use share_script::run_script;
@@ -61,6 +61,16 @@ const REST: u64 = 5;
 /// How long a client waits for an answer, in seconds.
 const PATIENCE: u64 = 20;
 
+/// One connection of each kind.
+pub(super) const PLAN: Plan = Plan {
+    workers: 1,
+    clerks: 1,
+    is_verbose: false,
+};
+
+/// The records of two ingress connections, each with a payload that is the connection's number.
+const NUMBERED: [&[u8]; 2] = [&[1, 0x61, 0, 1, 1], &[1, 0x61, 0, 1, 2]];
+
 /// How the clients and the peer of the uplink end.
 #[derive(Clone, Copy, Debug, PartialEq, Eq)]
 enum Play {
@@ -76,8 +86,8 @@ enum Play {
 
 /// Keeps the audit in memory.
 #[derive(Drop)]
-struct InMemory<'a> {
-    tape: &'a mut Tape,
+pub(super) struct InMemory<'a> {
+    pub(super) tape: &'a mut Tape,
 }
 
 impl<'a> Keep for InMemory<'a> {
@@ -85,6 +95,28 @@ impl<'a> Keep for InMemory<'a> {
 
     fn keep(self, journal: &Journal) -> bool {
         journal.audit(self.tape).is_ok()
+    }
+}
+
+/// Keeps nothing. The audit counts as kept if each packet in the journal came by the worker of its number.
+#[derive(Drop)]
+struct OfWorkers;
+
+// Whether an entry is no arrival, or that of a payload which is its worker's number.
+fn is_of_its_worker(entry: &Entry) -> bool {
+    match (&entry.event, &entry.source) {
+        (Event::Arrived { body, .. }, Source::Worker(worker)) => {
+            body.as_slice() == [*worker as u8].as_slice()
+        }
+        _ => true,
+    }
+}
+
+impl Keep for OfWorkers {
+    ghost kept = { λ _ _ _. Unit {0} };
+
+    fn keep(self, journal: &Journal) -> bool {
+        journal.entries().iter().all(is_of_its_worker)
     }
 }
 
@@ -315,8 +347,8 @@ fn address(rt: &impl Abort, listener: &TcpListener) -> SocketAddr {
     listener.local_addr().ok().expect(rt, "an address")
 }
 
-// The sockets of a server, the addresses of its clients, and the peer of its uplink.
-fn open_sockets<T>(rt: &T) -> (Sockets, SocketAddr, SocketAddr, TcpStream)
+/// The sockets of a server, the addresses of its clients, and the peer of its uplink.
+pub(super) fn open_sockets<T>(rt: &T) -> (Sockets, SocketAddr, SocketAddr, TcpStream)
 where
     T: Net<Listener = TcpListener, Stream = TcpStream> + Abort,
 {
@@ -367,8 +399,8 @@ fn wanted(play: Play) -> Result<(), ServeFault> {
     }
 }
 
-// An empty journal of this version.
-fn journal_of(rt: &impl Abort, alloc: Global, version: Version) -> Journal {
+/// An empty journal of this version.
+pub(super) fn journal_of(rt: &impl Abort, alloc: Global, version: Version) -> Journal {
     let mut journal = Journal::new(alloc, LIFE).expect(rt, "a journal");
     journal.choose(version);
     journal
@@ -388,18 +420,13 @@ where
     T: Threads + Wait + Clock + Eprint + Copy + Send + Sync + Drop + 'static,
     S: Rates + Send + Drop,
 {
-    let plan = Plan {
-        workers: 1,
-        clerks: 1,
-        is_verbose: false,
-    };
     let keep = InMemory { tape: audit };
     let until = Some(Deadline {
         rt: *rt,
         parker: Parker::new(),
     });
     serve_on(
-        rt, alloc, shelf, journal, sockets, plan, until, keep, report,
+        rt, alloc, shelf, journal, sockets, PLAN, until, keep, report,
     )
 }
 
@@ -463,6 +490,83 @@ where
     drop(report);
 }
 
+// Plays two ingress clients, of which the second sends first.
+fn play_two<T: Net<Listener = TcpListener, Stream = TcpStream>>(
+    rt: &T,
+    control: SocketAddr,
+    ingress: SocketAddr,
+    peer: TcpStream,
+) -> bool {
+    let Ok(mut asking) = TcpStream::connect(rt, control) else {
+        return false;
+    };
+    patient(&asking);
+    patient(&peer);
+    let is_asked = asking.write_all(ASKED).is_ok() && gives(&asking, ANSWERED);
+    let Ok(mut first) = TcpStream::connect(rt, ingress) else {
+        return false;
+    };
+    let Ok(mut second) = TcpStream::connect(rt, ingress) else {
+        return false;
+    };
+    let is_sent = second.write_all(NUMBERED[1]).is_ok() && first.write_all(NUMBERED[0]).is_ok();
+    drop(first);
+    drop(second);
+    let _ = asking.shutdown(Shutdown::Write);
+    let frames = read_bytes(&peer, 64);
+    is_asked && is_sent && frames[..2] == FRAME[..2]
+}
+
+// Checks that the n-th connection is the n-th worker's.
+fn connections_have_their_workers<T, S>(rt: &T, alloc: Global, shelf: S)
+where
+    T: Net<Listener = TcpListener, Stream = TcpStream>
+        + Threads
+        + Wait
+        + Clock
+        + Eprint
+        + Abort
+        + Copy
+        + Send
+        + Sync
+        + Drop
+        + 'static,
+    S: Rates + Send + Drop,
+{
+    let (sockets, asked, given, peer) = open_sockets(rt);
+    let own = *rt;
+    let clients = thread::spawn(rt, move || {
+        let peer = peer;
+        play_two(&own, asked, given, peer)
+    })
+    .ok()
+    .expect(rt, "a thread");
+    let journal = journal_of(rt, alloc, Version::Two);
+    let plan = Plan { workers: 2, ..PLAN };
+    let until = Some(Deadline {
+        rt: *rt,
+        parker: Parker::new(),
+    });
+    let mut report = Tape::new(alloc);
+    let served = serve_on(
+        rt,
+        alloc,
+        shelf,
+        journal,
+        sockets,
+        plan,
+        until,
+        OfWorkers,
+        &mut report,
+    );
+    assert!(rt; served == Ok(()), "two connections: {served:?}");
+    assert!(rt;
+        clients.join(rt),
+        "the clients and the peer got what they should"
+    );
+    drop(report);
+}
+
 #[test]
 fn served(rt: HostRuntime) -> Result<(), Fail> {
     let alloc = rt.alloc();
@@ -470,5 +574,6 @@ fn served(rt: HostRuntime) -> Result<(), Fail> {
         is_served(&rt, alloc, ByByte, ByByte, play);
     }
     is_refused(&rt, alloc, ByByte);
+    connections_have_their_workers(&rt, alloc, ByByte);
     Ok(())
 }

@@ -10,19 +10,23 @@ pub loop-command-init : goal.loop-command-init
 loop-command-init g c =
     let rates = c.args.engine.now.rates in
     let p = c.args.plan.now in
-    let life = c.args.engine.now.life in
-    (refl, refl,
-    subst (λ (l : Live). GoesOn rates p life l c.opening-commands.result) (sym c.requires.new)
-    (subst (λ (cs : List PlanCommand). GoesOn rates p life (empty_link Two) cs) (sym c.opening-commands.ensures)
-    (goes-start rates p life c.tenants.ensures.limits)))
+    let life = c.args.engine.now.life in (
+      refl,
+      refl,
+      subst (λ (l : Live). GoesOn rates p life l c.opening-commands.result) (sym c.requires.new)
+          (subst (λ (cs : List PlanCommand). GoesOn rates p life (empty_link Two) cs) (sym c.opening-commands.ensures)
+          (goes-start rates p life c.tenants.ensures.limits)),
+    )
 
 pub loop-command-preserved : goal.loop-command-preserved
 loop-command-preserved g c =
     let was = c.loop-command.invariant in
-    let made = c.in_ok-make.ensures.ok in
-    (made.rest.life ∙ was.0, made.rest.rates ∙ was.1,
-    made-goes_on c.args.engine.now.rates c.args.plan.now c.args.engine.now.life c.loop-command.engine c.make.new.engine
-    c.loop-command.commands was.1 was.2 c.requires.lasts c.in-Some.command c.next.new.self c.in-Some.ensures made)
+    let made = c.in_ok-make.ensures.ok in (
+      made.rest.life ∙ was.0,
+      made.rest.rates ∙ was.1,
+      made-goes_on c.args.engine.now.rates c.args.plan.now c.args.engine.now.life c.loop-command.engine c.make.new.engine
+          c.loop-command.commands was.1 was.2 c.requires.lasts c.in-Some.command c.next.new.self c.in-Some.ensures made,
+    )
 
 pub returns-in_err-make-clause-not : goal.returns-in_err-make-clause-not
 returns-in_err-make-clause-not g c =

@@ -8,8 +8,8 @@ use Rattle.share_gateway.proofs.openings.grantee_at.Goals as goal
 pub returns-then-index-currencies : goal.returns-then-index-currencies
 returns-then-index-currencies c =
     let is = ap (λ (cs : List CurrencyView). slice_get cs c.args.index) (sym c.currencies-currencies.ensures.value)
-      ∙ get-item c.currencies-currencies.result.now c.args.index c.index-currencies-index.result
-      c.if-index-currencies.true c.index-currencies-index.is in
+    ∙ get-item c.currencies-currencies.result.now c.args.index c.index-currencies-index.result
+    c.if-index-currencies.true c.index-currencies-index.is in
     grantee-currency c.args.plan.now c.args.index c.index-currencies-index.result is
 
 pub tenant_at-requires : goal.tenant_at-requires

@@ -8,8 +8,8 @@ pub returns-clause-next : goal.returns-clause-next
 returns-clause-next c =
     let size = ap length c.grants.ensures in
     let is = ap (λ (gs : List Grant). slice_get gs c.in_ok-found.found.grant) (sym c.grants.ensures)
-      ∙ get-item c.grants.result.now c.in_ok-found.found.grant c.index-grants-found.result
-      (omega (arith, size, c.in_ok-found.ensures.within)) c.index-grants-found.is in
+    ∙ get-item c.grants.result.now c.in_ok-found.found.grant c.index-grants-found.result
+    (omega (arith, size, c.in_ok-found.ensures.within)) c.index-grants-found.is in
     left-grant c.args.plan.now c.args.cursor.now c.in_ok-found.found c.index-grants-found.result
     c.grant_commands-group.result c.in_ok-found.ensures is c.grant_commands-group.ensures
 
@@ -17,7 +17,7 @@ pub returns-clause-fit : goal.returns-clause-fit
 returns-clause-fit c =
     let size = ap length c.grants.ensures in
     let is = ap (λ (gs : List Grant). slice_get gs c.in_ok-found.found.grant) (sym c.grants.ensures)
-      ∙ get-item c.grants.result.now c.in_ok-found.found.grant c.index-grants-found.result
-      (omega (arith, size, c.in_ok-found.ensures.within)) c.index-grants-found.is in
+    ∙ get-item c.grants.result.now c.in_ok-found.found.grant c.index-grants-found.result
+    (omega (arith, size, c.in_ok-found.ensures.within)) c.index-grants-found.is in
     fit-grant c.args.plan.now c.args.cursor.now c.in_ok-found.found c.index-grants-found.result
     c.in_ok-found.ensures is c.requires

@@ -1,5 +1,5 @@
 use Rattle.std.proofs.Common.{refl, sym, ◌∙◌, inl, inr}
-use Rattle.share_server.proofs.ControlLemmas.{at_ok, at_err, made_in_hold}
+use Rattle.share_server.proofs.ControlLemmas.{at_ok, at_err, ready_in_hold}
 use Rattle.share_server.proofs.control.change.Goals as goal
 
 pub returns-then-is_err : goal.returns-then-is_err
@@ -10,4 +10,4 @@ returns-then-is_err g c =
 pub returns : goal.returns
 returns g c =
     at_ok _ c.ready.result c.ready.ensures (sym c.is_err.ensures.value ∙ c.if-is_err.false)
-    (λ x ready. inl (made_in_hold _ _ _ _ _ _ _ _ ready.0 c.command-number.ensures))
+    (λ x ready. inl (ready_in_hold _ _ _ _ _ ready.0 c.obey_in_hold-said.ensures))

@@ -6,6 +6,7 @@ abbrev pub invariant-loop-end : goal.invariant-loop-end
 invariant-loop-end g l = record {
   linked : Each (λ e. e.link ≡ g.L.LinkBrand.link) l.ends.items;
   room : vec_len l.ends + vec_len l.slots ≤ vec_capacity l.slots;
+  places : vec_len l.ends + vec_len l.slots ≡ vec_len l.initial.ends;
 }
 
 abbrev pub decreases-loop-end : goal.decreases-loop-end

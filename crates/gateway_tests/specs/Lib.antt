@@ -1,0 +1,2 @@
+pub mod BillTariffs
+pub mod Tariffs

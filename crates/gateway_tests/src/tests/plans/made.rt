@@ -1,0 +1,93 @@
+//! Plans that tests open.
+
+use share_base::Name;
+use share_gateway::{Currency, Grant, Plan, Tenant};
+use std::alloc::Global;
+use std::process::Abort;
+
+pub(super) fn named(rt: &impl Abort, text: &str) -> Name {
+    Name::read(text.as_bytes()).expect(rt, "a name")
+}
+
+fn granted(rt: &impl Abort, alloc: Global, rows: &[(u64, &str)]) -> Vec<Grant> {
+    let mut grants = Vec::new(alloc);
+    for at in 0..rows.len() {
+        let grant = Grant {
+            amount: rows[at].0,
+            denomination: named(rt, rows[at].1),
+        };
+        grants.push(grant).expect(rt, "memory");
+    }
+    grants
+}
+
+fn currency(rt: &impl Abort, alloc: Global, grants: &[(u64, &str)]) -> Vec<Currency> {
+    let grants = granted(rt, alloc, grants);
+    let mut currencies = Vec::new(alloc);
+    let name = named(rt, "x");
+    currencies
+        .push(Currency { name, grants })
+        .expect(rt, "memory");
+    currencies
+}
+
+// A tenant with a buffer of 4 packets that is not held.
+fn tenant(name: Name, flow: u32, tariff: u64, grants: Vec<Grant>) -> Tenant {
+    Tenant {
+        name,
+        flow,
+        limit: 4,
+        tariff,
+        grants,
+        held: false,
+    }
+}
+
+// The tenants a and b with 1 and 2 of x, the second with these.
+fn pair(rt: &impl Abort, alloc: Global, flow: u32, tariff: u64, held: bool) -> Vec<Tenant> {
+    let first = tenant(named(rt, "a"), 1, 1, granted(rt, alloc, &[(1, "x")]));
+    let mut second = tenant(
+        named(rt, "b"),
+        flow,
+        tariff,
+        granted(rt, alloc, &[(2, "x")]),
+    );
+    second.held = held;
+    let mut tenants = Vec::new(alloc);
+    tenants.push(first).expect(rt, "memory");
+    tenants.push(second).expect(rt, "memory");
+    tenants
+}
+
+fn planned(rt: &impl Abort, currencies: Vec<Currency>, tenants: Vec<Tenant>) -> Plan {
+    Plan::new(currencies, tenants).ok().expect(rt, "a plan")
+}
+
+/// The currency x, with 1000 of base, and two tenants, the second with this flow number, and held or not.
+pub(super) fn shared(rt: &impl Abort, alloc: Global, flow: u32, held: bool) -> Plan {
+    let currencies = currency(rt, alloc, &[(1000, "base")]);
+    planned(rt, currencies, pair(rt, alloc, flow, 1, held))
+}
+
+/// The second tenant has another tariff.
+pub(super) fn with_tariff(rt: &impl Abort, alloc: Global, tariff: u64) -> Plan {
+    let currencies = currency(rt, alloc, &[(1000, "base")]);
+    planned(rt, currencies, pair(rt, alloc, 2, tariff, false))
+}
+
+/// The second grant of the currency is of itself.
+pub(super) fn looped(rt: &impl Abort, alloc: Global) -> Plan {
+    let currencies = currency(rt, alloc, &[(1000, "base"), (5, "x")]);
+    planned(rt, currencies, pair(rt, alloc, 2, 1, false))
+}
+
+/// Tenants without grants, one more than flows may be open.
+pub(super) fn many(rt: &impl Abort, alloc: Global) -> Plan {
+    let mut tenants = Vec::new(alloc);
+    for flow in 1..66_u32 {
+        let name = format!(in alloc; "t{flow}").expect(rt, "memory");
+        let one = tenant(named(rt, name.as_str()), flow, 1, Vec::new(alloc));
+        tenants.push(one).expect(rt, "memory");
+    }
+    planned(rt, Vec::new(alloc), tenants)
+}

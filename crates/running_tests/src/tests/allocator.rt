@@ -1,0 +1,57 @@
+//! Questions to the allocator of `.ci/allocator.c`, over which `.ci/memory` runs the tests of memory. Any other
+//! allocator refuses nothing, and then these tests compare the answers alone.
+
+use super::assertions::{holds, same};
+use share_model::allocator::{IS_HELD_OTHER, MARK_HELD, REFUSE_EACH, WAS_REFUSED};
+use share_model::asks;
+use std::alloc::Global;
+use std::fmt::Debug;
+use std::process::Abort;
+
+/// More requests than any call here makes.
+pub(super) const REQUESTS: u16 = 64;
+
+/// Refuses the request of this number from here on.
+pub(super) fn refuse(alloc: Global, request: u16) {
+    let _no = asks!(alloc, request);
+}
+
+/// Refuses each request from here on.
+pub(super) fn refuse_each(alloc: Global) {
+    refuse(alloc, REFUSE_EACH);
+}
+
+/// Refuses nothing from here on. Returns whether a request was refused.
+pub(super) fn was_refused(alloc: Global) -> bool {
+    asks!(alloc, WAS_REFUSED)
+}
+
+/// Whether the allocator refuses the request that it is asked to refuse.
+pub(super) fn is_steered(rt: &impl Abort, alloc: Global) -> bool {
+    refuse(alloc, 1);
+    let is_refused = Vec::<u8>::with_capacity(alloc, 1).is_err();
+    same(rt, "is steered", was_refused(alloc), is_refused);
+    is_refused
+}
+
+/// Nothing was asked for since `refuse_each`. Then one request is made, which shows whether refusals are asked of an
+/// allocator that refuses.
+pub(super) fn takes_none<R: Debug + Copy>(rt: &impl Abort, row: R, alloc: Global) {
+    holds(rt, (row, "takes no memory"), !was_refused(alloc));
+    let _is_steered = is_steered(rt, alloc);
+}
+
+/// Remembers how many blocks are held.
+pub(super) fn mark(alloc: Global) {
+    let _no = asks!(alloc, MARK_HELD);
+}
+
+/// As many blocks are held as were remembered.
+pub(super) fn keeps_none<R: Debug + Copy>(rt: &impl Abort, row: R, alloc: Global) {
+    holds(rt, (row, "keeps no block"), !asks!(alloc, IS_HELD_OTHER));
+}
+
+/// A call makes this many requests: as often it was refused, unless the allocator refuses nothing.
+pub(super) fn were_made<R: Debug + Copy>(rt: &impl Abort, row: R, refusals: u16, requests: u16) {
+    holds(rt, (row, refusals), refusals == 0 || refusals == requests);
+}

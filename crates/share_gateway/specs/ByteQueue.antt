@@ -1,0 +1,9 @@
+-- What a contract sees of a queue of bytes.
+use Rattle.std.specs.Prelude.{ℕ, List}
+
+-- the bytes that are in it, from the front to the back; those that were given last, until more come in; and how many
+-- bytes may be in it
+pub record ByteQueueView : Type 0 where
+  pub bytes : List ℕ
+  pub given : List ℕ
+  pub most : ℕ

@@ -21,6 +21,7 @@ examples/compare.sh
 examples/faults.sh
 examples/answers.sh
 examples/face.sh
+examples/bills.py
 examples/slow-reader.py
 examples/terminal.py
 examples/session.py

@@ -62,7 +62,7 @@ def options(run):
     required = re.findall(r'required\w*\(\s*alloc,\s*"([a-z-]+)",\s*"([A-Z]+)"', words)
     wanted = [("--%s %s" % option).strip() for option in flags + required]
     expect_all(wanted, 11, section(page(COMMANDS), "SYNOPSIS"), "options in the synopsis")
-    expect_all(("-h", "--help", "-V", "--version", "[FILE]", "run", "serve"), 7, section(page(COMMANDS), "SYNOPSIS"),
+    expect_all(("-h", "--help", "-V", "--version", "[FILE]", "run", "serve", "bill"), 8, section(page(COMMANDS), "SYNOPSIS"),
                "words in the synopsis")
     paragraphs = re.findall(r"^     (?:-\w, )?(--.*)$", section(page(COMMANDS), "DESCRIPTION"), re.MULTILINE)
     missing = {*wanted, "--help", "--version"} - set(paragraphs)

@@ -1,2 +1,1 @@
-pub mod BillTariffs
 pub mod Tariffs

@@ -7,3 +7,4 @@ mod outbox;
 mod plans;
 mod records;
 mod stream_memory;
+mod tariffs;

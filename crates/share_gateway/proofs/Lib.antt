@@ -1,10 +1,11 @@
+pub mod ChangeLemmas
 pub mod FramesLemmas
-pub mod MakingLemmas
+pub mod OpenLemmas
 pub mod OpenedLemmas
 pub mod OpeningLemmas
 pub mod OutboxHistoryLemmas
 pub mod OutboxLemmas
+pub mod PlannedLemmas
 pub mod RecordsLemmas
 pub mod RunTextLemmas
-pub mod SeenLemmas
-pub mod SumsLemmas
+pub mod SendLemmas

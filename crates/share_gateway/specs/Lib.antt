@@ -1,13 +1,11 @@
 pub mod Audited
-pub mod Bills
 pub mod Book
-pub mod BookLines
 pub mod ByteQueue
 pub mod Carry
-pub mod Discard
+pub mod Changes
 pub mod Frames
 pub mod Making
-pub mod Makings
+pub mod OpenBook
 pub mod Opened
 pub mod Opening
 pub mod OpeningLeft
@@ -17,7 +15,7 @@ pub mod OutboxHistory
 pub mod OutboxRows
 pub mod OutboxTold
 pub mod Plan
+pub mod Planned
 pub mod Records
-pub mod Seen
-pub mod Sums
+pub mod Sends
 pub mod Texts

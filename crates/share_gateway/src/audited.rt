@@ -1,21 +1,27 @@
 //! An engine with the text of its events.
-ghost use Rattle.std.specs.Prelude.{◌≡◌, ◌≤◌, false, length};
+ghost use Rattle.std.specs.Prelude.{◌≡◌, ◌≤◌, false, length, IfSome, IsSome};
 ghost use Rattle.share_base.specs.Body.{unstamped};
 ghost use Rattle.share_base.specs.declared.command.Event.TheVariants.{Arrived};
 ghost use Rattle.share_base.specs.declared.command.Outcome.TheVariants.{Replied};
 ghost use Rattle.share_model.specs.link.Calls.{is_spent};
+ghost use Rattle.share_model.specs.link.Turns.{sending};
 ghost use Rattle.share_gateway.specs.Audited.{IsRunAndText, SendsWhole, after_event, outcome_in, lacks_text};
 ghost use Rattle.share_gateway.specs.Audited.{CommandAudited, is_no_memory};
+ghost use Rattle.share_gateway.specs.Sends.{SentWhole, lacks_room, wrote_count};
 ghost use Rattle.share_gateway.specs.Texts.{after_drain, line_in, longest_line, text_room, with_bytes};
 
 use crate::book_text::{BookText, TextKind};
-use share_base::{Body, Command, MAX_PAYLOAD, Name, Refusal, Reply};
+use crate::outbox::Outbox;
+use share_base::{Body, Command, MAX_PAYLOAD, Name, Refusal, Reply, Turn};
 use share_core::{Engine, PayloadBuffers};
 use share_model::Rates;
 use share_script::{
-    MAX_SEND_LINE, MAX_SHORT_LINE, spelled_arrival, spelled_command, spelled_length,
+    MAX_SEND_LINE, MAX_SHORT_LINE, spelled_arrival, spelled_command, spelled_length, spelled_turn,
 };
 use std::marker::Model;
+
+/// The longest frame, in bytes.
+pub(crate) const MAX_FRAME: u32 = 9017;
 
 /// An engine of version 2 without a writer of its own, and the text of its events, as far as it was not drained: each
 /// call that makes an event puts its line at the end. A contract sees the link, the kind of the text, and the text.
@@ -121,6 +127,21 @@ impl<S: Rates> AuditedEngine<S> {
         push_arrival(&mut self.text, self.kind, &flow, &body);
         self.engine.arrive(flow, body)
     }
+
+    /// Sends the next frame, which there is: it goes into the outbox, which has room for the longest one, as a whole. It
+    /// is one event, with its line. It takes no memory.
+    pub fn send(&mut self, outbox: &mut Outbox) -> Turn
+        requires living { is_spent self.old.link ≡ false }
+        requires text { lacks_text self.old ≡ false }
+        requires sends { IsSome (sending self.old.link.live) }
+        requires room { lacks_room outbox.old ≡ false }
+        ensures { IfSome (sending self.old.link.live)
+            (λ s. SentWhole self.old outbox.old s result self.new outbox.new) }
+    {
+        let turn = self.engine.turn_into(outbox, MAX_FRAME);
+        self.text.push(spelled_turn(wrote_count(&turn)).as_bytes());
+        turn
+    }
 }
 
 // How many bytes the line of an event has at most.
@@ -150,4 +171,14 @@ fn is_no_memory(reply: &Reply) -> bool
     ensures { result ≡ is_no_memory reply.now }
 {
     matches!(reply, Reply::Refused(Refusal::NoMemory))
+}
+
+// How many bytes a turn wrote.
+fn wrote_count(turn: &Turn) -> u64
+    ensures { result ≡ wrote_count turn.now }
+{
+    match turn {
+        Turn::Wrote { k, .. } => u64::from(*k),
+        _ => 0,
+    }
 }

@@ -5,13 +5,17 @@ ghost use Rattle.share_gateway.specs.Audited.{IsRunAndText, SendsWhole, lacks_te
 ghost use Rattle.share_gateway.specs.Book.{BookView};
 ghost use Rattle.share_gateway.specs.Texts.{after_drain};
 
+mod changing;
 mod closed;
+mod opening;
 mod taking;
+mod turning;
 
 use crate::audited::AuditedEngine;
 use crate::plan::Plan;
 pub use closed::Closed;
-use share_base::Name;
+pub use opening::TEXT_ROOM;
+use share_base::{FlowNo, Name};
 use share_core::Engine;
 use share_model::Rates;
 use std::marker::Model;
@@ -31,6 +35,21 @@ pub enum Taken {
     NoRoom,
     /// The memory for the payload was refused.
     NoMemory,
+}
+
+/// What a book answers to a turn.
+#[derive(Clone, Copy, Debug, PartialEq, Eq)]
+pub enum Turned {
+    /// The text has no room for the longest line.
+    NoText,
+    /// The outbox has no room for the longest frame.
+    NoRoom,
+    /// No event of the book's life is left.
+    Spent,
+    /// There is nothing to send.
+    Idle,
+    /// The frame of this packet, with this many bytes, went into the outbox.
+    Wrote { flow: FlowNo, seq: u32, count: u32 },
 }
 
 /// A book: one life of an engine of version 2, opened over a plan, and the text of its events as far as it was not

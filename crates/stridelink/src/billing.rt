@@ -3,7 +3,7 @@
 use crate::tariffs::PlainTariffs;
 use crate::words::Word;
 use share_base::Name;
-use share_gateway::{BookBill, NotBilled, TenantTotal, add_rows, bill_text};
+use share_bill::{BookBill, NotBilled, TenantTotal, add_rows, bill_text};
 use share_model::{PatientWriter, PlainReader, PlainWriter, put};
 use share_script::ScriptFault;
 use std::alloc::{AllocError, Global};

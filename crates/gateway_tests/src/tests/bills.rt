@@ -1,13 +1,11 @@
 //! Bills of texts: those of the worked books, and each way in which a line is not the next one.
 
-mod tariffs;
-
+use super::tariffs::Four;
 use share_base::Refusal;
-use share_gateway::{BookBill, Kind, NotBilled, TenantBill, Wrong, bill_text};
+use share_bill::{BookBill, Kind, NotBilled, TenantBill, Wrong, bill_text};
 use share_model::{Got, PlainReader, ScriptedReader, TellingReader};
 use std::alloc::Global;
 use std::process::Abort;
-use tariffs::Four;
 
 /// A name, and how many packets, bytes and units it has, and what they cost.
 type WantedRow = (&'static str, u64, u64, u64, u64);

@@ -1,9 +1,9 @@
 //! Plans: the commands of their openings, as the lines of a script, and what opening them on an engine comes to.
 
 mod made;
-mod tariffs;
 
 use super::assertions::{holds, same};
+use super::tariffs::Four;
 use made::{looped, many, named, shared, with_tariff};
 use share_base::{Event, FlowNo, Refusal};
 use share_core::Engine;
@@ -12,7 +12,6 @@ use share_model::Tape;
 use share_script::write_event;
 use std::alloc::Global;
 use std::process::Abort;
-use tariffs::Four;
 
 /// The shortest life of a book.
 const LIFE: u64 = 131072;

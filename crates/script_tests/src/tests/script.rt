@@ -166,7 +166,10 @@ const REFUSED: [(&[u8], &[u8]); 15] = [
     (b"send a 6\n", b"no 3 Syntax\nout -\n"),
     (b"turn 0\n", b"no 4 Range\nout -\n"),
     (b"torn\n", b"idle\nout -\n"),
-    (b"mktkt 1 base\nunfund 1\n", b"ticket 1\nno 13 Unfunded\nout -\n"),
+    (
+        b"mktkt 1 base\nunfund 1\n",
+        b"ticket 1\nno 13 Unfunded\nout -\n",
+    ),
     (
         b"mkcur x\nmktkt 1 x\nmktkt 1 base\nfund 2 cur x\nrmcur x\nfund 1 cur x\nfund 2 cur base\nrmtkt 2\n",
         b"ok\nticket 1\nticket 2\nok\nno 11 InUse\nno 15 Cycle\nno 10 Base\nno 12 Funding\nout -\n",

@@ -1,0 +1,3 @@
+pub mod MakingLemmas
+pub mod SeenLemmas
+pub mod SumsLemmas

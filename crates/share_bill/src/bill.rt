@@ -1,0 +1,17 @@
+//! Bills: what each tenant sent, by the text of a book, whose lines are run again.
+
+mod discard;
+mod kind;
+mod line;
+mod making;
+mod reading;
+mod running;
+mod sums;
+mod text;
+mod total;
+
+pub use kind::Kind;
+pub use line::{LineFault, Wrong};
+pub use running::{Bill, TenantBill};
+pub use text::{BookBill, NotBilled, bill_text};
+pub use total::{TenantTotal, add_rows};

@@ -1,0 +1,10 @@
+//! Bills of books: a book's text is run again, line by line, and what each tenant sent is summed.
+#![tactic(auto)]
+
+mod bill;
+mod laws;
+
+pub use bill::{
+    Bill, BookBill, Kind, LineFault, NotBilled, TenantBill, TenantTotal, Wrong, add_rows, bill_text,
+};
+pub use laws::lengths_decide;

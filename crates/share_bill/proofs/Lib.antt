@@ -1,3 +1,4 @@
+pub mod LineLemmas
 pub mod MakingLemmas
 pub mod SeenLemmas
 pub mod SumsLemmas

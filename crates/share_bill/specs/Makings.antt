@@ -29,7 +29,7 @@ use Rattle.share_model.specs.run.Sound.{max_life}
 use Rattle.share_bill.specs.declared.bill.line.LineFault.{LineFault}
 use Rattle.share_bill.specs.declared.bill.line.LineFault.TheVariants.{NoMemory, Wrong as WrongLine}
 use Rattle.share_bill.specs.declared.bill.line.Wrong.{Wrong}
-use Rattle.share_bill.specs.declared.bill.line.Wrong.TheVariants.{Untaken, Foreign}
+use Rattle.share_bill.specs.declared.bill.line.Wrong.TheVariants.{Unread, Untaken, Foreign}
 use Rattle.share_bill.specs.declared.bill.making.Frame.{Frame}
 use Rattle.share_bill.specs.declared.bill.making.Made.{Made}
 use Rattle.share_bill.specs.declared.bill.making.Made.TheVariants.{Opened, Sent, Other}
@@ -115,14 +115,28 @@ pub record BillView (W : Type 0) : Type 0 where
   pub tenants : List TenantFlow
   pub sent : List Sums
 
+-- the event of a line was made, and what a bill keeps of it was kept
+pub record ObeysLine {W : Type 0} (old : LinkView W) (tenants : List TenantFlow) (sent : List Sums) (line : Line)
+    (new : LinkView W) (now_tenants : List TenantFlow) (now_sent : List Sums) : Type 0 where
+  pub made : Made
+  pub makes : MakesLine old line made new
+  pub keeps : KeepsMade made tenants sent now_tenants now_sent
+
 -- the bytes are read as a line, its event was made, and what a bill keeps of it was kept
 pub record TakesLine {W : Type 0} (old : BillView W) (bytes : List ℕ) (new : BillView W) : Type 0 where
   pub line : Line
-  pub made : Made
   pub reads : book_reading old.kind bytes ≡ Ok line
-  pub makes : MakesLine old.link line made new.link
-  pub keeps : KeepsMade made old.tenants old.sent new.tenants new.sent
+  pub obeys : ObeysLine old.link old.tenants old.sent line new.link new.tenants new.sent
   pub kind : new.kind ≡ old.kind
+
+-- Bytes that are no line
+
+abbrev pub is_memory : Refusal → Bool
+is_memory NoMemoryRefusal = true
+is_memory _ = false
+
+abbrev pub unread : Refusal → LineFault
+unread why = if is_memory why then NoMemory else WrongLine (Unread why)
 
 -- Commands
 

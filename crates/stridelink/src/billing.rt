@@ -34,6 +34,7 @@ pub struct BillOrders<'a> {
 }
 
 /// The bill of some books, and how it is printed.
+#[derive(Drop)]
 struct Printed<'a> {
     form: Form,
     books: usize,
@@ -151,14 +152,14 @@ fn bill_file<R: Files>(files: &R, alloc: Global, path: &str) -> Result<BookBill,
     }
 }
 
-// Tells that a book ends in a line without its line feed.
-fn tell_cut(rt: &impl Eprint, path: &str, cut: u64) {
+// Reports that a book ends in a line without its line feed.
+fn report_cut(rt: &impl Eprint, path: &str, cut: u64) {
     let path = Word(path);
     let _ = eprintln!(rt; "{path}:{cut}: the last line has no line feed, and is left out");
 }
 
-// Tells why a file has no bill. The status says so even if standard error takes no text.
-fn tell_fault(rt: &impl Eprint, path: &str, fault: NotBilled) {
+// Reports why a file has no bill. The status says so even if standard error takes no text.
+fn report_fault(rt: &impl Eprint, path: &str, fault: NotBilled) {
     let path = Word(path);
     let _ = match fault {
         NotBilled::Line { number, wrong } => eprintln!(rt; "{path}:{number}: {wrong}"),
@@ -178,12 +179,12 @@ fn add_files<R: Files + Eprint>(
         match bill_file(rt, alloc, path) {
             Ok(bill) => {
                 if let Some(cut) = bill.cut {
-                    tell_cut(rt, path, cut);
+                    report_cut(rt, path, cut);
                 }
                 add_rows(totals, bill.rows.as_slice())?;
             }
             Err(fault) => {
-                tell_fault(rt, path, fault);
+                report_fault(rt, path, fault);
                 is_whole = false;
             }
         }
@@ -202,7 +203,7 @@ fn print<R: Print>(rt: &R, alloc: Global, printed: &Printed<'_>) -> Result<(), S
     Ok(())
 }
 
-/// Prints the bill of these books. Where one of them has none, nothing is printed, and standard error tells why.
+/// Prints the bill of these books. Where one of them has none, nothing is printed, and standard error says why.
 pub fn bill_books<R: Files + Print + Eprint>(
     rt: &R,
     alloc: Global,

@@ -315,6 +315,46 @@ fn asked_by<'a>(alloc: Global, matches: &ArgMatches<'a>) -> Result<Asked<'a>, Al
     }
 }
 
+// What is asked for, if its numbers are in range. If they are not, a text that says what is wrong.
+fn in_range<'a>(command: &mut Command<'a>, asked: Asked<'a>) -> Result<Asked<'a>, ScriptFault>
+    requires { (text : _) → asked ≢ Asked.Text text }
+    ensures memory { IfErr result (λ fault. fault ≡ NoMemory) }
+    ensures text { IfOk result (λ asked. (text : _) → asked ≡ Asked.Text text → kind_of text ≢ ErrorKind.OutOfMemory) }
+    ensures life { IfOk result (λ asked. (orders : _) → asked ≡ Asked.Run orders
+        → life_refusal orders.life ≡ None) }
+    ensures served { IfOk result (λ asked. (orders : _) → asked ≡ Asked.Serve orders
+        → CanBeServed orders.life orders.workers orders.clerks) }
+{
+    match out_of_range(&asked) {
+        None => Ok(asked),
+        Some(wrong) => Ok(Asked::Text(command.error(ErrorKind::ValueValidation, wrong)?)),
+    }
+}
+
+// What words ask for of a command line, which stays its caller's: it has many parts, and is dropped in one place.
+fn asked_of<'a>(
+    alloc: Global,
+    command: &mut Command<'a>,
+    words: &'a [String],
+) -> Result<Asked<'a>, ScriptFault>
+    ensures memory { IfErr result (λ fault. fault ≡ NoMemory) }
+    ensures text { IfOk result (λ asked. (text : _) → asked ≡ Asked.Text text → kind_of text ≢ ErrorKind.OutOfMemory) }
+    ensures life { IfOk result (λ asked. (orders : _) → asked ≡ Asked.Run orders
+        → life_refusal orders.life ≡ None) }
+    ensures served { IfOk result (λ asked. (orders : _) → asked ≡ Asked.Serve orders
+        → CanBeServed orders.life orders.workers orders.clerks) }
+{
+    match command.try_get_matches_from_mut(words) {
+        Ok(matches) => {
+            let asked = asked_by(alloc, &matches);
+            drop(matches);
+            in_range(command, asked?)
+        }
+        Err(error) if error.kind() == ErrorKind::OutOfMemory => Err(ScriptFault::NoMemory),
+        Err(error) => Ok(Asked::Text(error)),
+    }
+}
+
 // What the words ask for.
 fn read_words<'a>(alloc: Global, words: &'a [String]) -> Result<Asked<'a>, ScriptFault>
     ensures memory { IfErr result (λ fault. fault ≡ NoMemory) }
@@ -325,17 +365,9 @@ fn read_words<'a>(alloc: Global, words: &'a [String]) -> Result<Asked<'a>, Scrip
         → CanBeServed orders.life orders.workers orders.clerks) }
 {
     let mut command = command_line(alloc)?;
-    match command.try_get_matches_from_mut(words) {
-        Ok(matches) => {
-            let asked = asked_by(alloc, &matches)?;
-            match out_of_range(&asked) {
-                None => Ok(asked),
-                Some(wrong) => Ok(Asked::Text(command.error(ErrorKind::ValueValidation, wrong)?)),
-            }
-        }
-        Err(error) if error.kind() == ErrorKind::OutOfMemory => Err(ScriptFault::NoMemory),
-        Err(error) => Ok(Asked::Text(error)),
-    }
+    let asked = asked_of(alloc, &mut command, words);
+    drop(command);
+    asked
 }
 
 fn has_control(words: &[String]) -> bool {

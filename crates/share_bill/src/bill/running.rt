@@ -1,11 +1,13 @@
 //! The run of a book's lines.
-ghost use Rattle.std.specs.Prelude.{◌≡◌, ◌++◌, [], map, IfOk, OnOk, MatchResult};
+ghost use Rattle.std.specs.Prelude.{◌≡◌, ◌++◌, [], map, IfOk, IfErr, OnOk, MatchResult};
 ghost use Rattle.share_base.specs.declared.version.Version.TheVariants.{Two};
 ghost use Rattle.share_model.specs.link.Live.{empty_link};
 ghost use Rattle.share_model.specs.run.Sound.{max_life};
 ghost use Rattle.share_bill.specs.Bills.{row_with, tenant_flow};
-ghost use Rattle.share_bill.specs.BookLines.{next_event};
-ghost use Rattle.share_bill.specs.Makings.{TakesLine, IsFault, KeepsMade, HasFewUnits};
+ghost use Rattle.share_bill.specs.BookLines.{next_event, event_of, IsUnstampedLine};
+ghost use Rattle.share_bill.specs.Makings.{IsBookLink, TakesLine, ObeysLine, IsFault, KeepsMade, HasFewUnits};
+ghost use Rattle.share_bill.specs.Makings.{is_memory, unread};
+ghost use Rattle.share_bill.specs.declared.bill.line.LineFault.TheVariants.{NoMemory};
 ghost use Rattle.share_bill.specs.Sums.{sums_at};
 
 use super::discard::Discard;
@@ -15,7 +17,7 @@ use super::sums::{Sent, Sums};
 use super::{Kind, LineFault, Wrong};
 use share_base::{FlowNo, Name, Refusal, Version};
 use share_core::{Engine, MAX_LIFE};
-use share_model::Rates;
+use share_model::{Line, Rates};
 use std::alloc::{AllocError, Global};
 use std::marker::Model;
 
@@ -90,12 +92,8 @@ impl<S: Rates> Bill<S> {
             (λ fault. IsFault (next_event self.old.kind self.old.link.live bytes.now) fault) }
     {
         match read(alloc, self.kind, bytes) {
-            Ok(line) => {
-                let made = make(&mut self.engine, line)?;
-                keep(&mut self.tenants, &mut self.sent, made)
-            }
-            Err(Refusal::NoMemory) => Err(LineFault::NoMemory),
-            Err(refusal) => Err(LineFault::Wrong(Wrong::Unread(refusal))),
+            Ok(line) => obey(&mut self.engine, &mut self.tenants, &mut self.sent, line),
+            Err(refusal) => Err(unread(refusal)),
         }
     }
 
@@ -104,18 +102,68 @@ impl<S: Rates> Bill<S> {
         ensures { IfOk result (λ rows. rows.items
             ≡ map (λ t. row_with t (sums_at self.now.sent t.flow)) self.now.tenants) }
     {
-        let mut rows = Vec::with_capacity(alloc, self.tenants.len())?;
-        for tenant in &self.tenants {
-            rows.push(row(tenant, self.sent.of(tenant.flow)))?;
-        }
-        Ok(rows)
+        rows_of(alloc, self.tenants.as_slice(), &self.sent)
     }
+}
+
+// Makes the event of a line, and keeps what it sent or opened.
+fn obey<S: Rates>(
+    engine: &mut Engine<Discard, S>,
+    tenants: &mut Vec<TenantFlow>,
+    sent: &mut Sent,
+    line: Line,
+) -> Result<(), LineFault>
+    requires book { IsBookLink engine.old }
+    requires unstamped { IsUnstampedLine line }
+    ensures obeys { MatchResult result
+        (λ _. ObeysLine engine.old tenants.old.items sent.old line engine.new tenants.new.items sent.new)
+        (λ fault. IsFault (event_of engine.old.live line) fault) }
+    ensures book { IsBookLink engine.new }
+{
+    match make(engine, line) {
+        Ok(made) => keep(tenants, sent, made),
+        Err(fault) => Err(fault),
+    }
+}
+
+// Whether memory was refused.
+fn is_memory(refusal: &Refusal) -> bool
+    ensures { result ≡ is_memory refusal.now }
+{
+    matches!(refusal, Refusal::NoMemory)
+}
+
+// What is wrong with bytes that are no line.
+fn unread(refusal: Refusal) -> LineFault
+    ensures { result ≡ unread refusal }
+{
+    if is_memory(&refusal) {
+        LineFault::NoMemory
+    } else {
+        LineFault::Wrong(Wrong::Unread(refusal))
+    }
+}
+
+// What these tenants sent.
+fn rows_of(
+    alloc: Global,
+    tenants: &[TenantFlow],
+    sent: &Sent,
+) -> Result<Vec<TenantBill>, AllocError>
+    ensures { IfOk result (λ rows. rows.items ≡ map (λ t. row_with t (sums_at sent.now t.flow)) tenants.now) }
+{
+    let mut rows = Vec::with_capacity(alloc, tenants.len())?;
+    for tenant in tenants {
+        rows.push(row(tenant, sent.of(tenant.flow)))?;
+    }
+    Ok(rows)
 }
 
 // Keeps what a line made.
 fn keep(tenants: &mut Vec<TenantFlow>, sent: &mut Sent, made: Made) -> Result<(), LineFault>
     requires { HasFewUnits made }
     ensures kept { OnOk result (KeepsMade made tenants.old.items sent.old tenants.new.items sent.new) }
+    ensures lacks { IfErr result (λ fault. fault ≡ NoMemory) }
 {
     match made {
         Made::Opened { name, flow } => open(tenants, name, flow),
@@ -131,7 +179,8 @@ fn keep(tenants: &mut Vec<TenantFlow>, sent: &mut Sent, made: Made) -> Result<()
 
 // A flow was opened: for a tenant, unless it fills a gap of the flow numbers.
 fn open(tenants: &mut Vec<TenantFlow>, name: Name, flow: FlowNo) -> Result<(), LineFault>
-    ensures { OnOk result (tenants.new.items ≡ tenants.old.items ++ tenant_flow name flow) }
+    ensures opened { OnOk result (tenants.new.items ≡ tenants.old.items ++ tenant_flow name flow) }
+    ensures lacks { IfErr result (λ fault. fault ≡ NoMemory) }
 {
     if name.as_bytes() == b"gap".as_slice() {
         return Ok(());

@@ -1,6 +1,7 @@
 //! What each flow of a book sent.
-ghost use Rattle.std.specs.Prelude.{◌≡◌, ◌<◌, ◌≤◌, ◌*◌, ◌^◌, [], ℕ, IfOk, OnOk, length, nat_eq, if◌then◌else◌};
+ghost use Rattle.std.specs.Prelude.{◌≡◌, ◌<◌, ◌≤◌, ◌*◌, ◌^◌, [], ℕ, IfOk, IfErr, OnOk, length, nat_eq, if◌then◌else◌};
 ghost use Rattle.share_bill.specs.Sums.{sums_at, one_more, IsSmall, AreSmall};
+ghost use Rattle.share_bill.specs.declared.bill.line.LineFault.TheVariants.{NoMemory};
 
 use super::LineFault;
 use share_base::FlowNo;
@@ -70,9 +71,10 @@ impl Sent {
         amount: u64,
     ) -> Result<(), LineFault>
         requires { units ≤ 2 ^ 38 }
-        ensures { OnOk result ((other : ℕ) → sums_at self.new other
+        ensures added { OnOk result ((other : ℕ) → sums_at self.new other
             ≡ (if nat_eq other flow then one_more (sums_at self.old flow) bytes units amount
             else sums_at self.old other)) }
+        ensures lacks { IfErr result (λ fault. fault ≡ NoMemory) }
     {
         let at = flow.0 as usize;
         let old = sums_at(self.entries.as_slice(), at);

@@ -1,9 +1,12 @@
 -- The output of a script up to its first refusal.
-use Rattle.std.specs.Prelude.{◌≡◌, ◌≢◌, ℕ, Bool, true, List, [], ◌∷◌, ◌++◌, length, take, codes, nat_lt, if◌then◌else◌}
+use Rattle.std.specs.Prelude.{◌≡◌, ◌≢◌, ◌⊎◌, ◌^◌, ℕ, Bool, true, List, [], ◌∷◌, ◌++◌, length, take, codes, nat_lt, if◌then◌else◌}
 use Rattle.std.specs.List.{All}
 use Rattle.share_model.specs.declared.writer.Answer.{Answer}
 use Rattle.share_model.specs.declared.writer.Answer.TheVariants.{Accepted, Interrupted, Failed}
-use Rattle.share_model.specs.io.Calls.{OfferRefused}
+use Rattle.share_model.specs.declared.reader.Got.{Got}
+use Rattle.share_model.specs.io.Calls.{HasRead, Offers, OfferRefused, ReadsToEnd}
+use Rattle.std.specs.Process.{exit_status}
+use Rattle.std.specs.declared.process.ExitCode.{ExitCode}
 
 -- the line begins as refusals do
 abbrev pub IsRefusal : List ℕ → Type 0
@@ -42,3 +45,33 @@ pub record EndsAtRefusal {W : Type 0} (answers : W → List ℕ → Answer → W
   pub last : W
   pub calls : OfferRefused answers first last
   pub marked : mark last ≡ true
+
+-- after offers, of each of which some was accepted, one was refused, and then the writer has its mark; and an offer to
+-- the writer below it was refused too
+pub record LosesFeed {W O : Type 0} (answers : W → List ℕ → Answer → W → Type 0) (mark : W → Bool) (below : W → O)
+    (accepts : O → List ℕ → Answer → O → Type 0) (first : W) (after : O) : Type 0 where
+  pub last : W
+  pub calls : OfferRefused answers first last
+  pub marked : mark last ≡ true
+  pub lost : OfferRefused accepts (below last) after
+
+-- How a strict run ends, by its status. With 0 the script was read to its end, and every offer was accepted. With 1 the
+-- output ended at a refusal.
+abbrev pub EndsStrictly : {R W : Type 0} → (R → List ℕ → Got → R → Type 0) → (W → List ℕ → Answer → W → Type 0)
+    → (W → Bool) → R → R → W → W → ExitCode → Type 0
+EndsStrictly gives answers mark input rest output after status =
+    ((exit_status status ≡ 0) × ReadsToEnd gives (2 ^ 32) input rest × Offers answers output after)
+    ⊎ ((exit_status status ≡ 1) × HasRead gives (2 ^ 32) input rest × EndsAtRefusal answers mark output)
+
+-- a script was read to its end by a reader over it
+pub record ReadsWhole {R S : Type 0} (gives : R → List ℕ → Got → R → Type 0) (over : R → S) (script : S) : Type 0
+  where
+    pub first : R
+    pub last : R
+    pub is_over : over first ≡ script
+    pub reads : ReadsToEnd gives (2 ^ 32) first last
+
+-- the status of a run of this script: 0 only if all of it was read, and else 1
+abbrev pub IsStatusOf : {R S : Type 0} → (R → List ℕ → Got → R → Type 0) → (R → S) → S → ExitCode → Type 0
+IsStatusOf gives over script status =
+    ((exit_status status ≡ 0) × ReadsWhole gives over script) ⊎ (exit_status status ≡ 1)

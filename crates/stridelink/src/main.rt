@@ -11,7 +11,8 @@ ghost use Rattle.share_model.specs.io.Told.{TapeAnswers};
 ghost use Rattle.share_model.specs.io.Printing.{bytes_told};
 ghost use Rattle.stridelink.specs.Orders.{CanBeServed};
 ghost use Rattle.stridelink.specs.Program.{program_rates, PrintedRun, PrintedRunPart, PrintedToRefusal};
-ghost use Rattle.stridelink.specs.Strict.{EndsAtRefusal};
+ghost use Rattle.stridelink.specs.Strict.{EndsAtRefusal, EndsStrictly, IsStatusOf, LosesFeed, ReadsWhole};
+ghost use Rattle.std.specs.Io.Buffered.{reader_inner};
 ghost use Rattle.share_script.specs.Script.{FoundNone};
 ghost use Rattle.share_core.specs.Life.{life_refusal};
 
@@ -117,6 +118,20 @@ fn run_strictly<S: Rates + Drop, I: TellingReader, O: TellingWriter>(
         → EndsAtRefusal ⟦<StrictWriter<O> as TellingWriter>⟧.answers (λ w. w.is_refused) output.old) }
     ensures read { IfOk result (λ whole. whole ≡ false
         → HasRead ⟦<LineReader<I> as TellingReader>⟧.gives (2 ^ 32) input.old input.new) }
+    ensures end { IfOk result (λ whole. whole ≡ true
+        → ReadsToEnd ⟦<LineReader<I> as TellingReader>⟧.gives (2 ^ 32) input.old input.new) }
+    ensures input { result ≡ Err Input
+        → ReadFails ⟦<LineReader<I> as TellingReader>⟧.gives (2 ^ 32) input.old input.new
+        × Offers ⟦<StrictWriter<O> as TellingWriter>⟧.answers output.old output.new }
+    ensures output { result ≡ Err Output
+        → HasRead ⟦<LineReader<I> as TellingReader>⟧.gives (2 ^ 32) input.old input.new
+        × (OfferRefused ⟦<StrictWriter<O> as TellingWriter>⟧.answers output.old output.new
+        ⊎ LosesFeed ⟦<StrictWriter<O> as TellingWriter>⟧.answers (λ w. w.is_refused) (λ w. w.output) O.answers
+        output.old output.new.output) }
+    ensures memory { result ≡ Err NoMemory
+        → FoundNone ⟦<LineReader<I> as TellingReader>⟧.gives (2 ^ 32) input.old input.new
+        TapeAnswers (record { bytes = []; counts = [] })
+        ⟦<StrictWriter<O> as TellingWriter>⟧.answers output.old output.new }
 {
     match run(alloc, shelf, life, input, output) {
         Ok(()) => Ok(true),
@@ -140,7 +155,28 @@ fn tell_refusal<I: TellingReader, O: TellingWriter>(
     let _ = eprintln!(rt; "stridelink: line {number}, '{line}': {answer}");
 }
 
-// Runs a script up to its first refused line, which standard error tells; the replies go to standard output.
+// Runs a script up to its first refused line, which standard error tells, and says the status: whether there was none.
+fn run_to_refusal<S: Rates + Drop, I: TellingReader, O: TellingWriter>(
+    rt: &impl Eprint,
+    alloc: Global,
+    shelf: S,
+    life: u64,
+    input: &mut LineReader<I>,
+    output: &mut StrictWriter<O>,
+) -> Result<ExitCode, ScriptFault>
+    requires life { life_refusal life ≡ None }
+    requires goes { output.old.is_refused ≡ false }
+    ensures { IfOk result (EndsStrictly ⟦<LineReader<I> as TellingReader>⟧.gives
+        ⟦<StrictWriter<O> as TellingWriter>⟧.answers (λ w. w.is_refused) input.old input.new output.old output.new) }
+{
+    if run_strictly(alloc, shelf, life, input, output)? {
+        return Ok(ExitCode::SUCCESS);
+    }
+    tell_refusal(rt, input, output);
+    Ok(ExitCode::FAILURE)
+}
+
+// Runs a script up to its first refused line; the replies go to standard output.
 fn run_and_tell<S: Rates + Drop, R: Read + Drop>(
     rt: &(impl Print + Eprint),
     alloc: Global,
@@ -149,17 +185,15 @@ fn run_and_tell<S: Rates + Drop, R: Read + Drop>(
     script: R,
 ) -> Result<ExitCode, ScriptFault>
     requires { life_refusal life ≡ None }
+    ensures { IfOk result (IsStatusOf ⟦<LineReader<PlainReader<BufReader<R>>> as TellingReader>⟧.gives
+        (λ lines. reader_inner lines.input.0) script) }
 {
     let Ok(script) = BufReader::new(alloc, script) else {
         return Err(ScriptFault::NoMemory);
     };
     let mut input = LineReader::new(PlainReader(script));
     let mut output = StrictWriter::new(PatientWriter(PlainWriter(io::writer(rt))));
-    if run_strictly(alloc, shelf, life, &mut input, &mut output)? {
-        return Ok(ExitCode::SUCCESS);
-    }
-    tell_refusal(rt, &input, &output);
-    Ok(ExitCode::FAILURE)
+    run_to_refusal(rt, alloc, shelf, life, &mut input, &mut output)
 }
 
 // Runs a script over this shelf, whose tariffs are the program's; the replies go to standard output.
@@ -172,6 +206,12 @@ fn run_on_tariffs<S: Rates + Drop, R: Read + Drop>(
 ) -> Result<ExitCode, ScriptFault>
     requires rates { S.rates shelf ≡ program_rates }
     requires life { life_refusal orders.life ≡ None }
+    ensures strict { orders.is_strict ≡ true
+        → IfOk result (IsStatusOf ⟦<LineReader<PlainReader<BufReader<R>>> as TellingReader>⟧.gives
+        (λ lines. reader_inner lines.input.0) script) }
+    ensures plain { orders.is_strict ≡ false
+        → IfOk result (λ status. (exit_status status ≡ 0)
+        × ReadsWhole ⟦<PlainReader<R> as TellingReader>⟧.gives (λ plain. plain.0) script) }
 {
     if orders.is_strict {
         return run_and_tell(rt, alloc, shelf, orders.life, script);
@@ -190,14 +230,21 @@ fn run_on_standard<R: Read + Drop>(
     script: R,
 ) -> Result<ExitCode, ScriptFault>
     requires { life_refusal orders.life ≡ None }
+    ensures strict { orders.is_strict ≡ true
+        → IfOk result (IsStatusOf ⟦<LineReader<PlainReader<BufReader<R>>> as TellingReader>⟧.gives
+        (λ lines. reader_inner lines.input.0) script) }
+    ensures plain { orders.is_strict ≡ false
+        → IfOk result (λ status. (exit_status status ≡ 0)
+        × ReadsWhole ⟦<PlainReader<R> as TellingReader>⟧.gives (λ plain. plain.0) script) }
 {
     let shelf = program_shelf!(alloc);
     run_on_tariffs(rt, alloc, shelf, orders, script)
 }
 
-// Runs the script that is asked for.
+// Runs the script that is asked for. The status of a run that is not strict is 0.
 fn run_given(rt: &HostRuntime, orders: Orders<'_>) -> Result<ExitCode, ScriptFault>
     requires { life_refusal orders.life ≡ None }
+    ensures { orders.is_strict ≡ false → IfOk result (λ status. exit_status status ≡ 0) }
 {
     match orders.file {
         None => {

@@ -1,5 +1,6 @@
 //! What a server needs before it runs.
-ghost use Rattle.std.specs.Prelude.{◌≡◌};
+ghost use Rattle.std.specs.Prelude.{◌≡◌, [], IsErr, IsOk, IfOk, MatchResult};
+ghost use Rattle.share_base.specs.declared.version.Version.TheVariants.{Two};
 ghost use Rattle.stridelink.specs.Orders.{CanBeServed};
 ghost use Rattle.stridelink.specs.Program.{program_rates};
 
@@ -87,6 +88,7 @@ fn prepared<'a, R>(
 ) -> Result<(Journal, AuditFile<'a, R>, Sockets), Unserved<'a>>
 where
     R: Net<Listener = TcpListener, Stream = TcpStream> + Files,
+    ensures { IfOk result (λ made. made.0 ≡ record { life = orders.entry.life; version = Two; entries = [] }) }
 {
     let Ok(mut journal) = Journal::new(alloc, orders.life) else {
         return Err(Unserved::NoMemory);
@@ -146,7 +148,7 @@ where
         drop(input);
         None
     };
-    match serve_on(
+    let served = serve_on(
         rt,
         alloc,
         shelf,
@@ -156,9 +158,17 @@ where
         until,
         audit,
         &mut output,
-    ) {
+    );
+    result_of_run(served, orders.audit)
+}
+
+// What went wrong in a run whose audit goes to this file, if something did.
+fn result_of_run<'a>(served: Result<(), ServeFault>, audit: &'a str) -> Result<(), Unserved<'a>>
+    ensures { MatchResult result (λ _. IsOk served) (λ _. IsErr served) }
+{
+    match served {
         Ok(()) => Ok(()),
-        Err(ServeFault::Audit) => Err(Unserved::Audit(Word(orders.audit))),
+        Err(ServeFault::Audit) => Err(Unserved::Audit(Word(audit))),
         Err(fault) => Err(Unserved::Run(fault)),
     }
 }

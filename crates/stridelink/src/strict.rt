@@ -1,6 +1,7 @@
 //! A script's output up to its first refusal.
-ghost use Rattle.std.specs.Prelude.{◌≡◌, ◌↔◌, ◌≤◌, ◌<◌, ◌+◌, ◌++◌, [], ◌∷◌, take, drop, length, IsTrue, OnOk, false};
+ghost use Rattle.std.specs.Prelude.{◌≡◌, ◌↔◌, ◌≤◌, ◌<◌, ◌+◌, ◌++◌, [], ◌∷◌, take, drop, length, IsTrue, OnOk, OnErr, false};
 ghost use Rattle.std.specs.Io.KnownBytes.{Appends};
+ghost use Rattle.share_model.specs.io.Calls.{OfferRefused};
 ghost use Rattle.share_model.specs.io.Printing.{bytes_told};
 ghost use Rattle.stridelink.specs.Strict.{IsRefusal, EndsNoLine, kept_after};
 
@@ -85,6 +86,7 @@ impl<O: TellingWriter> StrictWriter<O> {
     pub fn end(&mut self) -> Result<(), Fault>
         ensures bytes { OnOk result (Appends (bytes_told (O.told self.old.output))
             (bytes_told (O.told self.new.output)) (10 ∷ [])) }
+        ensures lost { OnErr result (OfferRefused O.answers self.old.output self.new.output) }
         ensures mark { self.new.is_refused ≡ self.old.is_refused }
     {
         put(&mut self.output, b"\n")

@@ -1,8 +1,9 @@
-/* An allocator that the program above it steers, for tests (.ci/memory): it refuses requests in turn, tells whether
-   blocks were kept, and whether more bytes were asked for than should be. A program speaks with it by requests of sizes that nothing else asks for. Such a question
-   is itself no request; it is answered yes by a refusal, and no by a block. The same words stand in
-   crates/share_model/src/allocator.rt, and LONGER in the tests that ask so. At the end it writes what it was asked and did on standard error. No header is
-   included, so that the toolchain's clang is all that it takes. */
+/* An allocator that the program above it steers, for tests (.ci/memory): it refuses requests in turn, and answers whether
+   blocks were kept, and whether more bytes were asked for than should be. A program speaks with it by requests of sizes
+   that nothing else asks for. Such a question is itself no request; it is answered yes by a refusal, and no by a block.
+   The same words stand in crates/share_model/src/allocator.rt, and LONGER in the tests that ask so. At the end it writes
+   on standard error what it was asked and did. No header is included, so that the toolchain's clang is all that it
+   takes. */
 
 typedef unsigned long size;
 

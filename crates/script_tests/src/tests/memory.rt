@@ -134,7 +134,7 @@ fn is_read_at_last(rt: &impl Abort, alloc: Global, version: Version, line: &[u8]
 }
 
 /// Lines that send so many zero bytes and end so, and why they are refused. Memory that is taken for one is given back
-/// with it, and it is for its payload and a header alone.
+/// with it, and it is for a header and a byte of each pair of digits alone.
 const ENDS: [(usize, &[u8], Option<Refusal>); 4] = [
     (9000, b"", None),
     (9000, b"0", Some(Refusal::Syntax)),
@@ -142,13 +142,13 @@ const ENDS: [(usize, &[u8], Option<Refusal>); 4] = [
     (17, b"", None),
 ];
 
-fn gives_back(rt: &impl Abort, alloc: Global, line: &[u8], count: usize, wanted: Option<Refusal>) {
+fn gives_back(rt: &impl Abort, alloc: Global, line: &[u8], pairs: usize, wanted: Option<Refusal>) {
     mark(alloc);
     let read = read_line(alloc, Version::Two, line);
-    let bytes = u16::try_from(count.saturating_add(HEADER_ROOM)).unwrap_or(u16::MAX);
-    asks_for_few(rt, count, alloc, bytes);
-    same(rt, count, read.err(), wanted);
-    keeps_none(rt, count, alloc);
+    let bytes = u16::try_from(pairs.saturating_add(HEADER_ROOM)).unwrap_or(u16::MAX);
+    asks_for_few(rt, pairs, alloc, bytes);
+    same(rt, pairs, read.err(), wanted);
+    keeps_none(rt, pairs, alloc);
 }
 
 #[test]
@@ -162,7 +162,8 @@ fn a_long_packet_is_read_once_its_memory_is_found(rt: HostRuntime) {
     drop(line);
     for (count, end, wanted) in ENDS {
         let line = with_zeros(&rt, alloc, b"send a ", count, end);
-        gives_back(&rt, alloc, line.as_slice(), count, wanted);
+        let pairs = count.saturating_add(end.len() / 2);
+        gives_back(&rt, alloc, line.as_slice(), pairs, wanted);
         drop(line);
     }
 }

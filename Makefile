@@ -86,6 +86,7 @@ bench: bin/stridelink
 	python3 bench/bench.py
 	python3 bench/ingress.py
 	python3 bench/locked.py
+	python3 bench/gateway.py
 	python3 bench/serve.py
 
 soak: bin/stridelink

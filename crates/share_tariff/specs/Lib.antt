@@ -1,2 +1,5 @@
+pub mod PlainRates
+pub mod PlainShelf
 pub mod Rules
 pub mod Shelf
+pub mod ShelfLength

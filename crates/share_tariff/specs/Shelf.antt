@@ -1,10 +1,11 @@
 -- What a contract sees of tariffs and of their shelf.
-use Rattle.std.specs.Prelude.{ℕ, Bool, ◌≤◌, ◌&&◌, List, [], ◌∷◌, map, nat_le}
+use Rattle.std.specs.Prelude.{◌≤◌, List, [], ◌∷◌, map}
 use Rattle.std.proofs.Common.{◌∙◌, sym, subst}
 use Rattle.std.proofs.lemmas.List.{length-map}
 use Rattle.share_model.specs.declared.rates.Rate.{Rate}
 use Rattle.share_model.specs.link.Tariff.{IsInRange, AreInRange}
 use Rattle.share_model.specs.lists.Each.{Each}
+pub use Rattle.share_tariff.specs.ShelfLength.{is_shelf_length}
 use Rattle.share_tariff.specs.declared.tariff.Tariff.{Tariff}
 use Rattle.share_tariff.specs.declared.shelf.Shelf.{Shelf}
 
@@ -28,6 +29,3 @@ module _ {A B : Type 0} {C : A → Type 0} {D : B → Type 0} {charge : _} {book
     each = each_in_range s.tariffs.items;
     few = subst (λ n. n ≤ 8) (s.tariffs.ok.0 ∙ sym (length-map s.tariffs.items rate_in)) s.few;
   }
-
-abbrev pub is_shelf_length : ℕ → Bool
-is_shelf_length n = nat_le 1 n && nat_le n 8

@@ -3,10 +3,12 @@
 
 mod laws;
 mod plain;
+mod plain_shelf;
 mod shelf;
 mod tariff;
 
 pub use laws::bytes_fill_whole_cells;
 pub use plain::{account_after, units_by_division};
+pub use plain_shelf::PlainShelf;
 pub use shelf::{MAX_TARIFFS, Shelf};
 pub use tariff::{BookFn, ChargeFn, Tariff};

@@ -1,0 +1,3 @@
+pub mod Allowance
+pub mod Limiter
+pub mod Redial

@@ -1,0 +1,11 @@
+//! What a gateway knows of time: a rate that is kept, the pauses between dials, and how often a message is printed.
+//! The caller reads the clock.
+#![tactic(auto)]
+
+mod allowance;
+mod limiter;
+mod redial;
+
+pub use allowance::{Allowance, DEBT, SAVED, rates_are_kept};
+pub use limiter::{Limiter, Printing};
+pub use redial::Redial;

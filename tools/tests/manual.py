@@ -105,8 +105,9 @@ def faults(run):
 def told(run):
     """Each line of --verbose stands in the page, with capital letters for what is put in, and each word for an end."""
     texts = set()
-    for name in ("setup.rt", "threads.rt", "shutdown.rt", "connections.rt"):
-        text = source("share_server", name)
+    for path in (("share_server", "setup.rt"), ("share_server", "threads.rt"), ("share_server", "shutdown.rt"),
+                 ("share_connections", "connections.rt")):
+        text = source(*path)
         texts |= set(re.findall(r'format_args!\("(.*?)"\)', text)) | set(re.findall(r'tell\(rt, "(.*?)"\)', text))
         texts |= set(re.findall(r'format_args!\(\s*"(.*?)"', text))
     letters = {"address": "ADDR", "number": "N", "how:?": "HOW", "text": "WHY", "count": "C", "tally": "T",
@@ -116,8 +117,8 @@ def told(run):
         for word in (("control", "ingress") if "{word}" in text else ("",)):
             lines.add(re.sub(r"\{(.*?)\}", lambda put: letters[put.group(1)], text.replace("{word}", word)))
     expect_all(sorted(lines), 9, page(COMMANDS), "what --verbose tells")
-    ends = re.findall(r'=> "([A-Z][A-Za-z]+)"', source("stridelink", "serve", "worker.rt"))
-    how = re.search(r"enum How \{(.*?)\}", source("stridelink", "serve", "control.rt"), re.DOTALL).group(1)
+    ends = re.findall(r'=> "([A-Z][A-Za-z]+)"', source("share_server", "ingress.rt"))
+    how = re.search(r"enum How \{(.*?)\}", source("share_control", "attending.rt"), re.DOTALL).group(1)
     expect_all(ends + re.findall(r"^    ([A-Z]\w+),", how, re.MULTILINE), 12, page(COMMANDS), "how connections end")
 
 

@@ -2,8 +2,6 @@
 #![tactic(auto)]
 
 mod audit_file;
-mod connections;
-mod control;
 mod faults;
 mod ingress;
 mod serve;
@@ -11,10 +9,8 @@ mod setup;
 mod shutdown;
 mod slots;
 mod threads;
-mod uplink;
 
 pub use audit_file::{AuditFile, Keep, found_at};
-pub use control::{Attended, How, Request, attend};
 pub use faults::ServeFault;
 pub use serve::serve_on;
 pub use setup::{Plan, Sockets};

@@ -5,16 +5,16 @@ ghost use Rattle.share_model.specs.lists.Each.{Each};
 ghost use Rattle.share_ingress.specs.Ends.{new_ends, new_intake};
 ghost use Rattle.share_server.specs.Shutdown.{CanServe, RefusesToBegin, is_new};
 
-use crate::connections::Connections;
 use crate::faults::ServeFault;
-use crate::uplink::{Uplink, Wire};
 use share_base::Version;
+use share_connections::{Connections, Listening, Uplink, Wire};
 use share_core::Engine;
 use share_ingress::{IngressEnd, Intake, queue};
 use share_journal::{Journal, Recorder};
 use share_locked::Pace;
 use share_model::{PlainWriter, Rates};
 use std::alloc::Global;
+use std::io;
 use std::io::{Eprint, ErrorKind};
 use std::net::{TcpListener, TcpStream};
 use std::sync::Arc;
@@ -127,7 +127,55 @@ fn link_over<S: Rates + Drop>(
     }
 }
 
-// The listeners, with no connection yet, and the uplink as a writer.
+// The uplink, and the writer of the link over it.
+fn writer_over(alloc: Global, uplink: TcpStream) -> Result<(Arc<Wire>, Uplink), ServeFault>
+    ensures { IfErr result (λ fault. fault ≡ ServeFault.NoMemory) }
+{
+    let _ = uplink.set_nodelay(true);
+    let Ok(wire) = Arc::new(alloc, Wire::new(uplink)) else {
+        return Err(ServeFault::NoMemory);
+    };
+    let writer = Uplink::new(&wire)?;
+    Ok((wire, writer))
+}
+
+// What is wrong if listeners cannot be shared.
+fn fault_of_listeners(fault: &io::Error) -> ServeFault
+    ensures { (result ≡ ServeFault.NoMemory) ⊎ (result ≡ ServeFault.Accept) }
+{
+    match fault.kind() {
+        ErrorKind::OutOfMemory => ServeFault::NoMemory,
+        _ => ServeFault::Accept,
+    }
+}
+
+// The connections at these listeners, none yet, with room for those of a plan.
+fn no_connections(
+    alloc: Global,
+    ingress: &TcpListener,
+    control: &TcpListener,
+    wire: Arc<Wire>,
+    plan: Plan,
+) -> Result<Arc<Connections>, ServeFault>
+    ensures { IfErr result (λ fault. (fault ≡ ServeFault.NoMemory) ⊎ (fault ≡ ServeFault.Accept)) }
+{
+    let listening = match Listening::of(control, ingress) {
+        Ok(listening) => listening,
+        Err(fault) => {
+            drop(wire);
+            return Err(fault_of_listeners(&fault));
+        }
+    };
+    let pace = Pace::new(alloc, PLACES, plan.workers)?;
+    let room = plan.workers.saturating_add(plan.clerks);
+    let connections = Connections::new(alloc, listening, wire, pace, room, plan.is_verbose)?;
+    match Arc::new(alloc, connections) {
+        Ok(connections) => Ok(connections),
+        Err(_) => Err(ServeFault::NoMemory),
+    }
+}
+
+// The listeners, with no connection yet, and the writer of the link.
 fn open_doors(alloc: Global, sockets: Sockets, plan: Plan) -> Result<(Doors, Uplink), ServeFault>
     ensures { IfErr result (λ fault. (fault ≡ ServeFault.NoMemory) ⊎ (fault ≡ ServeFault.Accept)) }
 {
@@ -136,39 +184,14 @@ fn open_doors(alloc: Global, sockets: Sockets, plan: Plan) -> Result<(Doors, Upl
         control,
         uplink,
     } = sockets;
-    let _ = uplink.set_nodelay(true);
-    let Ok(wire) = Arc::new(alloc, Wire::new(uplink)) else {
-        return Err(ServeFault::NoMemory);
-    };
-    let uplink = Uplink::new(&wire)?;
-    let Ok(pace) = Pace::new(alloc, PLACES, plan.workers) else {
-        return Err(ServeFault::NoMemory);
-    };
-    let room = plan.workers.saturating_add(plan.clerks);
-    let connections = match Connections::new(
-        alloc,
-        &control,
-        &ingress,
-        wire,
-        pace,
-        room,
-        plan.is_verbose,
-    ) {
-        Ok(connections) => connections,
-        Err(fault) if fault.kind() == ErrorKind::OutOfMemory => {
-            return Err(ServeFault::NoMemory);
-        }
-        Err(_) => return Err(ServeFault::Accept),
-    };
-    let Ok(connections) = Arc::new(alloc, connections) else {
-        return Err(ServeFault::NoMemory);
-    };
+    let (wire, writer) = writer_over(alloc, uplink)?;
+    let connections = no_connections(alloc, &ingress, &control, wire, plan)?;
     let doors = Doors {
         ingress,
         control,
         connections,
     };
-    Ok((doors, uplink))
+    Ok((doors, writer))
 }
 
 // Tells where the server listens.

@@ -1,0 +1,307 @@
+//! The connections that are open, and how they are ended.
+
+use crate::uplink::Wire;
+use share_locked::{Attendant, Pace, Stop};
+use std::alloc::{AllocError, Global};
+use std::fmt::Display;
+use std::io::{Eprint, ErrorKind, Read};
+use std::net::{Shutdown, TcpListener, TcpStream};
+use std::os::fd::OwnedFd;
+use std::sync::{Arc, Condvar, Mutex, Wait};
+use std::thread::{Parker, Threads};
+use std::time::Duration;
+use std::{io, thread};
+
+/// How many rests a reply, or a write call on the uplink, may wait once the end has begun.
+const GRACE: u64 = 50;
+
+/// How many milliseconds a rest is.
+const REST: u64 = 100;
+
+/// How many bytes a connection gives once the end has begun, at most.
+const LAST_BYTES: usize = 1 << 24;
+
+/// What a connection is for.
+#[derive(Clone, Copy, Debug, PartialEq, Eq)]
+pub enum Kind {
+    Control,
+    Ingress,
+}
+
+/// A connection that is open, by its number among those of its kind.
+#[derive(Drop)]
+struct Open {
+    kind: Kind,
+    number: usize,
+    stream: Arc<TcpStream>,
+}
+
+/// The listeners as streams, which can be shut down. That wakes an accept that waits.
+#[derive(Drop)]
+pub struct Listening {
+    control: TcpStream,
+    ingress: TcpStream,
+}
+
+/// The connections that are open, the uplink, and how far the end has come.
+#[derive(Drop)]
+pub struct Connections {
+    open: Mutex<Vec<Open>>,
+    // Notified when a connection is over.
+    closed: Condvar,
+    listening: Listening,
+    wire: Arc<Wire>,
+    // Set when no more connections are accepted, and those that are open give only what has come.
+    ending: Stop,
+    // Set when the link takes nothing any more.
+    link_ended: Stop,
+    pace: Pace,
+    // Set when nothing is left to watch.
+    over: Stop,
+    watcher: Parker,
+    is_verbose: bool,
+}
+
+// Another handle of a listener, as a stream.
+fn as_stream(listener: &TcpListener) -> io::Result<TcpStream> {
+    Ok(TcpStream::from(OwnedFd::from(listener.try_clone()?)))
+}
+
+impl Listening {
+    /// Other handles of two listeners.
+    pub fn of(control: &TcpListener, ingress: &TcpListener) -> io::Result<Listening> {
+        let control = as_stream(control)?;
+        let ingress = as_stream(ingress)?;
+        Ok(Listening { control, ingress })
+    }
+
+    // Wakes an accept that waits.
+    fn shut(&self) {
+        let _ = self.control.shutdown(Shutdown::Both);
+        let _ = self.ingress.shutdown(Shutdown::Both);
+    }
+}
+
+impl Connections {
+    /// The connections at these listeners and this uplink: none yet, and room for `room` of them.
+    pub fn new(
+        alloc: Global,
+        listening: Listening,
+        wire: Arc<Wire>,
+        pace: Pace,
+        room: usize,
+        is_verbose: bool,
+    ) -> Result<Connections, AllocError> {
+        let open = Vec::with_capacity(alloc, room)?;
+        Ok(Connections {
+            open: Mutex::new(open),
+            closed: Condvar::new(),
+            listening,
+            wire,
+            ending: Stop::new(),
+            link_ended: Stop::new(),
+            pace,
+            over: Stop::new(),
+            watcher: Parker::new(),
+            is_verbose,
+        })
+    }
+
+    /// Writes a line to standard error, if that is wanted.
+    pub fn tell<R: Eprint, D: Display + Drop>(&self, rt: &R, line: D) {
+        if self.is_verbose {
+            let _ = rt.eprintln(line);
+        }
+    }
+
+    pub fn wire(&self) -> &Wire {
+        &self.wire
+    }
+
+    /// The pace of the link.
+    pub fn pace(&self) -> &Pace {
+        &self.pace
+    }
+
+    /// Whether no more connections are accepted.
+    pub fn is_ending(&self) -> bool {
+        self.ending.is_set()
+    }
+
+    /// Whether the link takes nothing any more.
+    pub fn has_link_ended(&self) -> bool {
+        self.link_ended.is_set()
+    }
+
+    /// Adds a connection, and ends it at once if it has to. Returns false if there was no memory for it.
+    pub fn add<R: Wait>(&self, rt: &R, kind: Kind, number: usize, stream: Arc<TcpStream>) -> bool {
+        let mut open = self.open.lock(rt);
+        if self.ending.is_set() {
+            let _ = stream.shutdown(Shutdown::Read);
+        }
+        if self.link_ended.is_set() && kind == Kind::Ingress {
+            let _ = stream.shutdown(Shutdown::Both);
+        }
+        open.push(Open {
+            kind,
+            number,
+            stream,
+        })
+        .is_ok()
+    }
+
+    /// Removes a connection that is over.
+    pub fn remove<R: Wait>(&self, rt: &R, kind: Kind, number: usize) {
+        let mut open = self.open.lock(rt);
+        open.retain(|one| one.kind != kind || one.number != number);
+        drop(open);
+        self.closed.notify_all();
+    }
+
+    /// Waits until all connections are over.
+    pub fn wait<R: Wait>(&self, rt: &R) {
+        let open = self.open.lock(rt);
+        let _ = self.closed.wait_while(rt, open, |open| !open.is_empty());
+    }
+
+    fn shut<R: Wait>(&self, rt: &R, kind: Kind, how: Shutdown) {
+        let open = self.open.lock(rt);
+        for one in open.as_slice() {
+            if one.kind == kind {
+                let _ = one.stream.shutdown(how);
+            }
+        }
+    }
+
+    /// Ends the ingress connections, since the link takes nothing any more.
+    pub fn end_link<R: Wait>(&self, rt: &R) {
+        self.link_ended.set();
+        self.shut(rt, Kind::Ingress, Shutdown::Both);
+    }
+
+    /// Begins the end: no more connections are accepted, and those that are open give only what has come.
+    pub fn end<R: Wait>(&self, rt: &R) {
+        self.ending.set();
+        self.listening.shut();
+        self.shut(rt, Kind::Control, Shutdown::Read);
+        self.shut(rt, Kind::Ingress, Shutdown::Read);
+        self.pace.hurry();
+        self.watcher.unpark();
+    }
+
+    /// Ends the watch, since nothing is left to watch.
+    pub fn end_watch(&self) {
+        self.over.set();
+        self.watcher.unpark();
+    }
+
+    /// Waits until the end begins. Then it ends replies that are not written in time, and an uplink that takes nothing
+    /// for as long.
+    pub fn watch<R: Wait>(&self, rt: &R) {
+        self.watcher.park(rt);
+        let mut steps = self.wire.steps();
+        if self.rest(rt) {
+            return;
+        }
+        self.shut(rt, Kind::Control, Shutdown::Both);
+        for _ in rt.forever() {
+            let now = self.wire.steps();
+            if now == steps && now % 2 == 1 {
+                self.wire.tear();
+                return;
+            }
+            steps = now;
+            if self.rest(rt) {
+                return;
+            }
+        }
+    }
+
+    // Waits for `GRACE` rests, or until nothing is left to watch. Returns true if nothing is.
+    fn rest<R: Wait>(&self, rt: &R) -> bool {
+        for _ in 0..GRACE {
+            if self.over.is_set() {
+                return true;
+            }
+            self.watcher.park_timeout(rt, Duration::from_millis(REST));
+        }
+        self.over.is_set()
+    }
+}
+
+impl Attendant for Connections {
+    fn rests(&self) {
+        self.wire.push();
+    }
+
+    fn ends<R: Wait>(&self, rt: &R) {
+        self.end_link(rt);
+    }
+}
+
+// Reads to the end, and then ends the connections.
+fn end_at_end<R: Wait + Eprint, I: Read + Drop>(rt: &R, input: I, connections: &Connections) {
+    let mut input = input;
+    let mut buffer = [0u8; 256];
+    for _ in rt.forever() {
+        match input.read(&mut buffer) {
+            Ok(0) => break,
+            Ok(_) => (),
+            Err(fault) if fault.kind() == ErrorKind::Interrupted => (),
+            Err(_) => break,
+        }
+    }
+    drop(input);
+    connections.tell(rt, "standard input has ended");
+    connections.end(rt);
+}
+
+/// Starts a thread, which nobody waits for, that ends the connections at the end of standard input. Returns false if
+/// there is none.
+pub fn end_at_eof<R, I>(rt: &R, input: I, connections: &Arc<Connections>) -> bool
+where
+    R: Threads + Wait + Eprint + Copy + Send + 'static,
+    I: Read + Send + Drop + 'static,
+{
+    let Ok(theirs) = Arc::try_clone(connections) else {
+        return false;
+    };
+    let own = *rt;
+    let started = thread::spawn(rt, move || {
+        let input = input;
+        end_at_end(&own, input, &theirs)
+    });
+    started.is_ok()
+}
+
+/// A reader of a connection. Once the end has begun it gives at most `LAST_BYTES` bytes more, since a socket that is
+/// shut down for reading still gives what comes later.
+#[derive(Drop)]
+pub struct ConnectionReader<'a> {
+    pub stream: &'a TcpStream,
+    pub connections: &'a Connections,
+    left: usize,
+}
+
+impl<'a> ConnectionReader<'a> {
+    pub fn new(stream: &'a TcpStream, connections: &'a Connections) -> ConnectionReader<'a> {
+        ConnectionReader {
+            stream,
+            connections,
+            left: LAST_BYTES,
+        }
+    }
+}
+
+impl<'a> Read for ConnectionReader<'a> {
+    fn read(&mut self, buf: &mut [u8]) -> io::Result<usize> {
+        let mut stream = self.stream;
+        if !self.connections.is_ending() {
+            return stream.read(buf);
+        }
+        let most = buf.len().min(self.left);
+        let count = stream.read(&mut buf[..most])?;
+        self.left = self.left.saturating_sub(count);
+        Ok(count)
+    }
+}

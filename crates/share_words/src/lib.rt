@@ -1,7 +1,9 @@
 //! The words of the command line, what they ask for, and the texts of help.
 #![tactic(auto)]
 
+mod asked;
 mod help;
 mod words;
 
-pub use words::{Asked, Orders, ServeOrders, Word, parse};
+pub use asked::{Asked, Orders, ServeOrders, Word};
+pub use words::parse;

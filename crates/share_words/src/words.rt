@@ -2,16 +2,15 @@
 ghost use Rattle.std.specs.Prelude.{◌≡◌, ◌≢◌, ◌≤◌, None, IfOk, IsTrue};
 ghost use Rattle.clap.specs.Values.{kind_of};
 ghost use Rattle.share_core.specs.Life.{life_refusal};
-ghost use Rattle.share_words.specs.Orders.{CanBeServed};
+ghost use Rattle.share_words.specs.Orders.{CanBeObeyed};
 
+use crate::asked::{Asked, Orders, ServeOrders, Word};
 use crate::help;
 use clap::builder::ValueParser;
 use clap::error::ErrorKind;
 use clap::{Arg, ArgAction, ArgMatches, Command, value_parser};
 use share_core::MAX_LIFE;
 use std::alloc::{AllocError, Global};
-use std::fmt;
-use std::fmt::{Display, Formatter};
 
 /// The life of a link if the words give none.
 const LIFE: u64 = 65536;
@@ -51,51 +50,6 @@ const AUDIT_HELP: &str = "where the audit is written at the end";
 const UNTIL_EOF_HELP: &str = "end all connections where standard input ends";
 
 const VERBOSE_HELP: &str = "tell on standard error what happens";
-
-/// How a script is to be run.
-#[derive(Clone, Copy, Debug)]
-pub struct Orders<'a> {
-    /// The events of the link's life.
-    pub life: u64,
-    /// The file of the script; standard input if there is none.
-    pub file: Option<&'a str>,
-    /// Whether the run ends at the first refused line.
-    pub is_strict: bool,
-}
-
-/// How a link is to be served.
-#[derive(Clone, Copy, Debug)]
-pub struct ServeOrders<'a> {
-    /// Where ingress connections are accepted.
-    pub ingress: &'a str,
-    /// Where control connections are accepted.
-    pub control: &'a str,
-    /// Where the frames go.
-    pub uplink: &'a str,
-    /// The file of the audit.
-    pub audit: &'a str,
-    /// The events of the link's life.
-    pub life: u64,
-    /// How many ingress connections are accepted.
-    pub workers: u64,
-    /// How many control connections are accepted.
-    pub clerks: u64,
-    /// Whether the end of standard input ends the run.
-    pub is_until_eof: bool,
-    /// Whether standard error tells what happens.
-    pub is_verbose: bool,
-}
-
-/// What the words of the command line ask for.
-#[derive(Debug, Drop)]
-pub enum Asked<'a> {
-    /// To run a script.
-    Run(Orders<'a>),
-    /// To serve a link.
-    Serve(ServeOrders<'a>),
-    /// To show a text: help, the version, or what is wrong with the words.
-    Text(clap::Error),
-}
 
 // A word that is given or not.
 fn flag<'a>(alloc: Global, name: &'a str, help: &'a str) -> Arg<'a> {
@@ -241,9 +195,8 @@ fn is_count(count: u64) -> bool
 // What is wrong with numbers, if they are out of range. `clap` refuses these; but its contract says so only of the
 // arguments of a command, and not of those of a subcommand, so they are tested once more.
 fn out_of_range(asked: &Asked<'_>) -> Option<&'static str>
-    ensures run { result ≡ None → (orders : _) → asked.now ≡ Asked.Run orders → life_refusal orders.life ≡ None }
-    ensures serve { result ≡ None → (orders : _) → asked.now ≡ Asked.Serve orders
-        → CanBeServed orders.life orders.workers orders.clerks }
+    requires { (text : _) → asked.now ≢ Asked.Text text }
+    ensures { result ≡ None → CanBeObeyed asked.now }
 {
     match asked {
         Asked::Run(orders) if !is_life(orders.life) => Some(NO_LIFE),
@@ -273,11 +226,7 @@ fn asked_by<'a>(matches: &ArgMatches<'a>) -> Asked<'a>
 // What is asked for, if its numbers are in range, else a text that says what is wrong.
 fn in_range<'a>(command: &mut Command<'a>, asked: Asked<'a>) -> Result<Asked<'a>, AllocError>
     requires { (text : _) → asked ≢ Asked.Text text }
-    ensures text { IfOk result (λ asked. (text : _) → asked ≡ Asked.Text text → kind_of text ≢ ErrorKind.OutOfMemory) }
-    ensures life { IfOk result (λ asked. (orders : _) → asked ≡ Asked.Run orders
-        → life_refusal orders.life ≡ None) }
-    ensures served { IfOk result (λ asked. (orders : _) → asked ≡ Asked.Serve orders
-        → CanBeServed orders.life orders.workers orders.clerks) }
+    ensures { IfOk result CanBeObeyed }
 {
     match out_of_range(&asked) {
         None => Ok(asked),
@@ -287,11 +236,7 @@ fn in_range<'a>(command: &mut Command<'a>, asked: Asked<'a>) -> Result<Asked<'a>
 
 // What words ask for of a command line, which stays its caller's: a function that owns it would drop it in each way out.
 fn asked_of<'a>(command: &mut Command<'a>, words: &'a [String]) -> Result<Asked<'a>, AllocError>
-    ensures text { IfOk result (λ asked. (text : _) → asked ≡ Asked.Text text → kind_of text ≢ ErrorKind.OutOfMemory) }
-    ensures life { IfOk result (λ asked. (orders : _) → asked ≡ Asked.Run orders
-        → life_refusal orders.life ≡ None) }
-    ensures served { IfOk result (λ asked. (orders : _) → asked ≡ Asked.Serve orders
-        → CanBeServed orders.life orders.workers orders.clerks) }
+    ensures { IfOk result CanBeObeyed }
 {
     match command.try_get_matches_from_mut(words) {
         Ok(matches) => {
@@ -306,11 +251,7 @@ fn asked_of<'a>(command: &mut Command<'a>, words: &'a [String]) -> Result<Asked<
 
 // What the words ask for.
 fn read_words<'a>(alloc: Global, words: &'a [String]) -> Result<Asked<'a>, AllocError>
-    ensures text { IfOk result (λ asked. (text : _) → asked ≡ Asked.Text text → kind_of text ≢ ErrorKind.OutOfMemory) }
-    ensures life { IfOk result (λ asked. (orders : _) → asked ≡ Asked.Run orders
-        → life_refusal orders.life ≡ None) }
-    ensures served { IfOk result (λ asked. (orders : _) → asked ≡ Asked.Serve orders
-        → CanBeServed orders.life orders.workers orders.clerks) }
+    ensures { IfOk result CanBeObeyed }
 {
     let mut command = command_line(alloc)?;
     let asked = asked_of(&mut command, words);
@@ -324,29 +265,19 @@ fn has_control(words: &[String]) -> bool {
         .any(|word| word.as_str().chars().any(|c| c.is_control()))
 }
 
-/// A word of the command line, shown with its control characters escaped, as `\n` and `\u{1b}`.
-#[derive(Clone, Copy, Debug, PartialEq, Eq)]
-pub struct Word<'a>(pub &'a str);
-
-impl<'a> Display for Word<'a> {
-    fn fmt<W: fmt::Write>(&self, f: &mut Formatter<W>) -> fmt::Result {
-        for c in self.0.chars() {
-            if c.is_control() {
-                let escape = c.escape_default();
-                write!(f, "{escape}")?;
-            } else {
-                f.write_char(c)?;
-            }
-        }
-        Ok(())
-    }
-}
-
 fn escaped_text(alloc: Global, word: &str) -> Result<String, AllocError> {
     let mut text = String::new(alloc);
     let word = Word(word);
     write!(text, "{word}")?;
     Ok(text)
+}
+
+fn escaped_words(alloc: Global, words: &[String]) -> Result<Vec<String>, AllocError> {
+    let mut shown = Vec::with_capacity(alloc, words.len())?;
+    for word in words {
+        shown.push(escaped_text(alloc, word.as_str())?)?;
+    }
+    Ok(shown)
 }
 
 // What is wrong with words that have control characters, which are escaped in the text: `clap` writes a wrong word as
@@ -359,10 +290,7 @@ fn escaped_fault(
     requires { kind_of fault ≢ ErrorKind.OutOfMemory }
     ensures text { IfOk result (λ text. kind_of text ≢ ErrorKind.OutOfMemory) }
 {
-    let mut shown = Vec::with_capacity(alloc, words.len())?;
-    for word in words {
-        shown.push(escaped_text(alloc, word.as_str())?)?;
-    }
+    let shown = escaped_words(alloc, words)?;
     match read_words(alloc, shown.as_slice())? {
         Asked::Text(text) if text.use_stderr() => Ok(text),
         _ => Ok(fault),
@@ -380,21 +308,25 @@ fn readable(alloc: Global, words: &[String], text: clap::Error) -> Result<clap::
     Ok(text)
 }
 
+// A text that says that a word is not UTF-8.
+fn not_text(alloc: Global) -> Result<clap::Error, AllocError>
+    ensures { IfOk result (λ text. kind_of text ≢ ErrorKind.OutOfMemory) }
+{
+    let mut command = command_line(alloc)?;
+    let text = command.error(ErrorKind::InvalidValue, NOT_TEXT);
+    drop(command);
+    text
+}
+
 /// What the words ask for. `words` is `None` if one of them is not UTF-8, and then the answer is a text that says so.
 pub fn parse<'a>(alloc: Global, words: Option<&'a [String]>) -> Result<Asked<'a>, AllocError>
-    ensures text { IfOk result (λ asked. (text : _) → asked ≡ Asked.Text text → kind_of text ≢ ErrorKind.OutOfMemory) }
-    ensures life { IfOk result (λ asked. (orders : _) → asked ≡ Asked.Run orders
-        → life_refusal orders.life ≡ None) }
-    ensures served { IfOk result (λ asked. (orders : _) → asked ≡ Asked.Serve orders
-        → CanBeServed orders.life orders.workers orders.clerks) }
+    ensures { IfOk result CanBeObeyed }
 {
     let Some(words) = words else {
-        let mut command = command_line(alloc)?;
-        return Ok(Asked::Text(command.error(ErrorKind::InvalidValue, NOT_TEXT)?));
+        return Ok(Asked::Text(not_text(alloc)?));
     };
     match read_words(alloc, words)? {
         Asked::Text(text) => Ok(Asked::Text(readable(alloc, words, text)?)),
-        Asked::Run(orders) => Ok(Asked::Run(orders)),
-        Asked::Serve(orders) => Ok(Asked::Serve(orders)),
+        asked => Ok(asked),
     }
 }

@@ -8,7 +8,7 @@ use Rattle.share_model.specs.declared.writer.Answer.{Answer}
 use Rattle.share_model.specs.io.Told.{Told}
 use Rattle.share_server.specs.Shutdown.{WasServed}
 use Rattle.stridelink.specs.Serves.{HasServed}
-use Rattle.stridelink.specs.Statuses.{EndsStrictly, RanStrictly}
+use Rattle.stridelink.specs.Statuses.{EndsStrictly, OfSomeScript, RanStrictly}
 
 pub ran_strictly : {R S W E : Type 0} {gives : R → List ℕ → Got → R → Type 0} (over : R → S)
     {answers : W → List ℕ → Answer → W → Type 0} {mark : W → Bool} (script : S) (input rest : R) (output after : W)
@@ -35,3 +35,8 @@ has_served keep output after (Ok x) (Ok y) is was =
     record { keep = keep; output = output; after = after; served = was }
 has_served keep output after (Ok x) (Err fault) is was = absurd is
 has_served keep output after (Err fault) served is was = tt
+
+pub of_some_script : {S E : Type 0} {P : S → ExitCode → Type 0} (script : S) (result : Result ExitCode E)
+    → IfOk result (λ status. P script status) → IfOk result (λ status. OfSomeScript (λ script. P script status))
+of_some_script script (Ok status) holds = record { script = script; holds = holds }
+of_some_script script (Err fault) holds = tt

@@ -1,5 +1,5 @@
 -- The exit status of a run of a script, by how the run ended.
-use Rattle.std.specs.Prelude.{◌≡◌, ◌⊎◌, ◌^◌, ℕ, Bool, false, List}
+use Rattle.std.specs.Prelude.{◌≡◌, ◌⊎◌, ◌^◌, ℕ, Bool, true, false, List}
 use Rattle.std.specs.Process.{exit_status}
 use Rattle.std.specs.declared.process.ExitCode.{ExitCode}
 use Rattle.share_model.specs.declared.reader.Got.{Got}
@@ -37,3 +37,13 @@ pub record RanWhole {R S W : Type 0} (gives : R → List ℕ → Got → R → T
   pub reads : ReadsToEnd gives (2 ^ 32) input rest
   pub offers : Offers answers output after
   pub succeeds : exit_status status ≡ 0
+
+-- a run is strict if the words ask for that, and otherwise whole
+abbrev pub IsAsAsked : Bool → Type 0 → Type 0 → Type 0
+IsAsAsked true ran_strictly ran_whole = ran_strictly
+IsAsAsked false ran_strictly ran_whole = ran_whole
+
+-- this holds of some script
+pub record OfSomeScript {S : Type 0} (P : S → Type 0) : Type 0 where
+  pub script : S
+  pub holds : P script

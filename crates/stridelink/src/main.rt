@@ -1,7 +1,8 @@
 //! A link that shares its bandwidth among packet flows by tickets, driven by a script of lines or by sockets.
 #![tactic(auto)]
 
-ghost use Rattle.std.specs.Prelude.{◌≡◌, ◌≢◌, ◌⊎◌, None, true, false, IfOk, IfErr, MatchResult, IsOkAnd};
+ghost use Rattle.std.specs.Prelude.{◌≡◌, ◌≢◌, ◌⊎◌, None, IfOk, IfErr, IsNone, IsSome, MatchResult};
+ghost use Rattle.std.specs.Prelude.{IsOkAnd, false};
 ghost use Rattle.std.specs.Io.Buffered.{reader_inner};
 ghost use Rattle.std.specs.Process.{exit_status};
 ghost use Rattle.clap.specs.Values.{kind_of};
@@ -10,7 +11,7 @@ ghost use Rattle.share_script.specs.declared.script.ScriptFault.TheVariants.{Out
 ghost use Rattle.share_words.specs.Orders.{CanBeServed};
 ghost use Rattle.stridelink.specs.Rates.{program_rates};
 ghost use Rattle.stridelink.specs.Serves.{HasServed, IsStatusOfService};
-ghost use Rattle.stridelink.specs.Statuses.{EndsStrictly, RanStrictly, RanWhole};
+ghost use Rattle.stridelink.specs.Statuses.{EndsStrictly, IsAsAsked, OfSomeScript, RanStrictly, RanWhole};
 
 // The shelf of the program: tariffs 1 to 4. Their boxes are made in the body that uses it, which returns an error if
 // memory is refused.
@@ -35,7 +36,7 @@ use share_server::{AuditFile, Keep};
 use share_words::{Asked, Orders, ServeOrders, parse};
 use std::alloc::Global;
 use std::fs::{File, Files};
-use std::io::{BufReader, IsTerminal, Printer, Read};
+use std::io::{BufReader, IsTerminal, Printer, Read, StdinLock};
 use std::net::{Net, TcpListener, TcpStream};
 use std::process::ExitCode;
 use std::sync::Wait;
@@ -133,14 +134,13 @@ fn run_on_tariffs<P: Print + Eprint, S: Rates + Drop, R: Read + Drop>(
 ) -> Result<ExitCode, ScriptFault>
     requires rates { S.rates shelf ≡ program_rates }
     requires life { life_refusal orders.life ≡ None }
-    ensures strict { orders.is_strict ≡ true
-        → IfOk result (RanStrictly ⟦<LineReader<PlainReader<BufReader<R>>> as TellingReader>⟧.gives
+    ensures { IfOk result (λ status. IsAsAsked orders.is_strict
+        (RanStrictly ⟦<LineReader<PlainReader<BufReader<R>>> as TellingReader>⟧.gives
         (λ lines. reader_inner lines.input.0)
         ⟦<StrictWriter<PatientWriter<PlainWriter<Printer<'_, P>>>> as TellingWriter>⟧.answers
-        (λ w. w.is_refused) script) }
-    ensures plain { orders.is_strict ≡ false
-        → IfOk result (RanWhole ⟦<PlainReader<R> as TellingReader>⟧.gives (λ plain. plain.0)
-        ⟦<PatientWriter<PlainWriter<Printer<'_, P>>> as TellingWriter>⟧.answers script) }
+        (λ w. w.is_refused) script status)
+        (RanWhole ⟦<PlainReader<R> as TellingReader>⟧.gives (λ plain. plain.0)
+        ⟦<PatientWriter<PlainWriter<Printer<'_, P>>> as TellingWriter>⟧.answers script status)) }
 {
     if orders.is_strict {
         run_and_tell(rt, alloc, shelf, orders.life, script)
@@ -157,36 +157,73 @@ fn run_on_standard<P: Print + Eprint, R: Read + Drop>(
     script: R,
 ) -> Result<ExitCode, ScriptFault>
     requires { life_refusal orders.life ≡ None }
-    ensures strict { orders.is_strict ≡ true
-        → IfOk result (RanStrictly ⟦<LineReader<PlainReader<BufReader<R>>> as TellingReader>⟧.gives
+    ensures { IfOk result (λ status. IsAsAsked orders.is_strict
+        (RanStrictly ⟦<LineReader<PlainReader<BufReader<R>>> as TellingReader>⟧.gives
         (λ lines. reader_inner lines.input.0)
         ⟦<StrictWriter<PatientWriter<PlainWriter<Printer<'_, P>>>> as TellingWriter>⟧.answers
-        (λ w. w.is_refused) script) }
-    ensures plain { orders.is_strict ≡ false
-        → IfOk result (RanWhole ⟦<PlainReader<R> as TellingReader>⟧.gives (λ plain. plain.0)
-        ⟦<PatientWriter<PlainWriter<Printer<'_, P>>> as TellingWriter>⟧.answers script) }
+        (λ w. w.is_refused) script status)
+        (RanWhole ⟦<PlainReader<R> as TellingReader>⟧.gives (λ plain. plain.0)
+        ⟦<PatientWriter<PlainWriter<Printer<'_, P>>> as TellingWriter>⟧.answers script status)) }
 {
     let shelf = program_shelf!(alloc);
     run_on_tariffs(rt, alloc, shelf, orders, script)
 }
 
+// Runs the script that standard input brings.
+fn run_input(rt: &HostRuntime, orders: Orders<'_>) -> Result<ExitCode, ScriptFault>
+    requires { life_refusal orders.life ≡ None }
+    ensures { IfOk result (λ status. OfSomeScript (λ script. IsAsAsked orders.is_strict
+        (RanStrictly ⟦<LineReader<PlainReader<BufReader<StdinLock>>> as TellingReader>⟧.gives
+        (λ lines. reader_inner lines.input.0)
+        ⟦<StrictWriter<PatientWriter<PlainWriter<Printer<'_, HostRuntime>>>> as TellingWriter>⟧.answers
+        (λ w. w.is_refused) script status)
+        (RanWhole ⟦<PlainReader<StdinLock> as TellingReader>⟧.gives (λ plain. plain.0)
+        ⟦<PatientWriter<PlainWriter<Printer<'_, HostRuntime>>> as TellingWriter>⟧.answers script status))) }
+{
+    if rt.stdin().is_terminal() {
+        let _ = eprintln!(rt; "{AT_TERMINAL}");
+    }
+    run_on_standard(rt, rt.alloc(), orders, rt.reader())
+}
+
+// Runs the script of this file.
+fn run_file(rt: &HostRuntime, orders: Orders<'_>, path: &str) -> Result<ExitCode, ScriptFault>
+    requires { life_refusal orders.life ≡ None }
+    ensures { IfOk result (λ status. OfSomeScript (λ script. IsAsAsked orders.is_strict
+        (RanStrictly ⟦<LineReader<PlainReader<BufReader<File>>> as TellingReader>⟧.gives
+        (λ lines. reader_inner lines.input.0)
+        ⟦<StrictWriter<PatientWriter<PlainWriter<Printer<'_, HostRuntime>>>> as TellingWriter>⟧.answers
+        (λ w. w.is_refused) script status)
+        (RanWhole ⟦<PlainReader<File> as TellingReader>⟧.gives (λ plain. plain.0)
+        ⟦<PatientWriter<PlainWriter<Printer<'_, HostRuntime>>> as TellingWriter>⟧.answers script status))) }
+{
+    let Ok(file) = File::open(rt, path) else {
+        return Err(ScriptFault::Input);
+    };
+    run_on_standard(rt, rt.alloc(), orders, file)
+}
+
 // Runs the script that is asked for.
 fn run_given(rt: &HostRuntime, orders: Orders<'_>) -> Result<ExitCode, ScriptFault>
     requires { life_refusal orders.life ≡ None }
+    ensures input { IsNone orders.file → IfOk result (λ status. OfSomeScript (λ script. IsAsAsked orders.is_strict
+        (RanStrictly ⟦<LineReader<PlainReader<BufReader<StdinLock>>> as TellingReader>⟧.gives
+        (λ lines. reader_inner lines.input.0)
+        ⟦<StrictWriter<PatientWriter<PlainWriter<Printer<'_, HostRuntime>>>> as TellingWriter>⟧.answers
+        (λ w. w.is_refused) script status)
+        (RanWhole ⟦<PlainReader<StdinLock> as TellingReader>⟧.gives (λ plain. plain.0)
+        ⟦<PatientWriter<PlainWriter<Printer<'_, HostRuntime>>> as TellingWriter>⟧.answers script status))) }
+    ensures file { IsSome orders.file → IfOk result (λ status. OfSomeScript (λ script. IsAsAsked orders.is_strict
+        (RanStrictly ⟦<LineReader<PlainReader<BufReader<File>>> as TellingReader>⟧.gives
+        (λ lines. reader_inner lines.input.0)
+        ⟦<StrictWriter<PatientWriter<PlainWriter<Printer<'_, HostRuntime>>>> as TellingWriter>⟧.answers
+        (λ w. w.is_refused) script status)
+        (RanWhole ⟦<PlainReader<File> as TellingReader>⟧.gives (λ plain. plain.0)
+        ⟦<PatientWriter<PlainWriter<Printer<'_, HostRuntime>>> as TellingWriter>⟧.answers script status))) }
 {
     match orders.file {
-        None => {
-            if rt.stdin().is_terminal() {
-                let _ = eprintln!(rt; "{AT_TERMINAL}");
-            }
-            run_on_standard(rt, rt.alloc(), orders, rt.reader())
-        }
-        Some(path) => {
-            let Ok(file) = File::open(rt, path) else {
-                return Err(ScriptFault::Input);
-            };
-            run_on_standard(rt, rt.alloc(), orders, file)
-        }
+        None => run_input(rt, orders),
+        Some(path) => run_file(rt, orders, path),
     }
 }
 

@@ -2,7 +2,7 @@
 ghost use Rattle.std.specs.Prelude.{◌≡◌, ◌≢◌, ◌≤◌, None, IfOk, IsTrue};
 ghost use Rattle.clap.specs.Values.{kind_of};
 ghost use Rattle.share_core.specs.Life.{life_refusal};
-ghost use Rattle.share_words.specs.Orders.{CanBeObeyed};
+ghost use Rattle.share_words.specs.Orders.{CanBeObeyed, CanBeServed};
 
 use crate::asked::{Asked, Orders, ServeOrders, Word};
 use crate::help;
@@ -192,6 +192,29 @@ fn is_count(count: u64) -> bool
     count >= 1 && count <= MOST_CONNECTIONS
 }
 
+// What is wrong with the numbers of a run.
+fn wrong_run(orders: &Orders<'_>) -> Option<&'static str>
+    ensures { result ≡ None → life_refusal orders.now.life ≡ None }
+{
+    if is_life(orders.life) {
+        return None;
+    }
+    Some(NO_LIFE)
+}
+
+// What is wrong with the numbers of a server.
+fn wrong_service(orders: &ServeOrders<'_>) -> Option<&'static str>
+    ensures { result ≡ None → CanBeServed orders.now.life orders.now.workers orders.now.clerks }
+{
+    if !is_life(orders.life) {
+        return Some(NO_LIFE);
+    }
+    if is_count(orders.workers) && is_count(orders.clerks) {
+        return None;
+    }
+    Some(NO_CONNECTIONS)
+}
+
 // What is wrong with numbers, if they are out of range. `clap` refuses these; but its contract says so only of the
 // arguments of a command, and not of those of a subcommand, so they are tested once more.
 fn out_of_range(asked: &Asked<'_>) -> Option<&'static str>
@@ -199,12 +222,9 @@ fn out_of_range(asked: &Asked<'_>) -> Option<&'static str>
     ensures { result ≡ None → CanBeObeyed asked.now }
 {
     match asked {
-        Asked::Run(orders) if !is_life(orders.life) => Some(NO_LIFE),
-        Asked::Serve(orders) if !is_life(orders.life) => Some(NO_LIFE),
-        Asked::Serve(orders) if !is_count(orders.workers) || !is_count(orders.clerks) => Some(
-            NO_CONNECTIONS,
-        ),
-        _ => None,
+        Asked::Run(orders) => wrong_run(orders),
+        Asked::Serve(orders) => wrong_service(orders),
+        Asked::Text(_) => None,
     }
 }
 

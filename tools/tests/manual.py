@@ -57,7 +57,7 @@ def lint(run):
 def options(run):
     """Each option of the sources stands in the synopsis and has a paragraph, with the name of its value; and so have
     those of clap."""
-    words = source("stridelink", "words.rt")
+    words = source("share_words", "words.rt")
     flags = re.findall(r'\.long\("([a-z-]+)"\)\s*(?:\.value_name\("([A-Z]+)"\))?', words)
     required = re.findall(r'required\w*\(\s*alloc,\s*"([a-z-]+)",\s*"([A-Z]+)"', words)
     wanted = [("--%s %s" % option).strip() for option in flags + required]
@@ -85,7 +85,7 @@ def tool_options(run):
 
 def numbers(run):
     """The limits of the options, as the sources have them."""
-    words = source("stridelink", "words.rt")
+    words = source("share_words", "words.rt")
     most = int(re.search(r"MOST_CONNECTIONS: u64 = (\d+);", words).group(1))
     life = int(re.search(r"LIFE: u64 = (\d+);", words).group(1))
     limits = "1 or 2" if most == 2 else "1 to %d" % most
@@ -124,7 +124,7 @@ def told(run):
 
 def statuses(run):
     """Each status that help tells stands in the page."""
-    text = re.findall(r"Exit statuses:\n(.*?)\";", source("stridelink", "help.rt"), re.DOTALL)
+    text = re.findall(r"Exit statuses:\n(.*?)\";", source("share_words", "help.rt"), re.DOTALL)
     wanted = {status for part in text for status in re.findall(r"^  (\d)  ", part, re.MULTILINE)}
     shown = set(re.findall(r"^     (\d)  ", section(page(COMMANDS), "EXIT STATUS"), re.MULTILINE))
     expect_equal((len(text), shown), (2, wanted), "statuses")

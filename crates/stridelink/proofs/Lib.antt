@@ -1,3 +1,1 @@
-mod LineLemmas
-mod ProgramLemmas
-mod StrictLemmas
+mod EndLemmas

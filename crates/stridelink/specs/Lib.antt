@@ -1,7 +1,4 @@
-pub mod Lines
-pub mod LinesLaws
-pub mod Orders
-pub mod Program
-pub mod Strict
-pub mod StrictLaws
+pub mod Rates
+pub mod Serves
+pub mod Statuses
 pub mod Tariffs

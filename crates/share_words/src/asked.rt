@@ -1,0 +1,67 @@
+//! What the words of the command line ask for.
+
+use std::fmt;
+use std::fmt::{Display, Formatter};
+
+/// How a script is to be run.
+#[derive(Clone, Copy, Debug)]
+pub struct Orders<'a> {
+    /// The events of the link's life.
+    pub life: u64,
+    /// The file of the script; standard input if there is none.
+    pub file: Option<&'a str>,
+    /// Whether the run ends at the first refused line.
+    pub is_strict: bool,
+}
+
+/// How a link is to be served.
+#[derive(Clone, Copy, Debug)]
+pub struct ServeOrders<'a> {
+    /// Where ingress connections are accepted.
+    pub ingress: &'a str,
+    /// Where control connections are accepted.
+    pub control: &'a str,
+    /// Where the frames go.
+    pub uplink: &'a str,
+    /// The file of the audit.
+    pub audit: &'a str,
+    /// The events of the link's life.
+    pub life: u64,
+    /// How many ingress connections are accepted.
+    pub workers: u64,
+    /// How many control connections are accepted.
+    pub clerks: u64,
+    /// Whether the end of standard input ends the run.
+    pub is_until_eof: bool,
+    /// Whether standard error tells what happens.
+    pub is_verbose: bool,
+}
+
+/// What the words of the command line ask for.
+#[derive(Debug, Drop)]
+pub enum Asked<'a> {
+    /// To run a script.
+    Run(Orders<'a>),
+    /// To serve a link.
+    Serve(ServeOrders<'a>),
+    /// To show a text: help, the version, or what is wrong with the words.
+    Text(clap::Error),
+}
+
+/// A word of the command line, shown with its control characters escaped, as `\n` and `\u{1b}`.
+#[derive(Clone, Copy, Debug, PartialEq, Eq)]
+pub struct Word<'a>(pub &'a str);
+
+impl<'a> Display for Word<'a> {
+    fn fmt<W: fmt::Write>(&self, f: &mut Formatter<W>) -> fmt::Result {
+        for c in self.0.chars() {
+            if c.is_control() {
+                let escape = c.escape_default();
+                write!(f, "{escape}")?;
+            } else {
+                f.write_char(c)?;
+            }
+        }
+        Ok(())
+    }
+}

@@ -1,5 +1,0 @@
-use Rattle.stridelink.proofs.LineLemmas.{first_line}
-use Rattle.stridelink.proofs.lines.LineReader.new.Goals as goal
-
-pub returns-clause-line : goal.returns-clause-line
-returns-clause-line g c = first_line c.new.ensures

@@ -1,7 +1,5 @@
 //! share_tariff: worked units, the ranges of tariffs and shelves, and how often a stored closure is called. A function
 //! may not hand out boxed closures, so each body here makes its own.
-ghost use Rattle.std.specs.Prelude.{◌≡◌, ◌≤◌, ℕ};
-ghost use Rattle.share_model.specs.link.Tariff.{units_of};
 
 use crate::tests::allocator::{keeps_none, mark, refuse, took_none};
 use crate::tests::assertions::{holds, same};
@@ -76,39 +74,6 @@ fn shelves_number_their_tariffs(rt: HostRuntime) -> Result<(), Fail> {
         (2048, 1024, 3)
     );
     shows_all(&rt, &shelf);
-    drop(shelf);
-    Ok(())
-}
-
-// The units of so many bytes, counted cell by cell.
-fn units_by_steps(cell: u64, overhead: u64, count: u32) -> u64
-    requires some { 1 ≤ cell }
-    requires cell { cell ≤ 2048 }
-    requires overhead { overhead ≤ 1024 }
-    ensures { (price : ℕ) → result ≡ units_of (record { cell = cell; overhead = overhead; price = price }) count }
-{
-    if count == 0 {
-        return 0;
-    }
-    let mut covered = cell;
-    while covered < u64::from(count) {
-        covered += cell;
-    }
-    overhead + covered
-}
-
-#[test]
-fn a_charge_may_go_by_steps(rt: HostRuntime) -> Result<(), Fail> {
-    let alloc = rt.alloc();
-    let charge: ChargeFn = Box::new(alloc, |count: u32| -> u64 { units_by_steps(48, 16, count) })?;
-    let book: BookFn = Box::new(alloc, |account: u64, units: u64| -> u64 {
-        account_after(2, account, units)
-    })?;
-    let mut tariffs = Vec::with_capacity(alloc, 1)?;
-    tariffs.push(Tariff::new(48, 16, 2, charge, book)?)?;
-    let shelf = Shelf::new(tariffs)?;
-    let [_, (_, units, account), ..] = UNITS;
-    holds(&rt, "by steps", shows(&shelf, 1, units, account));
     drop(shelf);
     Ok(())
 }

@@ -1,6 +1,6 @@
 use Rattle.std.proofs.Common.{◌+◌, ◌∙◌, ap, arith}
 use Rattle.parts_tests.proofs.CellLemmas.{one_more, covered-units}
-use Rattle.parts_tests.proofs.tests.tariff.units_by_steps.Goals as goal
+use Rattle.parts_tests.proofs.tests.steps.units_by_steps.Goals as goal
 
 pub loop-covered-preserved : goal.loop-covered-preserved
 loop-covered-preserved c =

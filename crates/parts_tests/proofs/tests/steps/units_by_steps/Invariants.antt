@@ -1,5 +1,5 @@
 use Rattle.std.proofs.Common.{◌≡◌, ◌<◌, ◌+◌, ◌*◌, ◌-◌, ℕ}
-use Rattle.parts_tests.proofs.tests.tariff.units_by_steps.Given as goal
+use Rattle.parts_tests.proofs.tests.steps.units_by_steps.Given as goal
 
 -- whole cells are covered, the last of them begun within the bytes
 abbrev pub invariant-loop-covered : goal.invariant-loop-covered

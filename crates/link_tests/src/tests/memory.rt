@@ -273,7 +273,12 @@ fn takes_no_memory(rt: &impl Abort, alloc: Global, said: &mut Said, link: &mut H
     takes_none(rt, "a call", alloc);
     same(rt, "what is read", (shown, counted), (true, (14, 0)));
     same(rt, "a turn of another writer", lent, Turn::Broken);
-    same(rt, "the version", (version, has_room), (Version::One, false));
+    same(
+        rt,
+        "the version",
+        (version, has_room),
+        (Version::One, false),
+    );
 }
 
 const FUNDED: &str = "open a 2 1 = flow 1; mktkt 10 base = ticket 1; fund 1 flow a = ok";

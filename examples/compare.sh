@@ -1,7 +1,7 @@
 #!/usr/bin/env bash
-# Runs each script of this folder through the built program, in the life of the file NAME.life where there is one. What
-# it prints has to be the file NAME.output, its status that of the file NAME.status (0 where there is none), and a run
-# with status 0 prints nothing on standard error.
+# Runs each script of this folder through the built program, in the life of the file NAME.life if there is one. What it
+# prints has to be the file NAME.output, its status that of the file NAME.status (0 if there is none), and a run with
+# status 0 prints nothing on standard error. Each row of new-links.rows runs on a link of its own.
 set -u
 cd "$(dirname "$0")" || exit 1
 folder=$(mktemp -d) || exit 1
@@ -26,6 +26,12 @@ for script in *.script; do
     diff "$folder/output" "$name.output" >&2 || wrong "$name" "prints something else"
     [[ $status -ne 0 || ! -s $folder/said ]] || wrong "$name" "says '$(< "$folder/said")'"
 done
+# Each row of new-links.rows is a script, its lines joined by '; ', and what these are answered. None writes a byte.
+while read -r row; do
+    asked=${row% => *} wanted=${row#* => }
+    diff <(../bin/stridelink run <<< "${asked//; /$'\n'}") <(printf '%s\nout -\n' "${wanted//; /$'\n'}") >&2 ||
+        { echo "examples/new-links.rows: '$asked' prints something else" >&2; failed=1; }
+done < new-links.rows
 # A script and the audit of its link print the same report and the same bytes.
 for audit in *-audit.output; do
     name=${audit%-audit.output}

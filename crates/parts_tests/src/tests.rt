@@ -7,5 +7,6 @@ mod flows;
 mod frame;
 mod ledger;
 mod model;
+mod steps;
 mod stride;
 mod tariff;

@@ -163,6 +163,7 @@ fn calls_take_none(
         journal.entry(31).is_none(),
         recorder.life(),
     );
+    let versions = (journal.version(), recorder.engine().version());
     takes_none(rt, "a call", alloc);
     same(
         rt,
@@ -170,6 +171,8 @@ fn calls_take_none(
         (audited, shown),
         (Ok(()), (30, true, SPENT)),
     );
+    let version = VERSIONS[place.min(1)];
+    same(rt, "the versions", versions, (version, version));
     drop(tape);
 }
 

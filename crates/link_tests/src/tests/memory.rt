@@ -13,7 +13,7 @@ use super::allocator::{
 use super::assertions::same;
 use super::talk::{Said, bring, said, talk};
 use super::tariffs::Four;
-use share_base::{Body, FlowNo, Refusal, Reply, Version};
+use share_base::{Body, FlowNo, Name, Refusal, Reply, Turn, Version};
 use share_core::Engine;
 use share_model::{PlainWriter, Rates};
 use std::alloc::Global;
@@ -151,6 +151,21 @@ fn gives_its_writer(rt: &impl Abort, alloc: Global, tokens: &Tokens) {
     keeps_none(rt, "the link", alloc);
 }
 
+// The writer is given back with the buffers, and all else is dropped.
+fn gives_its_parts(rt: &impl Abort, alloc: Global, tokens: &Tokens) {
+    mark(alloc);
+    let link = tokens.engine(rt, alloc, 1).expect(rt, "a link");
+    refuse_each(alloc);
+    let (writer, buffers) = link.into_parts();
+    let waiting = buffers.len(FlowNo(1));
+    takes_none(rt, "parts", alloc);
+    same(rt, "parts", waiting, 0);
+    drop(buffers);
+    tokens.are_held(rt, "parts", (false, true));
+    drop(writer);
+    keeps_none(rt, "parts", alloc);
+}
+
 /// The commands that take memory, and how many requests each makes on a new link: a flow one for its ring and four for
 /// the table of flows, a currency four for the table of currencies, a ticket one for that of tickets.
 const GROWING: [(&str, u16); 3] = [
@@ -252,8 +267,18 @@ fn takes_no_memory(rt: &impl Abort, alloc: Global, said: &mut Said, link: &mut H
     talk(rt, alloc, said, link, TAKE_NONE);
     let shown = link.row(0).is_none() && link.writer().0.calls == 3;
     let counted = (link.totals().bytes, link.global().tickets);
+    let has_room = link.has_room(Name::read(b"a").expect(rt, "a name"));
+    let lent = link.turn_into(&mut PlainWriter(io::sink()), 1);
+    let version = link.version();
     takes_none(rt, "a call", alloc);
     same(rt, "what is read", (shown, counted), (true, (14, 0)));
+    same(rt, "a turn of another writer", lent, Turn::Broken);
+    same(
+        rt,
+        "the version",
+        (version, has_room),
+        (Version::One, false),
+    );
 }
 
 const FUNDED: &str = "open a 2 1 = flow 1; mktkt 10 base = ticket 1; fund 1 flow a = ok";
@@ -341,6 +366,7 @@ fn what_is_not_kept_is_dropped_and_calls_take_no_memory(rt: HostRuntime) {
     lives_are_out_of_range(&rt, alloc, &tokens);
     is_refused_memory(&rt, alloc, &tokens);
     gives_its_writer(&rt, alloc, &tokens);
+    gives_its_parts(&rt, alloc, &tokens);
     finds_memory_at_last(&rt, alloc, &mut said, &tokens);
     for (case, life) in CASES {
         let mut link = tokens.engine(&rt, alloc, life).expect(&rt, "a link");

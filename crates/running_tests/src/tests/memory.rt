@@ -33,17 +33,19 @@ const GROWING: [(&str, u16); 3] = [
     ("C1 mktkt 10 base = 1 ticket 1", 1),
 ];
 
-/// A flow with a funding ticket, a ticket that funds a currency, and more room for receipts than the other rows need.
+/// A flow with a funding ticket, a ticket that funds a currency, and room for as many receipts as the other rows need.
 const READY: &str = "\
     C1 mkcur x = 4 ok; C1 amend 1 9; C1 amend 1 9; C1 amend 1 9; C1 amend 1 9; C1 amend 1 9; C1 amend 1 9; \
     C1 amend 1 9; C1 amend 1 9; C1 amend 1 9; C1 amend 1 9; C1 amend 1 9; C1 amend 1 9; C1 amend 1 9; \
     C1 amend 1 9; C1 amend 1 9; C1 mktkt 10 base = 20 ticket 2; C1 fund 2 cur x = 21 ok";
 
-/// Offers, admissions, turns, the commands that change no table but the funding, and those that remove what there is.
+/// Offers, admissions, turns, a hold, the commands that change no table but the funding, and those that remove what
+/// there is.
 const TAKE_NONE: &str = "\
-    E1 a a = 1; admit = 1 1 packet 1 1; admit = empty; turn 65535 = wrote 1 1 18 whole; turn 65535 = idle; \
-    C1 unfund 2 = 24 ok; C1 fund 2 cur x = 25 ok; C1 unfund 2 = 26 ok; C1 rmtkt 2 = 27 ok; C1 rmcur x = 28 ok; \
-    C1 unfund 1 = 29 ok; C1 fund 1 flow a = 30 ok; C1 close a = 31 closed 1 0 18; entries = 31; capacity = 2; \
+    E1 a a = 1; admit = 1 1 packet 1 1; admit = empty; C1 hold a = 23 ok; turn 65535 = idle; \
+    C1 amend 1 12 = 24 ok; C1 resume a = 25 ok; turn 65535 = wrote 1 1 18 whole; turn 65535 = idle; \
+    C1 unfund 2 = 27 ok; C1 fund 2 cur x = 28 ok; C1 unfund 2 = 29 ok; C1 rmtkt 2 = 30 ok; C1 rmcur x = 31 ok; \
+    C1 unfund 1 = 32 ok; C1 fund 1 flow a = 33 ok; C1 close a = 34 closed 1 0 18; entries = 34; capacity = 2; \
     clerk = 2";
 
 /// Of long packets, which do not stand in the place of a payload, one is sent, two stay in the queue, and one comes

@@ -10,5 +10,6 @@ pub mod OutboxHistory
 pub mod OutboxRows
 pub mod OutboxTold
 pub mod Plan
+pub mod PlanChanges
 pub mod Planned
 pub mod Records

@@ -57,10 +57,10 @@ number_kept name f b (e ∷ es) =
 
 -- ---- The buffer of a flow
 
-pushed : (bs : List Buffer) (f : ℕ) (p : List ℕ) → buffer_of (push_in bs f p) f ≡ option_map (with_packet p) (buffer_of bs f)
+pub pushed : (bs : List Buffer) (f : ℕ) (p : List ℕ) → buffer_of (push_in bs f p) f ≡ option_map (with_packet p) (buffer_of bs f)
 pushed bs f p = find-change_first (is_buffer_of f) (with_packet p) (λ b own. own) bs
 
-popped : (bs : List Buffer) (f : ℕ) → buffer_of (pop_in bs f) f ≡ option_map without_head (buffer_of bs f)
+pub popped : (bs : List Buffer) (f : ℕ) → buffer_of (pop_in bs f) f ≡ option_map without_head (buffer_of bs f)
 popped bs f = find-change_first (is_buffer_of f) without_head (λ b own. own) bs
 
 places_more : (limit : ℕ) (ps : List (List ℕ)) (p : List ℕ) → not (nat_le limit (length ps)) ≡ true
@@ -85,7 +85,7 @@ places_push bs (Some e) p free =
     places_pushed p (buffer_of bs e.number) free ∙ ap (λ o. suc (places_by o)) (sym (pushed bs e.number p))
 
 -- one place fewer is left for a tenant after a packet of it
-places_after : (l : Live) (name : NameBytes) (p : List ℕ) → has_room l name ≡ true
+pub places_after : (l : Live) (name : NameBytes) (p : List ℕ) → has_room l name ≡ true
     → places_for l name ≡ suc (places_for (accept l (named_number l name) p) name)
 places_after l name p free =
     places_push l.buffers (flow_named l.graph name) p free
@@ -98,7 +98,7 @@ places_after l name p free =
 abbrev pub popped_from : ClosedView → NameBytes → ClosedView
 popped_from c name = record c { buffers = pop_in c.buffers (tenant_flow c.plan name) }
 
-left_after : (c : ClosedView) (name : NameBytes) → left_for (popped_from c name) name ≡ drop 1 (left_for c name)
+pub left_after : (c : ClosedView) (name : NameBytes) → left_for (popped_from c name) name ≡ drop 1 (left_for c name)
 left_after c name =
     ap packets_by (popped c.buffers (tenant_flow c.plan name))
     ∙ packets_popped (buffer_of c.buffers (tenant_flow c.plan name))
@@ -163,7 +163,7 @@ head_list : (b : Buffer) (ps : List (List ℕ)) (p : List ℕ)
 head_list b [] p is = cc
 head_list b (q ∷ ps) p is = ap (λ q. q ∷ ps) (same_Some q p is)
 
-head_packets : (o : Option Buffer) (p : List ℕ)
+pub head_packets : (o : Option Buffer) (p : List ℕ)
     → option_map (λ (h : Packet). h.payload) (option_and_then head_of_buffer o) ≡ Some p
     → packets_by o ≡ p ∷ drop 1 (packets_by o)
 head_packets None p is = cc
@@ -220,7 +220,7 @@ textless-carried a c name lacks =
     fitting_none a.kind (text_room a.text) (take (a.link.life - a.link.live.counts.events) (due_for a c name)) lacks
 
 -- a packet that waits is due where there is room
-count_packets : (o : Option Buffer) → count_by o ≡ length (packets_by o)
+pub count_packets : (o : Option Buffer) → count_by o ≡ length (packets_by o)
 count_packets None = refl
 count_packets (Some b) = refl
 
@@ -240,7 +240,7 @@ places_none : (o : Option Buffer) → has_place o ≡ false → places_by o ≡ 
 places_none None free = refl
 places_none (Some b) free = grind (arith, nat_tests)
 
-room_by : (bs : List Buffer) (o : Option OpenFlow) → has_room_by bs o ≡ has_place (buffer_by bs (number_in o))
+pub room_by : (bs : List Buffer) (o : Option OpenFlow) → has_room_by bs o ≡ has_place (buffer_by bs (number_in o))
 room_by bs None = refl
 room_by bs (Some e) = refl
 

@@ -13,7 +13,8 @@ use std::process::Abort;
 const EVENTS: u64 = 131072;
 
 /// The lines of the opening of the two tenants.
-const OPENING: &str = "mkcur x\nopen a 4 1\nopen b 4 1\nmktkt 1000 base\nfund 1 cur x\nmktkt 1 x\nfund 2 flow a\n\
+const OPENING: &str =
+    "mkcur x\nopen a 4 1\nopen b 4 1\nmktkt 1000 base\nfund 1 cur x\nmktkt 1 x\nfund 2 flow a\n\
     mktkt 2 x\nfund 3 flow b\n";
 
 /// The frame of the first packet of b, `c`.
@@ -61,7 +62,14 @@ fn is_text(text: &[u8], first: &str, second: &str, third: &str) -> bool {
 }
 
 // Takes a packet, which has this number.
-fn takes(rt: &impl Abort, alloc: Global, book: &mut Book<Four>, word: &str, payload: &[u8], seq: u32) {
+fn takes(
+    rt: &impl Abort,
+    alloc: Global,
+    book: &mut Book<Four>,
+    word: &str,
+    payload: &[u8],
+    seq: u32,
+) {
     let taken = book.take(alloc, named(rt, word), payload);
     same(rt, seq, taken, Taken::Packet { seq });
 }
@@ -103,7 +111,11 @@ fn works(rt: &impl Abort, alloc: Global, text: &Text, outbox: &mut Outbox) {
     same(rt, text.first, book.turn(outbox), wrote);
     sends(rt, text.first, outbox, FRAME.as_slice());
     counts(rt, text.first, &book);
-    holds(rt, text.first, is_text(book.text(), text.first, OPENING, text.lines));
+    holds(
+        rt,
+        text.first,
+        is_text(book.text(), text.first, OPENING, text.lines),
+    );
     drain(&mut book);
     holds(rt, text.first, book.text().is_empty());
     drop(book);
@@ -120,7 +132,12 @@ fn a_book_is_its_events_and_their_lines(rt: HostRuntime) {
 
 // What control lines are answered, and their lines.
 fn changes(rt: &impl Abort, book: &mut Book<Four>) {
-    let (a, b, x, z) = (named(rt, "a"), named(rt, "b"), named(rt, "x"), named(rt, "z"));
+    let (a, b, x, z) = (
+        named(rt, "a"),
+        named(rt, "b"),
+        named(rt, "x"),
+        named(rt, "z"),
+    );
     let no = Reply::Refused;
     same(rt, "hold a", book.hold(a), Reply::Done);
     same(rt, "hold b again", book.hold(b), no(Refusal::Held));
@@ -128,9 +145,19 @@ fn changes(rt: &impl Abort, book: &mut Book<Four>) {
     same(rt, "hold z", book.hold(z), no(Refusal::NoFlow));
     same(rt, "amend x 1", book.amend(x, 1, 500), Reply::Done);
     same(rt, "amend b 1", book.amend(b, 1, 7), Reply::Done);
-    same(rt, "amend b 1 out of range", book.amend(b, 1, 0), no(Refusal::Range));
+    same(
+        rt,
+        "amend b 1 out of range",
+        book.amend(b, 1, 0),
+        no(Refusal::Range),
+    );
     same(rt, "amend b 2", book.amend(b, 2, 7), no(Refusal::NoTicket));
-    same(rt, "amend z 1", book.amend(z, 1, 7), no(Refusal::NoCurrency));
+    same(
+        rt,
+        "amend z 1",
+        book.amend(z, 1, 7),
+        no(Refusal::NoCurrency),
+    );
 }
 
 // The plan is as it was changed.
@@ -152,7 +179,11 @@ fn changes_are_events_and_change_the_plan(rt: HostRuntime) {
     let mut book = opened(&rt, rt.alloc(), true, TextKind::Whole);
     let lines = book.text().strip_prefix(b"audit 2\n".as_slice());
     let lines = lines.and_then(|lines| lines.strip_prefix(OPENING.as_bytes()));
-    holds(&rt, "the opening", lines.is_some_and(|lines| lines == b"hold b\n".as_slice()));
+    holds(
+        &rt,
+        "the opening",
+        lines.is_some_and(|lines| lines == b"hold b\n".as_slice()),
+    );
     drain(&mut book);
     changes(&rt, &mut book);
     let lines = b"hold a\nhold b\nresume b\nhold z\namend 1 500\namend 3 7\namend 3 0\n";

@@ -6,3 +6,4 @@ pub mod OutboxLemmas
 pub mod PlanChangeLemmas
 pub mod PlannedLemmas
 pub mod RecordsLemmas
+pub mod TicketLemmas

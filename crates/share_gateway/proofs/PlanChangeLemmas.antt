@@ -1,15 +1,16 @@
--- A plan whose holds change stays in its limits.
-use Rattle.std.specs.Prelude.{◌≡◌, ◌<◌, ◌≤◌, ◌+◌, ◌*◌, ℕ, Bool, true, List, [], ◌∷◌, length, map, sum_by, nat_le, nat_lt, if◌then◌else◌}
+-- A plan whose holds or amounts change stays in its limits.
+use Rattle.std.specs.Prelude.{◌≡◌, ◌<◌, ◌≤◌, ◌+◌, ◌*◌, ℕ, zero, suc, Bool, true, List, [], ◌∷◌, length, map, sum_by, nat_le, nat_lt, if◌then◌else◌}
 use Rattle.std.specs.List.{list_all}
-use Rattle.std.proofs.Common.{refl, ap, sym, ◌∙◌, arith}
+use Rattle.std.proofs.Common.{refl, ap, sym, ◌∙◌, arith, get_or, slice_set}
 use Rattle.std.proofs.lemmas.Bool.{cond_both}
 use Rattle.std.proofs.lemmas.Bool.Decides.{nat_tests}
 use Rattle.std.proofs.lemmas.List.{length-map}
 use Rattle.share_model.specs.funding.Graph.{NameBytes}
 use Rattle.share_model.specs.lists.Change.{change_first}
-use Rattle.share_model.proofs.lemmas.lists.Laws.{map-change_first}
-use Rattle.share_gateway.specs.PlanChanges.{is_tenant}
-use Rattle.share_gateway.specs.PlanChanges.{held_as, with_hold}
+use Rattle.share_model.proofs.lemmas.lists.Laws.{length-change_first, map-change_first}
+use Rattle.share_gateway.specs.declared.plan.Grant.{Grant}
+use Rattle.share_gateway.specs.PlanChanges.{is_tenant, held_as, with_hold, amend_at, currency_amended, tenant_amended}
+use Rattle.share_gateway.specs.Plan.{has_name}
 use Rattle.share_gateway.specs.Plan.{PlanView, CurrencyView, TenantView, IsInLimits, ascends, are_flow_numbers, flows_of}
 use Rattle.share_gateway.proofs.OpeningLemmas.{both}
 
@@ -52,3 +53,55 @@ few_tenants p limits =
     let parts = both (ascends 0 (flows_of p.tenants)) (list_all (λ m. nat_le m 1024) (flows_of p.tenants)) limits.flows in
     let few = few_flows 0 (flows_of p.tenants) parts.0 parts.1 (omega arith) in
     omega (arith, few, length-map p.tenants (λ (t : TenantView). t.flow))
+
+-- ---- Amounts
+
+length-amended : (index amount : ℕ) (gs : List Grant) → length (amend_at index amount gs) ≡ length gs
+length-amended index amount [] = refl
+length-amended zero amount (g ∷ gs) = refl
+length-amended (suc index) amount (g ∷ gs) = ap suc (length-amended index amount gs)
+
+module _ (name : NameBytes) (index amount : ℕ) (p : PlanView) (was : IsInLimits p) where
+  pub limits-currency : IsInLimits (record p {
+    currencies = change_first (has_name name) (currency_amended index amount) p.currencies;
+  })
+  limits-currency = record {
+    flows = was.flows;
+    funding =
+        ap (λ n. nat_le (n + 2 * (sum_by (λ (c : CurrencyView). length c.grants)
+        (change_first (has_name name) (currency_amended index amount) p.currencies)
+        + sum_by (λ (t : TenantView). length t.grants) p.tenants)) 65536)
+        (length-change_first (has_name name) (currency_amended index amount) p.currencies)
+        ∙ ap (λ n. nat_le (length p.currencies + 2 * (n + sum_by (λ (t : TenantView). length t.grants) p.tenants)) 65536)
+        (sum_kept (λ (c : CurrencyView). length c.grants) (has_name name) (currency_amended index amount)
+        (λ c. length-amended index amount c.grants) p.currencies)
+        ∙ was.funding;
+  }
+
+  pub limits-tenant : IsInLimits (record p {
+    tenants = change_first (is_tenant name) (tenant_amended index amount) p.tenants;
+  })
+  limits-tenant = record {
+    flows =
+        ap are_flow_numbers (map-change_first (λ (t : TenantView). t.flow) (is_tenant name) (tenant_amended index amount)
+        (λ t. refl) p.tenants)
+        ∙ was.flows;
+    funding =
+        ap (λ n. nat_le (length p.currencies + 2 * (sum_by (λ (c : CurrencyView). length c.grants) p.currencies + n)) 65536)
+        (sum_kept (λ (t : TenantView). length t.grants) (is_tenant name) (tenant_amended index amount)
+        (λ t. length-amended index amount t.grants) p.tenants)
+        ∙ was.funding;
+  }
+
+-- the grant of the index is set
+pub amended-at : (index amount : ℕ) (gs : List Grant) (g : Grant) → index < length gs → g ≡ get_or gs index g
+    → slice_set gs index (record g { amount = amount }) ≡ amend_at index amount gs
+amended-at index amount [] g few is = absurd (omega (arith, few))
+amended-at zero amount (h ∷ gs) g few is = ap (λ (g : Grant). record g { amount = amount } ∷ gs) is
+amended-at (suc index) amount (h ∷ gs) g few is =
+    ap (λ gs. h ∷ gs) (amended-at index amount gs g (omega (arith, few)) is)
+
+pub unamended-at : (index amount : ℕ) (gs : List Grant) → length gs ≤ index → amend_at index amount gs ≡ gs
+unamended-at index amount [] past = refl
+unamended-at zero amount (g ∷ gs) past = absurd (omega (arith, past))
+unamended-at (suc index) amount (g ∷ gs) past = ap (λ gs. g ∷ gs) (unamended-at index amount gs (omega (arith, past)))

@@ -1,5 +1,6 @@
 pub mod ByteQueue
 pub mod Frames
+pub mod GrantTickets
 pub mod Making
 pub mod Opened
 pub mod Opening

@@ -3,7 +3,7 @@ ghost use Rattle.std.specs.Prelude.{◌≡◌, false, true};
 ghost use Rattle.share_base.specs.declared.command.Command.TheVariants.{Hold, Resume};
 ghost use Rattle.share_book.specs.Audited.{lacks_text};
 ghost use Rattle.share_gateway.specs.PlanChanges.{with_hold};
-ghost use Rattle.share_book.specs.Changes.{Changes, is_done};
+ghost use Rattle.share_book.specs.Changes.{Amends, Changes, IsChange, is_done, plan_after};
 
 use super::Book;
 use share_base::{Command, Name, Refusal, Reply};
@@ -38,6 +38,28 @@ impl<S: Rates> Book<S> {
         let reply = self.audited.command(Command::Resume(tenant));
         if is_done(&reply) {
             self.plan.set_held(tenant, false);
+        }
+        reply
+    }
+
+    /// Amends a grant, numbered from 1, of a currency or a tenant: its ticket has this amount, and so has the grant of
+    /// the plan. Refusals, in order: `Spent`; `NoCurrency` if neither has the name; `NoTicket` if it has fewer grants,
+    /// which are no events; and `Range` unless the amount is 1 to 2^20, which is one. It takes no memory. The condition:
+    /// the text has room for a line.
+    pub fn amend(&mut self, name: Name, number: u64, amount: u64) -> Reply
+        requires { lacks_text self.old.audited ≡ false }
+        ensures { Amends self.old name number amount result self.new }
+    {
+        if self.audited.engine().spent() {
+            return Reply::Refused(Refusal::Spent);
+        }
+        let ticket = match self.plan.ticket_of(name, number) {
+            Ok(ticket) => ticket,
+            Err(why) => return Reply::Refused(why),
+        };
+        let reply = self.audited.command(Command::Amend { ticket, amount });
+        if is_done(&reply) {
+            self.plan.set_amount(name, number as usize - 1, amount);
         }
         reply
     }

@@ -2,6 +2,7 @@
 -- wait.
 use Rattle.std.specs.Prelude.{◌≡◌, ◌⊎◌, ◌<◌, ◌≤◌, ◌+◌, ◌-◌, ℕ, Bool, true, false, not, List, [], ◌∷◌, ◌++◌, length}
 use Rattle.std.specs.Prelude.{take, drop, find, nat_eq, nat_le, bytes_eq, Option, None, Some, is_some, MatchOption, MatchBool}
+use Rattle.std.specs.Prelude.{MatchResult, Result, Ok, Err}
 use Rattle.std.specs.Prelude.{if◌then◌else◌}
 use Rattle.std.specs.List.{fold, list_all}
 use Rattle.std.proofs.Common.{refl, ap, sym, ◌∙◌, subst, arith, inl, inr, append_assoc, length-append}
@@ -11,12 +12,14 @@ use Rattle.std.proofs.lemmas.List.{append-nil, take_all, drop_all}
 use Rattle.std.proofs.Math.Seq.{take-append_seam, drop-append_seam}
 use Rattle.share_base.specs.Body.{unstamped, is_payload_length}
 use Rattle.share_base.specs.declared.command.Command.{Command}
+use Rattle.share_base.specs.declared.command.Command.TheVariants.{Hold, Resume, Amend}
 use Rattle.share_base.specs.declared.command.Event.TheVariants.{Arrived, Commanded, Written}
 use Rattle.share_base.specs.declared.command.Outcome.{Outcome}
 use Rattle.share_base.specs.declared.command.Outcome.TheVariants.{Replied}
 use Rattle.share_base.specs.declared.command.Reply.{Reply}
 use Rattle.share_base.specs.declared.command.Reply.TheVariants.{Refused}
 use Rattle.share_base.specs.declared.command.Turn.{Turn}
+use Rattle.share_base.specs.declared.refusal.Refusal.{Refusal}
 use Rattle.share_base.specs.declared.refusal.Refusal.TheVariants.{Spent as SpentRefusal}
 use Rattle.share_core.specs.Room.{has_room}
 use Rattle.share_model.specs.declared.rates.Rate.{Rate}
@@ -32,15 +35,16 @@ use Rattle.share_model.proofs.lemmas.link.TurnLaws.{written-step}
 use Rattle.share_gateway.specs.Opened.{first_refused, opened_link}
 use Rattle.share_gateway.specs.Outbox.{OutboxView}
 use Rattle.share_gateway.specs.Plan.{PlanView, TenantView, IsInLimits, are_flow_numbers, ascends, flows_of}
-use Rattle.share_gateway.specs.PlanChanges.{is_tenant, flow_by, tenant_flow}
+use Rattle.share_gateway.specs.PlanChanges.{is_tenant, flow_by, tenant_flow, with_hold, with_amount}
+use Rattle.share_gateway.specs.GrantTickets.{grant_ticket}
 use Rattle.share_gateway.specs.Planned.{HoldsPlan}
 use Rattle.share_book.specs.Audited.{Audited, after_event, outcome_in, lacks_text}
 use Rattle.share_book.specs.Book.{BookView, first_of, Takes, TakesPacket, Turns, SendsNext, SendsFrame}
 use Rattle.share_book.specs.BookHistory.{waiting_in, tenant_limit, limit_by, CarriesAll, all_done, then_more, IsCut}
-use Rattle.share_book.specs.BookHistory.{payload_if, next_payload, is_control, KeepsTenants, without_last, drained_by}
-use Rattle.share_book.specs.BookHistory.{History, opened, took, sent, changed, drained, carried}
+use Rattle.share_book.specs.BookHistory.{payload_if, next_payload, without_last, drained_by}
+use Rattle.share_book.specs.BookHistory.{History, opened, took, sent, held, resumed, amended, drained, carried}
 use Rattle.share_book.specs.Carry.{Carrying, carry_all, carry_next, carry_answer, Carries, left_for, left_in, packets_by}
-use Rattle.share_book.specs.Changes.{Changes, is_done, plan_after}
+use Rattle.share_book.specs.Changes.{Changes, Amends, IsChange, is_done, plan_after}
 use Rattle.share_book.specs.Closed.{ClosedView, closed_of}
 use Rattle.share_book.specs.OpenBook.{IsOpenBook}
 use Rattle.share_book.specs.Sends.{lacks_room}
@@ -59,7 +63,8 @@ use Rattle.share_book.specs.declared.book.carrying.Carried.{Carried}
 use Rattle.share_book.specs.declared.book.carrying.Carried.TheVariants.{More, Spent as CarrySpent, Done}
 use Rattle.share_book.proofs.CarriedLemmas.{IsBetween, IsSettled, between-all, settled-all}
 use Rattle.share_book.proofs.LaidOutLemmas.{IsLaidOut, StaysLaid, packets_of, laid-accept, packets-accept, laid-whole}
-use Rattle.share_book.proofs.LaidOutLemmas.{packets-whole, stays-control, laid-kept, flow-kept, laid-opened, empty-opened}
+use Rattle.share_book.proofs.LaidOutLemmas.{packets-whole, is_control, stays-control, KeepsTenants, keeps-held}
+use Rattle.share_book.proofs.LaidOutLemmas.{keeps-amount, laid-kept, flow-kept, laid-opened, empty-opened}
 use Rattle.share_book.proofs.OpenLemmas.{open-whole}
 use Rattle.share_book.proofs.SendLemmas.{sending-new}
 use Rattle.share_book.proofs.TakeLemmas.{accept-is, named_number}
@@ -193,28 +198,51 @@ order_planned name taken written b plan a keeps was stays false = record {
   order = was.order ∙ ap (λ bs. written ++ packets_of b.plan bs name) (sym stays.buffers);
 }
 
-order_changed_by : (name : NameBytes) (taken written : List (List ℕ)) (b : BookView) (c : Command) (plan : PlanView)
-    (reply : Reply) (new : BookView) → IsInOrder name taken written b → is_control c ≡ true
-    → KeepsTenants b.plan plan → (spent : Bool)
-    → MatchBool spent ((reply ≡ Refused SpentRefusal) × (new ≡ b))
-    ((Replied reply ≡ outcome_in b.audited (Commanded c))
-    × (new ≡ record {
-      audited = after_event b.audited (Commanded c);
-      plan = plan_after reply b.plan plan;
-    }))
-    → IsInOrder name taken written new
-order_changed_by name taken written b c plan reply new was control keeps true did =
-    subst (IsInOrder name taken written) (sym did.1) was
-order_changed_by name taken written b c plan reply new was control keeps false did =
-    subst (IsInOrder name taken written) (sym did.1)
-    (order_planned name taken written b plan (after_event b.audited (Commanded c)) keeps was
-    (stays-control b.plan b.audited.link.live was.laid b.audited.link.rates c control) (is_done reply))
+module _ (name : NameBytes) (taken written : List (List ℕ)) (b : BookView) (reply : Reply) (new : BookView)
+    (was : IsInOrder name taken written b) where
+  order_change : (c : Command) (plan : PlanView) → is_control c ≡ true → KeepsTenants b.plan plan
+      → IsChange b c plan reply new → IsInOrder name taken written new
+  order_change c plan control keeps did =
+      subst (λ (p : PlanView). IsInOrder name taken written (record { audited = new.audited; plan = p })) (sym did.plan)
+      (subst (λ (a : Audited). IsInOrder name taken written (record { audited = a; plan = plan_after reply b.plan plan }))
+      (sym did.audited)
+      (order_planned name taken written b plan (after_event b.audited (Commanded c)) keeps was
+      (stays-control b.plan b.audited.link.live was.laid b.audited.link.rates c control) (is_done reply)))
 
-order_changed : (name : NameBytes) (taken written : List (List ℕ)) (b : BookView) (c : Command) (plan : PlanView)
-    (reply : Reply) (new : BookView) → IsInOrder name taken written b → is_control c ≡ true
-    → KeepsTenants b.plan plan → Changes b c plan reply new → IsInOrder name taken written new
-order_changed name taken written b c plan reply new was control keeps did =
-    order_changed_by name taken written b c plan reply new was control keeps (is_spent b.audited.link) did
+  order_changed : (c : Command) (plan : PlanView) → is_control c ≡ true → KeepsTenants b.plan plan → (spent : Bool)
+      → MatchBool spent ((reply ≡ Refused SpentRefusal) × (new ≡ b)) (IsChange b c plan reply new)
+      → IsInOrder name taken written new
+  order_changed c plan control keeps true did = subst (IsInOrder name taken written) (sym did.1) was
+  order_changed c plan control keeps false did = order_change c plan control keeps did
+
+  order_amended_by : (grantee : NameBytes) (number amount : ℕ) (spent : Bool) (ticket : Result ℕ Refusal)
+      → MatchBool spent ((reply ≡ Refused SpentRefusal) × (new ≡ b))
+      (MatchResult ticket
+      (λ ticket. IsChange b (Amend ticket amount) (with_amount grantee (number - 1) amount b.plan) reply new)
+      (λ why. (reply ≡ Refused why) × (new ≡ b)))
+      → IsInOrder name taken written new
+  order_amended_by grantee number amount true ticket did = subst (IsInOrder name taken written) (sym did.1) was
+  order_amended_by grantee number amount false (Err why) did = subst (IsInOrder name taken written) (sym did.1) was
+  order_amended_by grantee number amount false (Ok ticket) did =
+      order_change (Amend ticket amount) (with_amount grantee (number - 1) amount b.plan) refl
+      (keeps-amount grantee (number - 1) amount b.plan) did
+
+  order_held : (tenant : NameBytes) → Changes b (Hold tenant) (with_hold tenant true b.plan) reply new
+      → IsInOrder name taken written new
+  order_held tenant did =
+      order_changed (Hold tenant) (with_hold tenant true b.plan) refl (keeps-held tenant true b.plan)
+      (is_spent b.audited.link) did
+
+  order_resumed : (tenant : NameBytes) → Changes b (Resume tenant) (with_hold tenant false b.plan) reply new
+      → IsInOrder name taken written new
+  order_resumed tenant did =
+      order_changed (Resume tenant) (with_hold tenant false b.plan) refl (keeps-held tenant false b.plan)
+      (is_spent b.audited.link) did
+
+  order_amended : (grantee : NameBytes) (number amount : ℕ) → Amends b grantee number amount reply new
+      → IsInOrder name taken written new
+  order_amended grantee number amount did =
+      order_amended_by grantee number amount (is_spent b.audited.link) (grant_ticket b.plan grantee number) did
 
 -- ---- One book after another
 
@@ -360,8 +388,12 @@ module _ (planned : (rates : List Rate) (p : PlanView) → IsInLimits p → firs
       order_took name taken written b tenant payload seq new (in_order name taken written b was) did
   in_order name _ _ _ (sent taken written b before flow seq count new after was did) =
       order_sent name taken written b before flow seq count new after (in_order name taken written b was) did
-  in_order name _ _ _ (changed taken written b c plan reply new was control keeps did) =
-      order_changed name taken written b c plan reply new (in_order name taken written b was) control keeps did
+  in_order name _ _ _ (held taken written b tenant reply new was did) =
+      order_held name taken written b reply new (in_order name taken written b was) tenant did
+  in_order name _ _ _ (resumed taken written b tenant reply new was did) =
+      order_resumed name taken written b reply new (in_order name taken written b was) tenant did
+  in_order name _ _ _ (amended taken written b grantee number amount reply new was did) =
+      order_amended name taken written b reply new (in_order name taken written b was) grantee number amount did
   in_order name _ _ _ (drained taken written b n was) =
       let before = in_order name taken written b was in record { laid = before.laid; order = before.order }
   in_order name _ _ _ (carried taken written old rates p events kind b new after was limits open did) =

@@ -2,6 +2,7 @@
 -- that wait.
 use Rattle.std.specs.Prelude.{◌≡◌, ◌<◌, ◌≤◌, ◌-◌, ℕ, zero, suc, Bool, true, false, not, ◌&&◌, List, [], ◌∷◌, ◌++◌, length}
 use Rattle.std.specs.Prelude.{map, drop, find, nat_eq, nat_le, bytes_eq, Option, None, Some, option_map, option_and_then}
+use Rattle.std.specs.Prelude.{is_some}
 use Rattle.std.specs.Prelude.{if◌then◌else◌}
 use Rattle.std.specs.Map.{lookup}
 use Rattle.std.proofs.Common.{refl, ap, sym, ◌∙◌, subst, arith}
@@ -26,16 +27,18 @@ use Rattle.share_model.specs.link.Commands.{command_step, command_refusal, chang
 use Rattle.share_model.specs.link.Frame.{Packet}
 use Rattle.share_model.specs.link.Live.{Live, by_refusal}
 use Rattle.share_model.specs.link.Turns.{Sending, sending_at, sending_by, sending, whole}
+use Rattle.share_model.specs.lists.Change.{change_first}
 use Rattle.share_model.specs.stride.Moves.{next}
 use Rattle.share_model.proofs.lemmas.link.BufferLaws.{IsHeadBuffer, head_buffer, head_of-flow, other_buffer}
 use Rattle.share_model.proofs.lemmas.lists.Laws.{find-change_first, find-change_first_other, find-holds}
 use Rattle.share_model.proofs.lemmas.lists.Laws.{map-change_first}
 use Rattle.share_model.proofs.lemmas.lists.RemoveLaws.{other_way}
 use Rattle.share_model.proofs.lemmas.lists.SumLaws.{same_name, name_sym}
-use Rattle.share_gateway.specs.Plan.{PlanView, TenantView, ascends, flows_of}
-use Rattle.share_gateway.specs.PlanChanges.{is_tenant, flow_by, tenant_flow}
+use Rattle.share_gateway.specs.Plan.{PlanView, TenantView, ascends, flows_of, has_name}
+use Rattle.share_gateway.specs.PlanChanges.{is_tenant, flow_by, tenant_flow, held_as, with_hold}
+use Rattle.share_gateway.specs.PlanChanges.{currency_amended, tenant_amended, with_amount}
 use Rattle.share_gateway.specs.Planned.{HoldsPlan, planned_flow, planned_buffer}
-use Rattle.share_book.specs.BookHistory.{payload_if, next_payload, is_control, KeepsTenants, limit_by, tenant_limit}
+use Rattle.share_book.specs.BookHistory.{payload_if, next_payload, limit_by, tenant_limit}
 use Rattle.share_book.specs.Carry.{packets_by, places_by, number_in, buffer_by, places_for}
 use Rattle.share_book.proofs.CarryLemmas.{pushed, popped, room_by}
 use Rattle.share_book.proofs.TakeLemmas.{named_number}
@@ -345,6 +348,13 @@ module _ (rates : List Rate) (p : PlanView) (l : Live) (laid : IsLaidOut p l) (s
 
 -- ---- A control line
 
+-- the commands of control lines
+abbrev pub is_control : Command → Bool
+is_control (Hold name) = true
+is_control (Resume name) = true
+is_control (Amend ticket amount) = true
+is_control _ = false
+
 -- the buffers and the flows stay
 pub record StaysLaid (p : PlanView) (before after : Live) : Type 0 where
   pub laid : IsLaidOut p after
@@ -399,6 +409,30 @@ module _ (p : PlanView) (l : Live) (laid : IsLaidOut p l) where
       refused_stays p l (command_refusal rates l c) (change_by_command l c) (control_stays c is) laid
 
 -- ---- Plans that keep their tenants
+
+-- the tenants have the names, the numbers and the limits that they had
+pub record KeepsTenants (p q : PlanView) : Type 0 where
+  pub flows : map tenant_key q.tenants ≡ map tenant_key p.tenants
+  pub limits : map place_key q.tenants ≡ map place_key p.tenants
+
+pub keeps-held : (name : NameBytes) (held : Bool) (p : PlanView) → KeepsTenants p (with_hold name held p)
+keeps-held name held p = record {
+  flows = map-change_first tenant_key (is_tenant name) (held_as held) (λ t. refl) p.tenants;
+  limits = map-change_first place_key (is_tenant name) (held_as held) (λ t. refl) p.tenants;
+}
+
+keeps_amount_by : (name : NameBytes) (index amount : ℕ) (p : PlanView) (of_currency : Bool)
+    → KeepsTenants p (if of_currency
+    then record p { currencies = change_first (has_name name) (currency_amended index amount) p.currencies }
+    else record p { tenants = change_first (is_tenant name) (tenant_amended index amount) p.tenants })
+keeps_amount_by name index amount p true = record { flows = refl; limits = refl }
+keeps_amount_by name index amount p false = record {
+  flows = map-change_first tenant_key (is_tenant name) (tenant_amended index amount) (λ t. refl) p.tenants;
+  limits = map-change_first place_key (is_tenant name) (tenant_amended index amount) (λ t. refl) p.tenants;
+}
+
+pub keeps-amount : (name : NameBytes) (index amount : ℕ) (p : PlanView) → KeepsTenants p (with_amount name index amount p)
+keeps-amount name index amount p = keeps_amount_by name index amount p (is_some (find (has_name name) p.currencies))
 
 flows_numbers : (ts : List TenantView) → map (λ (k : NameBytes × ℕ). k.1) (map tenant_key ts) ≡ flows_of ts
 flows_numbers ts = map_map (λ (k : NameBytes × ℕ). k.1) tenant_key ts

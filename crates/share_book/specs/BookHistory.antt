@@ -1,8 +1,7 @@
 -- Books that follow one another, as one tenant sees them: each begins with the packets that the one before it left.
-use Rattle.std.specs.Prelude.{◌≡◌, ◌-◌, ℕ, Bool, true, false, List, [], ◌∷◌, ◌++◌, length, map, take, drop, find, nat_eq}
+use Rattle.std.specs.Prelude.{◌≡◌, ◌-◌, ℕ, Bool, true, false, List, [], ◌∷◌, ◌++◌, length, take, drop, find, nat_eq}
 use Rattle.std.specs.Prelude.{bytes_eq, Option, None, Some, if◌then◌else◌}
-use Rattle.share_base.specs.declared.command.Command.{Command}
-use Rattle.share_base.specs.declared.command.Command.TheVariants.{Hold, Resume, Amend}
+use Rattle.share_base.specs.declared.command.Command.TheVariants.{Hold, Resume}
 use Rattle.share_base.specs.declared.command.Reply.{Reply}
 use Rattle.share_model.specs.declared.rates.Rate.{Rate}
 use Rattle.share_model.specs.funding.Graph.{NameBytes}
@@ -10,7 +9,7 @@ use Rattle.share_model.specs.link.Turns.{Sending, sending}
 use Rattle.share_book.specs.Audited.{Audited}
 use Rattle.share_book.specs.Book.{BookView, Takes, Turns}
 use Rattle.share_book.specs.Carry.{Carries, left_for}
-use Rattle.share_book.specs.Changes.{Changes}
+use Rattle.share_book.specs.Changes.{Changes, Amends}
 use Rattle.share_book.specs.Closed.{ClosedView, closed_of}
 use Rattle.share_book.specs.OpenBook.{IsOpenBook}
 use Rattle.share_book.specs.Texts.{after_drain}
@@ -20,7 +19,7 @@ use Rattle.share_book.specs.declared.book.carrying.Carried.TheVariants.{More, Do
 use Rattle.share_book.specs.declared.book_text.TextKind.{TextKind}
 use Rattle.share_gateway.specs.Outbox.{OutboxView}
 use Rattle.share_gateway.specs.Plan.{PlanView, TenantView, IsInLimits}
-use Rattle.share_gateway.specs.PlanChanges.{is_tenant, tenant_flow}
+use Rattle.share_gateway.specs.PlanChanges.{is_tenant, tenant_flow, with_hold}
 
 -- ---- What waits
 
@@ -67,19 +66,6 @@ abbrev pub next_payload : PlanView → NameBytes → Option Sending → List (Li
 next_payload p name None = []
 next_payload p name (Some s) = payload_if (nat_eq (tenant_flow p name) s.head.flow) s.head.payload
 
--- the commands of a control line
-abbrev pub is_control : Command → Bool
-is_control (Hold name) = true
-is_control (Resume name) = true
-is_control (Amend ticket amount) = true
-is_control _ = false
-
--- the tenants have the names, the numbers and the limits that they had
-pub record KeepsTenants (p q : PlanView) : Type 0 where
-  pub flows : map (λ (t : TenantView). (t.name, t.flow)) q.tenants ≡ map (λ (t : TenantView). (t.name, t.flow)) p.tenants
-  pub limits : map (λ (t : TenantView). (t.flow, t.limit)) q.tenants
-      ≡ map (λ (t : TenantView). (t.flow, t.limit)) p.tenants
-
 -- without the last n
 abbrev pub without_last : ℕ → List (List ℕ) → List (List ℕ)
 without_last n payloads = take (length payloads - n) payloads
@@ -98,10 +84,15 @@ pub data History (name : NameBytes) : List (List ℕ) → List (List ℕ) → Bo
       → History name taken written b → Turns b.audited before (Wrote flow seq count) new after
       → History name taken (written ++ next_payload b.plan name (sending b.audited.link.live))
       (record b { audited = new })
-  changed : (taken written : List (List ℕ)) (b : BookView) (c : Command) (plan : PlanView) (reply : Reply)
-      (new : BookView)
-      → History name taken written b → is_control c ≡ true → KeepsTenants b.plan plan → Changes b c plan reply new
+  held : (taken written : List (List ℕ)) (b : BookView) (tenant : NameBytes) (reply : Reply) (new : BookView)
+      → History name taken written b → Changes b (Hold tenant) (with_hold tenant true b.plan) reply new
       → History name taken written new
+  resumed : (taken written : List (List ℕ)) (b : BookView) (tenant : NameBytes) (reply : Reply) (new : BookView)
+      → History name taken written b → Changes b (Resume tenant) (with_hold tenant false b.plan) reply new
+      → History name taken written new
+  amended : (taken written : List (List ℕ)) (b : BookView) (grantee : NameBytes) (number amount : ℕ) (reply : Reply)
+      (new : BookView)
+      → History name taken written b → Amends b grantee number amount reply new → History name taken written new
   drained : (taken written : List (List ℕ)) (b : BookView) (n : ℕ) → History name taken written b
       → History name taken written (record b { audited = drained_by b.audited n })
   carried : (taken written : List (List ℕ)) (old : BookView) (rates : List Rate) (p : PlanView) (events : ℕ)

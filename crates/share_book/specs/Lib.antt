@@ -1,5 +1,7 @@
 pub mod Audited
 pub mod Book
+pub mod BookHistory
+pub mod Carry
 pub mod Changes
 pub mod Closed
 pub mod OpenBook

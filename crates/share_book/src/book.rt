@@ -5,6 +5,7 @@ ghost use Rattle.share_book.specs.Audited.{IsRunAndText, SendsWhole, lacks_text}
 ghost use Rattle.share_book.specs.Book.{BookView};
 ghost use Rattle.share_book.specs.Texts.{after_drain};
 
+mod carrying;
 mod changing;
 mod closed;
 mod opening;
@@ -12,6 +13,7 @@ mod taking;
 mod turning;
 
 use crate::audited::AuditedEngine;
+pub use carrying::Carried;
 pub use closed::Closed;
 pub use opening::TEXT_ROOM;
 use share_base::{FlowNo, Name};

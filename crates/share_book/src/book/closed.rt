@@ -1,7 +1,7 @@
 //! What is left of a book that was closed.
 ghost use Rattle.std.specs.Prelude.{◌≡◌};
 ghost use Rattle.share_model.specs.link.Buffers.{count_in};
-ghost use Rattle.share_model.specs.link.Totals.{totals};
+ghost use Rattle.share_book.specs.Closed.{closed_of};
 
 use super::Book;
 use crate::book_text::BookText;
@@ -62,13 +62,7 @@ impl Closed {
 impl<S: Rates + Drop> Book<S> {
     /// Closes the book. The packets that wait stay in the memory in which they are. It takes no memory.
     pub fn close(self) -> Closed
-        ensures { result
-            ≡ record {
-              text = self.audited.text.bytes;
-              plan = self.plan;
-              buffers = self.audited.link.live.buffers;
-              totals = totals self.audited.link.live;
-            } }
+        ensures { result ≡ closed_of self }
     {
         let Book { audited, plan } = self;
         let totals = audited.engine().totals();

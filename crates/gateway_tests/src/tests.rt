@@ -3,6 +3,7 @@
 mod assertions;
 mod book_memory;
 mod books;
+mod carrying;
 mod frames;
 mod made;
 mod outbox;

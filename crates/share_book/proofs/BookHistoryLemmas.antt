@@ -307,20 +307,20 @@ module _ (p q : PlanView) (rising : ascends 0 (flows_of q.tenants) ≡ true) (na
 module _ (planned : (rates : List Rate) (p : PlanView) → IsInLimits p → first_refused rates p ≡ None
     → HoldsPlan p (opened_link rates p)) where
   module _ (rates : List Rate) (p : PlanView) (events : ℕ) (kind : TextKind) (b : BookView) (limits : IsInLimits p)
-      (open : IsOpenBook rates p events kind b) where
+      (begun : IsOpenBook rates p events kind b) where
     holds : HoldsPlan p b.audited.link.live
-    holds = subst (HoldsPlan p) (sym open.link.live) (planned rates p limits open.link.sound)
+    holds = subst (HoldsPlan p) (sym begun.link.live) (planned rates p limits begun.link.sound)
 
     open_laid : IsLaidOut p b.audited.link.live
     open_laid =
         laid-opened p b.audited.link.live holds (rising_of p limits)
-        (open-whole rates p events b.audited.link open.link).unparted
+        (open-whole rates p events b.audited.link begun.link).unparted
 
     open_order : (name : NameBytes) → IsInOrder name [] [] b
     open_order name = record {
-      laid = subst (λ (p : PlanView). IsLaidOut p b.audited.link.live) (sym open.plan) open_laid;
+      laid = subst (λ (p : PlanView). IsLaidOut p b.audited.link.live) (sym begun.plan) open_laid;
       order =
-          sym (ap (λ (p : PlanView). packets_of p b.audited.link.live.buffers name) open.plan
+          sym (ap (λ (p : PlanView). packets_of p b.audited.link.live.buffers name) begun.plan
           ∙ empty-opened p b.audited.link.live holds name);
     }
 
@@ -351,7 +351,7 @@ module _ (planned : (rates : List Rate) (p : PlanView) → IsInLimits p → firs
           let no_limit : tenant_limit p name ≡ 0 = ap limit_by absent in inr (omega (arith, no_limit))
 
       here_is : waiting_in (record b { audited = new }) name ≡ packets_of p new.link.live.buffers name
-      here_is = ap (λ (p : PlanView). packets_of p new.link.live.buffers name) open.plan
+      here_is = ap (λ (p : PlanView). packets_of p new.link.live.buffers name) begun.plan
 
       left_is : left_for after name ≡ packets_of old.plan after.buffers name
       left_is = ap (λ (q : PlanView). packets_of q after.buffers name) all_over.plan
@@ -375,7 +375,7 @@ module _ (planned : (rates : List Rate) (p : PlanView) → IsInLimits p → firs
           let long = ap length all ∙ length-append (written ++ here) left in
           let kept : length taken - length left ≡ length (written ++ here) = omega (arith, long) in
           record {
-            laid = subst (λ (p : PlanView). IsLaidOut p new.link.live) (sym open.plan) all_over.laid;
+            laid = subst (λ (p : PlanView). IsLaidOut p new.link.live) (sym begun.plan) all_over.laid;
             order = (λ k. take (kept k) (all k)) ∙ take-append_seam (written ++ here) left;
           }
 
@@ -383,7 +383,7 @@ module _ (planned : (rates : List Rate) (p : PlanView) → IsInLimits p → firs
 
   in_order : (name : NameBytes) (taken written : List (List ℕ)) (b : BookView) → History name taken written b
       → IsInOrder name taken written b
-  in_order name _ _ _ (opened rates p events kind b limits open) = open_order rates p events kind b limits open name
+  in_order name _ _ _ (opened rates p events kind b limits begun) = open_order rates p events kind b limits begun name
   in_order name _ _ _ (took taken written b tenant payload seq new was did) =
       order_took name taken written b tenant payload seq new (in_order name taken written b was) did
   in_order name _ _ _ (sent taken written b before flow seq count new after was did) =
@@ -396,9 +396,9 @@ module _ (planned : (rates : List Rate) (p : PlanView) → IsInLimits p → firs
       order_amended name taken written b reply new (in_order name taken written b was) grantee number amount did
   in_order name _ _ _ (drained taken written b n was) =
       let before = in_order name taken written b was in record { laid = before.laid; order = before.order }
-  in_order name _ _ _ (carried taken written old rates p events kind b new after was limits open did) =
+  in_order name _ _ _ (carried taken written old rates p events kind b new after was limits begun did) =
       let before = in_order name taken written old was in
-      carried-order rates p events kind b limits open name old before.laid new after did taken written before.order
+      carried-order rates p events kind b limits begun name old before.laid new after did taken written before.order
 
   pub books-in_order : (name : NameBytes) (taken written : List (List ℕ)) (b : BookView) → History name taken written b
       → taken ≡ written ++ waiting_in b name
@@ -409,5 +409,5 @@ module _ (planned : (rates : List Rate) (p : PlanView) → IsInLimits p → firs
       → History name taken written old → IsInLimits p → IsOpenBook rates p events kind b
       → CarriesAll b.audited p.tenants (closed_of old) new after
       → IsCut name (tenant_limit p name) old (record b { audited = new }) after
-  books-cut name taken written old rates p events kind b new after history limits open did =
-      carried-cut rates p events kind b limits open name old (in_order name taken written old history).laid new after did
+  books-cut name taken written old rates p events kind b new after history limits begun did =
+      carried-cut rates p events kind b limits begun name old (in_order name taken written old history).laid new after did

@@ -214,7 +214,7 @@ length_taken n xs ys few =
 
 module _ (p q : PlanView) (rising : ascends 0 (flows_of q.tenants) ≡ true) (name : NameBytes) (all : List (List ℕ)) where
   module _ (a : Audited) (c : ClosedView) (tenant : NameBytes) (was : IsBetween p q name all a.link.live c) where
-    over : Carrying
+    abbrev pub over : Carrying
     over = carry_tenant a c tenant
 
     left_is : (name : NameBytes) → left_for c name ≡ packets_of q c.buffers name
@@ -411,30 +411,30 @@ module _ (p q : PlanView) (rising : ascends 0 (flows_of q.tenants) ≡ true) (na
   ahead_next x t ts was went false test (inr found) =
       inr (found.0, sym (cond-false (bytes_eq name t.name) (Some t) (find (is_tenant name) ts) test) ∙ found.1)
 
+  stopped_not : (x : Carrying) (t : TenantView) (ts : List TenantView) → carry_next x t ≡ carry_tenant x.book x.closed t.name
+      → (fold carry_next (carry_next x t) ts).stopped ≡ false → (b : Bool)
+      → (carry_tenant x.book x.closed t.name).stopped ≡ b → (carry_tenant x.book x.closed t.name).stopped ≡ false
+  stopped_not x t ts is went false stopped = stopped
+  stopped_not x t ts is went true stopped =
+      let all = stays_stopped (carry_tenant x.book x.closed t.name) ts stopped in
+      let not = ap (λ (y : Carrying). (fold carry_next y ts).stopped) (sym is) ∙ went in cc
+
+  settled_next : (x : Carrying) (t : TenantView) (ts : List TenantView) → Between x
+      → (fold carry_next (carry_next x t) ts).stopped ≡ false → IsAhead x (t ∷ ts)
+      → (IsAhead (carry_next x t) ts → Settled (fold carry_next (carry_next x t) ts)) → (b : Bool) → x.stopped ≡ b
+      → Settled (fold carry_next (carry_next x t) ts)
+  settled_next x t ts was went ahead rest true stopped =
+      let all = stays_stopped x (t ∷ ts) stopped in cc
+  settled_next x t ts was went ahead rest false stopped =
+      let is : carry_next x t ≡ carry_tenant x.book x.closed t.name =
+      cond-false x.stopped x (carry_tenant x.book x.closed t.name) stopped in
+      let on = stopped_not x t ts is went (carry_tenant x.book x.closed t.name).stopped refl in
+      rest (subst (λ (y : Carrying). IsAhead y ts) (sym is) (ahead_next x t ts was on (bytes_eq name t.name) refl ahead))
+
   pub settled-all : (x : Carrying) (ts : List TenantView) → Between x → (fold carry_next x ts).stopped ≡ false
       → IsAhead x ts → Settled (fold carry_next x ts)
   settled-all x [] was went (inl settled) = settled
   settled-all x [] was went (inr found) = let none = found.1 in cc
-  settled-all x (t ∷ ts) was went ahead = settled_next x.stopped refl
-    where
-      next : Carrying
-      next = carry_tenant x.book x.closed t.name
-
-      settled_on : next.stopped ≡ false → carry_next x t ≡ next → Settled (fold carry_next (carry_next x t) ts)
-      settled_on on is =
-          subst (λ (y : Carrying). Settled (fold carry_next y ts)) (sym is)
-          (settled-all next ts (between-tenant x.book x.closed t.name was)
-          (ap (λ (y : Carrying). (fold carry_next y ts).stopped) (sym is) ∙ went)
-          (ahead_next x t ts was on (bytes_eq name t.name) refl ahead))
-
-      on_by : (b : Bool) → next.stopped ≡ b → carry_next x t ≡ next → next.stopped ≡ false
-      on_by false stopped is = stopped
-      on_by true stopped is =
-          let all = stays_stopped next ts stopped in
-          let not = ap (λ (y : Carrying). (fold carry_next y ts).stopped) (sym is) ∙ went in cc
-
-      settled_next : (b : Bool) → x.stopped ≡ b → Settled (fold carry_next (carry_next x t) ts)
-      settled_next true stopped =
-          let all = stays_stopped x (t ∷ ts) stopped in cc
-      settled_next false stopped =
-          let is = cond-false x.stopped x next stopped in settled_on (on_by next.stopped refl is) is
+  settled-all x (t ∷ ts) was went ahead =
+      settled_next x t ts was went ahead
+      (λ more. settled-all (carry_next x t) ts (between_next x t was) went more) x.stopped refl

@@ -24,10 +24,10 @@ returns-then-not-carry_tenant g c =
     c.carry_tenant.new.closed x
     (stop_carried c.args.audited.now c.args.closed.now c.args.tenants.now c.tenants.index c.tenants.audited
     c.tenants.closed t c.tenants-test.true (sym c.index-tenants-index.is) c.tenants.invariant x did
-    c.if-not-carry_tenant.true)
+    (ap not c.if-not-carry_tenant.true))
     (c.stop.ensures
     ∙ sym (cond-true (not c.carry_tenant.result) (if is_spent c.carry_tenant.new.audited.link then Spent else More)
-    (Done (left_in c.carry_tenant.new.closed)) c.if-not-carry_tenant.true))
+    (Done (left_in c.carry_tenant.new.closed)) (ap not c.if-not-carry_tenant.true)))
     refl refl
 
 pub tenants-preserved : goal.tenants-preserved
@@ -44,7 +44,7 @@ tenants-preserved g c =
     ∙ ap (λ b. record {
       book = c.carry_tenant.new.audited;
       closed = c.carry_tenant.new.closed;
-      stopped = b;
+      stopped = not b;
     }) c.if-not-carry_tenant.false in
     next_carried c.args.audited.now c.args.closed.now c.args.tenants.now c.tenants.index c.tenants.audited
     c.tenants.closed t c.tenants-test.true (sym c.index-tenants-index.is) c.tenants.invariant x did

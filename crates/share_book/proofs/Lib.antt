@@ -1,3 +1,4 @@
+pub mod AmendLemmas
 pub mod OpenLemmas
 pub mod RunTextLemmas
 pub mod SendLemmas

@@ -1,3 +1,4 @@
+pub mod AmendLemmas
 pub mod BookHistoryLemmas
 pub mod CarriedLemmas
 pub mod CarryAllLemmas

@@ -1,15 +1,16 @@
 -- A plan whose holds or amounts change stays in its limits.
-use Rattle.std.specs.Prelude.{◌≡◌, ◌<◌, ◌≤◌, ◌+◌, ◌*◌, ℕ, zero, suc, Bool, true, List, [], ◌∷◌, length, map, sum_by, nat_le, nat_lt, if◌then◌else◌}
+use Rattle.std.specs.Prelude.{◌≡◌, ◌<◌, ◌≤◌, ◌+◌, ◌*◌, ℕ, zero, suc, Bool, true, false, find, is_some, List, [], ◌∷◌, length, map, sum_by, nat_le, nat_lt, if◌then◌else◌}
 use Rattle.std.specs.List.{list_all}
 use Rattle.std.proofs.Common.{refl, ap, sym, ◌∙◌, arith, get_or, slice_set}
-use Rattle.std.proofs.lemmas.Bool.{cond_both}
+use Rattle.std.proofs.lemmas.Bool.{cond_both, cond-true, cond-false}
 use Rattle.std.proofs.lemmas.Bool.Decides.{nat_tests}
 use Rattle.std.proofs.lemmas.List.{length-map}
+use Rattle.std.proofs.lemmas.List.Sums.{sum_by-cons}
 use Rattle.share_model.specs.funding.Graph.{NameBytes}
 use Rattle.share_model.specs.lists.Change.{change_first}
 use Rattle.share_model.proofs.lemmas.lists.Laws.{length-change_first, map-change_first}
 use Rattle.share_gateway.specs.declared.plan.Grant.{Grant}
-use Rattle.share_gateway.specs.PlanChanges.{is_tenant, held_as, with_hold, amend_at, currency_amended, tenant_amended}
+use Rattle.share_gateway.specs.PlanChanges.{is_tenant, held_as, with_hold, amend_at, currency_amended, tenant_amended, with_amount}
 use Rattle.share_gateway.specs.Plan.{has_name}
 use Rattle.share_gateway.specs.Plan.{PlanView, CurrencyView, TenantView, IsInLimits, ascends, are_flow_numbers, flows_of}
 use Rattle.share_gateway.proofs.OpeningLemmas.{both}
@@ -20,9 +21,11 @@ unfolding change_first
 sum_kept f p change keeps [] = refl
 sum_kept f p change keeps (x ∷ xs) =
     cond_both (p x) (change x ∷ xs) (x ∷ change_first p change xs)
-    (λ after. sum_by f after ≡ f x + sum_by f xs)
-    (λ _. ap (λ n. n + sum_by f xs) (keeps x))
-    (λ _. ap (λ n. f x + n) (sum_kept f p change keeps xs))
+    (λ after. sum_by f after ≡ sum_by f (x ∷ xs))
+    (λ _. sum_by-cons f (change x) xs ∙ ap (λ n. n + sum_by f xs) (keeps x) ∙ sym (sum_by-cons f x xs))
+    (λ _. sum_by-cons f x (change_first p change xs)
+    ∙ ap (λ n. f x + n) (sum_kept f p change keeps xs)
+    ∙ sym (sum_by-cons f x xs))
 
 pub limits-held : (name : NameBytes) (held : Bool) (p : PlanView) → IsInLimits p → IsInLimits (with_hold name held p)
 limits-held name held p was = record {
@@ -105,3 +108,37 @@ pub unamended-at : (index amount : ℕ) (gs : List Grant) → length gs ≤ inde
 unamended-at index amount [] past = refl
 unamended-at zero amount (g ∷ gs) past = absurd (omega (arith, past))
 unamended-at (suc index) amount (g ∷ gs) past = ap (λ gs. g ∷ gs) (unamended-at index amount gs (omega (arith, past)))
+
+-- a currency has the name, or the tenant of that name is amended
+unnamed_in : {A : Type 0} (p : A → Bool) (change : A → A) (xs : List A) → is_some (find p xs) ≡ false
+    → change_first p change xs ≡ xs
+unfolding change_first
+unnamed_in p change [] none = refl
+unnamed_in {A} p change (x ∷ xs) none = by_test (p x) refl (unnamed_in p change xs)
+  where
+    by_test : (b : Bool) → p x ≡ b → (is_some (find p xs) ≡ false → change_first p change xs ≡ xs)
+        → change_first p change (x ∷ xs) ≡ x ∷ xs
+    by_test true is more = let found : is_some (find p (x ∷ xs)) ≡ true = rw is refl in cc
+    by_test false is more =
+        let rest : is_some (find p xs) ≡ false = rw is at none in rw is (ap (λ ys. x ∷ ys) (more rest))
+
+pub unnamed : (name : NameBytes) (index amount : ℕ) (cs : List CurrencyView) → is_some (find (has_name name) cs) ≡ false
+    → change_first (has_name name) (currency_amended index amount) cs ≡ cs
+unnamed name index amount cs none = unnamed_in (has_name name) (currency_amended index amount) cs none
+
+module _ (name : NameBytes) (index amount : ℕ) (p : PlanView) where
+  pub amount-currency : (cs : List CurrencyView) → is_some (find (has_name name) p.currencies) ≡ true
+      → cs ≡ change_first (has_name name) (currency_amended index amount) p.currencies
+      → record { currencies = cs; tenants = p.tenants } ≡ with_amount name index amount p
+  amount-currency cs found is =
+      ap (λ cs. record { currencies = cs; tenants = p.tenants }) is
+      ∙ sym (cond-true (is_some (find (has_name name) p.currencies)) _ _ found)
+
+  pub amount-tenant : (cs : List CurrencyView) (ts : List TenantView) → is_some (find (has_name name) p.currencies) ≡ false
+      → cs ≡ change_first (has_name name) (currency_amended index amount) p.currencies
+      → ts ≡ change_first (is_tenant name) (tenant_amended index amount) p.tenants
+      → record { currencies = cs; tenants = ts } ≡ with_amount name index amount p
+  amount-tenant cs ts none is is_tenants =
+      ap (λ cs. record { currencies = cs; tenants = ts }) (is ∙ unnamed name index amount p.currencies none)
+      ∙ ap (λ ts. record { currencies = p.currencies; tenants = ts }) is_tenants
+      ∙ sym (cond-false (is_some (find (has_name name) p.currencies)) _ _ none)

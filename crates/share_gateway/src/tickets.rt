@@ -1,5 +1,5 @@
 //! Which ticket is a grant's.
-ghost use Rattle.std.specs.Prelude.{◌≡◌, ◌+◌, length, MatchResult, IfOk, Ok, Err};
+ghost use Rattle.std.specs.Prelude.{◌≡◌, ◌<◌, ◌+◌, IfOk};
 ghost use Rattle.share_gateway.specs.GrantTickets.{grant_ticket, is_named, ticket_after, IsTicketOf};
 ghost use Rattle.share_gateway.specs.OpeningLeft.{seen};
 

@@ -74,16 +74,22 @@ fn flow_of(tenants: &[Tenant], name: Name) -> FlowNo
     }
 }
 
+// The index of the currency of a name.
+fn place_of_currency(currencies: &[Currency], name: Name) -> Option<usize>
+    ensures { result ≡ position (has_name name) currencies.now }
+{
+    currencies
+        .iter()
+        .position(|currency| has_name(name, currency))
+}
+
 // Amends a grant of the currency of a name. Returns false if there is none.
 fn amend_currency(currencies: &mut Vec<Currency>, name: Name, grant: usize, amount: u64) -> bool
     ensures found { result ≡ is_some (find (has_name name) currencies.old.items) }
     ensures amended { currencies.new.items
         ≡ change_first (has_name name) (currency_amended grant amount) currencies.old.items }
 {
-    let place = currencies
-        .iter()
-        .position(|currency| has_name(name, currency));
-    match place {
+    match place_of_currency(currencies.as_slice(), name) {
         None => false,
         Some(index) => {
             let currency = &mut currencies[index];

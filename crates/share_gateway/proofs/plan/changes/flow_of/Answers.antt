@@ -11,5 +11,5 @@ returns-in-None c =
 pub returns-in-Some : goal.returns-in-Some
 returns-in-Some c =
     ap (λ (t : TenantView). t.flow) c.tenant.view_is
-    ∙ sym (ap flow_by (found (is_tenant c.args.name) c.args.tenants.now c.in-Some.index c.index-tenant.result
-    (sym c.in-Some.ensures) c.index-tenant.is))
+    ∙ sym (ap flow_by (found (is_tenant c.args.name) c.args.tenants.now c.in-Some.index c.index-tenants-index.result
+    (sym c.in-Some.ensures) c.index-tenants-index.is))

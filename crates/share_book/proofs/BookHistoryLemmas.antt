@@ -40,7 +40,8 @@ use Rattle.share_gateway.specs.GrantTickets.{grant_ticket}
 use Rattle.share_gateway.specs.Planned.{HoldsPlan}
 use Rattle.share_book.specs.Audited.{Audited, after_event, outcome_in, lacks_text}
 use Rattle.share_book.specs.Book.{BookView, first_of, Takes, TakesPacket, Turns, SendsNext, SendsFrame}
-use Rattle.share_book.specs.BookHistory.{waiting_in, tenant_limit, limit_by, CarriesAll, all_done, then_more, IsCut}
+use Rattle.share_book.specs.BookHistory.{waiting_in, tenant_limit, limit_by, CarriesAll, all_done, then_more}
+use Rattle.share_book.specs.BookHistory.{then_drained, IsCut}
 use Rattle.share_book.specs.BookHistory.{payload_if, next_payload, without_last, drained_by}
 use Rattle.share_book.specs.BookHistory.{History, opened, took, sent, held, resumed, amended, drained, carried}
 use Rattle.share_book.specs.Carry.{Carrying, carry_all, carry_next, carry_answer, Carries, left_for, left_in, packets_by}
@@ -279,14 +280,26 @@ done_by true false left dropped is = cc
 done_by false spent left dropped is = refl
 
 module _ (p q : PlanView) (rising : ascends 0 (flows_of q.tenants) ≡ true) (name : NameBytes) (all : List (List ℕ)) where
+  between_drained : (old : Audited) (n : ℕ) (before : ClosedView) → IsBetween p q name all old.link.live before
+      → IsBetween p q name all (drained_by old n).link.live before
+  between_drained old n before was = record {
+    laid = was.laid;
+    plan = was.plan;
+    shelved = was.shelved;
+    joined = was.joined;
+    within = was.within;
+  }
+
   between-carried : (old : Audited) (tenants : List TenantView) (before : ClosedView) (new : Audited)
       (after : ClosedView) → CarriesAll old tenants before new after → IsBetween p q name all old.link.live before
       → IsBetween p q name all new.link.live after
   between-carried _ _ _ _ _ (all_done old tenants before dropped new after did) was =
       between_carried p q rising name all old tenants before (Done dropped) new after was did
-  between-carried _ _ _ _ _ (then_more old tenants before between left n new after did rest) was =
-      between-carried (drained_by between n) tenants left new after rest
+  between-carried _ _ _ _ _ (then_more old tenants before between left new after did rest) was =
+      between-carried between tenants left new after rest
       (between_carried p q rising name all old tenants before More between left was did)
+  between-carried _ _ _ _ _ (then_drained old tenants before n new after rest) was =
+      between-carried (drained_by old n) tenants before new after rest (between_drained old n before was)
 
   settled-carried : (old : Audited) (tenants : List TenantView) (before : ClosedView) (new : Audited)
       (after : ClosedView) → CarriesAll old tenants before new after → IsBetween p q name all old.link.live before
@@ -300,9 +313,11 @@ module _ (p q : PlanView) (rising : ascends 0 (flows_of q.tenants) ≡ true) (na
       subst (λ (a : Audited). IsSettled p q name a.link.live after) (sym did.book)
       (subst (λ (c : ClosedView). IsSettled p q name (carry_all old before tenants).book.link.live c) (sym did.closed)
       (settled-all p q rising name all x tenants was went (inr (u, found))))
-  settled-carried _ _ _ _ _ (then_more old tenants before between left n new after did rest) was u found =
-      settled-carried (drained_by between n) tenants left new after rest
+  settled-carried _ _ _ _ _ (then_more old tenants before between left new after did rest) was u found =
+      settled-carried between tenants left new after rest
       (between_carried p q rising name all old tenants before More between left was did) u found
+  settled-carried _ _ _ _ _ (then_drained old tenants before n new after rest) was u found =
+      settled-carried (drained_by old n) tenants before new after rest (between_drained old n before was) u found
 
 module _ (planned : (rates : List Rate) (p : PlanView) → IsInLimits p → first_refused rates p ≡ None
     → HoldsPlan p (opened_link rates p)) where

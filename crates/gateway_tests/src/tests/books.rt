@@ -5,7 +5,7 @@ use super::made::{named, shared};
 use super::tariffs::Four;
 use share_base::{FlowNo, Refusal, Reply};
 use share_book::{Book, Taken, TextKind, Turned};
-use share_gateway::Outbox;
+use share_gateway::{Grant, Outbox};
 use std::alloc::Global;
 use std::process::Abort;
 
@@ -160,18 +160,21 @@ fn changes(rt: &impl Abort, book: &mut Book<Four>) {
     );
 }
 
+// The amount of the first grant, from its currency or its tenant.
+fn first_amount(grants: &[Grant]) -> Option<u64> {
+    grants.first().map(|grant| grant.amount)
+}
+
 // The plan is as it was changed.
 fn is_changed(rt: &impl Abort, book: &Book<Four>) {
     let plan = book.plan();
-    let (currencies, tenants) = (plan.currencies(), plan.tenants());
-    let held = (tenants[0].held, tenants[1].held);
-    same(rt, "held", held, (true, false));
-    let amounts = (
-        currencies[0].grants[0].amount,
-        tenants[0].grants[0].amount,
-        tenants[1].grants[0].amount,
-    );
-    same(rt, "amounts", amounts, (500, 1, 7));
+    let currency = &plan.currencies()[0];
+    let first = &plan.tenants()[0];
+    let second = &plan.tenants()[1];
+    same(rt, "held", (first.held, second.held), (true, false));
+    same(rt, "x", first_amount(currency.grants.as_slice()), Some(500));
+    same(rt, "a", first_amount(first.grants.as_slice()), Some(1));
+    same(rt, "b", first_amount(second.grants.as_slice()), Some(7));
 }
 
 #[test]

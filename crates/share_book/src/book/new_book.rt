@@ -41,7 +41,7 @@ impl<S: Rates> NewBook<S> {
         self.book.drained(count);
     }
 
-    /// The book begins: packets are taken and turns are made. What was not carried over is not carried over any more.
+    /// The book begins: packets are taken and turns are made, and nothing is carried over any more.
     pub fn begin(self) -> Book<S>
         ensures { result ≡ self }
     {

@@ -1,15 +1,15 @@
 -- The flows and the buffers of a book are its tenants', from its opening on; and what each event does to the packets
 -- that wait.
-use Rattle.std.specs.Prelude.{◌≡◌, ◌<◌, ◌≤◌, ◌-◌, ℕ, zero, suc, Bool, true, false, not, ◌&&◌, List, [], ◌∷◌, ◌++◌, length}
-use Rattle.std.specs.Prelude.{map, drop, find, nat_eq, nat_le, bytes_eq, Option, None, Some, option_map, option_and_then}
+use Rattle.std.specs.Prelude.{◌≡◌, ◌-◌, ℕ, Bool, true, false, not, ◌&&◌, List, [], ◌∷◌, ◌++◌, length}
+use Rattle.std.specs.Prelude.{map, drop, find, nat_eq, bytes_eq, Option, None, Some, option_map, option_and_then}
 use Rattle.std.specs.Prelude.{is_some}
 use Rattle.std.specs.Prelude.{if◌then◌else◌}
 use Rattle.std.specs.Map.{lookup}
 use Rattle.std.proofs.Common.{refl, ap, sym, ◌∙◌, subst, arith}
-use Rattle.std.proofs.lemmas.Bool.{cond_both, cond-true, eqb-true}
+use Rattle.std.proofs.lemmas.Bool.{eqb-true}
 use Rattle.std.proofs.lemmas.Bool.Decides.{nat_tests}
 use Rattle.std.proofs.lemmas.List.{append-nil}
-use Rattle.std.proofs.lemmas.Option.{same_Some, option_and_then_some}
+use Rattle.std.proofs.lemmas.Option.{same_Some}
 use Rattle.share_base.specs.declared.command.Command.{Command}
 use Rattle.share_base.specs.declared.command.Command.TheVariants.{Hold, Resume, Amend}
 use Rattle.share_base.specs.declared.command.Reply.{Reply}
@@ -30,7 +30,7 @@ use Rattle.share_model.specs.link.Turns.{Sending, sending_at, sending_by, sendin
 use Rattle.share_model.specs.lists.Change.{change_first}
 use Rattle.share_model.specs.stride.Moves.{next}
 use Rattle.share_model.proofs.lemmas.link.BufferLaws.{IsHeadBuffer, head_buffer, head_of-flow, other_buffer}
-use Rattle.share_model.proofs.lemmas.lists.Laws.{find-change_first, find-change_first_other, find-holds}
+use Rattle.share_model.proofs.lemmas.lists.Laws.{find-change_first_other, find-holds}
 use Rattle.share_model.proofs.lemmas.lists.Laws.{map-change_first}
 use Rattle.share_model.proofs.lemmas.lists.RemoveLaws.{other_way}
 use Rattle.share_model.proofs.lemmas.lists.SumLaws.{same_name, name_sym}
@@ -42,7 +42,7 @@ use Rattle.share_book.specs.BookHistory.{payload_if, next_payload, limit_by, ten
 use Rattle.share_book.specs.Carry.{packets_by, places_by, number_in, buffer_by, places_for}
 use Rattle.share_book.proofs.CarryLemmas.{pushed, popped, room_by}
 use Rattle.share_book.proofs.TakeLemmas.{named_number}
-use Rattle.share_book.proofs.TenantLemmas.{flow-above, numbered, flow-some, flows-apart}
+use Rattle.share_book.proofs.TenantLemmas.{flow-above, numbered, flows-apart}
 
 -- ---- Keys
 

@@ -1,7 +1,11 @@
 //! A gateway's core in use: worked examples, and what no contract says.
 
 mod assertions;
+mod book_memory;
+mod books;
+mod carrying;
 mod frames;
+mod made;
 mod outbox;
 mod plans;
 mod records;

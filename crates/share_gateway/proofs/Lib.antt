@@ -3,5 +3,7 @@ pub mod OpenedLemmas
 pub mod OpeningLemmas
 pub mod OutboxHistoryLemmas
 pub mod OutboxLemmas
+pub mod PlanChangeLemmas
 pub mod PlannedLemmas
 pub mod RecordsLemmas
+pub mod TicketLemmas

@@ -49,14 +49,14 @@ drop-past [] (suc i) few = refl
 drop-past (x ∷ xs) zero few = absurd (omega (arith, few))
 drop-past (x ∷ xs) (suc i) few = drop-past xs i (omega (arith, few))
 
-get_numbered : {A : Type 0} (n : ℕ) (xs : List A) (i : ℕ) (x : A) → slice_get xs i ≡ Some x
+pub numbered-get : {A : Type 0} (n : ℕ) (xs : List A) (i : ℕ) (x : A) → slice_get xs i ≡ Some x
     → slice_get (enumerate_from n xs) i ≡ Some (n + i, x)
-get_numbered n [] i x e = cc
-get_numbered n (y ∷ xs) zero x e =
+numbered-get n [] i x e = cc
+numbered-get n (y ∷ xs) zero x e =
     let here : n ≡ n + 0 = omega arith in ap (λ k. Some (k, y)) here ∙ ap (λ z. Some (n + 0, z)) (same_Some y x e)
-get_numbered n (y ∷ xs) (suc i) x e =
+numbered-get n (y ∷ xs) (suc i) x e =
     let there : n + 1 + i ≡ n + suc i = omega arith in
-    get_numbered (n + 1) xs i x e ∙ ap (λ k. Some (k, x)) there
+    numbered-get (n + 1) xs i x e ∙ ap (λ k. Some (k, x)) there
 
 get_map : {A B : Type 0} (f : A → B) (xs : List A) (i : ℕ) (x : A) → slice_get xs i ≡ Some x
     → slice_get (map f xs) i ≡ Some (f x)
@@ -68,20 +68,20 @@ get_map f (y ∷ xs) (suc i) x e = get_map f xs i x e
 pub get-numbered : {A B : Type 0} (f : ℕ × A → B) (xs : List A) (i : ℕ) (x : A) → slice_get xs i ≡ Some x
     → slice_get (map f (numbered xs)) i ≡ Some (f (i + 1, x))
 get-numbered f xs i x e =
-    get_map f (numbered xs) i (1 + i, x) (get_numbered 1 xs i x e)
+    get_map f (numbered xs) i (1 + i, x) (numbered-get 1 xs i x e)
     ∙ (let same : 1 + i ≡ i + 1 = omega arith in ap (λ k. Some (f (k, x))) same)
 
-get_front : {A : Type 0} (xs ys : List A) (i : ℕ) (x : A) → slice_get xs i ≡ Some x → slice_get (xs ++ ys) i ≡ Some x
-get_front [] ys i x e = cc
-get_front (y ∷ xs) ys zero x e = e
-get_front (y ∷ xs) ys (suc i) x e = get_front xs ys i x e
+pub get-front : {A : Type 0} (xs ys : List A) (i : ℕ) (x : A) → slice_get xs i ≡ Some x → slice_get (xs ++ ys) i ≡ Some x
+get-front [] ys i x e = cc
+get-front (y ∷ xs) ys zero x e = e
+get-front (y ∷ xs) ys (suc i) x e = get-front xs ys i x e
 
-get_back : {A : Type 0} (xs ys : List A) (i : ℕ) (x : A) → slice_get ys i ≡ Some x
+pub get-back : {A : Type 0} (xs ys : List A) (i : ℕ) (x : A) → slice_get ys i ≡ Some x
     → slice_get (xs ++ ys) (length xs + i) ≡ Some x
-get_back [] ys i x e = let none : 0 + i ≡ i = omega arith in ap (slice_get ys) none ∙ e
-get_back (y ∷ xs) ys i x e =
+get-back [] ys i x e = let none : 0 + i ≡ i = omega arith in ap (slice_get ys) none ∙ e
+get-back (y ∷ xs) ys i x e =
     let one : suc (length xs) + i ≡ suc (length xs + i) = omega arith in
-    ap (slice_get (y ∷ (xs ++ ys))) one ∙ get_back xs ys i x e
+    ap (slice_get (y ∷ (xs ++ ys))) one ∙ get-back xs ys i x e
 
 -- Flows
 
@@ -271,7 +271,7 @@ length-grantees p =
 pub grantee-currency : (p : PlanView) (i : ℕ) (c : CurrencyView) → slice_get p.currencies i ≡ Some c
     → slice_get (grantees p) i ≡ Some (to_currency (i + 1, c))
 grantee-currency p i c is =
-    get_front (map to_currency (numbered p.currencies)) (map to_tenant (numbered p.tenants)) i (to_currency (i + 1, c))
+    get-front (map to_currency (numbered p.currencies)) (map to_tenant (numbered p.tenants)) i (to_currency (i + 1, c))
     (get-numbered to_currency p.currencies i c is)
 
 pub grantee-tenant : (p : PlanView) (i : ℕ) (t : TenantView) → slice_get p.tenants i ≡ Some t
@@ -281,7 +281,7 @@ grantee-tenant p i t is =
     let size : length front ≡ length p.currencies =
     length-map (numbered p.currencies) to_currency ∙ length-enumerate_from 1 p.currencies in
     ap (λ n. slice_get (grantees p) (n + i)) (sym size)
-    ∙ get_back front (map to_tenant (numbered p.tenants)) i (to_tenant (i + 1, t))
+    ∙ get-back front (map to_tenant (numbered p.tenants)) i (to_tenant (i + 1, t))
     (get-numbered to_tenant p.tenants i t is)
 
 mapped_get : {A B : Type 0} (f : A → B) (xs : List A) (i : ℕ) (y : B) → option_map f (slice_get xs i) ≡ Some y

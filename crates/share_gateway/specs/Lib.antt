@@ -1,5 +1,6 @@
 pub mod ByteQueue
 pub mod Frames
+pub mod GrantTickets
 pub mod Making
 pub mod Opened
 pub mod Opening
@@ -10,5 +11,6 @@ pub mod OutboxHistory
 pub mod OutboxRows
 pub mod OutboxTold
 pub mod Plan
+pub mod PlanChanges
 pub mod Planned
 pub mod Records

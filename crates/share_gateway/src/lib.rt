@@ -9,6 +9,7 @@ mod outbox;
 mod plan;
 mod plan_laws;
 mod records;
+mod tickets;
 
 pub use frames::{FRAMES_ROOM, FrameCut, Frames, streams_are_cut_into_frames};
 pub use opened::{MIN_EVENTS, NotOpened, open_engine};

@@ -51,7 +51,7 @@ struct Sections {
 
 // What grants are to: a currency or a tenant, with its number from 1.
 #[derive(Clone, Copy)]
-enum Grantee<'a> {
+pub(crate) enum Grantee<'a> {
     Currency {
         number: usize,
         currency: &'a Currency,
@@ -292,13 +292,13 @@ fn find_grant(plan: &Plan, grantee: usize, grant: usize) -> Option<Found<'_>>
     None
 }
 
-fn grantee_count(plan: &Plan) -> usize
+pub(crate) fn grantee_count(plan: &Plan) -> usize
     ensures { result ≡ length (grantees plan.now) }
 {
     plan.currencies().len() + plan.tenants().len()
 }
 
-fn grantee_at(plan: &Plan, index: usize) -> Grantee<'_>
+pub(crate) fn grantee_at(plan: &Plan, index: usize) -> Grantee<'_>
     requires { index < length (grantees plan.now) }
     ensures { slice_get (grantees plan.entry.now) index ≡ Some (seen result) }
 {
@@ -324,7 +324,7 @@ fn tenant_at(tenants: &[Tenant], place: usize) -> Grantee<'_>
 }
 
 impl<'a> Grantee<'a> {
-    fn grants(&self) -> &'a [Grant]
+    pub(crate) fn grants(&self) -> &'a [Grant]
         ensures { result.now ≡ grants_to (seen self.now) }
     {
         match self {

@@ -4,6 +4,9 @@ ghost use Rattle.std.specs.List.{list_any};
 ghost use Rattle.share_gateway.specs.Plan.{CurrencyView, TenantView, is_gap, is_shared, has_name, flows_of};
 ghost use Rattle.share_gateway.specs.Plan.{are_flow_numbers, plan_fault, IsInLimits, funding_commands};
 
+mod changes;
+mod copies;
+
 use share_base::Name;
 use std::fmt;
 use std::marker::Model;

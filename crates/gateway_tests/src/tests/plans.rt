@@ -1,10 +1,8 @@
 //! Plans: the commands of their openings, as the lines of a script, and what opening them on an engine comes to.
 
-mod made;
-
 use super::assertions::{holds, same};
+use super::made::{looped, many, named, shared, with_tariff};
 use super::tariffs::Four;
-use made::{looped, many, named, shared, with_tariff};
 use share_base::{Event, FlowNo, Refusal};
 use share_core::Engine;
 use share_gateway::{Entry, NotOpened, Plan, open_engine, opening};

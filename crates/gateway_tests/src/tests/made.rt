@@ -91,3 +91,40 @@ pub(super) fn many(rt: &impl Abort, alloc: Global) -> Plan {
     }
     planned(rt, Vec::new(alloc), tenants)
 }
+
+// A tenant with 1 of x.
+fn first(rt: &impl Abort, alloc: Global, limit: u64) -> Tenant {
+    let mut first = tenant(named(rt, "a"), 1, 1, granted(rt, alloc, &[(1, "x")]));
+    first.limit = limit;
+    first
+}
+
+// The currency x, with 1000 of base, and these tenants.
+fn funded(rt: &impl Abort, alloc: Global, tenants: Vec<Tenant>) -> Plan {
+    planned(rt, currency(rt, alloc, &[(1000, "base")]), tenants)
+}
+
+/// The first tenant's buffer holds one packet; the second is held.
+pub(super) fn first_limited(rt: &impl Abort, alloc: Global) -> Plan {
+    let mut second = tenant(named(rt, "b"), 2, 1, granted(rt, alloc, &[(2, "x")]));
+    second.held = true;
+    let mut tenants = Vec::new(alloc);
+    tenants.push(first(rt, alloc, 1)).expect(rt, "memory");
+    tenants.push(second).expect(rt, "memory");
+    funded(rt, alloc, tenants)
+}
+
+/// The second tenant without the first.
+pub(super) fn second_alone(rt: &impl Abort, alloc: Global) -> Plan {
+    let second = tenant(named(rt, "b"), 2, 1, granted(rt, alloc, &[(2, "x")]));
+    let mut tenants = Vec::new(alloc);
+    tenants.push(second).expect(rt, "memory");
+    funded(rt, alloc, tenants)
+}
+
+/// The first tenant alone, whose buffer holds 20 packets.
+pub(super) fn roomy(rt: &impl Abort, alloc: Global) -> Plan {
+    let mut tenants = Vec::new(alloc);
+    tenants.push(first(rt, alloc, 20)).expect(rt, "memory");
+    funded(rt, alloc, tenants)
+}

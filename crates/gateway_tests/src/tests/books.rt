@@ -1,0 +1,230 @@
+//! Books over a plan: the worked one, the tenant that is held from its opening on, and the end of a life.
+
+use super::assertions::{holds, same};
+use super::made::{named, shared};
+use super::tariffs::Four;
+use share_base::{FlowNo, Refusal, Reply};
+use share_book::{Book, Taken, TextKind, Turned};
+use share_gateway::{Grant, Outbox};
+use std::alloc::Global;
+use std::process::Abort;
+
+/// The fewest events of a book.
+const EVENTS: u64 = 131072;
+
+/// The lines of the opening of the two tenants.
+const OPENING: &str =
+    "mkcur x\nopen a 4 1\nopen b 4 1\nmktkt 1000 base\nfund 1 cur x\nmktkt 1 x\nfund 2 flow a\n\
+    mktkt 2 x\nfund 3 flow b\n";
+
+/// The frame of the first packet of b, `c`.
+const FRAME: &[u8; 18] = b"L\x02\x01\0\0\0\x02\0\0\0\0\0\0\0\x01\0\x01c";
+
+/// A kind of text, its first line, and the lines of three packets and a turn.
+#[derive(Clone, Copy)]
+struct Text {
+    kind: TextKind,
+    first: &'static str,
+    lines: &'static str,
+}
+
+const TEXTS: [Text; 2] = [
+    Text {
+        kind: TextKind::Whole,
+        first: "audit 2\n",
+        lines: "send a 61\nsend a 62\nsend b 63\nturn 18\n",
+    },
+    Text {
+        kind: TextKind::Lengths,
+        first: "lengths 2\n",
+        lines: "send a 1\nsend a 1\nsend b 1\nturn 18\n",
+    },
+];
+
+/// A book over the plan of two tenants, the second held or not.
+pub(super) fn opened(rt: &impl Abort, alloc: Global, held: bool, kind: TextKind) -> Book<Four> {
+    let plan = shared(rt, alloc, 2, held);
+    let book = Book::open(alloc, &plan, Four, EVENTS, kind);
+    book.ok().expect(rt, "a book").begin()
+}
+
+/// Forgets the text of a book.
+pub(super) fn drain(book: &mut Book<Four>) {
+    let count = book.text().len();
+    book.drained(count);
+}
+
+// Whether a text is these three pieces.
+fn is_text(text: &[u8], first: &str, second: &str, third: &str) -> bool {
+    text.strip_prefix(first.as_bytes())
+        .and_then(|rest| rest.strip_prefix(second.as_bytes()))
+        .is_some_and(|rest| rest == third.as_bytes())
+}
+
+// Takes a packet, which has this number.
+fn takes(
+    rt: &impl Abort,
+    alloc: Global,
+    book: &mut Book<Four>,
+    word: &str,
+    payload: &[u8],
+    seq: u32,
+) {
+    let taken = book.take(alloc, named(rt, word), payload);
+    same(rt, seq, taken, Taken::Packet { seq });
+}
+
+/// Takes two packets of a and one of b.
+pub(super) fn take_three(rt: &impl Abort, alloc: Global, book: &mut Book<Four>) {
+    takes(rt, alloc, book, "a", b"a", 1);
+    takes(rt, alloc, book, "a", b"b", 2);
+    takes(rt, alloc, book, "b", b"c", 1);
+}
+
+// Allows all frames of an outbox, compares their bytes, and empties it.
+fn sends(rt: &impl Abort, what: &'static str, outbox: &mut Outbox, bytes: &[u8]) {
+    outbox.allow(bytes.len());
+    holds(rt, what, outbox.ready() == bytes);
+    let count = outbox.ready().len();
+    outbox.sent(count);
+}
+
+// The accounts and passes after the turn.
+fn counts(rt: &impl Abort, what: &'static str, book: &Book<Four>) {
+    let engine = book.engine();
+    same(rt, what, engine.account(FlowNo(2)), Some(18));
+    same(rt, what, engine.global().pass, 19346699);
+    same(rt, what, engine.tickets(FlowNo(1)), Some(1000));
+    let place = engine.position(FlowNo(1)).map(|position| position.place);
+    same(rt, what, place, Some(1112415875));
+}
+
+// Two packets of a and one of b come, and one turn is made.
+fn works(rt: &impl Abort, alloc: Global, text: &Text, outbox: &mut Outbox) {
+    let mut book = opened(rt, alloc, false, text.kind);
+    take_three(rt, alloc, &mut book);
+    let wrote = Turned::Wrote {
+        flow: FlowNo(2),
+        seq: 1,
+        count: 18,
+    };
+    same(rt, text.first, book.turn(outbox), wrote);
+    sends(rt, text.first, outbox, FRAME.as_slice());
+    counts(rt, text.first, &book);
+    holds(
+        rt,
+        text.first,
+        is_text(book.text(), text.first, OPENING, text.lines),
+    );
+    drain(&mut book);
+    holds(rt, text.first, book.text().is_empty());
+    drop(book);
+}
+
+#[test]
+fn a_book_is_its_events_and_their_lines(rt: HostRuntime) {
+    let mut outbox = Outbox::new(rt.alloc()).ok().expect(&rt, "an outbox");
+    for at in 0..TEXTS.len() {
+        works(&rt, rt.alloc(), &TEXTS[at], &mut outbox);
+    }
+    drop(outbox);
+}
+
+// What control lines are answered, and their lines.
+fn changes(rt: &impl Abort, book: &mut Book<Four>) {
+    let (a, b, x, z) = (
+        named(rt, "a"),
+        named(rt, "b"),
+        named(rt, "x"),
+        named(rt, "z"),
+    );
+    let no = Reply::Refused;
+    same(rt, "hold a", book.hold(a), Reply::Done);
+    same(rt, "hold b again", book.hold(b), no(Refusal::Held));
+    same(rt, "resume b", book.resume(b), Reply::Done);
+    same(rt, "hold z", book.hold(z), no(Refusal::NoFlow));
+    same(rt, "amend x 1", book.amend(x, 1, 500), Reply::Done);
+    same(rt, "amend b 1", book.amend(b, 1, 7), Reply::Done);
+    same(
+        rt,
+        "amend b 1 out of range",
+        book.amend(b, 1, 0),
+        no(Refusal::Range),
+    );
+    same(rt, "amend b 2", book.amend(b, 2, 7), no(Refusal::NoTicket));
+    same(
+        rt,
+        "amend z 1",
+        book.amend(z, 1, 7),
+        no(Refusal::NoCurrency),
+    );
+}
+
+// The amount of the first grant, from its currency or its tenant.
+fn first_amount(grants: &[Grant]) -> Option<u64> {
+    grants.first().map(|grant| grant.amount)
+}
+
+// The plan is as it was changed.
+fn is_changed(rt: &impl Abort, book: &Book<Four>) {
+    let plan = book.plan();
+    let currency = &plan.currencies()[0];
+    let first = &plan.tenants()[0];
+    let second = &plan.tenants()[1];
+    same(rt, "held", (first.held, second.held), (true, false));
+    same(rt, "x", first_amount(currency.grants.as_slice()), Some(500));
+    same(rt, "a", first_amount(first.grants.as_slice()), Some(1));
+    same(rt, "b", first_amount(second.grants.as_slice()), Some(7));
+}
+
+#[test]
+fn changes_are_events_and_change_the_plan(rt: HostRuntime) {
+    let mut book = opened(&rt, rt.alloc(), true, TextKind::Whole);
+    let lines = book.text().strip_prefix(b"audit 2\n".as_slice());
+    let lines = lines.and_then(|lines| lines.strip_prefix(OPENING.as_bytes()));
+    holds(
+        &rt,
+        "the opening",
+        lines.is_some_and(|lines| lines == b"hold b\n".as_slice()),
+    );
+    drain(&mut book);
+    changes(&rt, &mut book);
+    let lines = b"hold a\nhold b\nresume b\nhold z\namend 1 500\namend 3 7\namend 3 0\n";
+    holds(&rt, "lines", book.text() == lines.as_slice());
+    is_changed(&rt, &book);
+    drop(book);
+}
+
+// Makes events until the life is spent: a hold, refused but for the first, for each that is left.
+fn spend(rt: &impl Abort, book: &mut Book<Four>) {
+    let a = named(rt, "a");
+    for _event in 0..EVENTS {
+        if book.lacks_text() {
+            drain(book);
+        }
+        if book.hold(a) == Reply::Refused(Refusal::Spent) {
+            break;
+        }
+    }
+    same(rt, "events", book.engine().events(), EVENTS);
+}
+
+#[test]
+fn a_spent_book_gives_what_waits(rt: HostRuntime) {
+    let mut outbox = Outbox::new(rt.alloc()).ok().expect(&rt, "an outbox");
+    let mut book = opened(&rt, rt.alloc(), false, TextKind::Lengths);
+    take_three(&rt, rt.alloc(), &mut book);
+    spend(&rt, &mut book);
+    let taken = book.take(rt.alloc(), named(&rt, "b"), b"d");
+    same(&rt, "a packet", taken, Taken::Spent);
+    drain(&mut book);
+    same(&rt, "a turn", book.turn(&mut outbox), Turned::Spent);
+    let closed = book.close();
+    let waiting = (closed.waiting(FlowNo(1)), closed.waiting(FlowNo(2)));
+    same(&rt, "waiting", waiting, (2, 1));
+    let totals = closed.totals();
+    same(&rt, "totals", (totals.accepted, totals.written), (3, 0));
+    holds(&rt, "text", closed.text().is_empty());
+    drop(closed);
+    drop(outbox);
+}

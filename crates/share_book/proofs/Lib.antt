@@ -1,0 +1,11 @@
+pub mod AmendLemmas
+pub mod BookHistoryLemmas
+pub mod CarriedLemmas
+pub mod CarryAllLemmas
+pub mod CarryLemmas
+pub mod LaidOutLemmas
+pub mod OpenLemmas
+pub mod RunTextLemmas
+pub mod SendLemmas
+pub mod TakeLemmas
+pub mod TenantLemmas

@@ -1,0 +1,35 @@
+-- A packet for which there is room is accepted.
+use Rattle.std.specs.Prelude.{◌≡◌, ℕ, Bool, true, false, not, List, Option, None, Some, if◌then◌else◌}
+use Rattle.std.proofs.Common.{refl}
+use Rattle.share_base.specs.declared.command.Reply.{Reply}
+use Rattle.share_base.specs.declared.command.Reply.TheVariants.{Packet}
+use Rattle.share_core.specs.Room.{has_place, has_room_by, has_room}
+use Rattle.share_model.specs.declared.funding.OpenFlow.{OpenFlow}
+use Rattle.share_model.specs.funding.Changes.{flow_named, flow_number}
+use Rattle.share_model.specs.funding.Graph.{NameBytes}
+use Rattle.share_model.specs.link.Arrivals.{accept, arrive_in, arrive_by, arrive_step}
+use Rattle.share_model.specs.link.Buffers.{Buffer, buffer_of, is_full}
+use Rattle.share_model.specs.link.Live.{Live}
+use Rattle.share_book.specs.Book.{next_in, next_number}
+
+accept_free : (b : Bool) (refused done : Live × Reply) → not b ≡ true → (if b then refused else done) ≡ done
+accept_free true refused done free = cc
+accept_free false refused done free = refl
+
+accept_in : (l : Live) (f : ℕ) (p : List ℕ) (o : Option Buffer) → has_place o ≡ true
+    → arrive_in l f p o ≡ (accept l f p, Packet f (next_in o))
+accept_in l f p None free = cc
+accept_in l f p (Some b) free = accept_free (is_full b) _ _ free
+
+accept_by : (l : Live) (p : List ℕ) (o : Option OpenFlow) → has_room_by l.buffers o ≡ true
+    → arrive_by l p o ≡ (accept l (flow_number o) p, Packet (flow_number o) (next_in (buffer_of l.buffers (flow_number o))))
+accept_by l p None free = cc
+accept_by l p (Some e) free = accept_in l e.number p (buffer_of l.buffers e.number) free
+
+-- the flow of the name
+abbrev pub named_number : Live → NameBytes → ℕ
+named_number l name = flow_number (flow_named l.graph name)
+
+pub accept-is : (l : Live) (name : NameBytes) (p : List ℕ) → has_room l name ≡ true
+    → arrive_step l name p ≡ (accept l (named_number l name) p, Packet (named_number l name) (next_number l name))
+accept-is l name p free = accept_by l p (flow_named l.graph name) free

@@ -1,0 +1,9 @@
+pub mod Audited
+pub mod Book
+pub mod BookHistory
+pub mod Carry
+pub mod Changes
+pub mod Closed
+pub mod OpenBook
+pub mod Sends
+pub mod Texts

@@ -1,0 +1,77 @@
+//! What is left of a book that was closed.
+ghost use Rattle.std.specs.Prelude.{◌≡◌};
+ghost use Rattle.share_model.specs.link.Buffers.{count_in};
+ghost use Rattle.share_book.specs.Closed.{closed_of};
+
+use super::Book;
+use crate::book_text::BookText;
+use share_base::FlowNo;
+use share_core::PayloadBuffers;
+use share_gateway::Plan;
+use share_model::{Rates, Totals};
+use std::marker::Model;
+
+/// A book that was closed: what of its text was not drained, its plan, the packets that wait, and its totals.
+#[derive(Drop)]
+pub struct Closed {
+    pub(super) text: BookText,
+    pub(super) plan: Plan,
+    pub(super) buffers: PayloadBuffers,
+    pub(super) totals: Totals,
+}
+
+impl Model for Closed {
+    ghost use Rattle.std.specs.Coded.{codes};
+    ghost use Rattle.share_book.specs.Closed.{ClosedView};
+
+    ghost Value = { ClosedView };
+
+    ghost view = { λ c. record { text = c.text.bytes; plan = c.plan; buffers = c.buffers; totals = c.totals } };
+}
+
+impl Closed {
+    /// What of the text was not drained.
+    pub fn text(&self) -> &[u8]
+        ensures { result.now ≡ self.now.text }
+    {
+        self.text.as_slice()
+    }
+
+    /// The plan, with the holds and the amounts as they were.
+    pub fn plan(&self) -> &Plan
+        ensures { result.now ≡ self.now.plan }
+    {
+        &self.plan
+    }
+
+    /// What the book counted, and what it held when it was closed.
+    pub fn totals(&self) -> Totals
+        ensures { result ≡ self.now.totals }
+    {
+        self.totals
+    }
+
+    /// How many packets of a flow wait: after the last of them was carried, how many are dropped.
+    pub fn waiting(&self, flow: FlowNo) -> u32
+        ensures { result ≡ count_in self.now.buffers flow }
+    {
+        self.buffers.len(flow)
+    }
+}
+
+impl<S: Rates + Drop> Book<S> {
+    /// Closes the book. The packets that wait stay in the memory in which they are. It takes no memory.
+    pub fn close(self) -> Closed
+        ensures { result ≡ closed_of self }
+    {
+        let Book { audited, plan } = self;
+        let totals = audited.engine().totals();
+        let (text, buffers) = audited.into_parts();
+        Closed {
+            text,
+            plan,
+            buffers,
+            totals,
+        }
+    }
+}

@@ -1,0 +1,32 @@
+//! What holds of books that follow one another. The function here does nothing: its contract is the law, which is
+//! proved with it.
+ghost use Rattle.std.specs.Prelude.{◌≡◌, ◌++◌, ℕ, List};
+ghost use Rattle.share_model.specs.declared.rates.Rate.{Rate};
+ghost use Rattle.share_model.specs.funding.Graph.{NameBytes};
+ghost use Rattle.share_gateway.specs.Plan.{PlanView, IsInLimits};
+ghost use Rattle.share_book.specs.Audited.{Audited};
+ghost use Rattle.share_book.specs.Book.{BookView};
+ghost use Rattle.share_book.specs.BookHistory.{CarriesAll, History, IsCut, tenant_limit, waiting_in};
+ghost use Rattle.share_book.specs.Closed.{ClosedView, closed_of};
+ghost use Rattle.share_book.specs.OpenBook.{IsOpenBook};
+ghost use Rattle.share_book.specs.declared.book_text.TextKind.{TextKind};
+
+use share_gateway::opened_links_hold_their_plans;
+
+/// Nothing is lost between books. Over all books of a gateway, the first opened over a plan, and each of the others
+/// carrying over what waited in the one before: the payloads of a tenant that were written whole, followed by those that
+/// wait in the open book, are the payloads that were taken of it, in order, each once, but for those that were dropped
+/// when a book was carried over. The first of the packets that waited are carried, as many as the new limit lets wait,
+/// and the others are left in the closed book, which counts them, and dropped with it: all of a tenant that the new plan
+/// lacks, and none if the new limit has room for all.
+pub fn books_lose_nothing()
+    ensures order { (name : NameBytes) (taken written : List (List ℕ)) (b : BookView) → History name taken written b
+        → taken ≡ written ++ waiting_in b name }
+    ensures cut { (name : NameBytes) (taken written : List (List ℕ)) (old : BookView) (rates : List Rate) (p : PlanView)
+        (events : ℕ) (kind : TextKind) (b : BookView) (new : Audited) (after : ClosedView)
+        → History name taken written old → IsInLimits p → IsOpenBook rates p events kind b
+        → CarriesAll b.audited p.tenants (closed_of old) new after
+        → IsCut name (tenant_limit p name) old (record b { audited = new }) after }
+{
+    opened_links_hold_their_plans();
+}

@@ -5,6 +5,7 @@ ghost use Rattle.share_script.specs.declared.script.ScriptFault.TheVariants.{NoM
 ghost use Rattle.share_core.specs.Life.{life_refusal};
 ghost use Rattle.stridelink.specs.Orders.{CanBeServed};
 
+use crate::bill_words::{BillOrders, bill_command, bill_orders};
 use crate::help;
 use clap::builder::ValueParser;
 use clap::error::ErrorKind;
@@ -81,6 +82,8 @@ pub enum Asked<'a> {
     Run(Orders<'a>),
     /// To serve a link.
     Serve(ServeOrders<'a>),
+    /// To bill books.
+    Bill(BillOrders<'a>),
     /// To show a text: help, the version, or what is wrong with the words.
     Text(clap::Error),
 }
@@ -203,7 +206,8 @@ fn command_line<'a>(alloc: Global) -> Result<Command<'a>, AllocError> {
         .after_long_help(help::SCRIPTS)
         .subcommand_required(true)
         .subcommand(run_command(alloc)?)?
-        .subcommand(serve_command(alloc)?)
+        .subcommand(serve_command(alloc)?)?
+        .subcommand(bill_command(alloc)?)
 }
 
 // What the words of `run` ask for.
@@ -260,17 +264,18 @@ fn out_of_range(asked: &Asked<'_>) -> Option<&'static str>
 }
 
 // What the words ask for, before their numbers are tested.
-fn asked_by<'a>(matches: &ArgMatches<'a>) -> Asked<'a>
-    ensures { (text : _) → result ≢ Asked.Text text }
+fn asked_by<'a>(alloc: Global, matches: &ArgMatches<'a>) -> Result<Asked<'a>, AllocError>
+    ensures { IfOk result (λ asked. (text : _) → asked ≢ Asked.Text text) }
 {
     match matches.subcommand() {
-        Some(("serve", serve)) => Asked::Serve(serve_orders(serve)),
-        Some((_, run)) => Asked::Run(run_orders(run)),
-        None => Asked::Run(Orders {
+        Some(("serve", serve)) => Ok(Asked::Serve(serve_orders(serve))),
+        Some(("bill", bill)) => Ok(Asked::Bill(bill_orders(alloc, bill)?)),
+        Some((_, run)) => Ok(Asked::Run(run_orders(run))),
+        None => Ok(Asked::Run(Orders {
             life: LIFE,
             file: None,
             is_strict: false,
-        }),
+        })),
     }
 }
 
@@ -291,7 +296,11 @@ fn in_range<'a>(command: &mut Command<'a>, asked: Asked<'a>) -> Result<Asked<'a>
 }
 
 // What words ask for of a command line, which stays its caller's: a function that owns it would drop it in each way out.
-fn asked_of<'a>(command: &mut Command<'a>, words: &'a [String]) -> Result<Asked<'a>, ScriptFault>
+fn asked_of<'a>(
+    alloc: Global,
+    command: &mut Command<'a>,
+    words: &'a [String],
+) -> Result<Asked<'a>, ScriptFault>
     ensures memory { IfErr result (λ fault. fault ≡ NoMemory) }
     ensures text { IfOk result (λ asked. (text : _) → asked ≡ Asked.Text text → kind_of text ≢ ErrorKind.OutOfMemory) }
     ensures life { IfOk result (λ asked. (orders : _) → asked ≡ Asked.Run orders
@@ -301,9 +310,9 @@ fn asked_of<'a>(command: &mut Command<'a>, words: &'a [String]) -> Result<Asked<
 {
     match command.try_get_matches_from_mut(words) {
         Ok(matches) => {
-            let asked = asked_by(&matches);
+            let asked = asked_by(alloc, &matches);
             drop(matches);
-            in_range(command, asked)
+            in_range(command, asked?)
         }
         Err(error) if error.kind() == ErrorKind::OutOfMemory => Err(ScriptFault::NoMemory),
         Err(error) => Ok(Asked::Text(error)),
@@ -320,7 +329,7 @@ fn read_words<'a>(alloc: Global, words: &'a [String]) -> Result<Asked<'a>, Scrip
         → CanBeServed orders.life orders.workers orders.clerks) }
 {
     let mut command = command_line(alloc)?;
-    let asked = asked_of(&mut command, words);
+    let asked = asked_of(alloc, &mut command, words);
     drop(command);
     asked
 }
@@ -406,5 +415,6 @@ pub fn parse<'a>(alloc: Global, words: Option<&'a [String]>) -> Result<Asked<'a>
         Asked::Text(text) => Ok(Asked::Text(readable(alloc, words, text)?)),
         Asked::Run(orders) => Ok(Asked::Run(orders)),
         Asked::Serve(orders) => Ok(Asked::Serve(orders)),
+        Asked::Bill(orders) => Ok(Asked::Bill(orders)),
     }
 }

@@ -2,13 +2,14 @@
 """Bills books with the built program, and compares what it prints with a plain model of a link.
 
 The books of books/ have to give the bills that are stored beside them. Then their texts are altered: a line is left
-out, doubled, swapped with the next one or replaced, and a text is cut at each byte of its last lines. The model runs
+out, doubled or swapped with the next one, an odd line is put before it, and a text is cut at each of its bytes. The model runs
 each altered text and finds its bill, or the first line that is no run's and the reason. The program has to find the
 same: then its status is 1, it prints no bill, and standard error names the file and the line.
 
     bill.py           plays all of this, with bin/stridelink or the program of the variable STRIDELINK
     bill.py FILE...   prints what the model finds in books, as CSV
 """
+import itertools
 import json
 import os
 import subprocess
@@ -47,8 +48,12 @@ COLUMNS = ("packets", "bytes", "units", "amount")
 ROW = "%-16s %12s %16s %16s %20s\n"
 
 # How many altered texts have to be refused and billed: otherwise they were not altered well.
-LEAST_REFUSED = 100
-LEAST_BILLED = 30
+LEAST_REFUSED = 500
+LEAST_BILLED = 300
+
+# How many altered texts are given together, and which of them are given alone too: one of so many.
+TOGETHER = 50
+ALONE = 50
 
 # ---- The model
 
@@ -247,7 +252,7 @@ def play_stored():
 
 # ---- Altered books
 
-# Lines of which each is put in the place of each line of a book, and before it.
+# Lines of which each is put before each line of a book.
 ODD_LINES = (b"", b"torn", b"report", b"audit 2", b"lengths 2", b"turn 0", b"turn 17", b"turn 18", b"turn 19",
              b"turn 65536", b"send a 0", b"send a 01", b"send a 9000", b"send a 9001", b"send c 1", b"send a",
              b"send a 61 61", b"send a 6G", b"open gap 1 1", b"close a", b"resume a", b"hold b", b"open c 1 9",
@@ -266,7 +271,6 @@ def altered(text):
         yield "line %d doubled" % (at + 1), joined(lines[:at + 1] + lines[at:])
         yield "line %d swapped" % (at + 1), joined(lines[:at] + lines[at:at + 2][::-1] + lines[at + 2:])
         for odd in ODD_LINES:
-            yield "line %d replaced" % (at + 1), joined(lines[:at] + [odd] + lines[at + 1:])
             yield "line put before line %d" % (at + 1), joined(lines[:at] + [odd] + lines[at:])
     for end in range(len(text)):
         yield "cut after byte %d" % end, text[:end]
@@ -277,18 +281,24 @@ def altered(text):
 
 
 def play_altered(folder):
-    """The program finds the same as the model in each altered text."""
-    counts = {True: 0, False: 0}
-    path = os.path.join(folder, "altered")
-    forms = list(FORMS)
+    """The program finds the same as the model in each altered text. Texts that the model refuses are given together,
+    and so are those that it bills."""
+    ways = {True: [], False: []}
     for name in ("plan.audit", "plan.lengths", "carried.lengths"):
-        for number, (way, text) in enumerate(altered(read(name))):
+        for number, (_, text) in enumerate(altered(read(name))):
+            path = os.path.join(folder, "%s-%d" % (name, number))
             with open(path, "wb") as file:
                 file.write(text)
-            counts[compare([path], forms[number % len(forms)], "%s, %s" % (name, way))] += 1
-    if counts[False] < LEAST_REFUSED or counts[True] < LEAST_BILLED:
-        raise Difference("only %d were refused and %d billed" % (counts[False], counts[True]))
-    return counts
+            ways[wanted_of([path], "csv")[0] == 0].append(path)
+    if len(ways[False]) < LEAST_REFUSED or len(ways[True]) < LEAST_BILLED:
+        raise Difference("only %d are refused and %d billed" % (len(ways[False]), len(ways[True])))
+    forms = itertools.cycle(FORMS)
+    for paths in ways.values():
+        for at in range(0, len(paths), TOGETHER):
+            compare(paths[at:at + TOGETHER], next(forms), "altered books")
+        for path in paths[::ALONE]:
+            compare([path], "table", "an altered book")
+    return {has_bill: len(paths) for has_bill, paths in ways.items()}
 
 
 # ---- Other books and faults

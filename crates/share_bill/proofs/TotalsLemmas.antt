@@ -1,12 +1,14 @@
 -- Tenants by their names: where each stands, and what it sent.
-use Rattle.std.specs.Prelude.{◌≡◌, ◌<◌, ◌+◌, ℕ, zero, suc, Bool, true, false, not, List, [], ◌∷◌, ◌++◌, length, map, filter}
+use Rattle.std.specs.Prelude.{◌≡◌, ◌<◌, ◌≤◌, ◌+◌, ℕ, zero, suc, Bool, true, false, not, List, [], ◌∷◌, ◌++◌, length, map, filter}
 use Rattle.std.specs.Prelude.{if◌then◌else◌, nat_lt}
 use Rattle.std.specs.Str.{bytes_eq}
 use mathlib.Core.List.{append_assoc}
-use Rattle.std.proofs.Common.{refl, ap, sym, ◌∙◌, arith, set, get_or}
+use Rattle.std.proofs.Common.{refl, ap, sym, ◌∙◌, subst, arith, set, get_or}
 use Rattle.std.proofs.lemmas.Bool.{lt-ltb}
+use Rattle.std.proofs.lemmas.Bool.Decides.{nat_tests}
 use Rattle.std.proofs.lemmas.List.{append-nil, map-append}
 use Rattle.std.proofs.lemmas.List.Elements.{filter-append}
+use Rattle.std.proofs.lemmas.List.Sums.{position_or_len_is}
 use Rattle.share_model.proofs.lemmas.lists.SumLaws.{same_name, name_same, name_sym}
 use Rattle.share_bill.specs.declared.bill.running.TenantBill.{TenantBill}
 use Rattle.share_bill.specs.declared.bill.total.Figures.{Figures}
@@ -28,16 +30,16 @@ kept_if n e es b test = ap (λ t. if not t then e ∷ filter (is_other n) es els
 has_filter : (n m : List ℕ) → bytes_eq n m ≡ false → (es : List (List ℕ))
     → has_name m (filter (is_other n) es) ≡ has_name m es
 has_filter n m differ [] = refl
-has_filter n m differ (e ∷ es) = by (bytes_eq e n) refl
+has_filter n m differ (e ∷ es) = by (bytes_eq e n) refl (has_filter n m differ es)
   where
-    by : (b : Bool) → bytes_eq e n ≡ b → has_name m (filter (is_other n) (e ∷ es)) ≡ has_name m (e ∷ es)
-    by true test =
+    by : (b : Bool) → bytes_eq e n ≡ b → has_name m (filter (is_other n) es) ≡ has_name m es
+        → has_name m (filter (is_other n) (e ∷ es)) ≡ has_name m (e ∷ es)
+    by true test rest =
         ap (has_name m) (kept_if n e es true test)
-        ∙ (has_filter n m differ es
+        ∙ (rest
         ∙ sym (ap (λ b. if b then true else has_name m es) (ap (λ x. bytes_eq x m) (same_name e n test) ∙ differ)))
-    by false test =
-        ap (has_name m) (kept_if n e es false test)
-        ∙ ap (λ h. if bytes_eq e m then true else h) (has_filter n m differ es)
+    by false test rest =
+        ap (has_name m) (kept_if n e es false test) ∙ ap (λ h. if bytes_eq e m then true else h) rest
 
 once_by : (n m : List ℕ) (es : List (List ℕ)) (b h : Bool) → bytes_eq n m ≡ b → has_name m es ≡ h
     → n ∷ filter (is_other n) (if h then es else es ++ m ∷ [])
@@ -82,9 +84,9 @@ figures-more name (r ∷ rows) row sent = figures-more name rows row (figures_an
 -- Where a tenant stands
 
 has_by : (b h : Bool) (i n : ℕ) → h ≡ nat_lt i n
-    → (if b then true else h) ≡ nat_lt (if not b then 1 + i else 0) (1 + n)
-has_by true h i n is = refl
-has_by false h i n is = is
+    → (if b then true else h) ≡ nat_lt (if not b then 1 + i else 0) (suc n)
+has_by true h i n is = grind (arith, nat_tests)
+has_by false h i n is = let next : nat_lt i n ≡ nat_lt (1 + i) (suc n) = grind (arith, nat_tests) in is ∙ next
 
 has_index : (ts : List TenantTotal) (name : List ℕ)
     → has_name name (map name_of ts) ≡ nat_lt (index_of ts name) (length ts)
@@ -103,30 +105,35 @@ swapped a n other x y z false false differ one two = refl
 figures_absent : (ts : List TenantTotal) (name : List ℕ) → has_name name (map name_of ts) ≡ false
     → figures_of ts name ≡ no_figures
 figures_absent [] name none = refl
-figures_absent (t ∷ ts) name none = by (bytes_eq t.name name) refl
+figures_absent (t ∷ ts) name none = by (bytes_eq t.name name) refl (figures_absent ts name)
   where
-    by : (b : Bool) → bytes_eq t.name name ≡ b → figures_of (t ∷ ts) name ≡ no_figures
-    by true test =
+    by : (b : Bool) → bytes_eq t.name name ≡ b
+        → (has_name name (map name_of ts) ≡ false → figures_of ts name ≡ no_figures)
+        → figures_of (t ∷ ts) name ≡ no_figures
+    by true test rest =
         let yes : has_name name (map name_of (t ∷ ts)) ≡ true =
         ap (λ c. if c then true else has_name name (map name_of ts)) test in cc
-    by false test =
+    by false test rest =
         ap (λ c. if c then t.sent else figures_of ts name) test
-        ∙ figures_absent ts name (sym (ap (λ c. if c then true else has_name name (map name_of ts)) test) ∙ none)
+        ∙ rest (sym (ap (λ c. if c then true else has_name name (map name_of ts)) test) ∙ none)
 
 pushed_figures : (ts : List TenantTotal) (x : TenantTotal) (other : List ℕ)
     → has_name x.name (map name_of ts) ≡ false
     → figures_of (ts ++ x ∷ []) other ≡ (if bytes_eq x.name other then x.sent else figures_of ts other)
 pushed_figures [] x other none = refl
-pushed_figures (t ∷ ts) x other none = by (bytes_eq t.name x.name) refl
+pushed_figures (t ∷ ts) x other none = by (bytes_eq t.name x.name) refl (pushed_figures ts x other)
   where
-    by : (b : Bool) → bytes_eq t.name x.name ≡ b → figures_of (t ∷ (ts ++ x ∷ [])) other
+    by : (b : Bool) → bytes_eq t.name x.name ≡ b
+        → (has_name x.name (map name_of ts) ≡ false
+        → figures_of (ts ++ x ∷ []) other ≡ (if bytes_eq x.name other then x.sent else figures_of ts other))
+        → figures_of (t ∷ (ts ++ x ∷ [])) other
         ≡ (if bytes_eq x.name other then x.sent else figures_of (t ∷ ts) other)
-    by true test =
+    by true test rest =
         let yes : has_name x.name (map name_of (t ∷ ts)) ≡ true =
         ap (λ c. if c then true else has_name x.name (map name_of ts)) test in cc
-    by false test =
+    by false test rest =
         ap (λ f. if bytes_eq t.name other then t.sent else f)
-        (pushed_figures ts x other (sym (ap (λ c. if c then true else has_name x.name (map name_of ts)) test) ∙ none))
+        (rest (sym (ap (λ c. if c then true else has_name x.name (map name_of ts)) test) ∙ none))
         ∙ swapped t.name x.name other t.sent x.sent (figures_of ts other) (bytes_eq t.name other)
         (bytes_eq x.name other) test refl refl
 
@@ -141,20 +148,26 @@ set_names (t ∷ ts) (suc i) x d same inside = ap (λ l. t.name ∷ l) (set_name
 entry_at : (ts : List TenantTotal) (name : List ℕ) (d : TenantTotal) → index_of ts name < length ts
     → ((get_or ts (index_of ts name) d).name ≡ name) × ((get_or ts (index_of ts name) d).sent ≡ figures_of ts name)
 entry_at [] name d inside = absurd (omega (arith, inside))
-entry_at (t ∷ ts) name d inside = by (bytes_eq t.name name) refl inside
+entry_at (t ∷ ts) name d inside = by (bytes_eq t.name name) refl inside (entry_at ts name d)
   where
     by : (b : Bool) → bytes_eq t.name name ≡ b → (if not b then 1 + index_of ts name else 0) < length (t ∷ ts)
+        → (index_of ts name < length ts → ((get_or ts (index_of ts name) d).name ≡ name)
+        × ((get_or ts (index_of ts name) d).sent ≡ figures_of ts name))
         → ((get_or (t ∷ ts) (if not b then 1 + index_of ts name else 0) d).name ≡ name)
         × ((get_or (t ∷ ts) (if not b then 1 + index_of ts name else 0) d).sent
         ≡ (if b then t.sent else figures_of ts name))
-    by true test inside = (same_name t.name name test, refl)
-    by false test inside = entry_at ts name d (omega (arith, inside))
+    by true test inside rest = (same_name t.name name test, refl)
+    by false test inside rest =
+        let more : 1 + index_of ts name ≡ suc (index_of ts name) = omega arith in
+        subst (λ i. ((get_or (t ∷ ts) i d).name ≡ name) × ((get_or (t ∷ ts) i d).sent ≡ figures_of ts name)) (sym more)
+        (rest (omega (arith, inside)))
 
 set_figures : (ts : List TenantTotal) (x : TenantTotal) (name other : List ℕ) → x.name ≡ name
     → index_of ts name < length ts
     → figures_of (set ts (index_of ts name) x) other ≡ (if bytes_eq name other then x.sent else figures_of ts other)
 set_figures [] x name other is inside = absurd (omega (arith, inside))
-set_figures (t ∷ ts) x name other is inside = by (bytes_eq t.name name) refl inside
+set_figures (t ∷ ts) x name other is inside =
+    by (bytes_eq t.name name) refl inside (set_figures ts x name other is)
   where
     pick : (q : Bool) → bytes_eq name other ≡ q → t.name ≡ name
         → (if q then x.sent else figures_of ts other)
@@ -164,16 +177,28 @@ set_figures (t ∷ ts) x name other is inside = by (bytes_eq t.name name) refl i
         sym (ap (λ c. if c then t.sent else figures_of ts other) (ap (λ n. bytes_eq n other) same ∙ test))
 
     by : (b : Bool) → bytes_eq t.name name ≡ b → (if not b then 1 + index_of ts name else 0) < length (t ∷ ts)
+        → (index_of ts name < length ts → figures_of (set ts (index_of ts name) x) other
+        ≡ (if bytes_eq name other then x.sent else figures_of ts other))
         → figures_of (set (t ∷ ts) (if not b then 1 + index_of ts name else 0) x) other
         ≡ (if bytes_eq name other then x.sent else figures_of (t ∷ ts) other)
-    by true test inside =
+    by true test inside rest =
         ap (λ n. if bytes_eq n other then x.sent else figures_of ts other) is
         ∙ pick (bytes_eq name other) refl (same_name t.name name test)
-    by false test inside =
-        ap (λ f. if bytes_eq t.name other then t.sent else f)
-        (set_figures ts x name other is (omega (arith, inside)))
+    by false test inside rest =
+        let more : 1 + index_of ts name ≡ suc (index_of ts name) = omega arith in
+        ap (λ i. figures_of (set (t ∷ ts) i x) other) more
+        ∙ ap (λ f. if bytes_eq t.name other then t.sent else f) (rest (omega (arith, inside)))
         ∙ swapped t.name name other t.sent x.sent (figures_of ts other) (bytes_eq t.name other) (bytes_eq name other)
         test refl refl
+
+-- no entry has the name
+pub index-none : (ts : List TenantTotal) (name : List ℕ) (at : ℕ) → length ts ≤ at → at ≤ length ts
+    → ((k : ℕ) → k < at → (d : TenantTotal) → bytes_eq (get_or ts k d).name name ≡ false)
+    → length ts ≡ index_of ts name
+index-none ts name at over under none =
+    let d : TenantTotal = record { name = name; sent = no_figures } in
+    sym (position_or_len_is (λ (t : TenantTotal). bytes_eq t.name name) ts (length ts) d (omega arith)
+    (λ k below. none k (omega (arith, below, over)) d) (λ inside. absurd (omega (arith, inside))))
 
 -- A row that is added
 
@@ -204,7 +229,7 @@ module _ (ts : List TenantTotal) (row : TenantBill) where
 
   -- as the first one of its name
   module _ (outside : nat_lt (index_of ts row.name) (length ts) ≡ false) where
-    first_of : TenantTotal
+    abbrev first_of : TenantTotal
     first_of = record { name = row.name; sent = plus_row no_figures row }
 
     none_yet : has_name row.name (map name_of ts) ≡ false

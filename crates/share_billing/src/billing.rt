@@ -1,6 +1,4 @@
 //! The bill of several files.
-ghost use Rattle.std.specs.Prelude.{◌≡◌, Err};
-ghost use Rattle.std.specs.Process.{exit_status};
 
 use crate::book_file::BookFile;
 use crate::faults::{BookFault, CutLine, FaultLine};

@@ -1,7 +1,4 @@
 //! The text of a bill, in three forms.
-ghost use Rattle.std.specs.Prelude.{◌≡◌, ◌++◌, IfOk, OnOk};
-ghost use Rattle.share_billing.specs.Texts.{bill_text, csv_text, json_text, table_text, csv_row, json_row, table_row};
-ghost use Rattle.share_billing.specs.Texts.{sum_of_all};
 
 use share_bill::{Figures, TenantTotal};
 use std::alloc::{AllocError, Global};

@@ -7,10 +7,9 @@ use share_bill::{BookBill, NotBilled, TenantTotal, add_rows, bill_text};
 use share_model::{PatientWriter, PlainWriter, Rates, put};
 use std::alloc::{AllocError, Global};
 use std::cell::Cell;
-use std::fs;
 use std::fs::Files;
-use std::io;
 use std::io::{Eprint, Print};
+use std::{fs, io};
 
 /// Which books are billed, and how the bill is printed.
 #[derive(Clone, Copy, Debug)]

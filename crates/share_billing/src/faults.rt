@@ -44,7 +44,10 @@ impl<'a> Display for FaultLine<'a> {
         let path = Shown(self.path);
         match self.fault {
             BookFault::File(error) => write!(f, "{path}: {error}"),
-            BookFault::Text(NotBilled::Line { number, wrong }) => write!(f, "{path}:{number}: {wrong}"),
+            BookFault::Text(NotBilled::Line { number, wrong }) => write!(
+                f,
+                "{path}:{number}: {wrong}"
+            ),
             BookFault::Text(fault) => write!(f, "{path}: {fault}"),
         }
     }
@@ -61,6 +64,9 @@ impl<'a> Display for CutLine<'a> {
     fn fmt<W: fmt::Write>(&self, f: &mut Formatter<W>) -> fmt::Result {
         let CutLine { path, number } = *self;
         let path = Shown(path);
-        write!(f, "{path}:{number}: the last line has no line feed, and is left out")
+        write!(
+            f,
+            "{path}:{number}: the last line has no line feed, and is left out"
+        )
     }
 }

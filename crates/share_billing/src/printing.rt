@@ -41,7 +41,10 @@ impl<'a> Display for TableRow<'a> {
             units,
             amount,
         } = sent;
-        write!(f, "{name:<16} {packets:>12} {bytes:>16} {units:>16} {amount:>20}\n")
+        write!(
+            f,
+            "{name:<16} {packets:>12} {bytes:>16} {units:>16} {amount:>20}\n"
+        )
     }
 }
 

@@ -12,7 +12,7 @@ loop-row-preserved c =
     let row = c.row-item.result in
     let before = take i rows in
     let more = take_more rows i row c.loop-row-test.true
-        ∙ ap (λ (r : TenantBill). before ++ r ∷ []) (sym c.row-item.is) in
+    ∙ ap (λ (r : TenantBill). before ++ r ∷ []) (sym c.row-item.is) in
     let names = map name_of c.args.totals.now.items in (
       c.in_ok-add_row.ensures.names
           ∙ (ap (λ ns. with_name ns row.name) c.loop-row.invariant.0

@@ -59,8 +59,8 @@ def options(run):
     those of clap."""
     words = source("stridelink", "words.rt") + source("stridelink", "bill_words.rt")
     flags = re.findall(r'\.long\("([a-z-]+)"\)\s*(?:\.value_name\("([A-Z]+)"\))?', words)
-    required = re.findall(r'required\w*\(\s*alloc,\s*"([a-z-]+)",\s*"([A-Z]+)"', words)
-    wanted = [("--%s %s" % option).strip() for option in flags + required]
+    others = re.findall(r'\b(?:flag|valued|required)\(\s*alloc,\s*"([a-z-]+)",\s*(?:"([A-Z]+)")?', words)
+    wanted = [("--%s %s" % option).strip() for option in flags + others]
     expect_all(wanted, 13, section(page(COMMANDS), "SYNOPSIS"), "options in the synopsis")
     expect_all(("-h", "--help", "-V", "--version", "[FILE]", "FILE ...", "run", "serve", "bill"), 9, section(page(COMMANDS), "SYNOPSIS"),
                "words in the synopsis")
@@ -116,8 +116,8 @@ def told(run):
         for word in (("control", "ingress") if "{word}" in text else ("",)):
             lines.add(re.sub(r"\{(.*?)\}", lambda put: letters[put.group(1)], text.replace("{word}", word)))
     expect_all(sorted(lines), 9, page(COMMANDS), "what --verbose tells")
-    ends = re.findall(r'=> "([A-Z][A-Za-z]+)"', source("stridelink", "serve", "worker.rt"))
-    how = re.search(r"enum How \{(.*?)\}", source("stridelink", "serve", "control.rt"), re.DOTALL).group(1)
+    ends = re.findall(r'=> "([A-Z][A-Za-z]+)"', source("share_server", "ingress.rt"))
+    how = re.search(r"enum How \{(.*?)\}", source("share_server", "control.rt"), re.DOTALL).group(1)
     expect_all(ends + re.findall(r"^    ([A-Z]\w+),", how, re.MULTILINE), 12, page(COMMANDS), "how connections end")
 
 

@@ -26,6 +26,7 @@ examples/terminal.py
 examples/session.py
 examples/serve.py
 examples/hostile.py
+examples/bill.py
 examples/fuzz.py
 endef
 

@@ -4,7 +4,7 @@ _stridelink() {
     local word=${COMP_WORDS[COMP_CWORD]} before=${COMP_WORDS[COMP_CWORD - 1]} wanted= option
     COMPREPLY=()
     if ((COMP_CWORD == 1)); then
-        mapfile -t COMPREPLY < <(compgen -W "run serve help --help --version" -- "$word")
+        mapfile -t COMPREPLY < <(compgen -W "run serve bill help --help --version" -- "$word")
         return
     fi
     case ${COMP_WORDS[1]} in
@@ -12,7 +12,8 @@ _stridelink() {
         serve)
             wanted="--ingress --control --uplink --audit --workers --life --clerks --until-eof --verbose --help"
             ;;
-        help) wanted="run serve" ;;
+        bill) wanted="--csv --json --help" ;;
+        help) wanted="run serve bill" ;;
     esac
     # In --audit=FILE the sign is a word of its own.
     if [[ $word == = ]]; then
@@ -28,7 +29,7 @@ _stridelink() {
         --workers | --clerks) wanted="1 2 3 4 5 6 7 8" ;;
         --ingress | --control | --uplink | --life | :) return ;;
         *)
-            if [[ ${COMP_WORDS[1]} == run && $word != -* ]]; then
+            if [[ ${COMP_WORDS[1]} =~ ^(run|bill)$ && $word != -* ]]; then
                 compopt -o default
                 return
             fi

@@ -14,4 +14,4 @@ pub use kind::Kind;
 pub use line::{LineFault, Wrong};
 pub use running::{Bill, TenantBill};
 pub use text::{BookBill, NotBilled, bill_text};
-pub use total::{TenantTotal, add_rows};
+pub use total::{Figures, TenantTotal, add_rows};

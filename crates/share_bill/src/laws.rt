@@ -1,11 +1,18 @@
 //! What holds of every run. Each function here does nothing. Its contract is a law, and is proved.
-ghost use Rattle.std.specs.Prelude.{◌≡◌, List};
+ghost use Rattle.std.specs.Prelude.{◌≡◌, ◌∷◌, ◌++◌, [], ℕ, List, map};
 ghost use Rattle.share_base.specs.declared.command.Event.{Event};
 ghost use Rattle.share_base.specs.declared.version.Version.{Version};
 ghost use Rattle.share_model.specs.declared.rates.Rate.{Rate};
 ghost use Rattle.share_model.specs.link.Totals.{totals};
 ghost use Rattle.share_model.specs.run.Fold.{empty_state, outcomes, run};
+ghost use Rattle.share_model.specs.link.Live.{empty_link};
+ghost use Rattle.share_model.specs.link.Tariff.{AreInRange};
+ghost use Rattle.share_bill.specs.Bills.{row_with, rows_of};
+ghost use Rattle.share_bill.specs.declared.bill.discard.Discard.{Discard};
+ghost use Rattle.share_bill.specs.Makings.{BillView, IsBookLink, TakesLine};
+ghost use Rattle.share_bill.specs.Runs.{IsBillOf};
 ghost use Rattle.share_bill.specs.Seen.{measured};
+ghost use Rattle.share_bill.specs.Sums.{sums_at};
 
 /// Two lists of events that differ in the payloads of packets alone, of equal lengths, are answered the same, and come
 /// to the same accounts, clients and totals, the number of bytes that were written among these.
@@ -19,4 +26,20 @@ pub fn lengths_decide()
         → (run version rates one).live.queue ≡ (run version rates other).live.queue }
     ensures totals { (version : Version) (rates : List Rate) (one other : List Event) → measured one ≡ measured other
         → totals (run version rates one).live ≡ totals (run version rates other).live }
+{}
+
+/// Take the lines of a book, each of which is the next event of a run. The run's bill has a row for each flow that was
+/// opened for a tenant, with the sums over the packets that the flow sent in the whole run: their number, their bytes,
+/// their units, and what these cost, which is the account of the flow. A bill of no line is one of these, and a bill
+/// that takes one more line is one again.
+pub fn bills_are_sums()
+    ensures first { (rates : List Rate) (new : BillView Discard) → IsBookLink new.link → new.link.rates ≡ rates
+        → new.link.live ≡ empty_link Version.Two → new.tenants ≡ [] → new.sent ≡ [] → IsBillOf rates [] [] new }
+    ensures next { (rates : List Rate) (lines : List (List ℕ)) (events : List Event)
+        (old new : BillView Discard) (line : List ℕ) → AreInRange rates → IsBillOf rates lines events old
+        → TakesLine old line new → IsBookLink new.link
+        → (event : Event) × IsBillOf rates (lines ++ line ∷ []) (events ++ event ∷ []) new }
+    ensures rows { (rates : List Rate) (lines : List (List ℕ)) (events : List Event) (bill : BillView Discard)
+        → IsBillOf rates lines events bill
+        → map (λ t. row_with t (sums_at bill.sent t.flow)) bill.tenants ≡ rows_of rates events }
 {}

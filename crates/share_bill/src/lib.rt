@@ -5,6 +5,7 @@ mod bill;
 mod laws;
 
 pub use bill::{
-    Bill, BookBill, Kind, LineFault, NotBilled, TenantBill, TenantTotal, Wrong, add_rows, bill_text,
+    Bill, BookBill, Figures, Kind, LineFault, NotBilled, TenantBill, TenantTotal, Wrong, add_rows,
+    bill_text,
 };
-pub use laws::lengths_decide;
+pub use laws::{bills_are_sums, lengths_decide};

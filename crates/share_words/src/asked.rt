@@ -1,5 +1,6 @@
 //! What the words of the command line ask for.
 
+use share_billing::Form;
 use std::fmt;
 use std::fmt::{Display, Formatter};
 
@@ -37,6 +38,14 @@ pub struct ServeOrders<'a> {
     pub is_verbose: bool,
 }
 
+/// Which books are to be billed.
+#[derive(Debug, Drop)]
+pub struct BillOrders<'a> {
+    /// The files of their texts.
+    pub files: Vec<&'a str>,
+    pub form: Form,
+}
+
 /// What the words of the command line ask for.
 #[derive(Debug, Drop)]
 pub enum Asked<'a> {
@@ -44,6 +53,8 @@ pub enum Asked<'a> {
     Run(Orders<'a>),
     /// To serve a link.
     Serve(ServeOrders<'a>),
+    /// To bill books.
+    Bill(BillOrders<'a>),
     /// To show a text: help, the version, or what is wrong with the words.
     Text(clap::Error),
 }

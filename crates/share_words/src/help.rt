@@ -131,3 +131,26 @@ Exit statuses:
   1  a fault, which standard error tells in its last line; once connections were
      accepted the audit and the report are written nevertheless
   2  the words of the command line are wrong";
+
+/// On bills: what a book is, what a bill has, and the statuses.
+pub const BOOKS: &str =
+    "A book is the text of a link's life, with a line for each of its events. Its first line is
+'audit 2', and each packet is 'send NAME HEX', with its payload; or its first line is
+'lengths 2', and each packet is 'send NAME LENGTH', with the length of its payload. The
+lines are run again on a new link. Each has to be what that link does next: a command, a
+packet that is taken, or a turn that writes a whole frame of this many bytes.
+A bill has a row for each tenant, in the order in which they first appear:
+  packets  frames that went out
+  bytes    the bytes of these frames
+  units    what they were charged, by the tenant's tariff
+  amount   units times the price of a unit
+Several books are summed. The table ends with the sums of all tenants. A flow of the name
+gap is no tenant's. Tariffs are those of 'stridelink run --help'.
+A book that is still open can be billed: a last line without its line feed is left out,
+and standard error names its file and number.
+Exit statuses:
+  0  the bill was printed
+  1  a line is not what the link does next, which standard error reports as
+     FILE:LINE: REASON; a file could not be read; the output could not be written; or
+     memory was lacking. No bill was printed
+  2  the words of the command line are wrong";

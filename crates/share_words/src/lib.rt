@@ -2,8 +2,9 @@
 #![tactic(auto)]
 
 mod asked;
+mod bill_words;
 mod help;
 mod words;
 
-pub use asked::{Asked, Orders, ServeOrders, Word};
+pub use asked::{Asked, BillOrders, Orders, ServeOrders, Word};
 pub use words::parse;

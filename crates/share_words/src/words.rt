@@ -5,6 +5,7 @@ ghost use Rattle.share_core.specs.Life.{life_refusal};
 ghost use Rattle.share_words.specs.Orders.{CanBeObeyed, CanBeServed};
 
 use crate::asked::{Asked, Orders, ServeOrders, Word};
+use crate::bill_words::{bill_command, bill_orders};
 use crate::help;
 use clap::builder::ValueParser;
 use clap::error::ErrorKind;
@@ -153,7 +154,8 @@ fn with_subcommand<'a>(
 // The command line of the program.
 fn command_line<'a>(alloc: Global) -> Result<Command<'a>, AllocError> {
     let command = with_subcommand(bare_command_line(alloc), run_command(alloc));
-    with_subcommand(command, serve_command(alloc))
+    let command = with_subcommand(command, serve_command(alloc));
+    with_subcommand(command, bill_command(alloc))
 }
 
 // What the words of `run` ask for.
@@ -224,22 +226,23 @@ fn out_of_range(asked: &Asked<'_>) -> Option<&'static str>
     match asked {
         Asked::Run(orders) => wrong_run(orders),
         Asked::Serve(orders) => wrong_service(orders),
-        Asked::Text(_) => None,
+        Asked::Bill(_) | Asked::Text(_) => None,
     }
 }
 
 // What the words ask for, before their numbers are tested.
-fn asked_by<'a>(matches: &ArgMatches<'a>) -> Asked<'a>
-    ensures { (text : _) → result ≢ Asked.Text text }
+fn asked_by<'a>(alloc: Global, matches: &ArgMatches<'a>) -> Result<Asked<'a>, AllocError>
+    ensures { IfOk result (λ asked. (text : _) → asked ≢ Asked.Text text) }
 {
     match matches.subcommand() {
-        Some(("serve", serve)) => Asked::Serve(serve_orders(serve)),
-        Some((_, run)) => Asked::Run(run_orders(run)),
-        None => Asked::Run(Orders {
+        Some(("serve", serve)) => Ok(Asked::Serve(serve_orders(serve))),
+        Some(("bill", bill)) => Ok(Asked::Bill(bill_orders(alloc, bill)?)),
+        Some((_, run)) => Ok(Asked::Run(run_orders(run))),
+        None => Ok(Asked::Run(Orders {
             life: LIFE,
             file: None,
             is_strict: false,
-        }),
+        })),
     }
 }
 
@@ -255,14 +258,18 @@ fn in_range<'a>(command: &mut Command<'a>, asked: Asked<'a>) -> Result<Asked<'a>
 }
 
 // What words ask for of a command line, which stays its caller's: a function that owns it would drop it in each way out.
-fn asked_of<'a>(command: &mut Command<'a>, words: &'a [String]) -> Result<Asked<'a>, AllocError>
+fn asked_of<'a>(
+    alloc: Global,
+    command: &mut Command<'a>,
+    words: &'a [String],
+) -> Result<Asked<'a>, AllocError>
     ensures { IfOk result CanBeObeyed }
 {
     match command.try_get_matches_from_mut(words) {
         Ok(matches) => {
-            let asked = asked_by(&matches);
+            let asked = asked_by(alloc, &matches);
             drop(matches);
-            in_range(command, asked)
+            in_range(command, asked?)
         }
         Err(error) if error.kind() == ErrorKind::OutOfMemory => Err(AllocError),
         Err(error) => Ok(Asked::Text(error)),
@@ -274,7 +281,7 @@ fn read_words<'a>(alloc: Global, words: &'a [String]) -> Result<Asked<'a>, Alloc
     ensures { IfOk result CanBeObeyed }
 {
     let mut command = command_line(alloc)?;
-    let asked = asked_of(&mut command, words);
+    let asked = asked_of(alloc, &mut command, words);
     drop(command);
     asked
 }

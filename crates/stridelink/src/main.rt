@@ -29,11 +29,12 @@ use crate::serving::{Unserved, serve};
 use crate::streams::StandIns;
 use crate::tariffs::PlainTariffs;
 use clap::error::ErrorKind;
+use share_billing::{Billing, NotShown, print_bill};
 use share_model::{PatientWriter, PlainReader, PlainWriter, Rates, TellingReader, TellingWriter};
 use share_runs::{LineReader, StrictWriter, run, run_strictly};
 use share_script::ScriptFault;
 use share_server::{AuditFile, Keep};
-use share_words::{Asked, Orders, ServeOrders, parse};
+use share_words::{Asked, BillOrders, Orders, ServeOrders, parse};
 use std::alloc::Global;
 use std::fs::{File, Files};
 use std::io::{BufReader, IsTerminal, Printer, Read, StdinLock};
@@ -259,6 +260,34 @@ fn tell_served(rt: &impl Eprint, served: Result<(), Unserved<'_>>) -> ExitCode
     }
 }
 
+// Prints the bill of the books that are asked for.
+fn bill_given<R: Files + Print + Eprint>(
+    rt: &R,
+    alloc: Global,
+    orders: BillOrders<'_>,
+) -> Result<ExitCode, ScriptFault> {
+    let billing = Billing {
+        paths: orders.files.as_slice(),
+        form: orders.form,
+    };
+    let printed = print_bill(rt, alloc, PlainTariffs, &billing);
+    drop(orders);
+    status_of(printed)
+}
+
+// The status of a bill that was printed, or was not since standard error says why.
+fn status_of(printed: Result<(), NotShown>) -> Result<ExitCode, ScriptFault>
+    ensures { MatchResult printed (λ _. IsOkAnd result (λ status. exit_status status ≡ 0))
+        (λ fault. IfOk result (λ status. exit_status status ≡ 1)) }
+{
+    match printed {
+        Ok(()) => Ok(ExitCode::SUCCESS),
+        Err(NotShown::Book) => Ok(ExitCode::FAILURE),
+        Err(NotShown::NoMemory) => Err(ScriptFault::NoMemory),
+        Err(NotShown::Output) => Err(ScriptFault::Output),
+    }
+}
+
 // The words of the command line. `None` if one of them is not UTF-8.
 fn given_words(rt: &HostRuntime) -> Result<Option<Vec<String>>, ScriptFault>
     ensures { IfErr result (λ fault. fault ≡ NoMemory) }
@@ -307,6 +336,7 @@ fn main(rt: HostRuntime) -> ExitCode {
         Ok(Asked::Text(text)) => show(&rt, &text),
         Ok(Asked::Run(orders)) => run_given(&rt, orders),
         Ok(Asked::Serve(orders)) => Ok(serve_given(&rt, rt.alloc(), orders, rt.reader())),
+        Ok(Asked::Bill(orders)) => bill_given(&rt, rt.alloc(), orders),
         Err(_) => Err(ScriptFault::NoMemory),
     };
     match obeyed {

@@ -1,0 +1,72 @@
+//! Why a book has no bill.
+
+use share_bill::{NotBilled, Wrong};
+use std::fmt;
+use std::fmt::{Display, Formatter};
+use std::io::Error;
+
+/// Why a book has no bill.
+#[derive(Clone, Copy, Debug)]
+pub(crate) enum BookFault {
+    /// Its file could not be opened or read, for this reason.
+    File(Error),
+    /// Its text has no bill.
+    Text(NotBilled),
+}
+
+/// A path, shown with its control characters escaped.
+#[derive(Clone, Copy, Debug)]
+pub(crate) struct Shown<'a>(pub(crate) &'a str);
+
+impl<'a> Display for Shown<'a> {
+    fn fmt<W: fmt::Write>(&self, f: &mut Formatter<W>) -> fmt::Result {
+        for c in self.0.chars() {
+            if c.is_control() {
+                let escape = c.escape_default();
+                write!(f, "{escape}")?;
+            } else {
+                f.write_char(c)?;
+            }
+        }
+        Ok(())
+    }
+}
+
+/// What standard error says of a book that has no bill: the file, the line if there is one, and the reason.
+#[derive(Clone, Copy, Debug)]
+pub(crate) struct FaultLine<'a> {
+    pub(crate) path: &'a str,
+    pub(crate) fault: BookFault,
+}
+
+impl<'a> Display for FaultLine<'a> {
+    fn fmt<W: fmt::Write>(&self, f: &mut Formatter<W>) -> fmt::Result {
+        let path = Shown(self.path);
+        match self.fault {
+            BookFault::File(error) => write!(f, "{path}: {error}"),
+            BookFault::Text(NotBilled::Line { number, wrong }) => write!(
+                f,
+                "{path}:{number}: {wrong}"
+            ),
+            BookFault::Text(fault) => write!(f, "{path}: {fault}"),
+        }
+    }
+}
+
+/// What standard error says of a book that ends in a line without its line feed.
+#[derive(Clone, Copy, Debug)]
+pub(crate) struct CutLine<'a> {
+    pub(crate) path: &'a str,
+    pub(crate) number: u64,
+}
+
+impl<'a> Display for CutLine<'a> {
+    fn fmt<W: fmt::Write>(&self, f: &mut Formatter<W>) -> fmt::Result {
+        let CutLine { path, number } = *self;
+        let path = Shown(path);
+        write!(
+            f,
+            "{path}:{number}: the last line has no line feed, and is left out"
+        )
+    }
+}

@@ -7,5 +7,6 @@ pub mod LaidOutLemmas
 pub mod OpenLemmas
 pub mod RunTextLemmas
 pub mod SendLemmas
+pub mod ShareLemmas
 pub mod TakeLemmas
 pub mod TenantLemmas

@@ -6,4 +6,5 @@ pub mod Changes
 pub mod Closed
 pub mod OpenBook
 pub mod Sends
+pub mod Shares
 pub mod Texts

@@ -1,17 +1,26 @@
-//! What holds of books that follow one another. The function here does nothing: its contract is the law, which is
-//! proved with it.
+//! What holds of every book, and of books that follow one another. A function here does nothing: its contract is the
+//! law, which is proved with it.
 ghost use Rattle.std.specs.Prelude.{◌≡◌, ◌++◌, ℕ, List};
 ghost use Rattle.share_model.specs.declared.rates.Rate.{Rate};
 ghost use Rattle.share_model.specs.funding.Graph.{NameBytes};
 ghost use Rattle.share_gateway.specs.Plan.{PlanView, IsInLimits};
-ghost use Rattle.share_book.specs.Audited.{Audited};
+ghost use Rattle.share_book.specs.Audited.{Audited, IsRunAndText};
 ghost use Rattle.share_book.specs.Book.{BookView};
 ghost use Rattle.share_book.specs.BookHistory.{CarriesAll, History, IsCut, tenant_limit, waiting_in};
 ghost use Rattle.share_book.specs.Closed.{ClosedView, closed_of};
 ghost use Rattle.share_book.specs.OpenBook.{IsOpenBook};
+ghost use Rattle.share_book.specs.Shares.{SharesOfEvents};
 ghost use Rattle.share_book.specs.declared.book_text.TextKind.{TextKind};
 
 use share_gateway::opened_links_hold_their_plans;
+
+/// The shares of tenants hold in each book, whose events are those of `Book::engine`. Take any stretch of them that
+/// begins with no frame in part, before which and after each event of which two flows compete, each with tickets that
+/// stay the same. What the pass of the one is charged in it is at most the greater of 0 and this sum: what the pass of
+/// the other is charged, by how much that pass was ahead at the start, and the largest single charge of the one.
+pub fn shares_of_books()
+    ensures { (a : Audited) (text : IsRunAndText a) → SharesOfEvents a.link.rates text.events }
+{}
 
 /// Nothing is lost between books. Over all books of a gateway, the first opened over a plan, and each of the others
 /// carrying over what waited in the one before: the payloads of a tenant that were written whole, followed by those that

@@ -7,5 +7,5 @@ mod book_laws;
 mod book_text;
 
 pub use book::{Book, Carried, Closed, NewBook, TEXT_ROOM, Taken, Turned};
-pub use book_laws::books_lose_nothing;
+pub use book_laws::{books_lose_nothing, shares_of_books};
 pub use book_text::TextKind;

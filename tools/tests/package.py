@@ -227,6 +227,7 @@ COMPLETED = (
     ("serve --ingress one-packet.s\t", ["serve", "--ingress", "one-packet.s"]),
     ("run --st\tone-packet.s\t", ["run", "--strict", "one-packet.script"]),
     ("run --strict --st\t", ["run", "--strict", "--st"]),
+    ("bi\t--c\tone-packet.s\t", ["bill", "--csv", "one-packet.script"]),
 )
 
 

@@ -240,7 +240,7 @@ def completes(run):
 
 def completes_all(run):
     """The options that are completed are those that help tells."""
-    for command in ("run", "serve"):
+    for command in ("run", "serve", "bill"):
         told = installed().tell("stridelink", command, "-h")
         options = sorted(set(re.findall(r"^ .*?(--[a-z-]+)", told, re.MULTILINE)))
         completed = installed().tell("bash", "-c", ". %s; COMP_WORDS=(stridelink %s --) COMP_CWORD=2; _stridelink; "

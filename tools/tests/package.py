@@ -227,6 +227,7 @@ COMPLETED = (
     ("serve --ingress one-packet.s\t", ["serve", "--ingress", "one-packet.s"]),
     ("run --st\tone-packet.s\t", ["run", "--strict", "one-packet.script"]),
     ("run --strict --st\t", ["run", "--strict", "--st"]),
+    ("bi\t--c\tone-packet.s\t", ["bill", "--csv", "one-packet.script"]),
 )
 
 
@@ -239,7 +240,7 @@ def completes(run):
 
 def completes_all(run):
     """The options that are completed are those that help tells."""
-    for command in ("run", "serve"):
+    for command in ("run", "serve", "bill"):
         told = installed().tell("stridelink", command, "-h")
         options = sorted(set(re.findall(r"^ .*?(--[a-z-]+)", told, re.MULTILINE)))
         completed = installed().tell("bash", "-c", ". %s; COMP_WORDS=(stridelink %s --) COMP_CWORD=2; _stridelink; "

@@ -116,8 +116,8 @@ def told(run):
         for word in (("control", "ingress") if "{word}" in text else ("",)):
             lines.add(re.sub(r"\{(.*?)\}", lambda put: letters[put.group(1)], text.replace("{word}", word)))
     expect_all(sorted(lines), 9, page(COMMANDS), "what --verbose tells")
-    ends = re.findall(r'=> "([A-Z][A-Za-z]+)"', source("stridelink", "serve", "worker.rt"))
-    how = re.search(r"enum How \{(.*?)\}", source("stridelink", "serve", "control.rt"), re.DOTALL).group(1)
+    ends = re.findall(r'=> "([A-Z][A-Za-z]+)"', source("share_server", "ingress.rt"))
+    how = re.search(r"enum How \{(.*?)\}", source("share_control", "attending.rt"), re.DOTALL).group(1)
     expect_all(ends + re.findall(r"^    ([A-Z]\w+),", how, re.MULTILINE), 12, page(COMMANDS), "how connections end")
 
 

@@ -1,4 +1,4 @@
-//! Tests of the server, over the public calls of share_server.
+//! Tests of the server, over the public calls of share_control and share_server.
 #![tactic(auto)]
 
 pub mod failing;

@@ -1,3 +1,1 @@
-mod AttendsLemmas
-mod ControlLemmas
 mod ShutdownLemmas

@@ -1,4 +1,2 @@
-pub mod Attends
-pub mod Control
 pub mod Faults
 pub mod Shutdown

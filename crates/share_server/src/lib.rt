@@ -3,7 +3,6 @@
 
 mod audit_file;
 mod connections;
-mod control;
 mod faults;
 mod ingress;
 mod serve;
@@ -14,7 +13,6 @@ mod threads;
 mod uplink;
 
 pub use audit_file::{AuditFile, Keep, found_at};
-pub use control::{Attended, How, Request, attend};
 pub use faults::ServeFault;
 pub use serve::serve_on;
 pub use setup::{Plan, Sockets};

@@ -1,11 +1,11 @@
 //! The threads of a running server.
 
 use crate::connections::{ConnectionReader, Connections, Kind};
-use crate::control::{Attended, How, attend};
 use crate::faults::FoundFaults;
 use crate::ingress::{why_text, work};
 use crate::slots::{LinkedEnd, Slot};
 use crate::uplink::Uplink;
+use share_control::{Attended, How, attend};
 use share_locked::{Clerk, LinkBrand, LinkEnd, Port, serve_while};
 use share_model::{PlainReader, PlainWriter, Rates};
 use share_script::IncomingLines;

@@ -1,0 +1,2 @@
+mod AttendsLemmas
+mod RequestsLemmas

@@ -1,0 +1,2 @@
+pub mod Attends
+pub mod Requests

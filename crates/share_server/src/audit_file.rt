@@ -67,6 +67,17 @@ fn numbered_path(alloc: Global, path: &str, number: u32) -> Result<String, Alloc
     Ok(name)
 }
 
+// Gives the new file of a whole audit this path. If that fails, standard error tells where the audit is.
+fn take_name<R: Files + Eprint>(files: &R, beside: String, path: &str) -> io::Result<()> {
+    let renamed = fs::rename(files, beside.as_str(), path);
+    if renamed.is_err() {
+        let name = beside.as_str();
+        let _ = eprintln!(files; "the whole audit is in {name}");
+    }
+    drop(beside);
+    renamed
+}
+
 impl<'a, R: Files> AuditFile<'a, R> {
     /// Opens the file of this path for an audit. Nothing of an old audit is lost by that.
     pub fn open(files: &'a R, alloc: Global, path: &'a str) -> io::Result<AuditFile<'a, R>> {
@@ -145,19 +156,25 @@ impl<'a, R: Files> AuditFile<'a, R> {
         R: Eprint,
     {
         let mut audit = self;
-        if audit.beside.is_none() {
+        let written = audit.write_and_name(journal);
+        drop(audit);
+        written
+    }
+
+    // Writes the audit of a journal, and gives it its name.
+    fn write_and_name(&mut self, journal: &Journal) -> io::Result<()>
+    where
+        R: Eprint,
+    {
+        if self.beside.is_none() {
             // A device or a pipe has no length.
-            let _ = audit.file().set_len(0);
+            let _ = self.file().set_len(0);
         }
-        audit.write_out(journal)?;
-        if let Some(beside) = audit.beside.take() {
-            if let Err(fault) = fs::rename(audit.files, beside.as_str(), audit.path) {
-                let name = beside.as_str();
-                let _ = eprintln!(audit.files; "the whole audit is in {name}");
-                return Err(fault);
-            }
+        self.write_out(journal)?;
+        match self.beside.take() {
+            Some(beside) => take_name(self.files, beside, self.path),
+            None => Ok(()),
         }
-        Ok(())
     }
 }
 

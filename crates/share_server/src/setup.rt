@@ -127,7 +127,36 @@ fn link_over<S: Rates + Drop>(
     }
 }
 
-// The listeners, with no connection yet, and the uplink as a writer.
+// The uplink, and the writer of the link over it.
+fn writer_over(alloc: Global, uplink: TcpStream) -> Result<(Arc<Wire>, Uplink), ServeFault>
+    ensures { IfErr result (λ fault. fault ≡ ServeFault.NoMemory) }
+{
+    let _ = uplink.set_nodelay(true);
+    let wire = Arc::new(alloc, Wire::new(uplink))?;
+    let writer = Uplink::new(&wire)?;
+    Ok((wire, writer))
+}
+
+// The connections at these listeners, none yet, with room for those of a plan.
+fn no_connections(
+    alloc: Global,
+    ingress: &TcpListener,
+    control: &TcpListener,
+    wire: Arc<Wire>,
+    plan: Plan,
+) -> Result<Arc<Connections>, ServeFault>
+    ensures { IfErr result (λ fault. (fault ≡ ServeFault.NoMemory) ⊎ (fault ≡ ServeFault.Accept)) }
+{
+    let room = plan.workers.saturating_add(plan.clerks);
+    let pace = Pace::new(alloc, PLACES, plan.workers)?;
+    match Connections::new(alloc, control, ingress, wire, pace, room, plan.is_verbose) {
+        Ok(connections) => Ok(Arc::new(alloc, connections)?),
+        Err(fault) if fault.kind() == ErrorKind::OutOfMemory => Err(ServeFault::NoMemory),
+        Err(_) => Err(ServeFault::Accept),
+    }
+}
+
+// The listeners, with no connection yet, and the writer of the link.
 fn open_doors(alloc: Global, sockets: Sockets, plan: Plan) -> Result<(Doors, Uplink), ServeFault>
     ensures { IfErr result (λ fault. (fault ≡ ServeFault.NoMemory) ⊎ (fault ≡ ServeFault.Accept)) }
 {
@@ -136,39 +165,14 @@ fn open_doors(alloc: Global, sockets: Sockets, plan: Plan) -> Result<(Doors, Upl
         control,
         uplink,
     } = sockets;
-    let _ = uplink.set_nodelay(true);
-    let Ok(wire) = Arc::new(alloc, Wire::new(uplink)) else {
-        return Err(ServeFault::NoMemory);
-    };
-    let uplink = Uplink::new(&wire)?;
-    let Ok(pace) = Pace::new(alloc, PLACES, plan.workers) else {
-        return Err(ServeFault::NoMemory);
-    };
-    let room = plan.workers.saturating_add(plan.clerks);
-    let connections = match Connections::new(
-        alloc,
-        &control,
-        &ingress,
-        wire,
-        pace,
-        room,
-        plan.is_verbose,
-    ) {
-        Ok(connections) => connections,
-        Err(fault) if fault.kind() == ErrorKind::OutOfMemory => {
-            return Err(ServeFault::NoMemory);
-        }
-        Err(_) => return Err(ServeFault::Accept),
-    };
-    let Ok(connections) = Arc::new(alloc, connections) else {
-        return Err(ServeFault::NoMemory);
-    };
+    let (wire, writer) = writer_over(alloc, uplink)?;
+    let connections = no_connections(alloc, &ingress, &control, wire, plan)?;
     let doors = Doors {
         ingress,
         control,
         connections,
     };
-    Ok((doors, uplink))
+    Ok((doors, writer))
 }
 
 // Tells where the server listens.

@@ -30,6 +30,16 @@ pub struct Server<S: Rates, L: LinkBrand> {
     pub ends: Vec<Slot<LinkedEnd<L>>>,
 }
 
+impl<S: Rates, L: LinkBrand> Server<S, L> {
+    // How many connections of a kind are accepted.
+    fn count(&self, kind: Kind) -> usize {
+        match kind {
+            Kind::Control => self.clerks.len(),
+            Kind::Ingress => self.ends.len(),
+        }
+    }
+}
+
 // Answers the lines of a control connection.
 fn answer<R: Wait, S: Rates, L: LinkBrand>(
     rt: &R,
@@ -50,46 +60,74 @@ fn answer<R: Wait, S: Rates, L: LinkBrand>(
     }
 }
 
-// The thread of a control connection.
+// Serves a control connection, by the clerk at its place.
 fn serve_control<R: Wait + Eprint, S: Rates, L: LinkBrand>(
     rt: &R,
     server: &Server<S, L>,
     number: usize,
-    stream: Arc<TcpStream>,
+    stream: &TcpStream,
     slot: &Slot<Clerk<L>>,
 ) {
-    if let Some(clerk) = slot.take(rt) {
-        let Attended { how, clerk } = answer(rt, server, &stream, clerk);
-        let count = clerk.receipts().len();
-        server.connections.tell(
-            rt,
-            format_args!("control {number}: ended, {how:?}, {count} commands"),
-        );
-        slot.put(rt, clerk);
-    }
-    drop(stream);
-    server.connections.remove(rt, Kind::Control, number);
+    let Some(clerk) = slot.take(rt) else {
+        return;
+    };
+    let Attended { how, clerk } = answer(rt, server, stream, clerk);
+    let count = clerk.receipts().len();
+    server.connections.tell(
+        rt,
+        format_args!("control {number}: ended, {how:?}, {count} commands"),
+    );
+    slot.put(rt, clerk);
 }
 
-// The thread of an ingress connection.
+// Serves an ingress connection, by the end of the queue at its place.
 fn serve_ingress<R: Wait + Eprint, S: Rates, L: LinkBrand>(
     rt: &R,
     server: &Server<S, L>,
     number: usize,
-    stream: Arc<TcpStream>,
+    stream: &TcpStream,
     slot: &Slot<LinkedEnd<L>>,
 ) {
-    if let Some(end) = slot.take(rt) {
-        let (end, why, tally) = work(rt, server.alloc, &server.connections, number, &stream, end);
-        let text = why_text(why);
-        server.connections.tell(
-            rt,
-            format_args!("ingress {number}: ended, {text}, {tally} packets"),
-        );
-        slot.put(rt, end);
+    let Some(end) = slot.take(rt) else {
+        return;
+    };
+    let (end, why, tally) = work(rt, server.alloc, &server.connections, number, stream, end);
+    let text = why_text(why);
+    server.connections.tell(
+        rt,
+        format_args!("ingress {number}: ended, {text}, {tally} packets"),
+    );
+    slot.put(rt, end);
+}
+
+// The thread of a connection, the one at this place among those of its kind.
+fn serve_connection<R: Wait + Eprint, S: Rates, L: LinkBrand>(
+    rt: &R,
+    server: &Server<S, L>,
+    kind: Kind,
+    at: usize,
+    stream: Arc<TcpStream>,
+) {
+    let number = number_of(at);
+    match kind {
+        Kind::Control => {
+            if let Some(slot) = server.clerks.get(at) {
+                serve_control(rt, server, number, &stream, slot);
+            }
+        }
+        Kind::Ingress => {
+            if let Some(slot) = server.ends.get(at) {
+                serve_ingress(rt, server, number, &stream, slot);
+            }
+        }
     }
     drop(stream);
-    server.connections.remove(rt, Kind::Ingress, number);
+    server.connections.remove(rt, kind, number);
+}
+
+// The number of the connection at this place, from 1.
+fn number_of(at: usize) -> usize {
+    at.saturating_add(1)
 }
 
 // Accepts a connection. If that fails, or there is no memory for the connection, the end begins.
@@ -155,11 +193,12 @@ fn refuse<R: Wait, S: Rates, L: LinkBrand>(
     server.connections.end(rt);
 }
 
-// Accepts the control connections, and starts a thread for each.
-fn accept_control<'s, E, R, S, L>(
+// Accepts the connections of a kind, and starts a thread for each.
+fn accept_kind<'s, E, R, S, L>(
     scope: &Scope<'s, E>,
     rt: &'s R,
     server: &'s Server<S, L>,
+    kind: Kind,
     found: &mut FoundFaults,
 )
 where
@@ -167,47 +206,17 @@ where
     S: Rates + Send,
     L: LinkBrand + Send,
 {
-    for (at, slot) in server.clerks.iter().enumerate() {
-        let number = at + 1;
-        let Some(stream) = accept(rt, server, Kind::Control, number, found) else {
+    for at in 0..server.count(kind) {
+        let Some(stream) = accept(rt, server, kind, number_of(at), found) else {
             return;
         };
         let started = scope.spawn(move || {
             let mine = stream;
-            serve_control(rt, server, number, mine, slot)
+            serve_connection(rt, server, kind, at, mine)
         });
         if started.is_err() {
             found.thread = true;
-            refuse(rt, server, Kind::Control, number);
-            return;
-        }
-    }
-}
-
-// Accepts the ingress connections, and starts a thread for each.
-fn accept_ingress<'s, E, R, S, L>(
-    scope: &Scope<'s, E>,
-    rt: &'s R,
-    server: &'s Server<S, L>,
-    found: &mut FoundFaults,
-)
-where
-    R: Wait + Eprint + Sync,
-    S: Rates + Send,
-    L: LinkBrand + Send,
-{
-    for (at, slot) in server.ends.iter().enumerate() {
-        let number = at + 1;
-        let Some(stream) = accept(rt, server, Kind::Ingress, number, found) else {
-            return;
-        };
-        let started = scope.spawn(move || {
-            let mine = stream;
-            serve_ingress(rt, server, number, mine, slot)
-        });
-        if started.is_err() {
-            found.thread = true;
-            refuse(rt, server, Kind::Ingress, number);
+            refuse(rt, server, kind, number_of(at));
             return;
         }
     }
@@ -232,8 +241,8 @@ where
             found.thread = true;
             connections.end(rt);
         }
-        accept_control(scope, rt, server, &mut found);
-        accept_ingress(scope, rt, server, &mut found);
+        accept_kind(scope, rt, server, Kind::Control, &mut found);
+        accept_kind(scope, rt, server, Kind::Ingress, &mut found);
         connections.wait(rt);
         connections.tell(rt, "the stop is set");
         found

@@ -105,8 +105,9 @@ def faults(run):
 def told(run):
     """Each line of --verbose stands in the page, with capital letters for what is put in, and each word for an end."""
     texts = set()
-    for name in ("setup.rt", "threads.rt", "shutdown.rt", "connections.rt"):
-        text = source("share_server", name)
+    for path in (("share_server", "setup.rt"), ("share_server", "threads.rt"), ("share_server", "shutdown.rt"),
+                 ("share_connections", "connections.rt")):
+        text = source(*path)
         texts |= set(re.findall(r'format_args!\("(.*?)"\)', text)) | set(re.findall(r'tell\(rt, "(.*?)"\)', text))
         texts |= set(re.findall(r'format_args!\(\s*"(.*?)"', text))
     letters = {"address": "ADDR", "number": "N", "how:?": "HOW", "text": "WHY", "count": "C", "tally": "T",

@@ -24,7 +24,7 @@ use Rattle.share_server.specs.declared.faults.ServeFault.TheVariants.{Unsent as 
 use Rattle.share_server.specs.declared.faults.ServeFault.TheVariants.{LeftOver as LeftOverFault}
 use Rattle.share_server.specs.declared.faults.ServeFault.TheVariants.{Mismatch as MismatchFault}
 use Rattle.share_server.specs.declared.faults.ServeFault.TheVariants.{NoMemory as NoMemoryFault, Audit, Output}
-use Rattle.share_server.specs.declared.uplink.Uplink.{Uplink}
+use Rattle.share_connections.specs.declared.uplink.Uplink.{Uplink}
 
 -- the journal of a recorder
 abbrev pub journal_of : {W : Type 0} → RecorderView W → JournalView

@@ -85,8 +85,14 @@ impl<'a, R: Files> AuditFile<'a, R> {
             None => AuditFile::open_beside(files, alloc, path),
             Some(found) if found.is_file() => {
                 let audit = AuditFile::open_beside(files, alloc, path)?;
-                audit.file().set_permissions(found.permissions())?;
-                Ok(audit)
+                let permitted = audit.file().set_permissions(found.permissions());
+                match permitted {
+                    Ok(()) => Ok(audit),
+                    Err(fault) => {
+                        drop(audit);
+                        Err(fault)
+                    }
+                }
             }
             Some(_) => {
                 let file = OpenOptions::new().write(true).open(files, path)?;

@@ -1,8 +1,8 @@
 //! The work at one ingress connection.
 ghost use Rattle.std.specs.Io.{ReadsAtMost};
 
-use crate::connections::{ConnectionReader, Connections};
 use crate::slots::LinkedEnd;
+use share_connections::{ConnectionReader, Connections};
 use share_ingress::{Done, Ended, Gate, IngressReader, Why, run_worker};
 use share_locked::LinkBrand;
 use share_model::PlainReader;

@@ -2,7 +2,6 @@
 #![tactic(auto)]
 
 mod audit_file;
-mod connections;
 mod faults;
 mod ingress;
 mod serve;
@@ -10,7 +9,6 @@ mod setup;
 mod shutdown;
 mod slots;
 mod threads;
-mod uplink;
 
 pub use audit_file::{AuditFile, Keep, found_at};
 pub use faults::ServeFault;

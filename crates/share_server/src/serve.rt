@@ -5,12 +5,12 @@ ghost use Rattle.share_model.specs.lists.Each.{Each};
 ghost use Rattle.share_server.specs.Shutdown.{CanServe, HasNotBegun, IsResultOf, IsRunClosed, WasServed};
 
 use crate::audit_file::Keep;
-use crate::connections::end_at_eof;
 use crate::faults::{FoundFaults, ServeFault};
 use crate::setup::{Doors, Fresh, Plan, Setting, Sockets, set_up};
 use crate::shutdown::{EndedLink, close};
 use crate::slots::{Places, all_clerks, all_ends, filled, make_places, with_clerks};
 use crate::threads::{Server, run};
+use share_connections::end_at_eof;
 use share_ingress::IngressEnd;
 use share_journal::Journal;
 use share_locked::{Clerk, LinkBrand, Locked};

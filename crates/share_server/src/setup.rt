@@ -5,16 +5,16 @@ ghost use Rattle.share_model.specs.lists.Each.{Each};
 ghost use Rattle.share_ingress.specs.Ends.{new_ends, new_intake};
 ghost use Rattle.share_server.specs.Shutdown.{CanServe, RefusesToBegin, is_new};
 
-use crate::connections::Connections;
 use crate::faults::ServeFault;
-use crate::uplink::{Uplink, Wire};
 use share_base::Version;
+use share_connections::{Connections, Listening, Uplink, Wire};
 use share_core::Engine;
 use share_ingress::{IngressEnd, Intake, queue};
 use share_journal::{Journal, Recorder};
 use share_locked::Pace;
 use share_model::{PlainWriter, Rates};
 use std::alloc::Global;
+use std::io;
 use std::io::{Eprint, ErrorKind};
 use std::net::{TcpListener, TcpStream};
 use std::sync::Arc;
@@ -137,6 +137,16 @@ fn writer_over(alloc: Global, uplink: TcpStream) -> Result<(Arc<Wire>, Uplink), 
     Ok((wire, writer))
 }
 
+// What is wrong if listeners cannot be shared.
+fn fault_of_listeners(fault: &io::Error) -> ServeFault
+    ensures { (result ≡ ServeFault.NoMemory) ⊎ (result ≡ ServeFault.Accept) }
+{
+    match fault.kind() {
+        ErrorKind::OutOfMemory => ServeFault::NoMemory,
+        _ => ServeFault::Accept,
+    }
+}
+
 // The connections at these listeners, none yet, with room for those of a plan.
 fn no_connections(
     alloc: Global,
@@ -147,13 +157,17 @@ fn no_connections(
 ) -> Result<Arc<Connections>, ServeFault>
     ensures { IfErr result (λ fault. (fault ≡ ServeFault.NoMemory) ⊎ (fault ≡ ServeFault.Accept)) }
 {
-    let room = plan.workers.saturating_add(plan.clerks);
+    let listening = match Listening::of(control, ingress) {
+        Ok(listening) => listening,
+        Err(fault) => {
+            drop(wire);
+            return Err(fault_of_listeners(&fault));
+        }
+    };
     let pace = Pace::new(alloc, PLACES, plan.workers)?;
-    match Connections::new(alloc, control, ingress, wire, pace, room, plan.is_verbose) {
-        Ok(connections) => Ok(Arc::new(alloc, connections)?),
-        Err(fault) if fault.kind() == ErrorKind::OutOfMemory => Err(ServeFault::NoMemory),
-        Err(_) => Err(ServeFault::Accept),
-    }
+    let room = plan.workers.saturating_add(plan.clerks);
+    let connections = Connections::new(alloc, listening, wire, pace, room, plan.is_verbose)?;
+    Ok(Arc::new(alloc, connections)?)
 }
 
 // The listeners, with no connection yet, and the writer of the link.

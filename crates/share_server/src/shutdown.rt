@@ -5,9 +5,8 @@ ghost use Rattle.share_model.specs.text.Report.{report};
 ghost use Rattle.share_server.specs.Shutdown.{journal_of, with_want, with_end, IsWritten, IsClosing};
 
 use crate::audit_file::Keep;
-use crate::connections::Connections;
 use crate::faults::FoundFaults;
-use crate::uplink::Uplink;
+use share_connections::{Connections, Uplink};
 use share_ingress::IngressEnd;
 use share_journal::{Journal, Recorder, Source};
 use share_locked::{Clerk, LinkBrand, Locked, Unsettled, WhyUnsettled, settle};

@@ -1,10 +1,9 @@
 //! The threads of a running server.
 
-use crate::connections::{ConnectionReader, Connections, Kind};
 use crate::faults::FoundFaults;
 use crate::ingress::{why_text, work};
 use crate::slots::{LinkedEnd, Slot};
-use crate::uplink::Uplink;
+use share_connections::{ConnectionReader, Connections, Kind, Uplink};
 use share_control::{Attended, How, attend};
 use share_locked::{Clerk, LinkBrand, LinkEnd, Port, serve_while};
 use share_model::{PlainReader, PlainWriter, Rates};
@@ -13,8 +12,8 @@ use std::alloc::Global;
 use std::io::{Eprint, ErrorKind};
 use std::net::{TcpListener, TcpStream};
 use std::sync::{Arc, Wait};
-use std::thread;
 use std::thread::{Scope, Threads};
+use std::{io, thread};
 
 /// What the threads share.
 #[derive(Drop)]
@@ -138,48 +137,60 @@ fn accept<R: Wait + Eprint, S: Rates, L: LinkBrand>(
     number: usize,
     found: &mut FoundFaults,
 ) -> Option<Arc<TcpStream>> {
+    match accepted(rt, server, kind, number) {
+        Ok(stream) => stream,
+        Err(fault) => {
+            if fault.kind() == ErrorKind::OutOfMemory {
+                found.memory = true;
+            } else {
+                found.accept = true;
+            }
+            server.connections.end(rt);
+            None
+        }
+    }
+}
+
+// Accepts a connection, and adds it to those that are open. `None` if the end has begun.
+fn accepted<R: Wait + Eprint, S: Rates, L: LinkBrand>(
+    rt: &R,
+    server: &Server<S, L>,
+    kind: Kind,
+    number: usize,
+) -> io::Result<Option<Arc<TcpStream>>> {
     let (listener, word) = match kind {
         Kind::Control => (&server.control, "control"),
         Kind::Ingress => (&server.ingress, "ingress"),
     };
     let accepted = listener.accept();
     if server.connections.is_ending() {
-        return None;
+        drop(accepted);
+        return Ok(None);
     }
-    match accepted {
-        Ok((stream, address)) => {
-            server.connections.tell(
-                rt,
-                format_args!("{word} {number}: connected from {address}"),
-            );
-            if let Some(stream) = open(rt, server, kind, number, stream) {
-                return Some(stream);
-            }
-            found.memory = true;
-        }
-        Err(fault) if fault.kind() == ErrorKind::OutOfMemory => found.memory = true,
-        Err(_) => found.accept = true,
-    }
-    server.connections.end(rt);
-    None
+    let (stream, address) = accepted?;
+    server.connections.tell(
+        rt,
+        format_args!("{word} {number}: connected from {address}"),
+    );
+    Ok(Some(open(rt, server, kind, number, stream)?))
 }
 
-// Adds a connection that was accepted to those that are open. `None` if there is no memory for it.
+// Adds a connection that was accepted to those that are open.
 fn open<R: Wait, S: Rates, L: LinkBrand>(
     rt: &R,
     server: &Server<S, L>,
     kind: Kind,
     number: usize,
     stream: TcpStream,
-) -> Option<Arc<TcpStream>> {
+) -> io::Result<Arc<TcpStream>> {
     let _ = stream.set_nodelay(true);
-    let stream = Arc::new(server.alloc, stream).ok()?;
-    let theirs = Arc::try_clone(&stream).ok()?;
-    if server.connections.add(rt, kind, number, theirs) {
-        Some(stream)
-    } else {
-        None
+    let stream = Arc::new(server.alloc, stream)?;
+    let theirs = Arc::try_clone(&stream)?;
+    if !server.connections.add(rt, kind, number, theirs) {
+        drop(stream);
+        return Err(io::Error::from(ErrorKind::OutOfMemory));
     }
+    Ok(stream)
 }
 
 // Begins the end, since a connection that was accepted cannot be served.

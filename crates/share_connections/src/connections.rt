@@ -2,7 +2,7 @@
 
 use crate::uplink::Wire;
 use share_locked::{Attendant, Pace, Stop};
-use std::alloc::Global;
+use std::alloc::{AllocError, Global};
 use std::fmt::Display;
 use std::io::{Eprint, ErrorKind, Read};
 use std::net::{Shutdown, TcpListener, TcpStream};
@@ -36,15 +36,20 @@ struct Open {
     stream: Arc<TcpStream>,
 }
 
+/// The listeners as streams, which can be shut down. That wakes an accept that waits.
+#[derive(Drop)]
+pub struct Listening {
+    control: TcpStream,
+    ingress: TcpStream,
+}
+
 /// The connections that are open, the uplink, and how far the end has come.
 #[derive(Drop)]
 pub struct Connections {
     open: Mutex<Vec<Open>>,
     // Notified when a connection is over.
     closed: Condvar,
-    // The listeners as streams, which can be shut down. That wakes an accept that waits.
-    control: TcpStream,
-    ingress: TcpStream,
+    listening: Listening,
     wire: Arc<Wire>,
     // Set when no more connections are accepted, and those that are open give only what has come.
     ending: Stop,
@@ -62,22 +67,36 @@ fn as_stream(listener: &TcpListener) -> io::Result<TcpStream> {
     Ok(TcpStream::from(OwnedFd::from(listener.try_clone()?)))
 }
 
+impl Listening {
+    /// Other handles of two listeners.
+    pub fn of(control: &TcpListener, ingress: &TcpListener) -> io::Result<Listening> {
+        let control = as_stream(control)?;
+        let ingress = as_stream(ingress)?;
+        Ok(Listening { control, ingress })
+    }
+
+    // Wakes an accept that waits.
+    fn shut(&self) {
+        let _ = self.control.shutdown(Shutdown::Both);
+        let _ = self.ingress.shutdown(Shutdown::Both);
+    }
+}
+
 impl Connections {
-    /// The connections of these listeners and this uplink: none yet, and room for `room` of them.
+    /// The connections at these listeners and this uplink: none yet, and room for `room` of them.
     pub fn new(
         alloc: Global,
-        control: &TcpListener,
-        ingress: &TcpListener,
+        listening: Listening,
         wire: Arc<Wire>,
         pace: Pace,
         room: usize,
         is_verbose: bool,
-    ) -> io::Result<Connections> {
+    ) -> Result<Connections, AllocError> {
+        let open = Vec::with_capacity(alloc, room)?;
         Ok(Connections {
-            open: Mutex::new(Vec::with_capacity(alloc, room)?),
+            open: Mutex::new(open),
             closed: Condvar::new(),
-            control: as_stream(control)?,
-            ingress: as_stream(ingress)?,
+            listening,
             wire,
             ending: Stop::new(),
             link_ended: Stop::new(),
@@ -163,8 +182,7 @@ impl Connections {
     /// Begins the end: no more connections are accepted, and those that are open give only what has come.
     pub fn end<R: Wait>(&self, rt: &R) {
         self.ending.set();
-        let _ = self.control.shutdown(Shutdown::Both);
-        let _ = self.ingress.shutdown(Shutdown::Both);
+        self.listening.shut();
         self.shut(rt, Kind::Control, Shutdown::Read);
         self.shut(rt, Kind::Ingress, Shutdown::Read);
         self.pace.hurry();

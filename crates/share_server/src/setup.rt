@@ -132,7 +132,9 @@ fn writer_over(alloc: Global, uplink: TcpStream) -> Result<(Arc<Wire>, Uplink), 
     ensures { IfErr result (λ fault. fault ≡ ServeFault.NoMemory) }
 {
     let _ = uplink.set_nodelay(true);
-    let wire = Arc::new(alloc, Wire::new(uplink))?;
+    let Ok(wire) = Arc::new(alloc, Wire::new(uplink)) else {
+        return Err(ServeFault::NoMemory);
+    };
     let writer = Uplink::new(&wire)?;
     Ok((wire, writer))
 }
@@ -167,7 +169,10 @@ fn no_connections(
     let pace = Pace::new(alloc, PLACES, plan.workers)?;
     let room = plan.workers.saturating_add(plan.clerks);
     let connections = Connections::new(alloc, listening, wire, pace, room, plan.is_verbose)?;
-    Ok(Arc::new(alloc, connections)?)
+    match Arc::new(alloc, connections) {
+        Ok(connections) => Ok(connections),
+        Err(_) => Err(ServeFault::NoMemory),
+    }
 }
 
 // The listeners, with no connection yet, and the writer of the link.

@@ -1,6 +1,5 @@
 //! Scripts that are cut at each byte, and inputs and outputs that fail.
 
-use super::LIFE;
 use super::assertions::{prints, same};
 use super::script::{BYTEWISE, ITS_OUTPUT, ONE_PACKET, is_answered, run};
 use share_model::{
@@ -119,7 +118,7 @@ fn line_is_cut(rt: &impl Abort, alloc: Global, before: &[u8], answers: &[u8], li
         let mut wanted = answers.to_vec(alloc).expect(rt, "memory");
         push(rt, &mut wanted, answer);
         push(rt, &mut wanted, bytes);
-        is_answered(rt, alloc, LIFE, script.as_slice(), wanted.as_slice());
+        is_answered(rt, alloc, script.as_slice(), wanted.as_slice());
         drop(script);
         drop(wanted);
     }
@@ -148,7 +147,7 @@ fn scripts_are_cut_at_each_byte(rt: HostRuntime) {
 fn input_fails(rt: &impl Abort, alloc: Global, row: usize, reads: Vec<Got>, wanted: &[u8]) {
     let mut input = ScriptedReader::new(reads, b"open a 4 1\ntorn\ntorn\n".as_slice());
     let mut output = Tape::new(alloc);
-    let ran = run(rt, alloc, LIFE, &mut input, &mut output);
+    let ran = run(rt, alloc, &mut input, &mut output);
     drop(input);
     let fault = Err(ScriptFault::Input);
     prints(rt, row, (ran, output.bytes()), (fault, wanted));
@@ -192,7 +191,7 @@ fn output_fails<I: TellingReader>(
     wanted: Option<&[u8]>,
 ) {
     let mut output = Scripted::new(alloc, answers);
-    let ran = run(rt, alloc, LIFE, input, &mut output);
+    let ran = run(rt, alloc, input, &mut output);
     let wanted = wanted.expect(rt, "a beginning");
     let fault = Err(ScriptFault::Output);
     prints(rt, wanted.len(), (ran, output.bytes()), (fault, wanted));
@@ -254,7 +253,7 @@ fn output_that_refuses_an_offer(rt: HostRuntime) {
 fn all_is_printed(rt: &impl Abort, alloc: Global, answers: Vec<Answer>, offers: usize) {
     let mut input = linewise(rt, alloc, ONE_PACKET);
     let mut output = PatientWriter(Scripted::new(alloc, answers));
-    let ran = run(rt, alloc, LIFE, &mut input, &mut output);
+    let ran = run(rt, alloc, &mut input, &mut output);
     drop(input);
     prints(rt, offers, (ran, output.0.bytes()), (Ok(()), ITS_OUTPUT));
     let counts = output.0.counts(alloc).expect(rt, "memory");

@@ -58,19 +58,33 @@ fn show_the_same(
     drop(other);
 }
 
-/// The audit, run as a script on a new link of a life that is not shorter, is answered by the journal's replies, and
-/// comes to the link as it is and to its bytes.
-pub(super) fn replays(rt: &impl Abort, alloc: Global, recorder: &Recording, life: u64) {
-    let audit = audit_of(rt, alloc, recorder.journal());
+// The script, run on a new link, prints this text, and comes to the link as it is and to its bytes.
+fn comes_to(
+    rt: &impl Abort,
+    alloc: Global,
+    life: u64,
+    script: &[u8],
+    printed: &[u8],
+    link: &Engine<Scripted, Four>,
+) {
     let mut output = Tape::new(alloc);
-    let mut input = PlainReader(audit.bytes());
+    let mut input = PlainReader(script);
     let engine = linked(rt, alloc, Four, Version::One, life, Tape::new(alloc));
     let engine = run_script(alloc, engine, &mut input, &mut output).expect(rt, "a script");
-    let replies = replies_of(rt, alloc, recorder.journal());
-    holds(rt, "the replies", output.bytes() == replies.bytes());
-    show_the_same(rt, alloc, recorder.engine(), &engine);
+    holds(rt, "the replies", output.bytes() == printed);
+    drop(output);
+    show_the_same(rt, alloc, link, &engine);
     drop(engine);
-    drop((audit, output, replies));
+}
+
+/// The audit, run as a script in a life that is not shorter, is answered by the journal's replies.
+pub(super) fn replays(rt: &impl Abort, alloc: Global, recorder: &Recording, life: u64) {
+    let (engine, journal) = (recorder.engine(), recorder.journal());
+    let audit = audit_of(rt, alloc, journal);
+    let replies = replies_of(rt, alloc, journal);
+    comes_to(rt, alloc, life, audit.bytes(), replies.bytes(), engine);
+    drop(audit);
+    drop(replies);
 }
 
 // A long text that differs is not printed.

@@ -162,24 +162,23 @@ fn shows(rt: &impl Abort, recorder: &Recording, run: &Run, case: Case, frames: u
     same(rt, case, link.events(), recorder.journal().len());
 }
 
-// A turn of the recorder is this write of a frame.
-fn writes(
-    rt: &impl Abort,
-    case: Case,
-    recorder: &mut Recording,
-    frame: Frame,
-    k: u32,
-    whole: bool,
-) {
+// A write of a frame.
+fn wrote(frame: Frame, k: u32, whole: bool) -> Turn {
     let (flow, seq) = (FlowNo(frame.0), frame.1);
-    let wanted = Turn::Wrote {
+    Turn::Wrote {
         flow,
         seq,
         k,
         whole,
-    };
+    }
+}
+
+// The next turn of the recorder is this one.
+fn turns(rt: &impl Abort, case: Case, recorder: &mut Recording, wanted: Turn) {
     same(rt, case, recorder.turn(65535), wanted);
 }
+
+const BROKEN: &str = "turn 65535 = no 20 Broken; torn = no 20 Broken; broken = 1";
 
 // The frame at hand is torn, and nothing more is sent.
 fn breaks(
@@ -190,13 +189,13 @@ fn breaks(
     case: Case,
     frame: Frame,
 ) {
-    let turn = if case.then == Then::IsDeclared {
-        recorder.tear()
-    } else {
-        recorder.turn(65535)
-    };
     let (flow, seq, j) = (FlowNo(frame.0), frame.1, case.out);
-    same(rt, case, turn, Turn::Torn { flow, seq, j });
+    let wanted = Turn::Torn { flow, seq, j };
+    if case.then == Then::IsDeclared {
+        same(rt, case, recorder.tear(), wanted);
+    } else {
+        turns(rt, case, recorder, wanted);
+    }
     let totals = recorder.engine().totals();
     let waiting = run.frames.len().saturating_sub(case.frames + 1);
     same(rt, case, (totals.torn, totals.waiting), (1, waiting as u64));
@@ -211,33 +210,27 @@ fn goes_on(rt: &impl Abort, recorder: &mut Recording, run: &Run, case: Case) {
         if place >= case.frames {
             let out = if place == case.frames { case.out } else { 0 };
             let k = length(case.version, *frame).saturating_sub(out);
-            writes(rt, case, recorder, *frame, k, true);
+            turns(rt, case, recorder, wrote(*frame, k, true));
         }
     }
-    same(rt, case, recorder.turn(65535), Turn::Idle);
+    turns(rt, case, recorder, Turn::Idle);
     shows(rt, recorder, run, case, run.frames.len(), 0);
 }
 
 fn plays(rt: &impl Abort, alloc: Global, recorder: &mut Recording, run: &Run, case: Case) {
     play(rt, alloc, recorder, run.ready);
     for frame in run.frames.iter().take(case.frames) {
-        writes(
-            rt,
-            case,
-            recorder,
-            *frame,
-            length(case.version, *frame),
-            true,
-        );
+        let whole = wrote(*frame, length(case.version, *frame), true);
+        turns(rt, case, recorder, whole);
     }
     let frame = *run.frames.get(case.frames).expect(rt, "a frame");
     if case.out > 0 {
-        writes(rt, case, recorder, frame, case.out, false);
+        turns(rt, case, recorder, wrote(frame, case.out, false));
     }
     match case.then {
         Then::Fails(_) | Then::IsDeclared => breaks(rt, alloc, recorder, run, case, frame),
         Then::IsInterrupted => {
-            same(rt, case, recorder.turn(65535), Turn::Again);
+            turns(rt, case, recorder, Turn::Again);
             goes_on(rt, recorder, run, case);
         }
         Then::GoesOn => goes_on(rt, recorder, run, case),
@@ -253,9 +246,11 @@ fn answers(rt: &impl Abort, alloc: Global, case: Case) -> Vec<Answer> {
         Then::IsInterrupted => Answer::Interrupted,
         _ => whole,
     };
-    let part = Answer::Accepted(case.out as usize);
-    let next: &[Answer] = if case.out > 0 { &[part, last] } else { &[last] };
-    answers.extend_from_slice(next).expect(rt, "memory");
+    if case.out > 0 {
+        let part = Answer::Accepted(case.out as usize);
+        answers.push(part).expect(rt, "memory");
+    }
+    answers.push(last).expect(rt, "memory");
     answers
 }
 
@@ -332,10 +327,10 @@ fn go_out(
 ) {
     play(rt, alloc, recorder, run.ready);
     for (piece, whole) in pieces {
-        same(rt, case, recorder.turn(65535), Turn::Again);
-        writes(rt, case, recorder, *piece, piece.2, *whole);
+        turns(rt, case, recorder, Turn::Again);
+        turns(rt, case, recorder, wrote(*piece, piece.2, *whole));
     }
-    same(rt, case, recorder.turn(65535), Turn::Idle);
+    turns(rt, case, recorder, Turn::Idle);
     shows(rt, recorder, run, case, run.frames.len(), 0);
 }
 

@@ -10,7 +10,7 @@ use super::tariffs::Four;
 use share_base::{Body, Event, FlowNo, Name, Outcome, Refusal, Reply, Turn, Version};
 use share_core::Engine;
 use share_journal::{Entry, Journal, Recorder, Source};
-use share_model::{Answer, PlainWriter, Scripted, TellingWriter};
+use share_model::{Answer, PlainWriter, TellingWriter};
 use share_script::{write_reply, write_turn};
 use std::alloc::Global;
 use std::process::Abort;

@@ -266,11 +266,13 @@ fn is_refused_on(rt: &impl Abort, alloc: Global, tape: &mut Tape, request: u16, 
     refuse(alloc, request);
     let answer = tape.offer(b"ab");
     same(rt, request, was_refused(alloc), is_refused);
-    let (wanted, held, counts): (Answer, &[u8], &[usize]) = if is_refused {
-        (Answer::Failed, b"", &[])
+    let wanted = if is_refused {
+        Answer::Failed
     } else {
-        (Answer::Accepted(2), b"ab", &[2])
+        Answer::Accepted(2)
     };
+    let held: &[u8] = if is_refused { b"" } else { b"ab" };
+    let counts: &[usize] = if is_refused { &[] } else { &[2] };
     same(rt, request, (answer, tape.bytes()), (wanted, held));
     holds(rt, request, are_counts(tape.counts(alloc), counts));
     same(rt, request, tape.offer(b"cd"), Answer::Accepted(2));

@@ -10,7 +10,7 @@ use super::faults::linewise;
 use super::script::{ITS_OUTPUT, ONE_PACKET, print_written, with_zeros};
 use super::tariffs::Four;
 use super::{LIFE, VERSIONS};
-use share_base::{Event, HEADER_ROOM, Outcome, Refusal, Reply, Turn, Version};
+use share_base::{Event, HEADER_ROOM, Refusal, Reply, Turn, Version};
 use share_core::Engine;
 use share_model::allocator::REFUSE_EACH;
 use share_model::{Got, Line, PlainWriter, ScriptedReader, Tape, TellingReader};

@@ -197,7 +197,8 @@ fn breaks(
         turns(rt, case, recorder, wanted);
     }
     let totals = recorder.engine().totals();
-    let waiting = run.frames.len().saturating_sub(case.frames + 1);
+    let left = run.frames.len().saturating_sub(case.frames);
+    let waiting = left.saturating_sub(1);
     same(rt, case, (totals.torn, totals.waiting), (1, waiting as u64));
     play(rt, alloc, recorder, BROKEN);
     play(rt, alloc, recorder, run.after);

@@ -26,12 +26,8 @@ fn is_written_at_once(rt: &impl Abort, alloc: Global, line: &Line, text: &[u8]) 
     same(rt, text.len(), (written, is_text), (Ok(()), true));
     let counts = output.counts(alloc).expect(rt, "memory");
     drop(output);
-    same(
-        rt,
-        text.len(),
-        counts.as_slice(),
-        [text.len() + 1].as_slice(),
-    );
+    let whole = [text.len().saturating_add(1)];
+    same(rt, text.len(), counts.as_slice(), whole.as_slice());
     drop(counts);
 }
 

@@ -16,7 +16,7 @@ pub(super) const MANY: usize = 1000000;
 
 /// Checks that a row gave what was wanted.
 pub(super) fn same<T: PartialEq + Debug + Drop>(rt: &impl Abort, row: &str, got: T, wanted: T) {
-    assert!(rt; got == wanted, "{row}: {got:?}, wanted {wanted:?}");
+    assert_eq!(rt; got, wanted, "{row}");
 }
 
 /// Checks that something is so in a row.

@@ -34,23 +34,13 @@ fn keeps_none(rt: &impl Abort, row: &str, alloc: Global) {
     holds(rt, row, !asks!(alloc, IS_HELD_OTHER));
 }
 
-// Refuses the request of this number from here on, after which blocks are counted.
-fn refuse(alloc: Global, request: u16) {
-    mark(alloc);
-    let _no = asks!(alloc, request);
-}
-
-// Refuses nothing from here on. Returns whether a call was refused memory: then it answers so, and keeps no block.
-fn is_refused(rt: &impl Abort, row: &str, alloc: Global, refusal: Option<Refusal>) -> bool {
-    let was_refused = asks!(alloc, WAS_REFUSED);
-    let wanted = if was_refused {
+// Why a call answers nothing else.
+fn lack(was_refused: bool) -> Option<Refusal> {
+    if was_refused {
         Some(Refusal::NoMemory)
     } else {
         None
-    };
-    same(rt, row, refusal, wanted);
-    keeps_none(rt, row, alloc);
-    was_refused
+    }
 }
 
 // Offers and takes as many items as the queue of one place lets it, and one too many of each.
@@ -96,9 +86,13 @@ fn hands_over<T: Wait + Abort>(rt: &T, alloc: Global) {
 fn a_queue_is_made_once_its_memory_is_found(rt: HostRuntime) {
     hands_over(&rt, rt.alloc());
     for request in 1..REQUESTS {
-        refuse(rt.alloc(), request);
-        let refusal = queue(rt.alloc(), 4, 2).err();
-        if !is_refused(&rt, "a queue", rt.alloc(), refusal) {
+        mark(rt.alloc());
+        let _no = asks!(rt.alloc(), request);
+        let made = queue(rt.alloc(), 4, 2);
+        let was_refused = asks!(rt.alloc(), WAS_REFUSED);
+        same(&rt, "queue", made.err(), lack(was_refused));
+        keeps_none(&rt, "a queue keeps no block", rt.alloc());
+        if !was_refused {
             return;
         }
     }
@@ -112,7 +106,8 @@ fn joined(rt: &impl Abort, alloc: Global, intake: Intake, ends: Vec<IngressEnd>)
     let mut intake = intake;
     let mut ends = ends;
     for request in 1..REQUESTS {
-        refuse(alloc, request);
+        mark(alloc);
+        let _no = asks!(alloc, request);
         let gathered = intake.gather(alloc, ends);
         let was_refused = asks!(alloc, WAS_REFUSED);
         same(rt, "joined", gathered.is_err(), was_refused);
@@ -145,11 +140,14 @@ fn a_reader_is_made_once_its_memory_is_found(rt: HostRuntime) {
             reads: 0,
             word: shared(&rt, &word),
         };
-        refuse(rt.alloc(), request);
-        let refusal = IngressReader::new(rt.alloc(), bytes, 100).err();
-        let is_refused = is_refused(&rt, "a reader", rt.alloc(), refusal);
+        mark(rt.alloc());
+        let _no = asks!(rt.alloc(), request);
+        let made = IngressReader::new(rt.alloc(), bytes, 100);
+        let was_refused = asks!(rt.alloc(), WAS_REFUSED);
+        same(&rt, "reader", made.err(), lack(was_refused));
+        keeps_none(&rt, "a reader keeps no block", rt.alloc());
         same(&rt, "it is dropped", Arc::strong_count(&word), 1);
-        if !is_refused {
+        if !was_refused {
             return;
         }
     }
@@ -161,7 +159,8 @@ fn an_item_is_given_once_memory_for_its_payload_is_found(rt: HostRuntime) {
     for request in 1..REQUESTS {
         let bytes = ScriptedReader::new(Vec::new(rt.alloc()), LONG);
         let mut reader = reader(&rt, rt.alloc(), bytes, 100);
-        refuse(rt.alloc(), request);
+        mark(rt.alloc());
+        let _no = asks!(rt.alloc(), request);
         let next = reader.next();
         let was_refused = asks!(rt.alloc(), WAS_REFUSED);
         match next {
@@ -200,7 +199,7 @@ fn long_records_are_read_with_no_memory_but_for_their_payloads(rt: HostRuntime) 
         let short = [Got::Bytes(1448)].repeat(rt.alloc(), 16);
         let reads = ScriptedReader::new(short.expect(&rt, "memory"), bytes.as_slice());
         let mut reader = reader(&rt, rt.alloc(), reads, 100);
-        refuse(rt.alloc(), request);
+        let _no = asks!(rt.alloc(), request);
         let counted = count(&mut reader);
         let was_refused = asks!(rt.alloc(), WAS_REFUSED);
         drop(reader);
@@ -265,7 +264,8 @@ fn all_done(rt: &impl Abort, all: &[Done<Impatient>]) -> bool {
 fn jobs_are_done_once_memory_for_their_threads_is_found(rt: HostRuntime) {
     for request in 1..REQUESTS {
         let jobs = one_item_each(&rt, rt.alloc());
-        refuse(rt.alloc(), request);
+        mark(rt.alloc());
+        let _no = asks!(rt.alloc(), request);
         let ran = run_workers(&rt, rt.alloc(), jobs);
         let was_refused = asks!(rt.alloc(), WAS_REFUSED);
         match ran {

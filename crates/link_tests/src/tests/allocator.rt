@@ -51,8 +51,9 @@ pub(super) fn were_made<R: Debug + Copy>(rt: &impl Abort, row: R, refusals: u16,
     holds(rt, (row, refusals), refusals == 0 || refusals == requests);
 }
 
-/// Asks a row, of which this request is refused. Returns whether there was one: then its answer is `NoMemory`.
-pub(super) fn asks_refused<L: Talks>(
+/// Asks a row, of which this request is refused. Returns whether there was one: then its answer is `NoMemory`, and
+/// nothing changed.
+pub(super) fn is_refused<L: Talks>(
     rt: &impl Abort,
     alloc: Global,
     said: &mut Said,
@@ -61,10 +62,13 @@ pub(super) fn asks_refused<L: Talks>(
     request: u16,
 ) -> bool {
     let (asked, wanted) = row.split_once(" = ").expect(rt, "a row");
+    let before = link.shown();
     refuse(alloc, request);
     ask(rt, alloc, said, link, asked);
     let refused = was_refused(alloc);
     let wanted = if refused { "no 1 NoMemory" } else { wanted };
     same(rt, (row, request), text_of(rt, said), wanted);
+    let is_unchanged = link.shown() == before;
+    holds(rt, (row, request), is_unchanged == refused);
     refused
 }

@@ -3,15 +3,15 @@ ghost use Rattle.std.specs.Prelude.{◌≤◌, ◌+◌, length, IfSome};
 ghost use Rattle.share_journal.specs.Records.{AcceptedNothing};
 
 use super::assertions::{holds, same};
-use super::audits::{Recording, audit_of, is_cut_at_each, is_written, replays, replays_edited};
+use super::audits::{Recording, is_cut_at_each, is_written, replays};
 use super::made::{VERSIONS, journaled, linked, recording, scripted};
-use super::talk::{Said, play, said, talk_row, text_of};
+use super::talk::{Said, play, said, talk, text_of};
 use super::tariffs::Four;
 use share_base::{Body, Event, FlowNo, Name, Outcome, Refusal, Reply, Turn, Version};
 use share_core::Engine;
 use share_journal::{Entry, Journal, Recorder, Source};
-use share_model::{Answer, PlainWriter, Scripted, TellingWriter};
-use share_script::{write_event, write_reply, write_turn};
+use share_model::{Answer, PlainWriter, TellingWriter};
+use share_script::{write_reply, write_turn};
 use std::alloc::Global;
 use std::process::Abort;
 
@@ -44,32 +44,6 @@ const EVERY_KIND: Run = Run {
     entries: 10,
     audit: "audit 1\nopen a 1 1\nmktkt 10 base\nfund 1 flow a\nsend a 6869\nsend a 78\nsend b 78\n\
         open a 1 1\nturn 5\nturn 9\nsend a 78\n",
-};
-
-const FAULT: Run = Run {
-    version: Version::One,
-    life: 16,
-    answers: &[Answer::Accepted(5), Answer::Accepted(0)],
-    rows: "\
-        open a 4 1 = flow 1; mktkt 10 base = ticket 1; fund 1 flow a = ok; send a 6869 = packet 1 1; \
-        turn 65535 = wrote 1 1 5 part; turn 65535 = torn 1 1 5; turn 65535 = no 20 Broken; torn = no 20 Broken; \
-        send a 78 = packet 1 2",
-    bytes: b"\x4c\x01\0\0\0",
-    counts: &[5, 0],
-    entries: 7,
-    audit: "audit 1\nopen a 4 1\nmktkt 10 base\nfund 1 flow a\nsend a 6869\nturn 5\ntorn\nsend a 78\n",
-};
-
-const DECLARED_FAULT: Run = Run {
-    version: Version::One,
-    life: 16,
-    answers: &[],
-    rows: "\
-        open a 4 1 = flow 1; mktkt 10 base = ticket 1; fund 1 flow a = ok; send a 6869 = packet 1 1; torn = torn 1 1 0",
-    bytes: b"",
-    counts: &[],
-    entries: 5,
-    audit: "audit 1\nopen a 4 1\nmktkt 10 base\nfund 1 flow a\nsend a 6869\ntorn\n",
 };
 
 const ONE_EVENT: Run = Run {
@@ -173,51 +147,13 @@ const FIELD_BY_FIELD: Run = Run {
         turn 8\nturn 2\nturn 2\nclose a\n",
 };
 
-/// The writer fails before the last byte of the header. Its 16 bytes are a cell of 48 with an overhead of 16, of the
-/// price 2.
-const FAULT_IN_HEADER: Run = Run {
-    version: Version::Two,
-    life: 16,
-    answers: &[Answer::Accepted(16), Answer::Accepted(0)],
-    rows: "\
-        open a 4 2 = flow 1; mktkt 1 base = ticket 1; fund 1 flow a = ok; send a 6869 = packet 1 1; \
-        turn 65535 = wrote 1 1 16 part; turn 65535 = torn 1 1 16; turn 65535 = no 20 Broken; send a 78 = packet 1 2; \
-        close a = closed 1 1 128",
-    bytes: b"\x4c\x02\x02\0\0\0\x01\0\0\0\0\0\0\0\x01\0",
-    counts: &[16, 0],
-    entries: 8,
-    audit: "audit 2\nopen a 4 2\nmktkt 1 base\nfund 1 flow a\nsend a 6869\nturn 16\ntorn\nsend a 78\n\
-        close a\n",
-};
-
-/// A fault is declared when the number of the second packet is out, and its length is not.
-const DECLARED_FAULT_IN_HEADER: Run = Run {
-    version: Version::Two,
-    life: 16,
-    answers: &[],
-    rows: "\
-        open a 4 1 = flow 1; mktkt 1 base = ticket 1; fund 1 flow a = ok; send a 78 = packet 1 1; \
-        send a 6869 = packet 1 2; turn 65535 = wrote 1 1 18 whole; turn 15 = wrote 1 2 15 part; torn = torn 1 2 15; \
-        turn 65535 = no 20 Broken; mkcur x = ok",
-    bytes: b"\x4c\x02\x01\0\0\0\x01\0\0\0\0\0\0\0\x01\0\x01x\
-        \x4c\x02\x01\0\0\0\x01\0\0\0\0\0\0\0\x02",
-    counts: &[18, 15],
-    entries: 9,
-    audit: "audit 2\nopen a 4 1\nmktkt 1 base\nfund 1 flow a\nsend a 78\nsend a 6869\nturn 18\nturn 15\n\
-        torn\nmkcur x\n",
-};
-
-const RUNS: [Run; 10] = [
+const RUNS: [Run; 6] = [
     EVERY_KIND,
-    FAULT,
-    DECLARED_FAULT,
     ONE_EVENT,
     TORN_PACKET,
     EVERY_COMMAND,
     HOLDING,
     FIELD_BY_FIELD,
-    FAULT_IN_HEADER,
-    DECLARED_FAULT_IN_HEADER,
 ];
 
 /// What is answered without an event.
@@ -239,26 +175,10 @@ fn source_of(number: u64, asked: &str) -> Source {
     }
 }
 
-// The entry's event is spelled as the line that was asked, but a write as a turn of so many bytes as were written.
-fn is_of(rt: &impl Abort, event: &Event, asked: &str, answer: &str, said: &mut Said) {
-    said.0.clear();
-    same(rt, asked, write_event(event, said), Ok(()));
-    let text = text_of(rt, said);
-    match (answer.split_whitespace().nth(3), text.strip_prefix("turn ")) {
-        (k, Some(count)) => same(rt, asked, Some(count), k),
-        (_, None) => {
-            let is_torn = answer.starts_with("torn");
-            same(rt, asked, text, if is_torn { "torn" } else { asked });
-        }
-    }
-}
-
-// The last entry is of this row.
-fn is_noted(rt: &impl Abort, said: &mut Said, journal: &Journal, asked: &str, answer: &str) {
+// The entry has the answer to this row, and the row's source.
+fn is_noted(rt: &impl Abort, said: &mut Said, entry: &Entry, asked: &str, answer: &str) {
     let (number, line) = asked.split_once(": ").unwrap_or(("1", asked));
-    let number = number.parse().ok().expect(rt, "a number");
-    let entry = journal.entry(journal.len()).expect(rt, "an entry");
-    is_of(rt, &entry.event, line, answer, said);
+    let number = number.parse::<u64>().ok().expect(rt, "a number");
     said.0.clear();
     let written = match &entry.reply {
         Outcome::Replied(reply) => write_reply(reply, said),
@@ -268,45 +188,20 @@ fn is_noted(rt: &impl Abort, said: &mut Said, journal: &Journal, asked: &str, an
     same(rt, asked, entry.source, source_of(number, line));
 }
 
-/// Asks what a row asks. An event has made one entry, and any other call none.
-pub(super) fn note<W: TellingWriter>(
-    rt: &impl Abort,
-    alloc: Global,
-    said: &mut Said,
-    recorder: &mut Recorder<W, Four>,
-    row: &str,
-) {
-    let before = recorder.journal().len();
-    talk_row(rt, alloc, said, recorder, row);
-    let (asked, answer) = row.split_once(" = ").expect(rt, "a row");
-    let is_event = !NO_EVENTS.contains(&answer);
-    let journal = recorder.journal();
-    same(
-        rt,
-        row,
-        journal.len(),
-        before.saturating_add(u64::from(is_event)),
-    );
-    same(rt, row, journal.len(), recorder.engine().events());
-    if is_event {
-        is_noted(rt, said, journal, asked, answer);
-    }
-}
-
-/// Asks what the rows ask, and compares the entries.
-pub(super) fn notes<W: TellingWriter>(
-    rt: &impl Abort,
-    alloc: Global,
-    said: &mut Said,
-    recorder: &mut Recorder<W, Four>,
-    rows: &str,
-) {
+// Each row that is an event has an entry, and there are no others.
+fn are_noted(rt: &impl Abort, said: &mut Said, journal: &Journal, rows: &'static str) {
+    let mut entries = journal.entries().iter();
     for row in rows.split(';') {
-        note(rt, alloc, said, recorder, row.trim());
+        let (asked, answer) = row.trim().split_once(" = ").expect(rt, "a row");
+        if !NO_EVENTS.contains(&answer) {
+            let entry = entries.next().expect(rt, "an entry");
+            is_noted(rt, said, entry, asked, answer);
+        }
     }
+    holds(rt, rows, entries.next().is_none());
 }
 
-// What the writer holds after a run, and the audit of its journal.
+// What the writer holds after a run, and the journal with its audit.
 fn is_as_worked(rt: &impl Abort, alloc: Global, recorder: &Recording, run: &Run) {
     let writer = recorder.engine().writer();
     same(rt, run.rows, writer.bytes(), run.bytes);
@@ -317,7 +212,6 @@ fn is_as_worked(rt: &impl Abort, alloc: Global, recorder: &Recording, run: &Run)
     is_cut_at_each(rt, alloc, recorder.journal(), run.audit.as_bytes());
     replays(rt, alloc, recorder, run.life);
     replays(rt, alloc, recorder, run.life.saturating_add(1));
-    replays_edited(rt, alloc, recorder);
 }
 
 /// The lives and versions of a link and a journal, and how many events each holds.
@@ -329,29 +223,22 @@ pub(super) fn are_parts<W>(
     versions: (Version, Version),
     events: u64,
 ) {
+    let both = (engine.version(), journal.version());
     same(rt, "the lives", (engine.life(), journal.life()), lives);
-    same(
-        rt,
-        "the versions",
-        (engine.version(), journal.version()),
-        versions,
-    );
-    same(
-        rt,
-        "the events",
-        (engine.events(), journal.len()),
-        (events, events),
-    );
+    same(rt, "the versions", both, versions);
+    let both = (engine.events(), journal.len());
+    same(rt, "the events", both, (events, events));
 }
 
 fn plays(rt: &impl Abort, alloc: Global, run: &Run) {
     let writer = scripted(rt, alloc, run.answers);
     let mut recorder = recording(rt, alloc, Four, run.version, run.life, writer);
     let mut said = said(rt, alloc);
-    same(rt, run.rows, recorder.life(), run.life);
-    notes(rt, alloc, &mut said, &mut recorder, run.rows);
+    talk(rt, alloc, &mut said, &mut recorder, run.rows);
+    are_noted(rt, &mut said, recorder.journal(), run.rows);
     drop(said);
     is_as_worked(rt, alloc, &recorder, run);
+    same(rt, run.rows, recorder.life(), run.life);
     let (engine, journal) = recorder.into_parts();
     let (lives, versions) = ((run.life, run.life), (run.version, run.version));
     are_parts(rt, &engine, &journal, lives, versions, run.entries);
@@ -364,56 +251,6 @@ fn recorders_play_as_worked_and_their_audits_again(rt: HostRuntime) {
     for run in &RUNS {
         plays(&rt, rt.alloc(), run);
     }
-}
-
-/// The write calls cut the frame before the last byte of its header. Its 9017 bytes are 188 cells of 48 with an
-/// overhead of 16, which is 9040, of the price 2.
-const LONGEST: &str = "\
-    open a 4 2 = flow 1; mktkt 1 base = ticket 1; fund 1 flow a = ok; fill a 9000 = packet 1 1; \
-    turn 65535 = wrote 1 1 16 part; turn 65535 = wrote 1 1 9001 whole; turn 65535 = idle; close a = closed 1 0 18080";
-
-/// The audit before and behind the digits of its payload.
-const BEFORE: &[u8] = b"audit 2\nopen a 4 2\nmktkt 1 base\nfund 1 flow a\nsend a ";
-
-const BEHIND: &[u8] = b"\nturn 16\nturn 9001\nclose a\n";
-
-const HEADER: &[u8; 17] = b"\x4c\x02\x02\0\0\0\x01\0\0\0\0\0\0\0\x01\x23\x28";
-
-// So many bytes of this kind, between these others.
-fn is_between(
-    rt: &impl Abort,
-    what: &str,
-    bytes: &[u8],
-    others: (&[u8], &[u8]),
-    byte: u8,
-    count: usize,
-) {
-    let rest = bytes.strip_prefix(others.0).expect(rt, "what comes before");
-    let rest = rest.strip_suffix(others.1).expect(rt, "what comes behind");
-    same(rt, what, rest.len(), count);
-    holds(rt, what, rest.iter().all(|other| *other == byte));
-}
-
-#[test]
-fn the_longest_packet_is_noted_and_sent_again(rt: HostRuntime) {
-    let alloc = rt.alloc();
-    let writer = scripted(&rt, alloc, &[Answer::Accepted(16)]);
-    let mut recorder = recording(&rt, alloc, Four, Version::Two, 16, writer);
-    play(&rt, alloc, &mut recorder, LONGEST);
-    let bytes = recorder.engine().writer().bytes();
-    is_between(&rt, "the frame", bytes, (HEADER, b""), 0, 9000);
-    let audit = audit_of(&rt, alloc, recorder.journal());
-    is_between(
-        &rt,
-        "the audit",
-        audit.bytes(),
-        (BEFORE, BEHIND),
-        b'0',
-        18000,
-    );
-    drop(audit);
-    replays(&rt, alloc, &recorder, 16);
-    drop(recorder);
 }
 
 /// Both parts, which make no recorder.

@@ -4,11 +4,10 @@
 //! with which `.ci/memory` runs these tests; with any other the first call succeeds, and no block is seen.
 
 use super::allocator::{
-    REQUESTS, asks_refused, keeps_none, mark, refuse, refuse_each, takes_none, was_refused,
-    were_made,
+    REQUESTS, is_refused, keeps_none, mark, refuse, refuse_each, takes_none, was_refused, were_made,
 };
 use super::assertions::same;
-use super::journal::{are_parts, has_two, lives_have_limits, note, notes, parts_back, push_two};
+use super::journal::{are_parts, has_two, lives_have_limits, parts_back, push_two};
 use super::made::{VERSIONS, journaled, linked, paired, recording};
 use super::talk::{Said, said, talk};
 use super::tariffs::Four;
@@ -30,7 +29,10 @@ fn sinking(rt: &impl Abort, alloc: Global, version: Version, life: u64) -> Sinki
 
 /// The tables have no more places.
 const FULL: &str = "\
-    each 1..10 open a# 4 1 = flow #; each 1..10 mkcur a# = ok; each 1..5 mktkt 10 base = ticket #";
+    open a 4 1 = flow 1; open b 4 1 = flow 2; open c 4 1 = flow 3; open d 4 1 = flow 4; open e 4 1 = flow 5; \
+    open f 4 1 = flow 6; open g 4 1 = flow 7; open h 4 1 = flow 8; open i 4 1 = flow 9; mkcur a = ok; mkcur b = ok; \
+    mkcur c = ok; mkcur d = ok; mkcur e = ok; mkcur f = ok; mkcur g = ok; mkcur h = ok; mkcur i = ok; \
+    mktkt 10 base = ticket 1; mktkt 10 base = ticket 2; mktkt 10 base = ticket 3; mktkt 10 base = ticket 4";
 
 /// Commands that take memory: the rows before one, the command, and how many requests it makes. A new flow takes memory
 /// for its packets, and the first one for the table of the flows: for the two parts of its index, the names, and the
@@ -44,32 +46,6 @@ const GROWTHS: [(Option<&str>, &str, u16); 6] = [
     (Some(FULL), "mkcur j = ok", 4),
     (Some(FULL), "mktkt 10 base = ticket 5", 1),
 ];
-
-// The command, with this request refused. Returns whether there was one: then nothing changed.
-fn is_refused(
-    rt: &impl Abort,
-    alloc: Global,
-    said: &mut Said,
-    recorder: &mut Sinking,
-    row: &str,
-    request: u16,
-) -> bool {
-    let link = recorder.engine();
-    let before = (link.totals(), link.global(), link.events());
-    let entries = recorder.journal().len();
-    let refused = asks_refused(rt, alloc, said, recorder, row, request);
-    if refused {
-        let link = recorder.engine();
-        same(
-            rt,
-            row,
-            (link.totals(), link.global(), link.events()),
-            before,
-        );
-        same(rt, row, recorder.journal().len(), entries);
-    }
-    refused
-}
 
 // After a refusal the same command is refused at its first request, and then it is done as if never refused.
 fn is_refused_and_done(
@@ -86,7 +62,7 @@ fn is_refused_and_done(
     }
     let refused = is_refused(rt, alloc, said, &mut recorder, row, request);
     if refused && is_refused(rt, alloc, said, &mut recorder, row, 1) {
-        note(rt, alloc, said, &mut recorder, row);
+        talk(rt, alloc, said, &mut recorder, row);
     }
     drop(recorder);
     refused
@@ -149,10 +125,10 @@ fn calls_take_none(
     place: usize,
 ) {
     let (written, closed) = (WRITTEN[place.min(1)], CLOSED[place.min(1)]);
-    notes(rt, alloc, said, recorder, READY);
+    talk(rt, alloc, said, recorder, READY);
     refuse_each(alloc);
     for rows in [BROUGHT, written, TORN, closed, ENDED] {
-        notes(rt, alloc, said, recorder, rows);
+        talk(rt, alloc, said, recorder, rows);
     }
     let mut sink = PlainWriter(io::sink());
     let audited = recorder.journal().audit(&mut sink);

@@ -7,8 +7,7 @@
 //! `.ci/memory` runs it.
 
 use super::allocator::{
-    REQUESTS, asks_refused, keeps_none, mark, refuse, refuse_each, takes_none, was_refused,
-    were_made,
+    REQUESTS, is_refused, keeps_none, mark, refuse, refuse_each, takes_none, was_refused, were_made,
 };
 use super::assertions::same;
 use super::talk::{Said, bring, said, talk};
@@ -174,35 +173,16 @@ const GROWING: [(&str, u16); 3] = [
     ("mktkt 10 base = ticket 1", 1),
 ];
 
-// A refused command is no event and changes nothing, and the next one takes the number that it would have taken.
-fn is_refused(
-    rt: &impl Abort,
-    alloc: Global,
-    said: &mut Said,
-    link: &mut HeldEngine,
-    row: &str,
-    request: u16,
-) -> bool {
-    let before = link.totals();
-    let refused = asks_refused(rt, alloc, said, link, row, request);
-    if refused {
-        same(
-            rt,
-            (row, request),
-            (link.events(), link.totals()),
-            (0, before),
-        );
-        talk(rt, alloc, said, link, row);
-    }
-    refused
-}
-
-// Each request of each of these commands is refused in turn, on a new link each.
+// Each request of each of these commands is refused in turn, on a new link each. The next command takes the number that
+// the refused one would have taken.
 fn finds_memory_at_last(rt: &impl Abort, alloc: Global, said: &mut Said, tokens: &Tokens) {
     for (row, requests) in GROWING {
         for request in 1..REQUESTS {
             let mut link = tokens.engine(rt, alloc, 64).expect(rt, "a link");
             let refused = is_refused(rt, alloc, said, &mut link, row, request);
+            if refused {
+                talk(rt, alloc, said, &mut link, row);
+            }
             drop(link);
             if !refused {
                 were_made(rt, row, request - 1, requests);
@@ -259,7 +239,7 @@ const TAKE_NONE: &str = "\
     turn 65535 = idle; sends = 0; resume a = ok; resume a = no 22 NotHeld; account 1 = 14; flow a = 1; \
     unfund 2 = ok; fund 3 flow a = ok; send a 6869 = packet 1 2; torn = torn 1 2 0; turn 65535 = no 20 Broken; \
     broken = 1; unfund 3 = ok; rmtkt 3 = ok; rmtkt 2 = ok; unfund 1 = ok; rmtkt 1 = ok; rmcur x = ok; \
-    close a = closed 1 0 14; events = 29; at 1 = none; turn 65535 = no 20 Broken";
+    close a = closed 1 0 14; events = 29; place 1 = none; turn 65535 = no 20 Broken";
 
 fn takes_no_memory(rt: &impl Abort, alloc: Global, said: &mut Said, link: &mut HeldEngine) {
     talk(rt, alloc, said, link, READY);
@@ -303,12 +283,8 @@ fn longest(rt: &impl Abort, alloc: Global) -> Body {
 }
 
 fn comes(rt: &impl Abort, alloc: Global, link: &mut HeldEngine, body: Body, wanted: Reply) {
-    same(
-        rt,
-        "a long packet",
-        bring(rt, alloc, link, "a", body),
-        wanted,
-    );
+    let reply = bring(rt, alloc, link, 1, "a", body);
+    same(rt, "a long packet", reply, wanted);
 }
 
 // The buffer has room for two of the longest packets. They are sent, and the third one is dropped; then one is torn.

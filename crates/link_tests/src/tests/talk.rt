@@ -1,23 +1,21 @@
 //! Sessions as rows of text: what a link is asked and what it answers, as `open a 4 1 = flow 1; turn 5 = idle`.
 
-use super::assertions::{holds, same};
-use itoa::{Buffer, Integer};
+use super::assertions::same;
+use itoa::Buffer;
 use share_base::{Body, Command, FlowNo, Name, Parcel, Reply, Turn, Version};
 use share_core::Engine;
 use share_journal::Recorder;
-use share_model::{Line, PlainWriter, Position, Rates, TellingWriter};
-use share_report::report;
+use share_model::{Fault, GlobalPart, Line, PlainWriter, Rates, TellingWriter, Totals};
 use share_script::{read_line, write_reply, write_turn};
 use std::alloc::Global;
 use std::process::Abort;
-use std::slice;
 use std::str::from_utf8;
 
 /// What a link answered, as text. It has room for each answer, so that no row takes memory.
 pub(super) type Said = PlainWriter<Vec<u8>>;
 
 pub(super) fn said(rt: &impl Abort, alloc: Global) -> Said {
-    PlainWriter(Vec::with_capacity(alloc, 4096).ok().expect(rt, "memory"))
+    PlainWriter(Vec::with_capacity(alloc, 128).ok().expect(rt, "memory"))
 }
 
 /// What takes events: a link, or its recorder. The number is that of a clerk or a worker.
@@ -39,8 +37,11 @@ pub(super) trait Talks {
 
     fn version(&self) -> Version;
 
-    /// Says what a question asks of the link.
-    fn read(&self, rt: &impl Abort, question: &str, said: &mut Said);
+    /// What a question asks of the link.
+    fn read(&self, question: &str) -> Option<i128>;
+
+    /// What an event changes, and how many entries there are.
+    fn shown(&self) -> (Totals, GlobalPart, u64);
 }
 
 impl<W: TellingWriter, S: Rates> Talks for Engine<W, S> {
@@ -72,8 +73,12 @@ impl<W: TellingWriter, S: Rates> Talks for Engine<W, S> {
         Engine::version(self)
     }
 
-    fn read(&self, rt: &impl Abort, question: &str, said: &mut Said) {
-        answer(rt, self, question, said);
+    fn read(&self, question: &str) -> Option<i128> {
+        answer(self, question)
+    }
+
+    fn shown(&self) -> (Totals, GlobalPart, u64) {
+        (self.totals(), self.global(), self.events())
     }
 }
 
@@ -107,84 +112,70 @@ impl<W: TellingWriter, S: Rates> Talks for Recorder<W, S> {
         self.engine().version()
     }
 
-    fn read(&self, rt: &impl Abort, question: &str, said: &mut Said) {
-        answer(rt, self.engine(), question, said);
+    fn read(&self, question: &str) -> Option<i128> {
+        answer(self.engine(), question)
+    }
+
+    fn shown(&self) -> (Totals, GlobalPart, u64) {
+        let (engine, journal) = (self.engine(), self.journal());
+        (engine.totals(), engine.global(), journal.len())
     }
 }
 
-fn say(rt: &impl Abort, said: &mut Said, text: &str) {
-    said.0.extend_from_slice(text.as_bytes()).expect(rt, "room");
-}
-
-fn say_number<I: Integer>(rt: &impl Abort, said: &mut Said, number: I) {
-    let mut digits = Buffer::new();
-    say(rt, said, digits.format(number));
-    say(rt, said, " ");
-}
-
-fn say_if<I: Integer>(rt: &impl Abort, said: &mut Said, number: Option<I>) {
-    match number {
-        Some(number) => say_number(rt, said, number),
-        None => say(rt, said, "none"),
-    }
-}
-
-fn say_position(rt: &impl Abort, said: &mut Said, position: Position) {
-    say(rt, said, if position.competing { "in " } else { "out " });
-    say_number(rt, said, position.tickets);
-    say_number(rt, said, position.stride);
-    say_number(rt, said, position.place);
-}
-
-// What is read of a flow.
-fn answer_of_flow<W, S: Rates>(
-    rt: &impl Abort,
-    link: &Engine<W, S>,
-    what: &str,
-    flow: FlowNo,
-    said: &mut Said,
-) {
-    match what {
-        "account" => say_if(rt, said, link.account(flow)),
-        "tickets" => say_if(rt, said, link.tickets(flow)),
-        "held" => say_if(rt, said, link.held(flow).map(u8::from)),
-        "packets" => say_if(rt, said, link.backlog(flow).map(|backlog| backlog.packets)),
-        "limit" => say_if(rt, said, link.backlog(flow).map(|backlog| backlog.limit)),
-        _ => match link.position(flow) {
-            Some(position) => say_position(rt, said, position),
-            None => say(rt, said, "none"),
-        },
-    }
-}
-
-fn answer_of_all<W, S: Rates>(rt: &impl Abort, link: &Engine<W, S>, said: &mut Said) {
-    let all = link.global();
-    say_number(rt, said, all.tickets);
-    say_number(rt, said, all.pass);
-    say_number(rt, said, all.last);
-    say_number(rt, said, all.clock);
-}
-
-/// Says what is read of a link: the answer to `events`, `flow a`, `at 1` and others.
-fn answer<W, S: Rates>(rt: &impl Abort, link: &Engine<W, S>, question: &str, said: &mut Said) {
+// What is read of a link: the answer to `events`, `flow a`, `place 1` and others.
+fn answer<W, S: Rates>(link: &Engine<W, S>, question: &str) -> Option<i128> {
     let (what, of) = question.split_once(" ").unwrap_or((question, ""));
     match what {
-        "events" => say_number(rt, said, link.events()),
-        "life" => say_number(rt, said, link.life()),
-        "spent" => say_number(rt, said, u8::from(link.spent())),
-        "broken" => say_number(rt, said, u8::from(link.broken())),
-        "sends" => say_number(rt, said, u8::from(link.sends())),
-        "all" => answer_of_all(rt, link, said),
-        "report" => report(link, said).expect(rt, "room"),
-        "flow" => {
-            let name = Name::read(of.as_bytes()).expect(rt, "a name");
-            say_if(rt, said, link.flow(name).map(FlowNo::number));
-        }
-        _ => {
-            let number = of.parse().ok().expect(rt, "a question");
-            answer_of_flow(rt, link, what, FlowNo(number), said);
-        }
+        "events" => Some(i128::from(link.events())),
+        "life" => Some(i128::from(link.life())),
+        "spent" => Some(i128::from(u8::from(link.spent()))),
+        "broken" => Some(i128::from(u8::from(link.broken()))),
+        "sends" => Some(i128::from(u8::from(link.sends()))),
+        "pass" => i128::try_from(link.global().pass).ok(),
+        "last" => Some(i128::from(link.global().last)),
+        "clock" => Some(i128::from(link.global().clock)),
+        "flow" => Some(i128::from(link.flow(Name::read(of.as_bytes())?)?.number())),
+        _ => answer_of_flow(link, what, FlowNo(of.parse::<u32>().ok()?)),
     }
+}
+
+fn answer_of_flow<W, S: Rates>(link: &Engine<W, S>, what: &str, flow: FlowNo) -> Option<i128> {
+    match what {
+        "account" => Some(i128::from(link.account(flow)?)),
+        "tickets" => Some(i128::from(link.tickets(flow)?)),
+        "held" => Some(i128::from(u8::from(link.held(flow)?))),
+        "packets" => Some(i128::from(link.backlog(flow)?.packets)),
+        "limit" => Some(i128::from(link.backlog(flow)?.limit)),
+        "stride" => Some(i128::from(link.position(flow)?.stride)),
+        "place" => Some(link.position(flow)?.place),
+        _ => None,
+    }
+}
+
+// Says a number, or `none`.
+fn say_if(said: &mut Said, number: Option<i128>) -> Result<(), Fault> {
+    let mut digits = Buffer::new();
+    let text = match number {
+        Some(number) => digits.format(number),
+        None => "none",
+    };
+    match said.0.extend_from_slice(text.as_bytes()) {
+        Ok(()) => Ok(()),
+        Err(_) => Err(Fault),
+    }
+}
+
+/// Brings a packet to a flow.
+pub(super) fn bring<L: Talks>(
+    rt: &impl Abort,
+    alloc: Global,
+    link: &mut L,
+    number: u64,
+    flow: &str,
+    body: Body,
+) -> Reply {
+    let flow = Name::read(flow.as_bytes()).expect(rt, "a name");
+    link.arrive(rt, alloc, number, flow, body)
 }
 
 // A packet of zero bytes.
@@ -194,23 +185,10 @@ fn fill<L: Talks>(rt: &impl Abort, alloc: Global, link: &mut L, number: u64, of:
     let zeros = Vec::from_elem(alloc, 0_u8, count).expect(rt, "memory");
     let body = Body::new(alloc, zeros.as_slice()).expect(rt, "memory");
     drop(zeros);
-    link.arrive(
-        rt,
-        alloc,
-        number,
-        Name::read(flow.as_bytes()).expect(rt, "a name"),
-        body,
-    )
+    bring(rt, alloc, link, number, flow, body)
 }
 
-fn say_reply(rt: &impl Abort, said: &mut Said, reply: Reply) {
-    write_reply(&reply, said).expect(rt, "room");
-}
-
-fn say_turn(rt: &impl Abort, said: &mut Said, turn: Turn) {
-    write_turn(&turn, said).expect(rt, "room");
-}
-
+// Does what a line says, and says the answer.
 fn make<L: Talks>(
     rt: &impl Abort,
     alloc: Global,
@@ -218,19 +196,15 @@ fn make<L: Talks>(
     link: &mut L,
     number: u64,
     line: Line,
-) {
+) -> Result<(), Fault> {
     match line {
-        Line::Change(command) => say_reply(rt, said, link.command(number, command)),
+        Line::Change(command) => write_reply(&link.command(number, command), said),
         Line::Send { flow, body } => {
-            say_reply(rt, said, link.arrive(rt, alloc, number, flow, body));
+            write_reply(&link.arrive(rt, alloc, number, flow, body), said)
         }
-        Line::Turn(most) => {
-            let most = u32::try_from(most).ok().expect(rt, "a number of bytes");
-            say_turn(rt, said, link.turn(most));
-        }
-        Line::Torn => say_turn(rt, said, link.tear()),
-        Line::Report => link.read(rt, "report", said),
-        Line::Audit(_) => say(rt, said, "none"),
+        Line::Turn(most) => write_turn(&link.turn(u32::try_from(most).unwrap_or(1)), said),
+        Line::Torn => write_turn(&link.tear(), said),
+        Line::Report | Line::Audit(_) => Err(Fault),
     }
 }
 
@@ -243,16 +217,16 @@ pub(super) fn ask<L: Talks>(
     asked: &str,
 ) {
     let (number, asked) = asked.split_once(": ").unwrap_or(("1", asked));
-    let number = number.parse().ok().expect(rt, "a number");
+    let number = number.parse::<u64>().ok().expect(rt, "a number");
     said.0.clear();
-    if let Some(of) = asked.strip_prefix("fill ") {
-        say_reply(rt, said, fill(rt, alloc, link, number, of));
-        return;
-    }
-    match read_line(alloc, link.version(), asked.as_bytes()) {
-        Ok(line) => make(rt, alloc, said, link, number, line),
-        Err(_) => link.read(rt, asked, said),
-    }
+    let answered = match asked.strip_prefix("fill ") {
+        Some(of) => write_reply(&fill(rt, alloc, link, number, of), said),
+        None => match read_line(alloc, link.version(), asked.as_bytes()) {
+            Ok(line) => make(rt, alloc, said, link, number, line),
+            Err(_) => say_if(said, link.read(asked)),
+        },
+    };
+    same(rt, "an answer", answered, Ok(()));
 }
 
 /// What was answered last.
@@ -261,7 +235,7 @@ pub(super) fn text_of<'a>(rt: &impl Abort, said: &'a Said) -> &'a str {
     text.trim_end()
 }
 
-/// Asks what a row asks, and compares the answer. A row without an answer is not refused.
+/// Asks what a row asks, and compares the answer.
 pub(super) fn talk_row<L: Talks>(
     rt: &impl Abort,
     alloc: Global,
@@ -269,57 +243,9 @@ pub(super) fn talk_row<L: Talks>(
     link: &mut L,
     row: &str,
 ) {
-    match row.split_once(" = ") {
-        Some((asked, wanted)) => {
-            ask(rt, alloc, said, link, asked);
-            same(rt, row, text_of(rt, said), wanted);
-        }
-        None => {
-            ask(rt, alloc, said, link, row);
-            holds(rt, row, !text_of(rt, said).starts_with("no "));
-        }
-    }
-}
-
-/// Brings a packet to a flow.
-pub(super) fn bring<L: Talks>(
-    rt: &impl Abort,
-    alloc: Global,
-    link: &mut L,
-    flow: &str,
-    body: Body,
-) -> Reply {
-    let flow = Name::read(flow.as_bytes()).expect(rt, "a name");
-    link.arrive(rt, alloc, 1, flow, body)
-}
-
-// The row with a number in place of each `#`, and the next number in place of each `@`.
-fn numbered(rt: &impl Abort, alloc: Global, row: &str, number: u64) -> Vec<u8> {
-    let mut text = Vec::new(alloc);
-    for byte in row.as_bytes() {
-        let mut digits = Buffer::new();
-        let piece = match byte {
-            b'#' => digits.format(number).as_bytes(),
-            b'@' => digits.format(number.saturating_add(1)).as_bytes(),
-            _ => slice::from_ref(byte),
-        };
-        text.extend_from_slice(piece).expect(rt, "memory");
-    }
-    text
-}
-
-// A row that begins with `each 1..9` is asked for each of these numbers.
-fn talk_each<L: Talks>(rt: &impl Abort, alloc: Global, said: &mut Said, link: &mut L, rows: &str) {
-    let (numbers, row) = rows.split_once(" ").expect(rt, "numbers");
-    let (from, to) = numbers.split_once("..").expect(rt, "numbers");
-    let from = from.parse::<u64>().ok().expect(rt, "a number");
-    let to = to.parse::<u64>().ok().expect(rt, "a number");
-    for number in from..to {
-        let text = numbered(rt, alloc, row, number);
-        let row = from_utf8(text.as_slice()).ok().expect(rt, "text");
-        talk_row(rt, alloc, said, link, row);
-        drop(text);
-    }
+    let (asked, wanted) = row.split_once(" = ").expect(rt, "a row");
+    ask(rt, alloc, said, link, asked);
+    same(rt, row, text_of(rt, said), wanted);
 }
 
 /// Asks what each row asks, and compares the answers.
@@ -331,10 +257,7 @@ pub(super) fn talk<L: Talks>(
     rows: &str,
 ) {
     for row in rows.split(';') {
-        match row.trim().strip_prefix("each ") {
-            Some(rows) => talk_each(rt, alloc, said, link, rows),
-            None => talk_row(rt, alloc, said, link, row.trim()),
-        }
+        talk_row(rt, alloc, said, link, row.trim());
     }
 }
 

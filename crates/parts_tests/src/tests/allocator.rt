@@ -2,6 +2,7 @@
 //! allocator refuses nothing, and then these tests compare the answers alone.
 
 use crate::tests::assertions::{holds, same};
+use share_base::Refusal;
 use share_model::allocator::{IS_HELD_OTHER, MARK_HELD, WAS_REFUSED};
 use share_model::asks;
 use std::alloc::Global;
@@ -61,4 +62,27 @@ pub(super) fn took_none<R: Debug + Copy>(rt: &impl Abort, row: R, alloc: Global)
     let is_first_refused = Vec::<u8>::with_capacity(alloc, 1).is_err();
     let was_one = was_refused(alloc);
     same(rt, (row, "takes no memory"), is_first_refused, was_one);
+}
+
+/// A call of which a request was to be refused has answered so, and keeps no block.
+pub(super) fn was_answered<R: Debug + Copy, T: PartialEq + Debug + Drop>(
+    rt: &impl Abort,
+    row: R,
+    alloc: Global,
+    is_refused: bool,
+    answer: T,
+    wanted: T,
+) {
+    same(rt, (row, "is refused"), was_refused(alloc), is_refused);
+    same(rt, row, answer, wanted);
+    keeps_none(rt, row, alloc);
+}
+
+/// Why nothing is made if a request is refused.
+pub(super) fn lack(is_refused: bool) -> Option<Refusal> {
+    if is_refused {
+        Some(Refusal::NoMemory)
+    } else {
+        None
+    }
 }

@@ -1,35 +1,35 @@
 //! share_base: spellings of names, lengths of payloads and headers, and the texts of refusals.
 ghost use Rattle.std.specs.Prelude.{◌≤◌};
 
-use crate::tests::allocator::{
-    asked_for, is_steered, keeps_none, mark, refuse, took_none, was_refused,
-};
+use crate::tests::allocator::{asked_for, is_steered, mark, refuse, took_none, was_answered};
 use crate::tests::assertions::{holds, same};
 use share_base::{
     Body, FlowNo, HEADER_ROOM, MAX_IN_PLACE, MAX_PAYLOAD, Name, Parcel, Refusal, Reply, TicketNo,
-    Version,
 };
 use std::alloc::Global;
 use std::cmp::Ordering;
 use std::hash::{DefaultHasher, Hash, Hasher};
 use std::process::Abort;
 
-const NAMES: [&[u8]; 4] = [b"a", b"base", b"z9_-", b"abcdefghijklmnop"];
-
-const NO_NAMES: [&[u8]; 13] = [
-    b"abcdefghijklmnopq",
-    b"",
-    b"A",
-    b"aB",
-    b"9a",
-    b"_a",
-    b"-a",
-    b"a\x00",
-    b"a\xff",
-    b"a b",
-    b"a.b",
-    b"a`",
-    b"a{",
+/// Bytes, and whether they spell a name.
+const NAMES: [(&[u8], bool); 17] = [
+    (b"a", true),
+    (b"base", true),
+    (b"z9_-", true),
+    (b"abcdefghijklmnop", true),
+    (b"abcdefghijklmnopq", false),
+    (b"", false),
+    (b"A", false),
+    (b"aB", false),
+    (b"9a", false),
+    (b"_a", false),
+    (b"-a", false),
+    (b"a\x00", false),
+    (b"a\xff", false),
+    (b"a b", false),
+    (b"a.b", false),
+    (b"a`", false),
+    (b"a{", false),
 ];
 
 /// Two names and their order. The hashes of equal names are equal, and of these others differ.
@@ -69,37 +69,12 @@ fn are_ordered(left: &[u8], right: &[u8], order: Ordering) -> bool {
 
 #[test]
 fn names_are_spelled_ordered_and_hashed(rt: HostRuntime) {
-    for bytes in NAMES {
-        holds(&rt, bytes, is_name(bytes));
-    }
-    for bytes in NO_NAMES {
-        same(&rt, bytes, Name::read(bytes), None);
+    for (bytes, is_one) in NAMES {
+        same(&rt, bytes, is_name(bytes), is_one);
     }
     for (left, right, order) in ORDERS {
         holds(&rt, (left, right), are_ordered(left, right, order));
     }
-}
-
-#[test]
-fn versions_have_their_lengths(rt: HostRuntime) {
-    let lengths = [
-        (Version::One, 1490, 12),
-        (Version::Two, MAX_PAYLOAD, HEADER_ROOM),
-    ];
-    for (version, payload, header) in lengths {
-        same(
-            &rt,
-            version,
-            (version.payload(), version.header()),
-            (payload, header),
-        );
-    }
-    same(
-        &rt,
-        "the greatest",
-        (MAX_PAYLOAD, HEADER_ROOM, MAX_IN_PLACE),
-        (9000, 17, 16),
-    );
 }
 
 /// What is made of a payload.
@@ -130,55 +105,8 @@ fn makes(alloc: Global, made: Made, payload: &[u8]) -> Result<bool, Refusal> {
     }
 }
 
-/// The lengths of payloads, and what `new` answers.
-const LENGTHS: [(usize, Result<bool, Refusal>); 8] = [
-    (0, Err(Refusal::Range)),
-    (1, Ok(true)),
-    (16, Ok(true)),
-    (17, Ok(true)),
-    (1490, Ok(true)),
-    (1491, Ok(true)),
-    (9000, Ok(true)),
-    (9001, Err(Refusal::Range)),
-];
-
-#[test]
-fn payloads_are_1_to_9000_bytes(rt: HostRuntime) {
-    let bytes = [7; 9001];
-    for (count, answer) in LENGTHS {
-        for kind in [Made::Body, Made::Parcel] {
-            same(
-                &rt,
-                (kind, count),
-                makes(rt.alloc(), kind, &bytes[..count]),
-                answer,
-            );
-        }
-    }
-}
-
 /// Room for a header, and sixteen bytes behind it.
 const ROOM_AND_SIXTEEN: &[u8; HEADER_ROOM + MAX_IN_PLACE] = b".................0123456789abcdef";
-
-/// How a body is made of the bytes behind the room.
-#[derive(Clone, Copy, Debug)]
-enum Source {
-    New,
-    Vector,
-    Array,
-}
-
-/// Bodies that are stamped: how they are made, and of what.
-const STAMPED: [(Source, &[u8]); 8] = [
-    (Source::New, b".................0"),
-    (Source::New, ROOM_AND_SIXTEEN),
-    (Source::New, b".................0123456789abcdefg"),
-    (Source::Vector, b".................0"),
-    (Source::Vector, ROOM_AND_SIXTEEN),
-    (Source::Vector, b".................0123456789abcdefg"),
-    (Source::Array, b".................0"),
-    (Source::Array, ROOM_AND_SIXTEEN),
-];
 
 /// Headers that are stamped in turn, so that each length comes after itself and after the other one.
 const HEADERS: [&[u8]; 5] = [
@@ -189,25 +117,7 @@ const HEADERS: [&[u8]; 5] = [
     b"0123456789ab",
 ];
 
-// Whether a body made so is stamped with each header.
-fn is_stamped(alloc: Global, source: Source, whole: &[u8]) -> bool {
-    let Some(payload) = whole.get(HEADER_ROOM..) else {
-        return false;
-    };
-    match source {
-        Source::New => match Body::new(alloc, payload) {
-            Ok(body) => shows_all(body, payload),
-            Err(_) => false,
-        },
-        Source::Vector => match Vec::from_slice(alloc, whole) {
-            Ok(vector) => is_vector_stamped(vector, payload),
-            Err(_) => false,
-        },
-        Source::Array => is_array_stamped(alloc, payload),
-    }
-}
-
-// The same of a body that `from_vec` makes of this vector.
+// Whether a body that `from_vec` makes of this vector is stamped with each header.
 fn is_vector_stamped(vector: Vec<u8>, payload: &[u8]) -> bool {
     if vector.len() <= HEADER_ROOM || vector.len() > HEADER_ROOM + MAX_PAYLOAD {
         return false;
@@ -244,70 +154,60 @@ fn shows_header(body: &mut Body, header: &[u8], payload: &[u8]) -> bool {
     body.framed().strip_prefix(header) == Some(payload) && body.as_slice() == payload
 }
 
-#[test]
-fn payloads_are_stamped(rt: HostRuntime) {
-    for (source, whole) in STAMPED {
-        holds(&rt, (source, whole), is_stamped(rt.alloc(), source, whole));
-    }
-    let longest = [b'7'; 9017];
-    for source in [Source::New, Source::Vector] {
-        holds(
-            &rt,
-            (source, "9000 bytes"),
-            is_stamped(rt.alloc(), source, &longest),
-        );
-    }
-}
-
-const REFUSALS: [Refusal; 22] = [
-    Refusal::NoMemory,
-    Refusal::Spent,
-    Refusal::Syntax,
-    Refusal::Range,
-    Refusal::NoCurrency,
-    Refusal::NoTicket,
-    Refusal::NoFlow,
-    Refusal::NoTariff,
-    Refusal::Taken,
-    Refusal::Base,
-    Refusal::InUse,
-    Refusal::Funding,
-    Refusal::Unfunded,
-    Refusal::Crowded,
-    Refusal::Cycle,
-    Refusal::Deep,
-    Refusal::TableFull,
-    Refusal::Sending,
-    Refusal::BufferFull,
-    Refusal::Broken,
-    Refusal::Held,
-    Refusal::NotHeld,
-];
-
-/// The number, the name and the text of each.
-const TEXTS: [&str; 22] = [
-    "1 NoMemory: memory was refused",
-    "2 Spent: the link has made as many events as its life allows",
-    "3 Syntax: the line is not one that can be read",
-    "4 Range: a number or a payload is out of its range",
-    "5 NoCurrency: no currency has this name",
-    "6 NoTicket: no ticket has this number",
-    "7 NoFlow: no open flow has this name",
-    "8 NoTariff: no tariff has this number",
-    "9 Taken: the name is taken",
-    "10 Base: the base currency can be neither removed nor funded",
-    "11 InUse: a ticket is denominated in the currency, or funds it",
-    "12 Funding: the ticket has a holder",
-    "13 Unfunded: the ticket has no holder",
-    "14 Crowded: the holder is funded by as many tickets as it may be",
-    "15 Cycle: the currency would back itself",
-    "16 Deep: the chain of currencies would be too long",
-    "17 TableFull: the table is full",
-    "18 Sending: a frame of the flow is in part",
-    "19 BufferFull: the buffer of the flow is full",
-    "20 Broken: the link is broken",
-    "21 Held: the flow is held",
-    "22 NotHeld: the flow is not held",
+/// Each refusal: its number, its name and its text.
+const REFUSALS: [(Refusal, &str); 22] = [
+    (Refusal::NoMemory, "1 NoMemory: memory was refused"),
+    (
+        Refusal::Spent,
+        "2 Spent: the link has made as many events as its life allows",
+    ),
+    (
+        Refusal::Syntax,
+        "3 Syntax: the line is not one that can be read",
+    ),
+    (
+        Refusal::Range,
+        "4 Range: a number or a payload is out of its range",
+    ),
+    (
+        Refusal::NoCurrency,
+        "5 NoCurrency: no currency has this name",
+    ),
+    (Refusal::NoTicket, "6 NoTicket: no ticket has this number"),
+    (Refusal::NoFlow, "7 NoFlow: no open flow has this name"),
+    (Refusal::NoTariff, "8 NoTariff: no tariff has this number"),
+    (Refusal::Taken, "9 Taken: the name is taken"),
+    (
+        Refusal::Base,
+        "10 Base: the base currency can be neither removed nor funded",
+    ),
+    (
+        Refusal::InUse,
+        "11 InUse: a ticket is denominated in the currency, or funds it",
+    ),
+    (Refusal::Funding, "12 Funding: the ticket has a holder"),
+    (Refusal::Unfunded, "13 Unfunded: the ticket has no holder"),
+    (
+        Refusal::Crowded,
+        "14 Crowded: the holder is funded by as many tickets as it may be",
+    ),
+    (Refusal::Cycle, "15 Cycle: the currency would back itself"),
+    (
+        Refusal::Deep,
+        "16 Deep: the chain of currencies would be too long",
+    ),
+    (Refusal::TableFull, "17 TableFull: the table is full"),
+    (
+        Refusal::Sending,
+        "18 Sending: a frame of the flow is in part",
+    ),
+    (
+        Refusal::BufferFull,
+        "19 BufferFull: the buffer of the flow is full",
+    ),
+    (Refusal::Broken, "20 Broken: the link is broken"),
+    (Refusal::Held, "21 Held: the flow is held"),
+    (Refusal::NotHeld, "22 NotHeld: the flow is not held"),
 ];
 
 fn is_told(alloc: Global, refusal: Refusal, text: &str) -> bool {
@@ -335,7 +235,7 @@ fn are_words() -> bool {
 
 #[test]
 fn refusals_have_numbers_names_and_texts(rt: HostRuntime) {
-    for (refusal, text) in REFUSALS.into_iter().zip(TEXTS) {
+    for (refusal, text) in REFUSALS {
         holds(&rt, text, is_told(rt.alloc(), refusal, text));
     }
     holds(&rt, "words", are_words());
@@ -343,7 +243,9 @@ fn refusals_have_numbers_names_and_texts(rt: HostRuntime) {
 
 /// What is made, its payload, and how many requests that takes. A body takes one if its payload and the room before it
 /// have more than 33 bytes, and it is for no more than these. A parcel has two bodies.
-const COPIES: [(Made, &[u8], u16); 8] = [
+const COPIES: [(Made, &[u8], u16); 11] = [
+    (Made::Body, b"", 0),
+    (Made::Body, b"0", 0),
     (Made::Body, b"0123456789abcdef", 0),
     (Made::Body, b"0123456789abcdefg", 1),
     (Made::Body, &[7; 1491], 1),
@@ -352,7 +254,16 @@ const COPIES: [(Made, &[u8], u16); 8] = [
     (Made::Parcel, b"0123456789abcdef", 0),
     (Made::Parcel, b"0123456789abcdefg", 2),
     (Made::Parcel, &[7; 9000], 2),
+    (Made::Parcel, &[7; 9001], 0),
 ];
+
+// What making it answers with ample memory: a payload has 1 to 9000 bytes.
+fn made_of(payload: &[u8]) -> Result<bool, Refusal> {
+    if payload.is_empty() || payload.len() > MAX_PAYLOAD {
+        return Err(Refusal::Range);
+    }
+    Ok(true)
+}
 
 #[test]
 fn payloads_are_copied_once_their_memory_is_found(rt: HostRuntime) {
@@ -360,27 +271,24 @@ fn payloads_are_copied_once_their_memory_is_found(rt: HostRuntime) {
     let is_steered = is_steered(alloc);
     for (kind, payload, requests) in COPIES {
         for request in 1..4 {
-            let row = (kind, payload.len(), request);
             mark(alloc);
             refuse(alloc, request);
             let answer = makes(alloc, kind, payload);
             let is_refused = is_steered && request <= requests;
-            same(&rt, row, was_refused(alloc), is_refused);
             let wanted = if is_refused {
                 Err(Refusal::NoMemory)
             } else {
-                Ok(true)
+                made_of(payload)
             };
-            same(&rt, row, answer, wanted);
-            keeps_none(&rt, row, alloc);
+            let row = (kind, payload.len(), request);
+            was_answered(&rt, row, alloc, is_refused, answer, wanted);
         }
         mark(alloc);
         let answer = makes(alloc, kind, payload);
         let each = u16::try_from(payload.len().saturating_add(HEADER_ROOM)).unwrap_or(u16::MAX);
         let bytes = requests.saturating_mul(each);
-        let row = (kind, payload.len(), bytes);
-        asked_for(&rt, row, alloc, bytes, is_steered);
-        same(&rt, row, answer, Ok(true));
+        asked_for(&rt, (kind, bytes), alloc, bytes, is_steered);
+        same(&rt, (kind, bytes), answer, made_of(payload));
     }
 }
 
@@ -403,9 +311,7 @@ fn other_calls_take_no_memory(rt: HostRuntime) {
     let long = Vec::from_slice(alloc, long).expect(&rt, "memory");
     let short = Vec::from_slice(alloc, ROOM_AND_SIXTEEN).expect(&rt, "memory");
     refuse(alloc, 1);
-    let range = makes(alloc, Made::Body, &[7; 9001]);
     let are_answered = are_answered(alloc, parcel, long, short);
     took_none(&rt, "other calls", alloc);
-    same(&rt, "9001 bytes", range, Err(Refusal::Range));
     holds(&rt, "the answers", are_answered);
 }

@@ -5,7 +5,9 @@ ghost use Rattle.share_base.specs.Body.{IsHeaderLength};
 ghost use Rattle.share_model.specs.link.Buffers.{buffer_of, is_full};
 ghost use Rattle.share_flows.specs.Places.{Stands};
 
-use crate::tests::allocator::{is_steered, keeps_none, mark, refuse, took_none, was_refused};
+use crate::tests::allocator::{
+    is_steered, keeps_none, lack, mark, refuse, took_none, was_answered, was_refused,
+};
 use crate::tests::assertions::{holds, same};
 use share_base::{Body, FlowNo, Refusal};
 use share_flows::{Buffers, Place};
@@ -14,7 +16,7 @@ use std::alloc::Global;
 use std::process::Abort;
 
 /// A call on the buffer of a flow, and its answer. A packet is named by the one byte of its payload. A call that its
-/// contract does not allow is not made: the answer is `None` or `false` then.
+/// contract does not allow is not made, and fails its row.
 #[derive(Clone, Copy, Debug)]
 enum Row {
     /// A buffer with this limit is opened.
@@ -28,8 +30,8 @@ enum Row {
     /// A packet is put in at the flow's place, and the head packet and its number are taken out.
     Through(u32, u8, Option<(u32, u8)>),
     /// A header is stamped before the head packet, by the flow and at its place.
-    Stamp(u32, &'static [u8], bool),
-    StampAt(u32, &'static [u8], bool),
+    Stamp(u32, &'static [u8]),
+    StampAt(u32, &'static [u8]),
     /// The bytes stamped before the head packet, and its payload; no bytes if there is no packet.
     Framed(u32, &'static [u8]),
     /// The buffer is closed: how many packets it held.
@@ -164,8 +166,8 @@ fn is_answered(rt: &impl Abort, alloc: Global, buffers: &mut Buffers, row: Row) 
         Row::Through(flow, byte, packet) => {
             through(buffers, FlowNo(flow), body(rt, alloc, byte)) == packet
         }
-        Row::Stamp(flow, header, stamped) => stamp(buffers, FlowNo(flow), header) == stamped,
-        Row::StampAt(flow, header, stamped) => stamp_at(buffers, FlowNo(flow), header) == stamped,
+        Row::Stamp(flow, header) => stamp(buffers, FlowNo(flow), header),
+        Row::StampAt(flow, header) => stamp_at(buffers, FlowNo(flow), header),
         Row::Framed(flow, framed) => is_framed(buffers, FlowNo(flow), framed),
         Row::Close(flow, dropped) => close(buffers, FlowNo(flow)) == dropped,
         Row::Shows(flow, shown) => shows(buffers, FlowNo(flow)) == shown,
@@ -202,43 +204,34 @@ const OPENED: [Row; 13] = [
 
 /// These calls take no memory. A refused packet takes no number, a place is of its flow, and a header replaces the one
 /// before it.
-const USED: [Row; 39] = [
+const USED: [Row; 30] = [
     Row::Open(2, 0, Some(Err(Refusal::Range))),
     Row::Open(2, 1025, Some(Err(Refusal::Range))),
     Row::Open(2, 4294967297, Some(Err(Refusal::Range))),
     Row::Shows(2, None),
-    Row::Push(2, b'1', None),
-    Row::Through(2, b'1', None),
-    Row::Head(1, None),
-    Row::Pop(1, None),
     Row::Push(1, b'1', Some(Ok(1))),
     Row::Push(1, b'2', Some(Err(b'2'))),
     Row::Through(1, b'3', None),
     Row::Shows(1, Some((1, 1))),
     Row::Head(1, Some((1, b'1'))),
     Row::Framed(1, b"1"),
-    Row::Stamp(1, b"abcdefghijkl", true),
+    Row::Stamp(1, b"abcdefghijkl"),
     Row::Framed(1, b"abcdefghijkl1"),
-    Row::StampAt(1, b"ABCDEFGHIJKLMNOPQ", true),
+    Row::StampAt(1, b"ABCDEFGHIJKLMNOPQ"),
     Row::Framed(1, b"ABCDEFGHIJKLMNOPQ1"),
-    Row::Stamp(1, b"abcdefghijkl", true),
-    Row::Stamp(1, b"abcdefghijklm", false),
-    Row::StampAt(1, b"", false),
+    Row::Stamp(1, b"abcdefghijkl"),
     Row::Framed(1, b"abcdefghijkl1"),
     Row::Pop(1, Some(b'1')),
     Row::Push(1, b'4', Some(Ok(2))),
-    Row::Stamp(7, b"abcdefghijkl", false),
-    Row::StampAt(7, b"abcdefghijkl", false),
     Row::Through(7, b'5', Some((1, b'5'))),
     Row::Push(7, b'6', Some(Ok(2))),
     Row::Push(7, b'7', Some(Ok(3))),
-    Row::StampAt(7, b"abcdefghijkl", true),
+    Row::StampAt(7, b"abcdefghijkl"),
     Row::Framed(7, b"abcdefghijkl6"),
     Row::Framed(1, b"4"),
     Row::Pop(7, Some(b'6')),
     Row::Framed(7, b"7"),
     Row::Close(1, Some(1)),
-    Row::Close(1, None),
     Row::Close(7, Some(1)),
     Row::Shows(1, None),
     Row::Shows(9, Some((0, 1024))),
@@ -271,19 +264,20 @@ fn is_opened(
     request: u16,
     is_refused: bool,
 ) {
-    let row = (flow, request);
     mark(alloc);
     refuse(alloc, request);
     let answer = open(buffers, FlowNo(flow), 2);
-    same(rt, row, was_refused(alloc), is_refused);
-    if is_refused {
-        same(rt, row, answer, Some(Err(Refusal::NoMemory)));
-        keeps_none(rt, row, alloc);
-        play(rt, alloc, buffers, &[Row::Shows(flow, None)]);
+    same(rt, (flow, request), was_refused(alloc), is_refused);
+    let (wanted, next) = if is_refused {
+        (Err(Refusal::NoMemory), Row::Shows(flow, None))
     } else {
-        same(rt, row, answer, Some(Ok(())));
-        play(rt, alloc, buffers, &[Row::Push(flow, 7, Some(Ok(1)))]);
+        (Ok(()), Row::Push(flow, 7, Some(Ok(1))))
+    };
+    same(rt, (flow, request), answer, Some(wanted));
+    if is_refused {
+        keeps_none(rt, (flow, request), alloc);
     }
+    play(rt, alloc, buffers, &[next]);
     for before in 1..flow {
         play(rt, alloc, buffers, &[Row::Shows(before, Some((1, 2)))]);
     }
@@ -301,9 +295,12 @@ fn opens_all(rt: &impl Abort, alloc: Global, buffers: &mut Buffers, is_steered: 
         is_opened(rt, alloc, buffers, flow, 2, false);
     }
     for flow in 1..=ROOM + 1 {
-        play(rt, alloc, buffers, &[Row::Push(flow, 8, Some(Ok(2)))]);
-        play(rt, alloc, buffers, &[Row::Push(flow, 9, Some(Err(9)))]);
-        play(rt, alloc, buffers, &[Row::Pop(flow, Some(7))]);
+        let rows = [
+            Row::Push(flow, 8, Some(Ok(2))),
+            Row::Push(flow, 9, Some(Err(9))),
+            Row::Pop(flow, Some(7)),
+        ];
+        play(rt, alloc, buffers, &rows);
     }
 }
 
@@ -314,18 +311,8 @@ fn buffers_are_made_and_opened_once_their_memory_is_found(rt: HostRuntime) {
     mark(alloc);
     refuse(alloc, 1);
     let none = Buffers::new(alloc).err();
-    same(&rt, "new buffers", was_refused(alloc), is_steered);
-    same(
-        &rt,
-        "new buffers",
-        none,
-        if is_steered {
-            Some(Refusal::NoMemory)
-        } else {
-            None
-        },
-    );
-    keeps_none(&rt, "new buffers", alloc);
+    let row = "new buffers";
+    was_answered(&rt, row, alloc, is_steered, none, lack(is_steered));
     refuse(alloc, 2);
     let mut buffers = Buffers::new(alloc).expect(&rt, "one request");
     same(&rt, "new buffers", was_refused(alloc), false);

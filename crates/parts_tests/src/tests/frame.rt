@@ -1,4 +1,4 @@
-//! share_frame: worked frames, what bytes are read as, and every cut. No call takes memory.
+//! share_frame: worked frames and headers, what bytes are read as, and every cut. No call takes memory.
 
 use crate::tests::allocator::{refuse, took_none};
 use crate::tests::assertions::{holds, same};
@@ -6,8 +6,7 @@ use share_base::Version::{One, Two};
 use share_base::{FlowNo, Version};
 use share_frame::FrameRead2::{Bad, More};
 use share_frame::{
-    Field, FrameRead, FrameRead2, HEADER, HEADER2, header, header2, no_frame_begins_another,
-    read_frame, read_frame2,
+    Field, FrameRead, FrameRead2, header, header2, no_frame_begins_another, read_frame, read_frame2,
 };
 use std::process::Abort;
 
@@ -111,20 +110,7 @@ fn read_hex(version: Version, text: &str) -> FrameRead2 {
     read(version, bytes.get(..count).unwrap_or(&[]))
 }
 
-#[test]
-fn bytes_are_read(rt: HostRuntime) {
-    no_frame_begins_another();
-    for (version, text, answer) in ROWS {
-        same(&rt, (version, text), read_hex(version, text), answer);
-    }
-    for count in 0..HI.len() {
-        same(&rt, count, read(One, &HI[..count]), More);
-    }
-    for count in 0..HI2.len() {
-        same(&rt, count, read(Two, &HI2[..count]), More);
-    }
-}
-
+/// Fields, and where they begin in version 1 and in version 2.
 const STARTS: [(Field, usize, usize); 6] = [
     (Field::Magic, 0, 0),
     (Field::Version, 1, 1),
@@ -141,109 +127,38 @@ fn fields_have_places(rt: HostRuntime) {
     }
 }
 
-/// The flow number, the sequence number, the tariff and the length of packets. In version 1 the tariff is 0.
-const PACKETS: [(Version, u32, u64, u8, u16); 10] = [
-    (One, 1, 1, 0, 1),
-    (One, 1, 1, 0, 1490),
-    (One, 256, 65536, 0, 1281),
-    (One, 0x8000_0000, 0x0100_0000, 0, 256),
-    (One, 4294967295, 4294967295, 0, 1490),
-    (Two, 1, 1, 1, 1),
-    (Two, 1, 1, 8, 9000),
-    (Two, 256, 65536, 2, 8961),
-    (Two, 0x8000_0000, 0x1_0000_0000, 3, 256),
-    (Two, 4294967295, 18446744073709551615, 8, 9000),
-];
+/// Numbers of which each byte is another one, in headers of both versions.
+const NUMBERS: &[u8; 12] = b"\x4c\x01\x01\x02\x03\x04\x05\x06\x07\x08\x09\x0a";
 
-// Writes a header of a version before zeros. Returns its length.
-fn write(
-    bytes: &mut [u8; 9017],
-    version: Version,
-    flow: FlowNo,
-    seq: u64,
-    tariff: u8,
-    len: u16,
-) -> usize {
-    match version {
-        One => bytes[..HEADER].copy_from_slice(&header(
-            flow,
-            u32::try_from(seq).unwrap_or(u32::MAX),
-            len,
-        )),
-        Two => bytes[..HEADER2].copy_from_slice(&header2(flow, seq, tariff, len)),
-    }
-    version.header()
-}
+const NUMBERS2: &[u8; 17] = b"\x4c\x02\x01\x02\x03\x04\x05\x06\x07\x08\x09\x0a\x0b\x0c\x0d\x0e\x0f";
 
-// Whether a header and a payload of zeros are read as a frame, and as part of one if the end is cut off.
-fn is_read_again(version: Version, flow: u32, seq: u64, tariff: u8, len: u16) -> bool {
-    let mut bytes = [0; 9017];
-    let flow = FlowNo(flow);
-    let header = write(&mut bytes, version, flow, seq, tariff, len);
-    let Some(frame) = bytes.get(..usize::from(len).saturating_add(header)) else {
-        return false;
-    };
-    let wanted = FrameRead2::Frame {
-        flow,
-        seq,
-        tariff,
-        len,
-    };
-    read(version, frame) == wanted
-        && read(
-            version,
-            frame.get(..frame.len().saturating_sub(1)).unwrap_or(&[]),
-        ) == More
-        && read(version, frame.get(..header).unwrap_or(&[])) == More
-}
-
-#[test]
-fn headers_are_those_of_frames_and_are_read_again(rt: HostRuntime) {
-    same(&rt, "hi", header(FlowNo(1), 1, 2).as_slice(), &HI[..HEADER]);
-    same(
-        &rt,
-        "hi, version 2",
-        header2(FlowNo(1), 1, 1, 2).as_slice(),
-        &HI2[..HEADER2],
-    );
-    let one = b"\x4c\x01\x01\x02\x03\x04\x05\x06\x07\x08\x09\x0a";
-    same(
-        &rt,
-        "version 1",
-        header(FlowNo(0x01020304), 0x05060708, 0x090a),
-        *one,
-    );
-    let two = b"\x4c\x02\x01\x02\x03\x04\x05\x06\x07\x08\x09\x0a\x0b\x0c\x0d\x0e\x0f";
+fn are_headers(rt: &impl Abort) {
+    let numbers = header(FlowNo(0x01020304), 0x05060708, 0x090a);
+    same(rt, "numbers", numbers, *NUMBERS);
     let numbers = header2(FlowNo(0x02030405), 0x060708090a0b0c0d, 1, 0x0e0f);
-    same(&rt, "version 2", numbers, *two);
-    for (version, flow, seq, tariff, len) in PACKETS {
-        holds(
-            &rt,
-            (version, flow, seq),
-            is_read_again(version, flow, seq, tariff, len),
-        );
-    }
+    same(rt, "numbers, version 2", numbers, *NUMBERS2);
+    let hi = header(FlowNo(1), 1, 2);
+    holds(rt, "hi", HI.starts_with(&hi));
+    let hi = header2(FlowNo(1), 1, 1, 2);
+    holds(rt, "hi, version 2", HI2.starts_with(&hi));
 }
 
-// Whether all calls answer as they should.
-fn are_answered() -> bool {
-    for (version, text, answer) in ROWS {
-        if read_hex(version, text) != answer {
-            return false;
-        }
+// Each frame is one that is cut before its last byte.
+fn are_cut(rt: &impl Abort, version: Version, frame: &[u8]) {
+    for count in 0..frame.len() {
+        same(rt, (version, count), read(version, &frame[..count]), More);
     }
-    for (version, flow, seq, tariff, len) in PACKETS {
-        if !is_read_again(version, flow, seq, tariff, len) {
-            return false;
-        }
-    }
-    Field::Len.start(One) == 10
 }
 
 #[test]
 fn frames_take_no_memory(rt: HostRuntime) {
+    no_frame_begins_another();
     refuse(rt.alloc(), 1);
-    let are_answered = are_answered();
+    for (version, text, answer) in &ROWS {
+        same(&rt, (*version, *text), read_hex(*version, text), *answer);
+    }
+    are_cut(&rt, One, HI);
+    are_cut(&rt, Two, HI2);
+    are_headers(&rt);
     took_none(&rt, "frames", rt.alloc());
-    holds(&rt, "the answers", are_answered);
 }

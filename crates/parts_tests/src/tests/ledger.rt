@@ -1,7 +1,9 @@
 //! share_ledger: worked figures, limits and orders of refusals, as rows of text; and what a ledger takes of memory: its
 //! cache when it is made, and room for more currencies, tickets and flows if there is none left.
 
-use crate::tests::allocator::{is_steered, keeps_none, mark, refuse, took_none, was_refused};
+use crate::tests::allocator::{
+    is_steered, keeps_none, lack, mark, refuse, took_none, was_answered, was_refused,
+};
 use crate::tests::assertions::{holds, same};
 use share_base::{FlowNo, Name, Refusal};
 use share_ledger::Ledger;
@@ -50,7 +52,7 @@ const TABLES_ARE_FULL: &str =
     mkcur base = Taken; open fresh = TableFull; open c07 = Taken; mktkt 1 base = TableFull; mktkt 0 fresh = Range;
     mktkt 1 fresh = NoCurrency";
 
-const TABLES: [Table; 23] = [
+const TABLES: [Table; 12] = [
     (
         "three currencies deep, with fewer and fewer flows",
         THREE_DEEP,
@@ -73,35 +75,6 @@ const TABLES: [Table; 23] = [
         "wake 1; tickets 1 = 1048576",
     ),
     (
-        "a free ticket gets an amount",
-        "mktkt 5 base = 1; mktkt 3 base = 2; open a = 1",
-        "wake 1; amend 1 8; tickets 1 = 0; fund 1 flow a; tickets 1 = 8; fund 2 flow a; tickets 1 = 11",
-    ),
-    (
-        "an amended ticket keeps its holder: it is not removed, funds nothing else, and is taken away once",
-        "mktkt 5 base = 1; mktkt 2 base = 2; open a = 1; open b = 2",
-        "fund 1 flow a; fund 2 flow b; wake 1; wake 2; tickets 1 = 5; amend 1 9; tickets 1 = 9; tickets 2 = 2;
-            rmtkt 1 = Funding; fund 1 flow b = Funding; unfund 1; tickets 1 = 0; unfund 1 = Unfunded; fund 1 flow b;
-            tickets 2 = 11",
-    ),
-    (
-        "others keep their part of a currency",
-        TWO_FLOWS,
-        "wake 1; wake 2; tickets 1 = 333; tickets 2 = 666; amend 3 4; tickets 1 = 200; tickets 2 = 800; amend 3 2;
-            tickets 1 = 333; tickets 2 = 666",
-    ),
-    (
-        "the ticket of an idle flow gets an amount",
-        TWO_FLOWS,
-        "wake 1; tickets 1 = 1000; amend 3 4; tickets 1 = 1000; tickets 2 = 0; wake 2; tickets 1 = 200;
-            tickets 2 = 800",
-    ),
-    (
-        "what backs a currency gets an amount",
-        TWO_FLOWS,
-        "wake 1; wake 2; amend 1 600; tickets 1 = 200; tickets 2 = 400; amend 1 1; tickets 1 = 0; tickets 2 = 0",
-    ),
-    (
         "an amount is felt two currencies down: 16 of x are active, worth 100 and then 64; then 4, and at last 8",
         THREE_DEEP,
         "wake 1; wake 2; wake 3; amend 2 12; tickets 1 = 25; tickets 2 = 37; tickets 3 = 37; amend 1 64;
@@ -114,11 +87,6 @@ const TABLES: [Table; 23] = [
         "amend 9 0 = Range; amend 9 1048577 = Range; amend 9 1 = NoTicket; fund 1 flow a; wake 1; amend 1 1048576;
             amend 1 1048577 = Range; tickets 1 = 1048576; amend 1 1; amend 1 0 = Range; tickets 1 = 1;
             amend 1 4294967297 = Range; amend 1 18446744073709551615 = Range",
-    ),
-    (
-        "no cycle",
-        "mkcur x; mkcur y; mktkt 1 x = 1; mktkt 1 y = 2",
-        "fund 1 cur y; fund 2 cur x = Cycle; fund 2 cur y = Cycle",
     ),
     (
         "each row passes one test more than the row before it, and fails the next",
@@ -134,7 +102,6 @@ const TABLES: [Table; 23] = [
         "mktkt 1 base = TableFull; fund 1 cur c8 = Funding; wake_64; each 64 = 16380; rest 64; each 63 = 16632;
             tickets 64 = 0",
     ),
-    ("tables are full", "fill", TABLES_ARE_FULL),
     (
         "flows by place",
         "open a = 1; open b = 2; mktkt 5 base = 1",
@@ -142,34 +109,11 @@ const TABLES: [Table; 23] = [
             tickets_at 0 = 5; counts 0 = 5; counts 1; tickets 1 = 0",
     ),
     (
-        "refusals of a fresh ledger",
-        "",
-        "mkcur base = Taken; rmcur base = Base; rmcur nope = NoCurrency; mktkt 0 nope = Range;
-            mktkt 1048577 base = Range; mktkt 1 nope = NoCurrency; rmtkt 1 = NoTicket; fund 9 flow nope = NoTicket;
-            fund 9 cur nope = NoTicket; unfund 1 = NoTicket",
-    ),
-    (
-        "refusals of a backed currency",
-        "mkcur x; mktkt 1 x = 1; mktkt 1 base = 2",
-        "unfund 1 = Unfunded; fund 2 cur x; rmcur x = InUse; fund 1 cur x = Cycle; fund 2 cur base = Base;
-            rmtkt 2 = Funding",
-    ),
-    (
         "numbers are not cut to 32 bits: 2^32 + 1 is not 1",
         "mktkt 1 base = 1; open a = 1",
         "fund 4294967297 flow a = NoTicket; fund 4294967297 cur base = NoTicket; rmtkt 4294967297 = NoTicket;
             unfund 4294967297 = NoTicket; amend 4294967297 1 = NoTicket; fund 0 flow a = NoTicket;
             fund 0 cur base = NoTicket; rmtkt 0 = NoTicket; unfund 0 = NoTicket; amend 0 1 = NoTicket; fund 1 flow a",
-    ),
-    (
-        "names of flows and currencies are apart",
-        "open base = 1; mkcur x; open x = 2; mktkt 7 base = 1",
-        "flow base = 1; fund 1 flow base; wake 1; tickets 1 = 7; close 1; flow base; tickets 1 = 0",
-    ),
-    (
-        "a closed flow's name and ticket are free again",
-        "open a = 1; mktkt 7 base = 1; fund 1 flow a; close 1; open a = 2",
-        "fund 1 flow a; flow a = 2; wake 2; tickets 2 = 7",
     ),
     (
         "holders are crowded at sixteen, flows first",
@@ -434,107 +378,48 @@ fn a_ledger_is_made_once_its_memory_is_found(rt: HostRuntime) {
         mark(alloc);
         refuse(alloc, request);
         let refusal = Ledger::new(alloc).err();
-        same(&rt, request, was_refused(alloc), is_refused);
-        let wanted = if is_refused {
-            Some(Refusal::NoMemory)
-        } else {
-            None
-        };
-        same(&rt, request, refusal, wanted);
-        keeps_none(&rt, request, alloc);
+        was_answered(&rt, request, alloc, is_refused, refusal, lack(is_refused));
     }
 }
 
-/// A change for which a table may have to grow.
-#[derive(Clone, Copy)]
-enum Growth {
-    Currency(Name),
-    Ticket,
-    Flow(Name),
-}
-
-fn grow(rt: &impl Abort, ledger: &mut Ledger, growth: &Growth) -> Answer {
-    match growth {
-        Growth::Currency(name) => done(ledger.make_currency(*name)),
-        Growth::Ticket => make_ticket(ledger, 1, name(rt, "base")),
-        Growth::Flow(name) => open(ledger, *name),
+// Makes the k-th currency, flow or ticket, from 0.
+fn grow(rt: &impl Abort, ledger: &mut Ledger, kind: &str, k: u32) -> Answer {
+    match kind {
+        "mkcur" => done(ledger.make_currency(numbered(rt, b'c', k))),
+        "open" => open(ledger, numbered(rt, b'c', k)),
+        _ => make_ticket(ledger, 1, name(rt, "base")),
     }
 }
 
-// Whether there is nothing of a change.
-fn is_undone(ledger: &mut Ledger, growth: &Growth) -> bool {
-    match growth {
-        Growth::Currency(name) => ledger.remove_currency(*name) == Err(Refusal::NoCurrency),
-        Growth::Ticket => {
-            let next = u64::from(ledger.next_ticket());
-            ledger.unfund(next) == Err(Refusal::NoTicket)
-        }
-        Growth::Flow(name) => {
-            ledger.flow(*name).is_none() && ledger.add_flow_refusal(*name).is_none()
-        }
-    }
-}
-
-// The next numbers, how many flows are open, and the tickets of the first.
-fn shown(ledger: &Ledger) -> (u32, u32, usize, u32) {
-    let tickets = ledger.tickets(FlowNo(1));
-    (
-        ledger.next_ticket(),
-        ledger.next_flow(),
-        ledger.flow_count(),
-        tickets,
-    )
-}
-
-// What the growth of the k-th one is called, and what it answers.
-fn told_of(growth: &Growth, k: u32) -> (&'static str, Option<u64>) {
-    match growth {
-        Growth::Currency(_) => ("currency", None),
-        Growth::Ticket => ("ticket", Some(u64::from(k) + 1)),
-        Growth::Flow(_) => ("flow", Some(u64::from(k) + 1)),
-    }
-}
-
-// The first request of a change is refused. A refused change keeps what it was granted, so after that the second one.
-// Nothing else is changed.
-fn is_refused(
-    rt: &impl Abort,
-    alloc: Global,
-    ledger: &mut Ledger,
-    growth: &Growth,
-    row: (&'static str, u32),
-    refusal: u16,
-) {
-    let before = shown(ledger);
-    mark(alloc);
-    refuse(alloc, refusal.min(1) + 1);
-    let answer = grow(rt, ledger, growth);
-    same(rt, row, was_refused(alloc), true);
-    same(rt, row, answer, Err(Refusal::NoMemory));
-    if refusal == 0 {
-        keeps_none(rt, row, alloc);
-    }
-    same(rt, row, is_undone(ledger, growth), true);
-    same(rt, row, shown(ledger), before);
-}
-
-// Makes the k-th one after this many refusals, and no more.
+// Makes the k-th one after this many refusals, and no more. A refused change keeps what it was granted, so its second
+// request is the one to refuse from then on.
 fn grows(
     rt: &impl Abort,
     alloc: Global,
     ledger: &mut Ledger,
-    growth: &Growth,
+    kind: &'static str,
     k: u32,
     refusals: u16,
 ) {
-    let (kind, answer) = told_of(growth, k);
-    for refusal in 0..refusals {
-        is_refused(rt, alloc, ledger, growth, (kind, k), refusal);
+    for refusal in 0..=refusals {
+        let is_refused = refusal < refusals;
+        mark(alloc);
+        refuse(alloc, refusal.min(1) + 1);
+        let answer = grow(rt, ledger, kind, k);
+        let wanted = if is_refused {
+            Err(Refusal::NoMemory)
+        } else if kind == "mkcur" {
+            Ok(None)
+        } else {
+            Ok(Some(u64::from(k) + 1))
+        };
+        let row = (kind, k, refusal);
+        same(rt, row, was_refused(alloc), is_refused);
+        same(rt, row, answer, wanted);
+        if is_refused && refusal == 0 {
+            keeps_none(rt, row, alloc);
+        }
     }
-    refuse(alloc, refusals.min(1) + 1);
-    let grown = grow(rt, ledger, growth);
-    same(rt, (kind, k), was_refused(alloc), false);
-    same(rt, (kind, k), grown, Ok(answer));
 }
 
 // The requests of the k-th currency or flow, from 0. A map has room for 9, 18, 36 or 72 names, and grows by four
@@ -554,25 +439,16 @@ fn for_a_ticket(k: u32) -> u16 {
     }
 }
 
-// Makes 64 currencies and flows and 1024 tickets. The first flow is funded.
+// Makes 64 currencies and flows and 1024 tickets.
 fn grows_full(rt: &impl Abort, alloc: Global, ledger: &mut Ledger, is_steered: bool) {
     for k in 0..64 {
         let refusals = if is_steered { for_a_name(k) } else { 0 };
-        let name = numbered(rt, b'c', k);
-        grows(rt, alloc, ledger, &Growth::Currency(name), k, refusals);
-        grows(rt, alloc, ledger, &Growth::Flow(name), k, refusals);
+        grows(rt, alloc, ledger, "mkcur", k, refusals);
+        grows(rt, alloc, ledger, "open", k, refusals);
     }
     for k in 0..1024 {
         let refusals = if is_steered { for_a_ticket(k) } else { 0 };
-        grows(rt, alloc, ledger, &Growth::Ticket, k, refusals);
-        if k == 0 {
-            play(
-                rt,
-                ledger,
-                "funded",
-                "fund 1 flow c00; wake 1; tickets 1 = 1",
-            );
-        }
+        grows(rt, alloc, ledger, "mktkt", k, refusals);
     }
     play(rt, ledger, "full", TABLES_ARE_FULL);
     let room =
@@ -590,18 +466,12 @@ fn tables_grow_once_their_memory_is_found(rt: HostRuntime) {
 
 // Makes changes of which each request is refused in turn.
 fn is_refused_in_part(rt: &impl Abort, alloc: Global, ledger: &mut Ledger) {
-    let x = name(rt, "x");
-    for growth in &[Growth::Currency(x), Growth::Ticket, Growth::Flow(x)] {
-        let (kind, _) = told_of(growth, 0);
+    for kind in ["mkcur", "mktkt", "open"] {
         for request in 1..4 {
             refuse(alloc, request);
-            let answer = grow(rt, ledger, growth);
-            let was_refused = was_refused(alloc);
-            holds(
-                rt,
-                (kind, request),
-                !was_refused || answer == Err(Refusal::NoMemory),
-            );
+            let answer = grow(rt, ledger, kind, 99);
+            let is_answered = !was_refused(alloc) || answer == Err(Refusal::NoMemory);
+            holds(rt, (kind, request), is_answered);
         }
     }
 }

@@ -1,4 +1,4 @@
-//! share_model: tapes and scripts, the wrappers of std's readers and writers, and how patient a writer is. std's traits
+//! share_model: the wrappers of std's readers and writers, how patient a writer is, and the memory of a tape. std's traits
 //! say nothing of an error's kind, and no contract counts calls. So these wrong bodies meet every clause, and tests
 //! alone see them: an interruption reported as a failure; a failure, of any kind or of one, reported as an
 //! interruption; an end, or 0 accepted bytes, reported as either; no call for more than 4096 or 40000 bytes, or for
@@ -9,8 +9,7 @@ ghost use Rattle.std.specs.Prelude.{◌≤◌, IfOk};
 use crate::tests::allocator::{is_steered, keeps_none, mark, refuse, was_refused};
 use crate::tests::assertions::{holds, same};
 use share_model::{
-    Answer, Fault, Got, PatientWriter, PlainReader, PlainWriter, Scripted, ScriptedReader, Tape,
-    TellingReader, TellingWriter, put,
+    Answer, Got, PatientWriter, PlainReader, PlainWriter, Tape, TellingReader, TellingWriter,
 };
 use std::alloc::{AllocError, Global};
 use std::io;
@@ -24,152 +23,6 @@ fn are_counts(counts: Result<Vec<usize>, AllocError>, wanted: &[usize]) -> bool 
         Ok(counts) => counts.as_slice() == wanted,
         Err(_) => false,
     }
-}
-
-/// The lengths of pieces, each taken whole.
-const PIECES: [usize; 12] = [0, 1, 254, 255, 256, 0, 509, 510, 511, 1502, 9017, 1];
-
-fn takes_whole(rt: &impl Abort, alloc: Global, tape: &mut Tape) {
-    let bytes = [b'x'; 9017];
-    for length in PIECES {
-        same(
-            rt,
-            length,
-            tape.offer(&bytes[..length]),
-            Answer::Accepted(length),
-        );
-    }
-    same(rt, "put", put(tape, b"yz"), Ok(()));
-    same(rt, "held", tape.bytes().len(), 12_818);
-    holds(rt, "the last", tape.bytes().ends_with(b"xyz"));
-    let counts = [0, 1, 254, 255, 256, 0, 509, 510, 511, 1502, 9017, 1, 2];
-    holds(rt, "counts", are_counts(tape.counts(alloc), &counts));
-}
-
-#[test]
-fn a_tape_holds_each_piece_and_its_count(rt: HostRuntime) {
-    let mut tape = Tape::new(rt.alloc());
-    takes_whole(&rt, rt.alloc(), &mut tape);
-    same(&rt, "into bytes", tape.into_bytes().len(), 12_818);
-}
-
-/// A script, and what is answered to pieces of three bytes.
-const SCRIPT: [Answer; 5] = [
-    Answer::Accepted(2),
-    Answer::Interrupted,
-    Answer::Accepted(9),
-    Answer::Failed,
-    Answer::Accepted(0),
-];
-
-const ANSWERS_BY_SCRIPT: [Answer; 7] = [
-    Answer::Accepted(2),
-    Answer::Interrupted,
-    Answer::Accepted(3),
-    Answer::Failed,
-    Answer::Accepted(0),
-    Answer::Accepted(3),
-    Answer::Accepted(3),
-];
-
-fn follows(rt: &impl Abort, alloc: Global, writer: &mut Scripted) {
-    for answer in ANSWERS_BY_SCRIPT {
-        same(rt, "an offer", writer.offer(b"abc"), answer);
-    }
-    same(rt, "bytes", writer.bytes(), b"ababcabcabc".as_slice());
-    holds(
-        rt,
-        "counts",
-        are_counts(writer.counts(alloc), &[2, 3, 0, 3, 3]),
-    );
-}
-
-#[test]
-fn a_script_is_followed_and_then_all_is_accepted(rt: HostRuntime) -> Result<(), Fail> {
-    let mut writer = Scripted::new(rt.alloc(), SCRIPT.to_vec(rt.alloc())?);
-    follows(&rt, rt.alloc(), &mut writer);
-    drop(writer);
-    let mut torn = Scripted::new(rt.alloc(), SCRIPT.to_vec(rt.alloc())?);
-    same(&rt, "put", put(&mut torn, b"abc"), Err(Fault));
-    same(&rt, "bytes put", torn.bytes(), b"ab".as_slice());
-    drop(torn);
-    Ok(())
-}
-
-/// A script of reads, the bytes that are read, and what each call into three bytes answers and gives.
-type Reads = (
-    &'static [Got],
-    &'static [u8],
-    &'static [(Got, &'static [u8])],
-);
-
-const READS: [Reads; 2] = [
-    // A count of 0 gives a byte, one of 9 fills the buffer, and an end before the last byte is not one.
-    (
-        &[
-            Got::Bytes(2),
-            Got::Interrupted,
-            Got::Bytes(0),
-            Got::Failed,
-            Got::End,
-            Got::Bytes(9),
-        ],
-        b"abcdefghijk",
-        &[
-            (Got::Bytes(2), b"ab"),
-            (Got::Interrupted, b""),
-            (Got::Bytes(1), b"c"),
-            (Got::Failed, b""),
-            (Got::Bytes(3), b"def"),
-            (Got::Bytes(3), b"ghi"),
-            (Got::Bytes(2), b"jk"),
-            (Got::End, b""),
-        ],
-    ),
-    // A script goes on after the last byte.
-    (
-        &[Got::Bytes(3), Got::Failed, Got::Bytes(1), Got::Interrupted],
-        b"ab",
-        &[
-            (Got::Bytes(2), b"ab"),
-            (Got::Failed, b""),
-            (Got::End, b""),
-            (Got::Interrupted, b""),
-            (Got::End, b""),
-        ],
-    ),
-];
-
-// Whether a call gives this answer and these bytes, and leaves the rest of the buffer.
-fn gives<R: TellingReader>(reader: &mut R, got: Got, bytes: &[u8]) -> bool {
-    let mut buffer = [b'.'; 3];
-    let answered = reader.take_bytes(&mut buffer) == got;
-    let count = bytes.len().min(buffer.len());
-    let (given, rest) = buffer.split_at(count);
-    answered && given == bytes && rest.iter().all(|byte| *byte == b'.')
-}
-
-fn reads<R: TellingReader>(rt: &impl Abort, reader: &mut R, answers: &[(Got, &[u8])]) {
-    for (got, given) in answers {
-        holds(rt, (*got, *given), gives(reader, *got, given));
-    }
-}
-
-#[test]
-fn bytes_in_memory_are_read_as_a_script_says_and_in_pieces(rt: HostRuntime) -> Result<(), Fail> {
-    for (script, bytes, answers) in READS {
-        let mut reader = ScriptedReader::new(script.to_vec(rt.alloc())?, bytes);
-        reads(&rt, &mut reader, answers);
-        drop(reader);
-    }
-    let mut plain = PlainReader(b"abcd".as_slice());
-    let answers = [
-        (Got::Bytes(3), b"abc".as_slice()),
-        (Got::Bytes(1), b"d"),
-        (Got::End, b""),
-    ];
-    reads(&rt, &mut plain, &answers);
-    Ok(())
 }
 
 /// The longest piece and the longest buffer, in bytes.
@@ -401,19 +254,10 @@ fn an_interrupted_offer_is_made_again(rt: HostRuntime) {
         drop(writer);
     }
     let mut writer = patient(OFFERS + 2, StdAnswer::All);
-    same(
-        &rt,
-        "the first call",
-        writer.offer(b"abc"),
-        Answer::Interrupted,
-    );
-    same(
-        &rt,
-        "the next one, as patient",
-        writer.offer(b"abc"),
-        Answer::Accepted(3),
-    );
-    holds(&rt, "both calls", writer.0.0.was_called(OFFERS + 3, 3));
+    for wanted in [Answer::Interrupted, Answer::Accepted(3)] {
+        same(&rt, "two calls", writer.offer(b"abc"), wanted);
+    }
+    holds(&rt, "two calls", writer.0.0.was_called(OFFERS + 3, 3));
     drop(writer);
 }
 
@@ -427,10 +271,9 @@ fn is_refused_on(rt: &impl Abort, alloc: Global, tape: &mut Tape, request: u16, 
     } else {
         Answer::Accepted(2)
     };
-    same(rt, request, answer, wanted);
     let held: &[u8] = if is_refused { b"" } else { b"ab" };
-    same(rt, request, tape.bytes(), held);
     let counts: &[usize] = if is_refused { &[] } else { &[2] };
+    same(rt, request, (answer, tape.bytes()), (wanted, held));
     holds(rt, request, are_counts(tape.counts(alloc), counts));
     same(rt, request, tape.offer(b"cd"), Answer::Accepted(2));
     refuse(alloc, 1);

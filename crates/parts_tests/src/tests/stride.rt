@@ -1,9 +1,11 @@
 //! share_stride: worked figures on a queue, and what it takes of memory: room for all clients when it is made, and none
 //! after that.
 
-use crate::tests::allocator::{is_steered, keeps_none, mark, refuse, took_none, was_refused};
+use crate::tests::allocator::{
+    is_steered, keeps_none, lack, mark, refuse, took_none, was_answered,
+};
 use crate::tests::assertions::{holds, same};
-use share_base::{FlowNo, Refusal};
+use share_base::FlowNo;
 use share_stride::Queue;
 use std::alloc::Global;
 use std::process::Abort;
@@ -158,8 +160,7 @@ fn fill(rt: &impl Abort, queue: &mut Queue) {
         let added = make(queue, "add", FlowNo(flow), 0);
         same(rt, ("add", flow), added, Ok(None));
     }
-    let rows = "add 65 = TableFull; join 65 1 = barred; leave 1 = barred";
-    play(rt, queue, "full", rows);
+    play(rt, queue, "full", "add 65 = TableFull");
     for flow in (1..=64).rev() {
         let joined = make(queue, "join", FlowNo(flow), 1);
         same(rt, ("join", flow), joined, Ok(None));
@@ -221,13 +222,6 @@ fn a_queue_is_made_once_its_memory_is_found(rt: HostRuntime) {
         mark(alloc);
         refuse(alloc, request);
         let refusal = Queue::new(alloc).err();
-        same(&rt, request, was_refused(alloc), is_refused);
-        let wanted = if is_refused {
-            Some(Refusal::NoMemory)
-        } else {
-            None
-        };
-        same(&rt, request, refusal, wanted);
-        keeps_none(&rt, request, alloc);
+        was_answered(&rt, request, alloc, is_refused, refusal, lack(is_refused));
     }
 }

@@ -1,13 +1,12 @@
 //! share_tariff: worked units, the ranges of tariffs and shelves, and how often a stored closure is called. A function
-//! may not hand out boxed closures, so each body here makes its own.
+//! may not hand out boxed closures, so each body that needs some makes its own.
 
 use crate::tests::allocator::{keeps_none, mark, refuse, took_none};
 use crate::tests::assertions::{holds, same};
 use share_base::Refusal;
 use share_model::Rates;
 use share_tariff::{
-    BookFn, ChargeFn, Shelf, Tariff, account_after, bytes_fill_whole_cells, shelf,
-    units_by_division,
+    BookFn, ChargeFn, Shelf, Tariff, account_after, bytes_fill_whole_cells, units_by_division,
 };
 use std::alloc::Global;
 use std::process::Abort;
@@ -18,64 +17,25 @@ use std::test::Fail;
 /// Counts of bytes whose units are compared.
 const COUNTS: [u32; 6] = [0, 1, 48, 49, 1502, 9017];
 
-/// The number of a tariff, its units for these counts, and what 100 units make of an account of 7. The tariffs are
-/// (1, 0, 1), (48, 16, 2), (1024, 0, 1) and (2048, 1024, 3): cell, overhead and price.
-const UNITS: [(u64, [u64; 6], u64); 4] = [
-    (1, [0, 1, 48, 49, 1502, 9017], 107),
-    (2, [0, 64, 64, 112, 1552, 9040], 207),
-    (3, [0, 1024, 1024, 1024, 2048, 9216], 107),
-    (4, [0, 3072, 3072, 3072, 3072, 11264], 307),
+/// The cell, the overhead and the price of a tariff, its units for these counts, and what 100 units make of an account
+/// of 7.
+const UNITS: [(u64, u64, u64, [u64; 6], u64); 4] = [
+    (1, 0, 1, [0, 1, 48, 49, 1502, 9017], 107),
+    (48, 16, 2, [0, 64, 64, 112, 1552, 9040], 207),
+    (1024, 0, 1, [0, 1024, 1024, 1024, 2048, 9216], 107),
+    (2048, 1024, 3, [0, 3072, 3072, 3072, 3072, 11264], 307),
 ];
 
-// Whether the shelf charges these units, and posts so.
-fn shows<S: Rates>(shelf: &S, number: u64, units: [u64; 6], account: u64) -> bool {
-    if !shelf.has(number) {
-        return false;
-    }
-    for (count, wanted) in COUNTS.into_iter().zip(units) {
-        if count >= 65536 || shelf.units(number, count) != wanted {
-            return false;
-        }
-    }
-    shelf.post(number, 7, 100) == account
-}
-
-// Whether a tariff charges 112 units for 49 bytes, and posts 100 units at the price of 2.
-fn charges(tariff: Option<&Tariff>) -> bool {
-    match tariff {
-        Some(tariff) => tariff.units(49) == 112 && tariff.post(7, 100) == 207,
-        None => false,
-    }
-}
-
-fn shows_all(rt: &impl Abort, shelf: &Shelf) {
-    for (number, units, account) in UNITS {
-        holds(rt, number, shows(shelf, number, units, account));
-        holds(rt, (number, "lent"), shows(&shelf, number, units, account));
-    }
-    holds(rt, "tariff 2", charges(shelf.get(2)));
-    for number in [0, 5] {
-        holds(
-            rt,
-            number,
-            shelf.get(number).is_none() && !shelf.has(number) && !(&shelf).has(number),
-        );
-    }
-}
-
 #[test]
-fn shelves_number_their_tariffs(rt: HostRuntime) -> Result<(), Fail> {
+fn tariffs_charge_whole_cells(rt: HostRuntime) {
     bytes_fill_whole_cells();
-    let shelf = shelf!(
-        rt.alloc(),
-        (1, 0, 1),
-        (48, 16, 2),
-        (1024, 0, 1),
-        (2048, 1024, 3)
-    );
-    shows_all(&rt, &shelf);
-    drop(shelf);
-    Ok(())
+    for (cell, overhead, price, units, account) in UNITS {
+        for (count, wanted) in COUNTS.into_iter().zip(units) {
+            let charged = units_by_division(cell, overhead, count);
+            same(&rt, (cell, count), charged, wanted);
+        }
+        same(&rt, price, account_after(price, 7, 100), account);
+    }
 }
 
 const RANGES: [(u64, u64, u64, Option<Refusal>); 7] = [
@@ -115,12 +75,8 @@ fn tariffs_have_ranges_and_refused_ones_are_dropped(rt: HostRuntime) -> Result<(
     let token = Arc::new(rt.alloc(), 0u8)?;
     for (cell, overhead, price, wanted) in RANGES {
         let row = (cell, overhead, price);
-        same(
-            &rt,
-            row,
-            refusal(&rt, rt.alloc(), &token, cell, overhead, price),
-            wanted,
-        );
+        let refusal = refusal(&rt, rt.alloc(), &token, cell, overhead, price);
+        same(&rt, row, refusal, wanted);
         same(&rt, (row, "dropped"), Arc::strong_count(&token), 1);
     }
     Ok(())
@@ -162,12 +118,8 @@ fn calls(charged: &AtomicU64, booked: &AtomicU64) -> (u64, u64) {
 fn calls_once(rt: &impl Abort, tariff: &Tariff, charged: &AtomicU64, booked: &AtomicU64) {
     for asked in 1..=3 {
         same(rt, asked, tariff.units(49), 112);
-        same(
-            rt,
-            (asked, "charge"),
-            calls(charged, booked),
-            (asked, asked - 1),
-        );
+        let called = calls(charged, booked);
+        same(rt, (asked, "charge"), called, (asked, asked - 1));
         same(rt, asked, tariff.post(7, 100), 207);
         same(rt, (asked, "book"), calls(charged, booked), (asked, asked));
     }
@@ -194,12 +146,25 @@ fn a_stored_closure_is_called_once_for_each_answer(rt: HostRuntime) -> Result<()
     Ok(())
 }
 
-// Whether a shelf of the tariff (48, 16, 2) and the plain rule answer as they should, numbers out of range among them.
+// Whether a shelf of the tariff (48, 16, 2) charges 112 units for 49 bytes, and posts 100 units at the price of 2.
+fn charges<S: Rates>(shelf: &S) -> bool {
+    shelf.has(1)
+        && shelf.units(1, 49) == 112
+        && shelf.post(1, 7, 100) == 207
+        && !shelf.has(0)
+        && !shelf.has(2)
+}
+
+// Whether the shelf, the same lent, its tariff and the plain rule answer as they should, numbers out of range among
+// them.
 fn are_answered(shelf: &Shelf) -> bool {
-    let [_, (_, units, account), ..] = UNITS;
-    shows(shelf, 1, units, account)
-        && shows(&shelf, 1, units, account)
-        && charges(shelf.get(1))
+    let Some(tariff) = shelf.get(1) else {
+        return false;
+    };
+    charges(shelf)
+        && charges(&shelf)
+        && tariff.units(49) == 112
+        && tariff.post(7, 100) == 207
         && shelf.get(0).is_none()
         && units_by_division(0, 2000, 1) == 1025
         && account_after(2, u64::MAX, 1) == u64::MAX

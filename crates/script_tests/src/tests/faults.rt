@@ -1,6 +1,5 @@
 //! Scripts that are cut at each byte, and inputs and outputs that fail.
 
-use super::LIFE;
 use super::assertions::{prints, same};
 use super::script::{BYTEWISE, ITS_OUTPUT, ONE_PACKET, is_answered, run};
 use share_model::{
@@ -13,47 +12,30 @@ use std::process::Abort;
 /// From how many bytes of a line on it is answered so, and then the line of the bytes.
 type Cut = (usize, &'static [u8], &'static [u8]);
 
+const NOTHING: &[u8] = b"";
+
 /// No byte was written.
 const NONE: &[u8] = b"out -\n";
 
 /// The answer to what is no line.
 const NO_LINE: &[u8] = b"no 3 Syntax\n";
 
-/// A line, and what its beginnings are answered. A number or a payload may end sooner than was meant, as may the name
-/// of a currency, of which there is none then.
+/// A line, and what its beginnings are answered that are lines. A number or a payload may end sooner than was meant, as
+/// may the name of a currency, of which there is none then.
 type Line = (&'static [u8], &'static [Cut]);
 
-/// The lines of one packet.
-const LINES: [Line; 5] = [OPENED, MADE, FUNDED, SENT, WRITTEN];
-
-/// The same in version 2.
-const LINES_2: [Line; 6] = [AUDITED, OPENED, MADE, FUNDED, SENT, WRITTEN_2];
-
-const OPENED: Line = (
-    b"open a 4 1\n",
-    &[(0, b"", NONE), (1, NO_LINE, NONE), (10, b"flow 1\n", NONE)],
-);
+const OPENED: Line = (b"open a 4 1\n", &[(10, b"flow 1\n", NONE)]);
 
 const MADE: Line = (
     b"mktkt 10 base\n",
-    &[
-        (0, b"", NONE),
-        (1, NO_LINE, NONE),
-        (10, b"no 5 NoCurrency\n", NONE),
-        (13, b"ticket 1\n", NONE),
-    ],
+    &[(10, b"no 5 NoCurrency\n", NONE), (13, b"ticket 1\n", NONE)],
 );
 
-const FUNDED: Line = (
-    b"fund 1 flow a\n",
-    &[(0, b"", NONE), (1, NO_LINE, NONE), (13, b"ok\n", NONE)],
-);
+const FUNDED: Line = (b"fund 1 flow a\n", &[(13, b"ok\n", NONE)]);
 
 const SENT: Line = (
     b"send a 6869\n",
     &[
-        (0, b"", NONE),
-        (1, NO_LINE, NONE),
         (9, b"packet 1 1\n", NONE),
         (10, NO_LINE, NONE),
         (11, b"packet 1 1\n", NONE),
@@ -63,8 +45,6 @@ const SENT: Line = (
 const WRITTEN: Line = (
     b"turn 65535\n",
     &[
-        (0, b"", NONE),
-        (1, NO_LINE, NONE),
         (6, b"wrote 1 1 6 part\n", b"out 4c0100000001\n"),
         (
             7,
@@ -74,16 +54,17 @@ const WRITTEN: Line = (
     ],
 );
 
-const AUDITED: Line = (
-    b"audit 2\n",
-    &[(0, b"", NONE), (1, NO_LINE, NONE), (7, b"", NONE)],
-);
+/// The lines of one packet.
+const LINES: [Line; 5] = [OPENED, MADE, FUNDED, SENT, WRITTEN];
+
+/// The same in version 2.
+const LINES_2: [Line; 6] = [AUDITED, OPENED, MADE, FUNDED, SENT, WRITTEN_2];
+
+const AUDITED: Line = (b"audit 2\n", &[(7, b"", NONE)]);
 
 const WRITTEN_2: Line = (
     b"turn 65535\n",
     &[
-        (0, b"", NONE),
-        (1, NO_LINE, NONE),
         (6, b"wrote 1 1 6 part\n", b"out 4c0201000000\n"),
         (
             7,
@@ -94,14 +75,14 @@ const WRITTEN_2: Line = (
 );
 
 // What this beginning of a line is answered, and the line of the bytes.
-fn cut_at(rt: &impl Abort, cuts: &[Cut], count: usize) -> (&'static [u8], &'static [u8]) {
-    let mut last = None;
+fn cut_at(cuts: &[Cut], count: usize) -> (&'static [u8], &'static [u8]) {
+    let mut last = (if count == 0 { NOTHING } else { NO_LINE }, NONE);
     for (from, answer, bytes) in cuts {
         if *from <= count {
-            last = Some((*answer, *bytes));
+            last = (*answer, *bytes);
         }
     }
-    last.expect(rt, "a row")
+    last
 }
 
 fn push(rt: &impl Abort, text: &mut Vec<u8>, piece: &[u8]) {
@@ -113,13 +94,13 @@ fn push(rt: &impl Abort, text: &mut Vec<u8>, piece: &[u8]) {
 fn line_is_cut(rt: &impl Abort, alloc: Global, before: &[u8], answers: &[u8], line: &Line) {
     let (line, cuts) = *line;
     for count in 0..=line.len() {
-        let (answer, bytes) = cut_at(rt, cuts, count);
+        let (answer, bytes) = cut_at(cuts, count);
         let mut script = before.to_vec(alloc).expect(rt, "memory");
         push(rt, &mut script, &line[..count]);
         let mut wanted = answers.to_vec(alloc).expect(rt, "memory");
         push(rt, &mut wanted, answer);
         push(rt, &mut wanted, bytes);
-        is_answered(rt, alloc, LIFE, script.as_slice(), wanted.as_slice());
+        is_answered(rt, alloc, script.as_slice(), wanted.as_slice());
         drop(script);
         drop(wanted);
     }
@@ -130,7 +111,7 @@ fn lines_are_cut(rt: &impl Abort, alloc: Global, lines: &[Line]) {
     let (mut script, mut answers) = (Vec::new(alloc), Vec::new(alloc));
     for line in lines {
         line_is_cut(rt, alloc, script.as_slice(), answers.as_slice(), line);
-        let (answer, _) = cut_at(rt, line.1, line.0.len());
+        let (answer, _) = cut_at(line.1, line.0.len());
         push(rt, &mut script, line.0);
         push(rt, &mut answers, answer);
     }
@@ -148,7 +129,7 @@ fn scripts_are_cut_at_each_byte(rt: HostRuntime) {
 fn input_fails(rt: &impl Abort, alloc: Global, row: usize, reads: Vec<Got>, wanted: &[u8]) {
     let mut input = ScriptedReader::new(reads, b"open a 4 1\ntorn\ntorn\n".as_slice());
     let mut output = Tape::new(alloc);
-    let ran = run(rt, alloc, LIFE, &mut input, &mut output);
+    let ran = run(rt, alloc, &mut input, &mut output);
     drop(input);
     let fault = Err(ScriptFault::Input);
     prints(rt, row, (ran, output.bytes()), (fault, wanted));
@@ -192,7 +173,7 @@ fn output_fails<I: TellingReader>(
     wanted: Option<&[u8]>,
 ) {
     let mut output = Scripted::new(alloc, answers);
-    let ran = run(rt, alloc, LIFE, input, &mut output);
+    let ran = run(rt, alloc, input, &mut output);
     let wanted = wanted.expect(rt, "a beginning");
     let fault = Err(ScriptFault::Output);
     prints(rt, wanted.len(), (ran, output.bytes()), (fault, wanted));
@@ -254,7 +235,7 @@ fn output_that_refuses_an_offer(rt: HostRuntime) {
 fn all_is_printed(rt: &impl Abort, alloc: Global, answers: Vec<Answer>, offers: usize) {
     let mut input = linewise(rt, alloc, ONE_PACKET);
     let mut output = PatientWriter(Scripted::new(alloc, answers));
-    let ran = run(rt, alloc, LIFE, &mut input, &mut output);
+    let ran = run(rt, alloc, &mut input, &mut output);
     drop(input);
     prints(rt, offers, (ran, output.0.bytes()), (Ok(()), ITS_OUTPUT));
     let counts = output.0.counts(alloc).expect(rt, "memory");

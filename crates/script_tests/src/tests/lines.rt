@@ -1,68 +1,14 @@
-//! Lines and answers, read and written one at a time, and the lines of a connection.
+//! Lines, read and written one at a time, and the lines of a connection. Misspelled lines are scripts of `examples/`.
 
 use super::VERSIONS;
 use super::allocator::{refuse_each, takes_none};
 use super::assertions::{holds, same};
 use super::script::with_zeros;
-use share_base::{FlowNo, Outcome, Refusal, Reply, TicketNo, Turn, Version};
-use share_model::{Answer, Fault, Got, Line, Scripted, ScriptedReader, Tape, TellingWriter};
-use share_script::{Incoming, IncomingLines, read_line, write_line, write_reply, write_turn};
+use share_base::Version;
+use share_model::{Answer, Fault, Got, Line, Scripted, ScriptedReader, Tape};
+use share_script::{Incoming, IncomingLines, read_line, write_line};
 use std::alloc::Global;
 use std::process::Abort;
-
-/// How many bytes a payload has, and why its line is refused in version 1 and in version 2.
-const PAYLOADS: [(usize, Option<Refusal>, Option<Refusal>); 8] = [
-    (1, None, None),
-    (16, None, None),
-    (17, None, None),
-    (1490, None, None),
-    (1491, Some(Refusal::Range), None),
-    (9000, Some(Refusal::Range), None),
-    (9001, Some(Refusal::Range), Some(Refusal::Range)),
-    (10238, Some(Refusal::Syntax), Some(Refusal::Syntax)),
-];
-
-// How many zero bytes a line sends, or why it is refused.
-fn sent(alloc: Global, version: Version, bytes: &[u8]) -> Result<usize, Refusal> {
-    let line = read_line(alloc, version, bytes);
-    match &line {
-        Ok(Line::Send { body, .. }) => Ok(
-            body.as_slice().iter().filter(|byte| **byte == 0).count(),
-        ),
-        Ok(_) => Ok(0),
-        Err(refusal) => Err(*refusal),
-    }
-}
-
-#[test]
-fn payloads_are_read_up_to_the_limit_of_the_version(rt: HostRuntime) {
-    let alloc = rt.alloc();
-    for (count, one, two) in PAYLOADS {
-        let line = with_zeros(&rt, alloc, b"send a ", count, b"");
-        // A digit more spells no payload, whatever its length.
-        let longer = with_zeros(&rt, alloc, b"send a ", count, b"0");
-        for (version, refusal) in VERSIONS.into_iter().zip([one, two]) {
-            let wanted = refusal.map_or(Ok(count), Err);
-            same(
-                &rt,
-                (count, version),
-                sent(alloc, version, line.as_slice()),
-                wanted,
-            );
-            let refused = sent(alloc, version, longer.as_slice());
-            same(&rt, (count, version), refused, Err(Refusal::Syntax));
-        }
-        drop(line);
-        drop(longer);
-    }
-}
-
-/// Lines that are misspelled in both versions, with one byte or one word amiss.
-const MISSPELLED: &str = "\
-    audit 3|audit 0|audit 02|audit 12|audit 20|audit 2\r|audit 2 |audit 2 2| audit 2|audit  2|audit|Audit 2|\
-    hold|hold |hold A|hold 1|hold a b|hold  a|hold a | hold a|Hold a|holds a|hold abcdefghijklmnopq|resume|\
-    resume |resume a |resume a b|resume  a|resumes a|amend|amend 1|amend 1 |amend 01 1|amend 1 01|amend 1 x|\
-    amend x 1|amend 1 2 3|amend 1 18446744073709551616";
 
 /// Lines that are read in both versions, and are written as they were read.
 const LINES: &str = "\
@@ -72,159 +18,65 @@ const LINES: &str = "\
     amend 18446744073709551615 18446744073709551615|send a 0068ff|turn 1|turn 65535|torn|audit 1|audit 2|\
     report";
 
-/// What can be written.
-trait Written {
-    fn write<V: TellingWriter>(&self, output: &mut V) -> Result<(), Fault>;
-}
-
-impl Written for Line {
-    fn write<V: TellingWriter>(&self, output: &mut V) -> Result<(), Fault> {
-        write_line(self, output)
-    }
-}
-
-impl Written for Outcome {
-    fn write<V: TellingWriter>(&self, output: &mut V) -> Result<(), Fault> {
-        match self {
-            Outcome::Replied(reply) => write_reply(reply, output),
-            Outcome::Turned(turn) => write_turn(turn, output),
-        }
-    }
-}
-
-// The text and a line feed go out in one offer.
-fn is_written_at_once<T: Written>(rt: &impl Abort, alloc: Global, written: &T, text: &str) {
-    let mut whole = Tape::new(alloc);
-    same(rt, text, written.write(&mut whole), Ok(()));
-    same(
-        rt,
-        text,
-        whole.bytes().strip_suffix(b"\n"),
-        Some(text.as_bytes()),
-    );
-    let counts = whole.counts(alloc).expect(rt, "memory");
-    drop(whole);
-    same(rt, text, counts.len(), 1);
+// The line and a line feed go out in one offer.
+fn is_written_at_once(rt: &impl Abort, alloc: Global, line: &Line, text: &[u8]) {
+    let mut output = Tape::new(alloc);
+    let written = write_line(line, &mut output);
+    let is_text = output.bytes().strip_suffix(b"\n") == Some(text);
+    same(rt, text.len(), (written, is_text), (Ok(()), true));
+    let counts = output.counts(alloc).expect(rt, "memory");
+    drop(output);
+    let whole = [text.len().saturating_add(1)];
+    same(rt, text.len(), counts.as_slice(), whole.as_slice());
     drop(counts);
 }
 
+// A writer that accepts this many bytes, one a call, and then answers this.
+fn bytewise(rt: &impl Abort, alloc: Global, accepted: usize, last: Answer) -> Scripted {
+    let mut answers = vec![in alloc; Answer::Accepted(1); accepted].expect(rt, "memory");
+    answers.push(last).expect(rt, "memory");
+    Scripted::new(alloc, answers)
+}
+
 // Whatever byte of it is refused, all that comes before goes out.
-fn is_written<T: Written>(rt: &impl Abort, alloc: Global, written: &T, text: &str) {
-    is_written_at_once(rt, alloc, written, text);
+fn is_cut_at_each(rt: &impl Abort, alloc: Global, line: &Line, text: &[u8]) {
     for fault in [Answer::Failed, Answer::Interrupted, Answer::Accepted(0)] {
         for accepted in 0..=text.len() {
-            let mut answers = vec![in alloc; Answer::Accepted(1); accepted].expect(rt, "memory");
-            answers.push(fault).expect(rt, "memory");
-            let mut output = Scripted::new(alloc, answers);
-            same(rt, text, written.write(&mut output), Err(Fault));
-            same(
-                rt,
-                text,
-                Some(output.bytes()),
-                text.as_bytes().get(..accepted),
-            );
+            let mut output = bytewise(rt, alloc, accepted, fault);
+            let written = write_line(line, &mut output);
+            let is_cut = Some(output.bytes()) == text.get(..accepted);
+            same(rt, (fault, accepted), (written, is_cut), (Err(Fault), true));
             drop(output);
         }
     }
+}
+
+fn line_of(rt: &impl Abort, alloc: Global, version: Version, text: &[u8]) -> Line {
+    read_line(alloc, version, text).ok().expect(rt, "a line")
 }
 
 #[test]
 fn lines_are_read_and_written(rt: HostRuntime) {
     let alloc = rt.alloc();
     for version in VERSIONS {
-        for line in MISSPELLED.split('|') {
-            let read = read_line(alloc, version, line.as_bytes());
-            same(&rt, line, read.err(), Some(Refusal::Syntax));
-        }
         for text in LINES.split('|') {
-            let line = read_line(alloc, version, text.as_bytes())
-                .ok()
-                .expect(&rt, "a line");
-            is_written(&rt, alloc, &line, text);
+            let line = line_of(&rt, alloc, version, text.as_bytes());
+            is_written_at_once(&rt, alloc, &line, text.as_bytes());
+            is_cut_at_each(&rt, alloc, &line, text.as_bytes());
             drop(line);
         }
-    }
-}
-
-// The longest line of a version, which in version 2 has 18022 bytes and a line feed.
-#[test]
-fn the_longest_lines_are_written(rt: HostRuntime) {
-    let alloc = rt.alloc();
-    for version in VERSIONS {
+        // The longest line, which in version 2 has 18022 bytes and a line feed.
         let text = with_zeros(
             &rt,
             alloc,
             b"send abcdefghijklmnop ",
             version.payload(),
-            b"\n",
+            b"",
         );
-        let spelling = text
-            .as_slice()
-            .strip_suffix(b"\n")
-            .expect(&rt, "a line feed");
-        let line = read_line(alloc, version, spelling)
-            .ok()
-            .expect(&rt, "a line");
-        let mut output = Tape::new(alloc);
-        same(&rt, version, write_line(&line, &mut output), Ok(()));
-        holds(&rt, version, output.bytes() == text.as_slice());
-        let counts = output.counts(alloc).expect(&rt, "memory");
-        same(&rt, version, counts.as_slice(), [text.len()].as_slice());
-        drop((line, output, counts));
+        let line = line_of(&rt, alloc, version, text.as_slice());
+        is_written_at_once(&rt, alloc, &line, text.as_slice());
+        drop(line);
         drop(text);
-    }
-}
-
-/// Answers, and their texts.
-const ANSWERS: [(Outcome, &str); 8] = [
-    (Outcome::Replied(Reply::Done), "ok"),
-    (
-        Outcome::Replied(Reply::Ticket(TicketNo(4294967294))),
-        "ticket 4294967294",
-    ),
-    (
-        Outcome::Replied(Reply::Closed {
-            flow: FlowNo(2),
-            dropped: 1024,
-            account: 4503599627370495,
-        }),
-        "closed 2 1024 4503599627370495",
-    ),
-    (
-        Outcome::Replied(Reply::Packet {
-            flow: FlowNo(10),
-            seq: 99,
-        }),
-        "packet 10 99",
-    ),
-    (
-        Outcome::Replied(Reply::Refused(Refusal::NoMemory)),
-        "no 1 NoMemory",
-    ),
-    (
-        Outcome::Turned(Turn::Wrote {
-            flow: FlowNo(1),
-            seq: 2,
-            k: 1502,
-            whole: true,
-        }),
-        "wrote 1 2 1502 whole",
-    ),
-    (
-        Outcome::Turned(Turn::Torn {
-            flow: FlowNo(3),
-            seq: 100,
-            j: 0,
-        }),
-        "torn 3 100 0",
-    ),
-    (Outcome::Turned(Turn::Broken), "no 20 Broken"),
-];
-
-#[test]
-fn answers_are_written(rt: HostRuntime) {
-    for (outcome, text) in ANSWERS {
-        is_written(&rt, rt.alloc(), &outcome, text);
     }
 }
 

@@ -1,7 +1,6 @@
 -- What is passed on of an offer, by its first line.
 use Rattle.std.proofs.Common.{◌≡◌, ◌<◌, ◌+◌, ℕ, Bool, true, List, [], ◌∷◌, ◌++◌, length, take, drop}
 use Rattle.std.proofs.Common.{refl, arith, sym, ap, ◌∙◌, subst}
-use Rattle.std.specs.Prelude.{Result, Err}
 use Rattle.std.proofs.Math.Seq.{take-append-add}
 use Rattle.std.proofs.lemmas.List.{append-nil, length-take}
 use Rattle.share_model.specs.declared.writer.Answer.{Answer}
@@ -59,8 +58,3 @@ passes_nothing {kept = kept} {piece = piece} size none feed is =
     let Q : ℕ → Type 0 = λ n. IsRefusal (kept ++ take n piece) in
     let R : List ℕ → Type 0 = λ line. IsRefusal line in
     is_over (drop 1 piece) (subst P none feed) (subst R (append-nil kept) (subst Q none is)) refl refl refl refl
-
--- results of two types that fail with the same fault
-pub fails_alike : {X Y E : Type 0} {fault other : E} → ◌≡◌ {A = Result X E} (Err fault) (Err other)
-    → ◌≡◌ {A = Result Y E} (Err fault) (Err other)
-fails_alike {fault = fault} {other = other} same = let is : fault ≡ other = cc in ap Err is

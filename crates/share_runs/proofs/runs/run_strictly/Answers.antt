@@ -1,7 +1,6 @@
-use Rattle.std.specs.Prelude.{Result, Err}
+use Rattle.std.specs.Prelude.{Err}
 use Rattle.std.proofs.Common.{◌≡◌, ap, inl, inr, rules}
-use Rattle.share_script.specs.declared.script.ScriptFault.TheVariants.{Output}
-use Rattle.share_runs.proofs.StrictLemmas.{fails_alike}
+use Rattle.share_script.specs.declared.script.ScriptFault.TheVariants.{Input, Output, NoMemory}
 use Rattle.share_runs.proofs.runs.run_strictly.Goals as goal
 
 pub returns-in_ok-end-in-Err-Output-clause-stops : goal.returns-in_ok-end-in-Err-Output-clause-stops
@@ -33,11 +32,14 @@ returns-in_err-end-in-Err-Output-clause-output g c same =
     )
 
 pub returns-in-Err-clause-input : goal.returns-in-Err-clause-input
-returns-in-Err-clause-input g c same = c.in-Err.ensures.input (fails_alike same)
+returns-in-Err-clause-input g c same =
+    let is : c.in-Err.fault ≡ Input = cc (c.in-Err.fault-is, same) in c.in-Err.ensures.input (ap Err is)
 
 pub returns-in-Err-clause-output : goal.returns-in-Err-clause-output
 returns-in-Err-clause-output g c same =
-    let ran = c.in-Err.ensures.output (fails_alike same) in (ran.0, inl ran.1)
+    let is : c.in-Err.fault ≡ Output = cc (c.in-Err.fault-is, same) in
+    let ran = c.in-Err.ensures.output (ap Err is) in (ran.0, inl ran.1)
 
 pub returns-in-Err-clause-memory : goal.returns-in-Err-clause-memory
-returns-in-Err-clause-memory g c same = c.in-Err.ensures.memory (fails_alike same)
+returns-in-Err-clause-memory g c same =
+    let is : c.in-Err.fault ≡ NoMemory = search rules in c.in-Err.ensures.memory (ap Err is)

@@ -1,5 +1,5 @@
 //! The words of the command line, and what they ask for.
-ghost use Rattle.std.specs.Prelude.{◌≡◌, ◌≢◌, ◌≤◌, None, IfOk, IsTrue};
+ghost use Rattle.std.specs.Prelude.{◌≡◌, ◌≢◌, ◌≤◌, None, IfOk, IfSome, IsTrue};
 ghost use Rattle.clap.specs.Values.{kind_of};
 ghost use Rattle.share_core.specs.Life.{life_refusal};
 ghost use Rattle.share_words.specs.Orders.{CanBeObeyed, CanBeServed};
@@ -318,10 +318,30 @@ fn escaped_fault(
     ensures text { IfOk result (λ text. kind_of text ≢ ErrorKind.OutOfMemory) }
 {
     let shown = escaped_words(alloc, words)?;
-    match read_words(alloc, shown.as_slice())? {
-        Asked::Text(text) if text.use_stderr() => Ok(text),
-        _ => Ok(fault),
+    let asked = read_words(alloc, shown.as_slice())?;
+    match fault_in(asked) {
+        Some(text) => Ok(text),
+        None => Ok(fault),
     }
+}
+
+// The text of what is wrong with words, if something is.
+fn fault_in(asked: Asked<'_>) -> Option<clap::Error>
+    requires { CanBeObeyed asked }
+    ensures { IfSome result (λ text. kind_of text ≢ ErrorKind.OutOfMemory) }
+{
+    match asked {
+        Asked::Text(text) => {
+            if text.use_stderr() {
+                return Some(text);
+            }
+            drop(text);
+        }
+        Asked::Bill(orders) => drop(orders),
+        Asked::Run(_orders) => {}
+        Asked::Serve(_orders) => {}
+    }
+    None
 }
 
 // A text about these words. If it tells what is wrong with them, their control characters are escaped.

@@ -4,7 +4,6 @@ use Rattle.std.proofs.Common.{refl, ap, sym, ◌∙◌, subst}
 use Rattle.share_base.specs.declared.version.Version.TheVariants.{Two}
 use Rattle.share_model.specs.declared.rates.Rate.{Rate}
 use Rattle.share_model.specs.link.Commands.{command_step}
-use Rattle.share_model.specs.link.Live.{Live}
 use Rattle.share_model.specs.link.Tariff.{AreInRange}
 use Rattle.share_model.specs.link.View.{LinkView}
 use Rattle.share_model.specs.run.Events.{MayFollow}
@@ -13,7 +12,7 @@ use Rattle.share_model.specs.run.Sound.{SoundState}
 use Rattle.share_model.proofs.lemmas.run.BytesLaws.{keeps-commanded}
 use Rattle.share_model.proofs.lemmas.run.FoldLaws.{state-empty, state-step}
 use Rattle.share_journal.specs.Records.{IsRunOf}
-use Rattle.share_book.specs.Audited.{Audited, IsRunAndText, SendsWhole}
+use Rattle.share_book.specs.Audited.{IsRunAndText, SendsWhole}
 use Rattle.share_gateway.specs.Opened.{IsOpened, event_of, opening_events, opening_outcomes}
 use Rattle.share_gateway.specs.Opening.{opening}
 use Rattle.share_book.specs.OpenBook.{opened_text, command_line}

@@ -1,10 +1,10 @@
 -- The events of an audited engine stay a run, and its text their lines.
-use Rattle.std.specs.Prelude.{◌≡◌, ◌≤◌, ℕ, Bool, true, false, List, [], ◌∷◌, ◌++◌, flat_map, take, drop, length, Option}
-use Rattle.std.specs.Prelude.{None, IfSome, MatchBool}
+use Rattle.std.specs.Prelude.{◌≡◌, ℕ, Bool, true, false, List, [], ◌∷◌, ◌++◌, flat_map, take, drop, Option}
+use Rattle.std.specs.Prelude.{None, MatchBool}
 use Rattle.std.proofs.Common.{refl, ap, sym, ◌∙◌, subst, append_assoc, inl, inr}
 use Rattle.std.proofs.lemmas.List.{append-nil, take-append-drop}
 use Rattle.std.proofs.lemmas.List.Concat.{flat_map-append}
-use Rattle.share_base.specs.Body.{BodyView, unstamped}
+use Rattle.share_base.specs.Body.{unstamped}
 use Rattle.share_base.specs.declared.command.Command.{Command}
 use Rattle.share_base.specs.declared.command.Event.{Event}
 use Rattle.share_base.specs.declared.command.Event.TheVariants.{Commanded, Arrived}
@@ -15,7 +15,6 @@ use Rattle.share_base.specs.declared.command.Reply.TheVariants.{Refused}
 use Rattle.share_base.specs.declared.refusal.Refusal.TheVariants.{NoMemory}
 use Rattle.share_base.specs.declared.version.Version.TheVariants.{Two}
 use Rattle.share_model.specs.declared.line.Line.TheVariants.{Change}
-use Rattle.share_model.specs.declared.rates.Rate.{Rate}
 use Rattle.share_model.specs.io.Told.{Told}
 use Rattle.share_model.specs.link.Answers.{answers_event}
 use Rattle.share_model.specs.link.Arrivals.{arrive_step}

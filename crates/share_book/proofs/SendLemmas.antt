@@ -1,18 +1,16 @@
 -- A turn of an engine that is lent an outbox: the frame goes into it as a whole.
-use Rattle.std.specs.Prelude.{◌≡◌, ◌==◌, ◌<◌, ◌≤◌, ◌+◌, ◌-◌, ℕ, Bool, true, false, List, [], ◌∷◌, length, take, drop}
-use Rattle.std.specs.Prelude.{nat_eq, nat_le, nat_lt, Option, None, Some, IsSome, IfSome, option_map, option_and_then}
-use Rattle.std.proofs.Common.{refl, ap, sym, ◌∙◌, subst, arith, rules}
+use Rattle.std.specs.Prelude.{◌≡◌, ◌==◌, ◌<◌, ◌≤◌, ℕ, true, false, List, [], ◌∷◌, length, take, drop}
+use Rattle.std.specs.Prelude.{Option, None, Some, IsSome, IfSome, option_map, option_and_then}
+use Rattle.std.proofs.Common.{refl, ap, sym, ◌∙◌, subst, arith}
 use Rattle.std.proofs.lemmas.Bool.{cond-true, cond-false}
 use Rattle.std.proofs.lemmas.Bool.Decides.{nat_tests}
 use Rattle.std.proofs.lemmas.List.{take_all}
 use Rattle.std.proofs.lemmas.Option.{same_Some}
-use Rattle.share_base.specs.declared.command.Event.{Event}
 use Rattle.share_base.specs.declared.command.Event.TheVariants.{Written}
 use Rattle.share_base.specs.declared.command.Outcome.{Outcome}
 use Rattle.share_base.specs.declared.command.Outcome.TheVariants.{Turned}
 use Rattle.share_base.specs.declared.command.Turn.{Turn}
 use Rattle.share_base.specs.declared.command.Turn.TheVariants.{Wrote}
-use Rattle.share_model.specs.declared.link.Part.{Part}
 use Rattle.share_model.specs.declared.rates.Rate.{Rate}
 use Rattle.share_model.specs.declared.writer.Answer.{Answer}
 use Rattle.share_model.specs.declared.writer.Answer.TheVariants.{Accepted, Interrupted, Failed}
@@ -22,9 +20,9 @@ use Rattle.share_model.specs.link.Calls.{is_spent, step_by_answer, OffersSome, O
 use Rattle.share_model.specs.link.Frame.{Packet}
 use Rattle.share_model.specs.link.Live.{Live}
 use Rattle.share_model.specs.link.Tariff.{AreInRange}
-use Rattle.share_model.specs.link.Step.{live_step, turn_outcome}
+use Rattle.share_model.specs.link.Step.{live_step}
 use Rattle.share_model.specs.link.Turns.{Sending, frame_of, sending_at, sending_by, sending, rest_of, is_whole, whole}
-use Rattle.share_model.specs.link.Turns.{in_part, wrote_turn, write_step, fault_step}
+use Rattle.share_model.specs.link.Turns.{wrote_turn, write_step}
 use Rattle.share_model.specs.link.View.{LinkView}
 use Rattle.share_model.specs.run.Sound.{Sound}
 use Rattle.share_model.specs.stride.Moves.{next}
@@ -33,7 +31,7 @@ use Rattle.share_model.proofs.lemmas.run.Laws.{Ran, turn-ran, turn_events, turn_
 use Rattle.share_model.proofs.lemmas.run.SoundLaws.{sending-few, sending-short}
 use Rattle.share_core.specs.Lent.{lent}
 use Rattle.share_journal.proofs.Runs.{run-sound}
-use Rattle.share_book.specs.Audited.{Audited, SendsWhole, after_event}
+use Rattle.share_book.specs.Audited.{Audited, SendsWhole}
 use Rattle.share_book.specs.Sends.{SentWhole, wrote_count}
 use Rattle.share_gateway.specs.Outbox.{OutboxView, OutboxAnswers, room_of, takes, with_frame}
 use Rattle.share_book.specs.Texts.{line_in, with_bytes, TextView}

@@ -1,12 +1,10 @@
 -- A turn of a book: a whole frame, or none.
-use Rattle.std.specs.Prelude.{◌≡◌, ℕ, Bool, true, false, not, List, [], ◌∷◌, length, is_some, nat_lt, Option, None, Some}
-use Rattle.std.specs.Prelude.{if◌then◌else◌}
+use Rattle.std.specs.Prelude.{◌≡◌, ℕ, Bool, true, length, nat_lt}
 use Rattle.share_base.specs.declared.command.Event.TheVariants.{Written}
 use Rattle.share_base.specs.declared.command.Turn.{Turn}
 use Rattle.share_base.specs.declared.command.Turn.TheVariants.{Wrote as WroteTurn}
-use Rattle.share_model.specs.link.Calls.{is_spent}
-use Rattle.share_model.specs.link.Turns.{Sending, frame_of, sending}
-use Rattle.share_book.specs.Audited.{Audited, after_event, lacks_text}
+use Rattle.share_model.specs.link.Turns.{Sending, frame_of}
+use Rattle.share_book.specs.Audited.{Audited, after_event}
 use Rattle.share_gateway.specs.Outbox.{OutboxView, room_of, with_frame}
 
 -- the longest frame has no room in the outbox

@@ -1,5 +1,5 @@
 -- The text of a book: its first line, and then a line for each of its events.
-use Rattle.std.specs.Prelude.{◌≡◌, ◌-◌, ℕ, List, ◌++◌, drop, length, codes}
+use Rattle.std.specs.Prelude.{◌-◌, ℕ, List, ◌++◌, drop, length, codes}
 use Rattle.share_base.specs.declared.command.Event.{Event}
 use Rattle.share_base.specs.declared.command.Event.TheVariants.{Commanded, Arrived, Written, Faulted}
 use Rattle.share_model.specs.text.Audit.{event_line, written_line}

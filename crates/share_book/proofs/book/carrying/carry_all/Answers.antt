@@ -1,4 +1,4 @@
-use Rattle.std.proofs.Common.{◌≡◌, true, false, not, ◌∙◌, ap, sym, refl}
+use Rattle.std.proofs.Common.{◌≡◌, false, not, ◌∙◌, ap, sym, refl}
 use Rattle.std.specs.Prelude.{if◌then◌else◌}
 use Rattle.std.proofs.lemmas.Bool.{cond-true}
 use Rattle.share_model.specs.link.Calls.{is_spent}

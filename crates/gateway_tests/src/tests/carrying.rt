@@ -104,7 +104,11 @@ fn carries(rt: &impl Abort, alloc: Global, plan: &Plan, change: Change) {
     same(rt, change.name, done, wanted);
     let left = u64::from(old.waiting(FlowNo(1)));
     same(rt, change.name, left, change.dropped);
-    holds(rt, change.name, book.text().ends_with(change.lines.as_bytes()));
+    holds(
+        rt,
+        change.name,
+        book.text().ends_with(change.lines.as_bytes()),
+    );
     let grown = book.text().len() > before;
     same(rt, change.name, grown, !change.lines.is_empty());
     drop(book);

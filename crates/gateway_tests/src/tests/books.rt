@@ -175,39 +175,39 @@ fn holds_and_resumes(rt: &impl Abort, book: &mut Book<Four>) {
 
 // An amend, and why it is refused, if it is.
 #[derive(Clone, Copy)]
-struct Amend {
+struct AmendRow {
     name: &'static str,
     number: u64,
     amount: u64,
     refusal: Option<Refusal>,
 }
 
-const AMENDS: [Amend; 5] = [
-    Amend {
+const AMENDS: [AmendRow; 5] = [
+    AmendRow {
         name: "x",
         number: 1,
         amount: 500,
         refusal: None,
     },
-    Amend {
+    AmendRow {
         name: "b",
         number: 1,
         amount: 7,
         refusal: None,
     },
-    Amend {
+    AmendRow {
         name: "b",
         number: 1,
         amount: 0,
         refusal: Some(Refusal::Range),
     },
-    Amend {
+    AmendRow {
         name: "b",
         number: 2,
         amount: 7,
         refusal: Some(Refusal::NoTicket),
     },
-    Amend {
+    AmendRow {
         name: "z",
         number: 1,
         amount: 7,
@@ -215,7 +215,7 @@ const AMENDS: [Amend; 5] = [
     },
 ];
 
-fn amends(rt: &impl Abort, book: &mut Book<Four>, row: &Amend) {
+fn amends(rt: &impl Abort, book: &mut Book<Four>, row: &AmendRow) {
     let wanted = match row.refusal {
         None => Reply::Done,
         Some(refusal) => Reply::Refused(refusal),

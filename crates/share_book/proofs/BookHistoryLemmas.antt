@@ -1,12 +1,12 @@
 -- Nothing is lost between books: the payloads that were taken of a tenant are those written whole, followed by those that
 -- wait.
-use Rattle.std.specs.Prelude.{◌≡◌, ◌⊎◌, ◌<◌, ◌≤◌, ◌+◌, ◌-◌, ℕ, Bool, true, false, not, List, [], ◌∷◌, ◌++◌, length}
-use Rattle.std.specs.Prelude.{take, drop, find, nat_eq, nat_le, bytes_eq, Option, None, Some, is_some, MatchOption, MatchBool}
+use Rattle.std.specs.Prelude.{◌≡◌, ◌⊎◌, ◌≤◌, ◌+◌, ◌-◌, ℕ, Bool, true, false, not, List, [], ◌∷◌, ◌++◌, length}
+use Rattle.std.specs.Prelude.{take, drop, find, nat_le, bytes_eq, Option, None, Some, is_some, MatchOption, MatchBool}
 use Rattle.std.specs.Prelude.{MatchResult, Result, Ok, Err}
 use Rattle.std.specs.Prelude.{if◌then◌else◌}
-use Rattle.std.specs.List.{fold, list_all}
+use Rattle.std.specs.List.{list_all}
 use Rattle.std.proofs.Common.{refl, ap, sym, ◌∙◌, subst, arith, inl, inr, append_assoc, length-append}
-use Rattle.std.proofs.lemmas.Bool.{cond_both, cond-true}
+use Rattle.std.proofs.lemmas.Bool.{cond-true}
 use Rattle.std.proofs.lemmas.Bool.Decides.{nat_tests}
 use Rattle.std.proofs.lemmas.List.{append-nil, take_all, drop_all}
 use Rattle.std.proofs.Math.Seq.{take-append_seam, drop-append_seam}
@@ -15,7 +15,6 @@ use Rattle.share_base.specs.declared.command.Command.{Command}
 use Rattle.share_base.specs.declared.command.Command.TheVariants.{Hold, Resume, Amend}
 use Rattle.share_base.specs.declared.command.Event.TheVariants.{Arrived, Commanded, Written}
 use Rattle.share_base.specs.declared.command.Outcome.{Outcome}
-use Rattle.share_base.specs.declared.command.Outcome.TheVariants.{Replied}
 use Rattle.share_base.specs.declared.command.Reply.{Reply}
 use Rattle.share_base.specs.declared.command.Reply.TheVariants.{Refused}
 use Rattle.share_base.specs.declared.command.Turn.{Turn}
@@ -27,30 +26,28 @@ use Rattle.share_model.specs.funding.Graph.{NameBytes}
 use Rattle.share_model.specs.link.Arrivals.{accept}
 use Rattle.share_model.specs.link.Buffers.{buffer_of}
 use Rattle.share_model.specs.link.Calls.{is_spent}
-use Rattle.share_model.specs.link.Commands.{command_step}
 use Rattle.share_model.specs.link.Live.{Live}
-use Rattle.share_model.specs.link.Turns.{Sending, frame_of, is_whole, whole, sending, wrote_turn, write_step}
+use Rattle.share_model.specs.link.Turns.{Sending, frame_of, is_whole, whole, sending, wrote_turn}
 use Rattle.share_model.specs.link.Step.{live_step}
 use Rattle.share_model.proofs.lemmas.link.TurnLaws.{written-step}
 use Rattle.share_gateway.specs.Opened.{first_refused, opened_link}
 use Rattle.share_gateway.specs.Outbox.{OutboxView}
-use Rattle.share_gateway.specs.Plan.{PlanView, TenantView, IsInLimits, are_flow_numbers, ascends, flows_of}
-use Rattle.share_gateway.specs.PlanChanges.{is_tenant, flow_by, tenant_flow, with_hold, with_amount}
+use Rattle.share_gateway.specs.Plan.{PlanView, TenantView, IsInLimits, ascends, flows_of}
+use Rattle.share_gateway.specs.PlanChanges.{is_tenant, with_hold, with_amount}
 use Rattle.share_gateway.specs.GrantTickets.{grant_ticket}
 use Rattle.share_gateway.specs.Planned.{HoldsPlan}
-use Rattle.share_book.specs.Audited.{Audited, after_event, outcome_in, lacks_text}
-use Rattle.share_book.specs.Book.{BookView, first_of, Takes, TakesPacket, Turns, SendsNext, SendsFrame}
-use Rattle.share_book.specs.BookHistory.{waiting_in, tenant_limit, limit_by, CarriesAll, all_done, then_more, IsCut}
+use Rattle.share_book.specs.Audited.{Audited, after_event, lacks_text}
+use Rattle.share_book.specs.Book.{BookView, first_of, Takes, TakesPacket, Turns, SendsNext}
+use Rattle.share_book.specs.BookHistory.{waiting_in, tenant_limit, limit_by, CarriesAll, all_done, then_more}
+use Rattle.share_book.specs.BookHistory.{then_drained, IsCut}
 use Rattle.share_book.specs.BookHistory.{payload_if, next_payload, without_last, drained_by}
 use Rattle.share_book.specs.BookHistory.{History, opened, took, sent, held, resumed, amended, drained, carried}
-use Rattle.share_book.specs.Carry.{Carrying, carry_all, carry_next, carry_answer, Carries, left_for, left_in, packets_by}
+use Rattle.share_book.specs.Carry.{Carrying, carry_all, Carries, left_for, left_in, packets_by}
 use Rattle.share_book.specs.Changes.{Changes, Amends, IsChange, is_done, plan_after}
 use Rattle.share_book.specs.Closed.{ClosedView, closed_of}
 use Rattle.share_book.specs.OpenBook.{IsOpenBook}
 use Rattle.share_book.specs.Sends.{lacks_room}
-use Rattle.share_book.specs.declared.book.Taken.{Taken}
 use Rattle.share_book.specs.declared.book.Taken.TheVariants.{Packet, Range, Spent, NoText, NoRoom, NoMemory}
-use Rattle.share_book.specs.declared.book.Turned.{Turned}
 use Rattle.share_book.specs.declared.book.Turned.TheVariants.{
   NoText as TurnNoText,
   NoRoom as TurnNoRoom,
@@ -279,14 +276,26 @@ done_by true false left dropped is = cc
 done_by false spent left dropped is = refl
 
 module _ (p q : PlanView) (rising : ascends 0 (flows_of q.tenants) ≡ true) (name : NameBytes) (all : List (List ℕ)) where
+  between_drained : (old : Audited) (n : ℕ) (before : ClosedView) → IsBetween p q name all old.link.live before
+      → IsBetween p q name all (drained_by old n).link.live before
+  between_drained old n before was = record {
+    laid = was.laid;
+    plan = was.plan;
+    shelved = was.shelved;
+    joined = was.joined;
+    within = was.within;
+  }
+
   between-carried : (old : Audited) (tenants : List TenantView) (before : ClosedView) (new : Audited)
       (after : ClosedView) → CarriesAll old tenants before new after → IsBetween p q name all old.link.live before
       → IsBetween p q name all new.link.live after
   between-carried _ _ _ _ _ (all_done old tenants before dropped new after did) was =
       between_carried p q rising name all old tenants before (Done dropped) new after was did
-  between-carried _ _ _ _ _ (then_more old tenants before between left n new after did rest) was =
-      between-carried (drained_by between n) tenants left new after rest
+  between-carried _ _ _ _ _ (then_more old tenants before between left new after did rest) was =
+      between-carried between tenants left new after rest
       (between_carried p q rising name all old tenants before More between left was did)
+  between-carried _ _ _ _ _ (then_drained old tenants before n new after rest) was =
+      between-carried (drained_by old n) tenants before new after rest (between_drained old n before was)
 
   settled-carried : (old : Audited) (tenants : List TenantView) (before : ClosedView) (new : Audited)
       (after : ClosedView) → CarriesAll old tenants before new after → IsBetween p q name all old.link.live before
@@ -300,9 +309,11 @@ module _ (p q : PlanView) (rising : ascends 0 (flows_of q.tenants) ≡ true) (na
       subst (λ (a : Audited). IsSettled p q name a.link.live after) (sym did.book)
       (subst (λ (c : ClosedView). IsSettled p q name (carry_all old before tenants).book.link.live c) (sym did.closed)
       (settled-all p q rising name all x tenants was went (inr (u, found))))
-  settled-carried _ _ _ _ _ (then_more old tenants before between left n new after did rest) was u found =
-      settled-carried (drained_by between n) tenants left new after rest
+  settled-carried _ _ _ _ _ (then_more old tenants before between left new after did rest) was u found =
+      settled-carried between tenants left new after rest
       (between_carried p q rising name all old tenants before More between left was did) u found
+  settled-carried _ _ _ _ _ (then_drained old tenants before n new after rest) was u found =
+      settled-carried (drained_by old n) tenants before new after rest (between_drained old n before was) u found
 
 module _ (planned : (rates : List Rate) (p : PlanView) → IsInLimits p → first_refused rates p ≡ None
     → HoldsPlan p (opened_link rates p)) where

@@ -4,24 +4,22 @@ use Rattle.std.specs.Prelude.{map, take, drop, min, find, nat_eq, nat_le, nat_lt
 use Rattle.std.specs.Prelude.{if◌then◌else◌}
 use Rattle.std.specs.List.{fold}
 use Rattle.std.proofs.Common.{refl, ap, sym, ◌∙◌, subst, arith, inl, inr, append_assoc, length-append}
-use Rattle.std.proofs.lemmas.Bool.{cond_both, cond-true, cond-false, eqb-true}
+use Rattle.std.proofs.lemmas.Bool.{cond_both, cond-true, cond-false}
 use Rattle.std.proofs.lemmas.Bool.Decides.{nat_tests}
-use Rattle.std.proofs.lemmas.List.{append-nil, length-map, length-take, take-map, take-take, take_all, drop_all}
-use Rattle.std.proofs.lemmas.List.{length-drop, take-append-drop}
-use Rattle.std.proofs.Math.Seq.{take-append_seam, drop-append_seam}
+use Rattle.std.proofs.lemmas.List.{append-nil, length-map, length-take, take-map, take-take, drop_all}
+use Rattle.std.proofs.lemmas.List.{take-append-drop}
 use Rattle.share_base.specs.declared.command.Event.{Event}
 use Rattle.share_core.specs.Room.{has_room}
 use Rattle.share_model.specs.funding.Graph.{NameBytes}
 use Rattle.share_model.specs.link.Arrivals.{accept}
 use Rattle.share_model.specs.link.Buffers.{Buffer, buffer_of, pop_in}
 use Rattle.share_model.specs.link.Live.{Live}
-use Rattle.share_model.proofs.lemmas.lists.RemoveLaws.{other_way}
-use Rattle.share_model.proofs.lemmas.lists.SumLaws.{same_name, name_sym}
+use Rattle.share_model.proofs.lemmas.lists.SumLaws.{same_name}
 use Rattle.share_base.specs.declared.command.Reply.{Reply}
 use Rattle.share_gateway.specs.Plan.{PlanView, TenantView, ascends, flows_of}
 use Rattle.share_gateway.specs.PlanChanges.{is_tenant, flow_by, tenant_flow}
 use Rattle.share_book.specs.Audited.{Audited, after_event}
-use Rattle.share_book.specs.BookHistory.{payload_if, limit_by, tenant_limit}
+use Rattle.share_book.specs.BookHistory.{payload_if, tenant_limit}
 use Rattle.share_book.specs.Carry.{packets_by, left_for, places_for, packet_event, due_for, fitting, carried_for}
 use Rattle.share_book.specs.Carry.{without_first, Carrying, carry_tenant, carry_next}
 use Rattle.share_book.specs.Closed.{ClosedView}
@@ -31,7 +29,7 @@ use Rattle.share_book.proofs.CarryLemmas.{due-length, full-places, places_after,
 use Rattle.share_book.proofs.LaidOutLemmas.{AreShelved, IsLaidOut, packets_of, packets-pop, buffer-pop_other}
 use Rattle.share_book.proofs.LaidOutLemmas.{shelved-pop, laid-accept, packets-accept, none-waits, places-left}
 use Rattle.share_book.proofs.TakeLemmas.{accept-is, named_number}
-use Rattle.share_book.proofs.TenantLemmas.{flow-some, flows-apart}
+use Rattle.share_book.proofs.TenantLemmas.{flows-apart}
 
 -- ---- Which packets
 

@@ -1,9 +1,9 @@
 -- The tenants whose packets are carried, one after the other.
-use Rattle.std.specs.Prelude.{◌≡◌, ◌<◌, ◌+◌, ℕ, Bool, true, false, List, [], ◌∷◌, ◌++◌, length, take, drop, if◌then◌else◌}
+use Rattle.std.specs.Prelude.{◌≡◌, ◌<◌, ◌+◌, ℕ, true, false, List, [], ◌∷◌, ◌++◌, length, take, drop}
 use Rattle.std.specs.Prelude.{get_or}
 use Rattle.std.specs.List.{fold}
 use Rattle.std.proofs.Common.{refl, ap, sym, ◌∙◌}
-use Rattle.std.proofs.lemmas.Bool.{cond-true, cond-false}
+use Rattle.std.proofs.lemmas.Bool.{cond-true}
 use Rattle.std.proofs.lemmas.List.{take_more, take-append-drop}
 use Rattle.share_book.specs.Audited.{Audited}
 use Rattle.share_book.specs.Carry.{Carrying, carry_tenant, carry_next, carry_all, carry_answer, Carries}

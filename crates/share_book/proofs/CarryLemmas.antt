@@ -1,6 +1,6 @@
 -- One packet that is carried: what is due after it is the rest of what was due before.
-use Rattle.std.specs.Prelude.{◌≡◌, ◌==◌, ◌<◌, ◌≤◌, ◌+◌, ◌-◌, ℕ, zero, suc, Bool, true, false, not, List, [], ◌∷◌, ◌++◌}
-use Rattle.std.specs.Prelude.{length, map, take, drop, min, find, nat_eq, nat_le, nat_lt, bytes_eq, Option, None, Some, option_map}
+use Rattle.std.specs.Prelude.{◌≡◌, ◌<◌, ◌+◌, ◌-◌, ℕ, zero, suc, Bool, true, false, not, List, [], ◌∷◌, ◌++◌}
+use Rattle.std.specs.Prelude.{length, map, take, drop, min, nat_le, nat_lt, bytes_eq, Option, None, Some, option_map}
 use Rattle.std.specs.Prelude.{if◌then◌else◌, option_and_then}
 use Rattle.std.specs.List.{fold}
 use Rattle.std.specs.Map.{lookup}
@@ -13,16 +13,16 @@ use Rattle.share_base.specs.declared.command.Event.{Event}
 use Rattle.share_base.specs.declared.command.Reply.{Reply}
 use Rattle.share_core.specs.Room.{has_place, has_room_by, has_room}
 use Rattle.share_model.specs.declared.funding.OpenFlow.{OpenFlow}
-use Rattle.share_model.specs.funding.Changes.{flow_named, flow_number, is_open_as, active_as, with_activity, set_active}
+use Rattle.share_model.specs.funding.Changes.{flow_named, flow_number, is_open_as, active_as, with_activity}
 use Rattle.share_model.specs.funding.Graph.{NameBytes}
-use Rattle.share_model.specs.link.Arrivals.{accept, arrive_in, arrive_by, arrive_step}
+use Rattle.share_model.specs.link.Arrivals.{accept}
 use Rattle.share_model.specs.link.Books.{is_held}
-use Rattle.share_model.specs.link.Buffers.{Buffer, buffer_of, is_buffer_of, is_full, push_in, pop_in, with_packet}
+use Rattle.share_model.specs.link.Buffers.{Buffer, buffer_of, is_buffer_of, push_in, pop_in, with_packet}
 use Rattle.share_model.specs.link.Buffers.{without_head, head_in, head_of_buffer, head_of, count_by, count_in}
 use Rattle.share_model.specs.link.Calls.{is_spent}
 use Rattle.share_model.specs.link.Frame.{Packet}
 use Rattle.share_model.specs.link.View.{LinkView}
-use Rattle.share_model.specs.link.Live.{Live, with_one_event}
+use Rattle.share_model.specs.link.Live.{Live}
 use Rattle.share_model.specs.lists.Change.{change_first}
 use Rattle.share_model.proofs.lemmas.lists.Laws.{find-change_first}
 use Rattle.share_book.specs.Audited.{Audited, after_event, lacks_text}

@@ -1,15 +1,15 @@
 -- The flows and the buffers of a book are its tenants', from its opening on; and what each event does to the packets
 -- that wait.
-use Rattle.std.specs.Prelude.{◌≡◌, ◌<◌, ◌≤◌, ◌-◌, ℕ, zero, suc, Bool, true, false, not, ◌&&◌, List, [], ◌∷◌, ◌++◌, length}
-use Rattle.std.specs.Prelude.{map, drop, find, nat_eq, nat_le, bytes_eq, Option, None, Some, option_map, option_and_then}
+use Rattle.std.specs.Prelude.{◌≡◌, ◌-◌, ℕ, Bool, true, false, not, ◌&&◌, List, [], ◌∷◌, ◌++◌, length}
+use Rattle.std.specs.Prelude.{map, drop, find, nat_eq, bytes_eq, Option, None, Some, option_map, option_and_then}
 use Rattle.std.specs.Prelude.{is_some}
 use Rattle.std.specs.Prelude.{if◌then◌else◌}
 use Rattle.std.specs.Map.{lookup}
 use Rattle.std.proofs.Common.{refl, ap, sym, ◌∙◌, subst, arith}
-use Rattle.std.proofs.lemmas.Bool.{cond_both, cond-true, eqb-true}
+use Rattle.std.proofs.lemmas.Bool.{eqb-true}
 use Rattle.std.proofs.lemmas.Bool.Decides.{nat_tests}
 use Rattle.std.proofs.lemmas.List.{append-nil}
-use Rattle.std.proofs.lemmas.Option.{same_Some, option_and_then_some}
+use Rattle.std.proofs.lemmas.Option.{same_Some}
 use Rattle.share_base.specs.declared.command.Command.{Command}
 use Rattle.share_base.specs.declared.command.Command.TheVariants.{Hold, Resume, Amend}
 use Rattle.share_base.specs.declared.command.Reply.{Reply}
@@ -30,7 +30,7 @@ use Rattle.share_model.specs.link.Turns.{Sending, sending_at, sending_by, sendin
 use Rattle.share_model.specs.lists.Change.{change_first}
 use Rattle.share_model.specs.stride.Moves.{next}
 use Rattle.share_model.proofs.lemmas.link.BufferLaws.{IsHeadBuffer, head_buffer, head_of-flow, other_buffer}
-use Rattle.share_model.proofs.lemmas.lists.Laws.{find-change_first, find-change_first_other, find-holds}
+use Rattle.share_model.proofs.lemmas.lists.Laws.{find-change_first_other, find-holds}
 use Rattle.share_model.proofs.lemmas.lists.Laws.{map-change_first}
 use Rattle.share_model.proofs.lemmas.lists.RemoveLaws.{other_way}
 use Rattle.share_model.proofs.lemmas.lists.SumLaws.{same_name, name_sym}
@@ -42,7 +42,7 @@ use Rattle.share_book.specs.BookHistory.{payload_if, next_payload, limit_by, ten
 use Rattle.share_book.specs.Carry.{packets_by, places_by, number_in, buffer_by, places_for}
 use Rattle.share_book.proofs.CarryLemmas.{pushed, popped, room_by}
 use Rattle.share_book.proofs.TakeLemmas.{named_number}
-use Rattle.share_book.proofs.TenantLemmas.{flow-above, numbered, flow-some, flows-apart}
+use Rattle.share_book.proofs.TenantLemmas.{flow-above, numbered, flows-apart}
 
 -- ---- Keys
 
@@ -138,38 +138,38 @@ found_buffer bs t (Some b) found is =
 
 module _ (p : PlanView) (bs : List Buffer) (rising : ascends 0 (flows_of p.tenants) ≡ true) (shelved : AreShelved p bs)
   where
-  buffer_keys : (f : ℕ) → option_map buffer_key (buffer_of bs f)
-      ≡ option_map place_key (find (λ (t : TenantView). nat_eq f t.flow) p.tenants)
-  buffer_keys f =
-      sym (find_map buffer_key (λ (k : ℕ × ℕ). nat_eq f k.0) bs)
-      ∙ ap (find (λ (k : ℕ × ℕ). nat_eq f k.0)) shelved
-      ∙ find_map place_key (λ (k : ℕ × ℕ). nat_eq f k.0) p.tenants
+    buffer_keys : (f : ℕ) → option_map buffer_key (buffer_of bs f)
+        ≡ option_map place_key (find (λ (t : TenantView). nat_eq f t.flow) p.tenants)
+    buffer_keys f =
+        sym (find_map buffer_key (λ (k : ℕ × ℕ). nat_eq f k.0) bs)
+        ∙ ap (find (λ (k : ℕ × ℕ). nat_eq f k.0)) shelved
+        ∙ find_map place_key (λ (k : ℕ × ℕ). nat_eq f k.0) p.tenants
 
-  pub tenant-buffer : (name : NameBytes) (t : TenantView) → find (is_tenant name) p.tenants ≡ Some t
-      → IsTenantBuffer bs t
-  tenant-buffer name t found =
-      found_buffer bs t (buffer_of bs t.flow) refl
-      (buffer_keys t.flow
-      ∙ ap (option_map place_key) (numbered (is_tenant name) 0 p.tenants t rising found))
+    pub tenant-buffer : (name : NameBytes) (t : TenantView) → find (is_tenant name) p.tenants ≡ Some t
+        → IsTenantBuffer bs t
+    tenant-buffer name t found =
+        found_buffer bs t (buffer_of bs t.flow) refl
+        (buffer_keys t.flow
+        ∙ ap (option_map place_key) (numbered (is_tenant name) 0 p.tenants t rising found))
 
-  zero_by : (o : Option TenantView) → find (λ (t : TenantView). nat_eq 0 t.flow) p.tenants ≡ o → o ≡ None
-  zero_by None found = refl
-  zero_by (Some t) found =
-      let above = flow-above (λ (t : TenantView). nat_eq 0 t.flow) 0 p.tenants t rising found in
-      let zero_flow = find-holds (λ (t : TenantView). nat_eq 0 t.flow) p.tenants t found in
-      absurd (grind (arith, nat_tests, above, zero_flow))
+    zero_by : (o : Option TenantView) → find (λ (t : TenantView). nat_eq 0 t.flow) p.tenants ≡ o → o ≡ None
+    zero_by None found = refl
+    zero_by (Some t) found =
+        let above = flow-above (λ (t : TenantView). nat_eq 0 t.flow) 0 p.tenants t rising found in
+        let zero_flow = find-holds (λ (t : TenantView). nat_eq 0 t.flow) p.tenants t found in
+        absurd (grind (arith, nat_tests, above, zero_flow))
 
-  none_by : (o : Option Buffer) → option_map buffer_key o ≡ None → packets_by o ≡ []
-  none_by None is = refl
-  none_by (Some b) is = cc
+    none_by : (o : Option Buffer) → option_map buffer_key o ≡ None → packets_by o ≡ []
+    none_by None is = refl
+    none_by (Some b) is = cc
 
-  -- of a name that the plan lacks nothing waits
-  pub none-waits : (name : NameBytes) → find (is_tenant name) p.tenants ≡ None → packets_of p bs name ≡ []
-  none-waits name absent =
-      ap (λ o. packets_by (buffer_of bs (flow_by o))) absent
-      ∙ none_by (buffer_of bs 0)
-      (buffer_keys 0
-      ∙ ap (option_map place_key) (zero_by (find (λ (t : TenantView). nat_eq 0 t.flow) p.tenants) refl))
+    -- of a name that the plan lacks nothing waits
+    pub none-waits : (name : NameBytes) → find (is_tenant name) p.tenants ≡ None → packets_of p bs name ≡ []
+    none-waits name absent =
+        ap (λ o. packets_by (buffer_of bs (flow_by o))) absent
+        ∙ none_by (buffer_of bs 0)
+        (buffer_keys 0
+        ∙ ap (option_map place_key) (zero_by (find (λ (t : TenantView). nat_eq 0 t.flow) p.tenants) refl))
 
 -- ---- One buffer
 
@@ -364,12 +364,15 @@ refused_stays : (p : PlanView) (l : Live) (o : Option Refusal) (done : Live × R
     → IsLaidOut p l → StaysLaid p l (by_refusal l o done).0
 refused_stays p l None done stays laid = stays
 refused_stays p l (Some e) done stays laid =
-    record { laid = record {
-      rising = laid.rising;
-      flows = laid.flows;
-      buffers = laid.buffers;
-      unparted = laid.unparted;
-    }; buffers = refl }
+    record {
+      laid = record {
+        rising = laid.rising;
+        flows = laid.flows;
+        buffers = laid.buffers;
+        unparted = laid.unparted;
+      };
+      buffers = refl;
+    }
 
 module _ (p : PlanView) (l : Live) (laid : IsLaidOut p l) where
   awake_stays : (f : ℕ) (b : Bool) (after : Live) → after.graph.flows ≡ with_activity f b l.graph.flows

@@ -1,7 +1,6 @@
 -- A packet for which there is room is accepted.
 use Rattle.std.specs.Prelude.{◌≡◌, ℕ, Bool, true, false, not, List, Option, None, Some, if◌then◌else◌}
-use Rattle.std.proofs.Common.{refl, ap, ◌∙◌}
-use Rattle.std.proofs.lemmas.Bool.{cond_both}
+use Rattle.std.proofs.Common.{refl}
 use Rattle.share_base.specs.declared.command.Reply.{Reply}
 use Rattle.share_base.specs.declared.command.Reply.TheVariants.{Packet}
 use Rattle.share_core.specs.Room.{has_place, has_room_by, has_room}

@@ -1,7 +1,6 @@
 -- The tenants of a plan: their flow numbers rise, so no two have one.
-use Rattle.std.specs.Prelude.{◌≡◌, ◌<◌, ℕ, Bool, true, false, ◌&&◌, List, [], ◌∷◌, map, find, nat_eq, nat_lt, bytes_eq}
-use Rattle.std.specs.Prelude.{Option, None, Some, option_map, if◌then◌else◌}
-use Rattle.std.specs.Map.{lookup}
+use Rattle.std.specs.Prelude.{◌≡◌, ◌<◌, ℕ, Bool, true, false, ◌&&◌, List, [], ◌∷◌, find, nat_eq, nat_lt, bytes_eq}
+use Rattle.std.specs.Prelude.{Option, None, Some, if◌then◌else◌}
 use Rattle.std.proofs.Common.{refl, ap, sym, ◌∙◌, arith}
 use Rattle.std.proofs.lemmas.Bool.{cond-true, cond-false}
 use Rattle.std.proofs.lemmas.Bool.Decides.{nat_tests}
@@ -9,8 +8,8 @@ use Rattle.std.proofs.lemmas.Option.{same_Some}
 use Rattle.share_model.specs.funding.Graph.{NameBytes}
 use Rattle.share_model.proofs.lemmas.lists.Laws.{find-holds}
 use Rattle.share_model.proofs.lemmas.lists.SumLaws.{same_name, name_refl}
-use Rattle.share_gateway.specs.Plan.{PlanView, TenantView, ascends, flows_of}
-use Rattle.share_gateway.specs.PlanChanges.{is_tenant, flow_by, tenant_flow}
+use Rattle.share_gateway.specs.Plan.{TenantView, ascends, flows_of}
+use Rattle.share_gateway.specs.PlanChanges.{is_tenant, flow_by}
 
 pub both_true : (a b : Bool) → (a && b) ≡ true → (a ≡ true) × (b ≡ true)
 both_true true b is = (refl, is)

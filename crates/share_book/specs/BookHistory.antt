@@ -41,15 +41,18 @@ tenant_limit p name = limit_by (find (is_tenant name) p.tenants)
 abbrev pub drained_by : Audited → ℕ → Audited
 drained_by a n = record a { text = after_drain a.text n }
 
--- calls of `carry`, between which text is drained, up to the one that is done
+-- calls of `carry` on a new book up to the one that is done; between them, and before the first, text is drained
 pub data CarriesAll : Audited → List TenantView → ClosedView → Audited → ClosedView → Type 0 where
   all_done : (old : Audited) (tenants : List TenantView) (before : ClosedView) (dropped : ℕ) (new : Audited)
       (after : ClosedView)
       → Carries old tenants before (Done dropped) new after → CarriesAll old tenants before new after
   then_more : (old : Audited) (tenants : List TenantView) (before : ClosedView) (between : Audited) (left : ClosedView)
-      (n : ℕ) (new : Audited) (after : ClosedView)
-      → Carries old tenants before More between left → CarriesAll (drained_by between n) tenants left new after
+      (new : Audited) (after : ClosedView)
+      → Carries old tenants before More between left → CarriesAll between tenants left new after
       → CarriesAll old tenants before new after
+  then_drained : (old : Audited) (tenants : List TenantView) (before : ClosedView) (n : ℕ) (new : Audited)
+      (after : ClosedView)
+      → CarriesAll (drained_by old n) tenants before new after → CarriesAll old tenants before new after
 
 -- of a tenant's packets the first ones wait in the new book, as many as its buffer has room for; the others are left
 pub record IsCut (name : NameBytes) (limit : ℕ) (old : BookView) (new : BookView) (after : ClosedView) : Type 0 where

@@ -6,6 +6,6 @@ mod book;
 mod book_laws;
 mod book_text;
 
-pub use book::{Book, Carried, Closed, TEXT_ROOM, Taken, Turned};
+pub use book::{Book, Carried, Closed, NewBook, TEXT_ROOM, Taken, Turned};
 pub use book_laws::books_lose_nothing;
 pub use book_text::TextKind;

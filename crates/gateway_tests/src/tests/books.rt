@@ -45,7 +45,7 @@ const TEXTS: [Text; 2] = [
 pub(super) fn opened(rt: &impl Abort, alloc: Global, held: bool, kind: TextKind) -> Book<Four> {
     let plan = shared(rt, alloc, 2, held);
     let book = Book::open(alloc, &plan, Four, EVENTS, kind);
-    book.ok().expect(rt, "a book")
+    book.ok().expect(rt, "a book").begin()
 }
 
 /// Forgets the text of a book.

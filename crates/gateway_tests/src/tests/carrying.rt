@@ -2,10 +2,10 @@
 
 use super::assertions::{holds, same};
 use super::books::{drain, opened, take_three};
-use super::made::{first_limited, named, roomy, second_alone};
+use super::made::{first_limited, named, roomy, second_alone, shared};
 use super::tariffs::Four;
 use share_base::FlowNo;
-use share_book::{Book, Carried, Closed, TextKind, Turned};
+use share_book::{Book, Carried, Closed, NewBook, TextKind, Turned};
 use share_gateway::{Outbox, Plan};
 use std::alloc::Global;
 use std::process::Abort;
@@ -40,9 +40,15 @@ const GONE: Change = Change {
     dropped: 2,
 };
 
-fn open(rt: &impl Abort, alloc: Global, plan: &Plan) -> Book<Four> {
+fn open(rt: &impl Abort, alloc: Global, plan: &Plan) -> NewBook<Four> {
     let book = Book::open(alloc, plan, Four, EVENTS, TextKind::Whole);
     book.ok().expect(rt, "a book")
+}
+
+// Forgets the text of a new book.
+fn drain_new(book: &mut NewBook<Four>) {
+    let count = book.text().len();
+    book.drained(count);
 }
 
 // A book in which two packets of a wait: that of b was sent.
@@ -79,16 +85,19 @@ fn sends(rt: &impl Abort, book: &mut Book<Four>, outbox: &mut Outbox) {
 #[test]
 fn what_waits_is_carried(rt: HostRuntime) {
     let mut outbox = Outbox::new(rt.alloc()).ok().expect(&rt, "an outbox");
+    let plan = shared(&rt, rt.alloc(), 2, true);
     let mut old = closed(&rt, rt.alloc());
-    let mut book = opened(&rt, rt.alloc(), true, TextKind::Whole);
-    let done = book.carry(&mut old);
+    let mut new = open(&rt, rt.alloc(), &plan);
+    let done = new.carry(&mut old);
     same(&rt, "carried", done, Carried::Done { dropped: 0 });
     let lines = b"hold b\nsend a 61\nsend a 62\n".as_slice();
-    holds(&rt, "lines", book.text().ends_with(lines));
-    drain(&mut book);
+    holds(&rt, "lines", new.text().ends_with(lines));
+    drain_new(&mut new);
+    let mut book = new.begin();
     sends(&rt, &mut book, &mut outbox);
     drop(book);
     drop(old);
+    drop(plan);
     drop(outbox);
 }
 
@@ -131,7 +140,7 @@ fn what_has_no_tenant_is_dropped(rt: HostRuntime) {
 
 // Sixteen of the longest packets wait.
 fn filled(rt: &impl Abort, alloc: Global, plan: &Plan) -> Closed {
-    let mut book = open(rt, alloc, plan);
+    let mut book = open(rt, alloc, plan).begin();
     let a = named(rt, "a");
     for _packet in 0..16_u32 {
         let _ = book.take(alloc, a, LONG.as_slice());
@@ -145,13 +154,13 @@ fn carrying_goes_on_with_room_for_lines(rt: HostRuntime) {
     let plan = roomy(&rt, rt.alloc());
     let mut old = filled(&rt, rt.alloc(), &plan);
     let mut book = open(&rt, rt.alloc(), &plan);
-    drain(&mut book);
+    drain_new(&mut book);
     same(&rt, "first call", book.carry(&mut old), Carried::More);
     same(&rt, "left", old.waiting(FlowNo(1)), 2);
-    drain(&mut book);
+    drain_new(&mut book);
     let done = book.carry(&mut old);
     same(&rt, "second call", done, Carried::Done { dropped: 0 });
-    let closed = book.close();
+    let closed = book.begin().close();
     same(&rt, "carried", closed.waiting(FlowNo(1)), 16);
     drop(closed);
     drop(old);

@@ -7,7 +7,7 @@ ghost use Rattle.share_book.specs.Audited.{lacks_text};
 ghost use Rattle.share_gateway.specs.PlanChanges.{tenant_flow};
 ghost use Rattle.share_book.specs.Carry.{Carries, IsCarried, carry_tenant, left_in};
 
-use super::{Book, Closed};
+use super::{Closed, NewBook};
 use crate::audited::AuditedEngine;
 use share_base::{FlowNo, Name};
 use share_gateway::Tenant;
@@ -24,7 +24,7 @@ pub enum Carried {
     Done { dropped: u64 },
 }
 
-impl<S: Rates> Book<S> {
+impl<S: Rates> NewBook<S> {
     /// Takes over the packets that wait in a closed book, tenant by tenant in the order of the plan, each tenant's in
     /// their order: each is one event, with its line. A tenant is the same if its name is. Packets beyond the limit of a
     /// buffer, the latest ones, and those of tenants that the plan lacks stay in the closed book: after `Done` they are
@@ -33,7 +33,7 @@ impl<S: Rates> Book<S> {
         ensures carried { Carries self.old.audited self.old.plan.tenants closed.old result self.new.audited closed.new }
         ensures plan { self.new.plan ≡ self.old.plan }
     {
-        carry_all(&mut self.audited, self.plan.tenants(), closed)
+        carry_all(&mut self.book.audited, self.book.plan.tenants(), closed)
     }
 }
 

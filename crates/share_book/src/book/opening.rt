@@ -5,7 +5,7 @@ ghost use Rattle.share_gateway.specs.Opening.{opening};
 ghost use Rattle.share_book.specs.OpenBook.{IsOpenBook, opened_text, command_line};
 ghost use Rattle.share_book.specs.Texts.{first_line};
 
-use super::Book;
+use super::{Book, NewBook};
 use crate::audited::AuditedEngine;
 use crate::book_text::{BookText, TextKind};
 use share_gateway::{NotOpened, Plan, open_engine, opening};
@@ -26,7 +26,7 @@ impl<S: Rates + Drop> Book<S> {
         shelf: S,
         events: u64,
         kind: TextKind,
-    ) -> Result<Book<S>, NotOpened>
+    ) -> Result<NewBook<S>, NotOpened>
         ensures ok { IfOk result (λ b. IsOpenBook (S.rates shelf) plan.now events kind b) }
         ensures not { IfErr result (IsNotOpened (S.rates shelf) plan.now events) }
     {
@@ -39,7 +39,8 @@ impl<S: Rates + Drop> Book<S> {
             Ok(pages) => {
                 let (text, plan) = pages;
                 let audited = AuditedEngine::over(engine, kind, text);
-                Ok(Book { audited, plan })
+                let book = Book { audited, plan };
+                Ok(NewBook { book })
             }
         }
     }

@@ -1,7 +1,6 @@
-use Rattle.std.proofs.Common.{◌≡◌, Bool, true, false, not, ◌∙◌, ap, sym, refl}
+use Rattle.std.proofs.Common.{◌≡◌, true, false, not, ◌∙◌, ap, sym, refl}
 use Rattle.std.specs.Prelude.{if◌then◌else◌}
 use Rattle.std.proofs.lemmas.Bool.{cond-true}
-use Rattle.share_model.specs.funding.Graph.{NameBytes}
 use Rattle.share_model.specs.link.Calls.{is_spent}
 use Rattle.share_gateway.specs.Plan.{TenantView}
 use Rattle.share_book.specs.Carry.{Carrying, carry_tenant, left_in}

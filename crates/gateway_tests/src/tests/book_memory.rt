@@ -3,7 +3,7 @@
 //! first call succeeds.
 
 use super::assertions::{holds, same};
-use super::books::{drain, opened, take_three};
+use super::books::{amend, drain, hold, opened, resume, take_three};
 use super::made::{named, shared};
 use super::tariffs::Four;
 use share_base::{FlowNo, Name, Reply};
@@ -71,8 +71,8 @@ fn a_packet_is_taken_once_its_memory_is_found(rt: HostRuntime) {
 // All calls but those that open a book, and that take a long packet. Returns whether each did what it does.
 fn are_called(book: &mut Book<Four>, outbox: &mut Outbox, names: [Name; 2]) -> bool {
     let [a, x] = names;
-    let is_held = book.hold(a) == Reply::Done && book.resume(a) == Reply::Done;
-    let is_amended = book.amend(x, 1, 500) == Reply::Done && book.plan().tenants().len() == 2;
+    let is_held = hold(book, a) == Some(Reply::Done) && resume(book, a) == Some(Reply::Done);
+    let is_amended = amend(book, x, 1, 500) == Some(Reply::Done);
     let is_sent = matches!(book.turn(outbox), Turned::Wrote { .. });
     let is_free = book.room(a) && !book.lacks_text();
     let count = book.text().len();

@@ -3,9 +3,9 @@
 use super::assertions::{holds, same};
 use super::made::{named, shared};
 use super::tariffs::Four;
-use share_base::{FlowNo, Refusal, Reply};
+use share_base::{FlowNo, Name, Refusal, Reply};
 use share_book::{Book, Taken, TextKind, Turned};
-use share_gateway::{Grant, Outbox};
+use share_gateway::{Currency, Outbox, Tenant};
 use std::alloc::Global;
 use std::process::Abort;
 
@@ -130,51 +130,120 @@ fn a_book_is_its_events_and_their_lines(rt: HostRuntime) {
     drop(outbox);
 }
 
-// What control lines are answered, and their lines.
-fn changes(rt: &impl Abort, book: &mut Book<Four>) {
-    let (a, b, x, z) = (
-        named(rt, "a"),
-        named(rt, "b"),
-        named(rt, "x"),
-        named(rt, "z"),
-    );
-    let no = Reply::Refused;
-    same(rt, "hold a", book.hold(a), Reply::Done);
-    same(rt, "hold b again", book.hold(b), no(Refusal::Held));
-    same(rt, "resume b", book.resume(b), Reply::Done);
-    same(rt, "hold z", book.hold(z), no(Refusal::NoFlow));
-    same(rt, "amend x 1", book.amend(x, 1, 500), Reply::Done);
-    same(rt, "amend b 1", book.amend(b, 1, 7), Reply::Done);
+/// Holds a tenant, if the text has room for the line.
+pub(super) fn hold(book: &mut Book<Four>, tenant: Name) -> Option<Reply> {
+    if book.lacks_text() {
+        return None;
+    }
+    Some(book.hold(tenant))
+}
+
+/// Ends the hold of a tenant, if the text has room for the line.
+pub(super) fn resume(book: &mut Book<Four>, tenant: Name) -> Option<Reply> {
+    if book.lacks_text() {
+        return None;
+    }
+    Some(book.resume(tenant))
+}
+
+/// Amends a grant, if the text has room for the line.
+pub(super) fn amend(book: &mut Book<Four>, name: Name, number: u64, amount: u64) -> Option<Reply> {
+    if book.lacks_text() {
+        return None;
+    }
+    Some(book.amend(name, number, amount))
+}
+
+// What holds and resumes are answered.
+fn holds_and_resumes(rt: &impl Abort, book: &mut Book<Four>) {
+    let (a, b, z) = (named(rt, "a"), named(rt, "b"), named(rt, "z"));
+    same(rt, "hold a", hold(book, a), Some(Reply::Done));
     same(
         rt,
-        "amend b 1 out of range",
-        book.amend(b, 1, 0),
-        no(Refusal::Range),
+        "hold b",
+        hold(book, b),
+        Some(Reply::Refused(Refusal::Held)),
     );
-    same(rt, "amend b 2", book.amend(b, 2, 7), no(Refusal::NoTicket));
+    same(rt, "resume b", resume(book, b), Some(Reply::Done));
     same(
         rt,
-        "amend z 1",
-        book.amend(z, 1, 7),
-        no(Refusal::NoCurrency),
+        "hold z",
+        hold(book, z),
+        Some(Reply::Refused(Refusal::NoFlow)),
     );
 }
 
-// The amount of the first grant, from its currency or its tenant.
-fn first_amount(grants: &[Grant]) -> Option<u64> {
-    grants.first().map(|grant| grant.amount)
+// An amend, and why it is refused, if it is.
+#[derive(Clone, Copy)]
+struct AmendRow {
+    name: &'static str,
+    number: u64,
+    amount: u64,
+    refusal: Option<Refusal>,
+}
+
+const AMENDS: [AmendRow; 5] = [
+    AmendRow {
+        name: "x",
+        number: 1,
+        amount: 500,
+        refusal: None,
+    },
+    AmendRow {
+        name: "b",
+        number: 1,
+        amount: 7,
+        refusal: None,
+    },
+    AmendRow {
+        name: "b",
+        number: 1,
+        amount: 0,
+        refusal: Some(Refusal::Range),
+    },
+    AmendRow {
+        name: "b",
+        number: 2,
+        amount: 7,
+        refusal: Some(Refusal::NoTicket),
+    },
+    AmendRow {
+        name: "z",
+        number: 1,
+        amount: 7,
+        refusal: Some(Refusal::NoCurrency),
+    },
+];
+
+fn amends(rt: &impl Abort, book: &mut Book<Four>, row: &AmendRow) {
+    let wanted = match row.refusal {
+        None => Reply::Done,
+        Some(refusal) => Reply::Refused(refusal),
+    };
+    let reply = amend(book, named(rt, row.name), row.number, row.amount);
+    same(rt, (row.name, row.number), reply, Some(wanted));
+}
+
+// The amount of the first grant of the first currency.
+fn first_amount(currencies: &[Currency]) -> Option<u64> {
+    let currency = currencies.first()?;
+    let grant = currency.grants.first()?;
+    Some(grant.amount)
+}
+
+// Whether a tenant is held, and the amount of its first grant.
+fn tenant_at(tenants: &[Tenant], at: usize) -> Option<(bool, u64)> {
+    let tenant = tenants.get(at)?;
+    let grant = tenant.grants.first()?;
+    Some((tenant.held, grant.amount))
 }
 
 // The plan is as it was changed.
 fn is_changed(rt: &impl Abort, book: &Book<Four>) {
     let plan = book.plan();
-    let currency = &plan.currencies()[0];
-    let first = &plan.tenants()[0];
-    let second = &plan.tenants()[1];
-    same(rt, "held", (first.held, second.held), (true, false));
-    same(rt, "x", first_amount(currency.grants.as_slice()), Some(500));
-    same(rt, "a", first_amount(first.grants.as_slice()), Some(1));
-    same(rt, "b", first_amount(second.grants.as_slice()), Some(7));
+    same(rt, "x", first_amount(plan.currencies()), Some(500));
+    same(rt, "a", tenant_at(plan.tenants(), 0), Some((true, 1)));
+    same(rt, "b", tenant_at(plan.tenants(), 1), Some((false, 7)));
 }
 
 #[test]
@@ -188,7 +257,10 @@ fn changes_are_events_and_change_the_plan(rt: HostRuntime) {
         lines.is_some_and(|lines| lines == b"hold b\n".as_slice()),
     );
     drain(&mut book);
-    changes(&rt, &mut book);
+    holds_and_resumes(&rt, &mut book);
+    for at in 0..AMENDS.len() {
+        amends(&rt, &mut book, &AMENDS[at]);
+    }
     let lines = b"hold a\nhold b\nresume b\nhold z\namend 1 500\namend 3 7\namend 3 0\n";
     holds(&rt, "lines", book.text() == lines.as_slice());
     is_changed(&rt, &book);
@@ -199,11 +271,10 @@ fn changes_are_events_and_change_the_plan(rt: HostRuntime) {
 fn spend(rt: &impl Abort, book: &mut Book<Four>) {
     let a = named(rt, "a");
     for _event in 0..EVENTS {
-        if book.lacks_text() {
-            drain(book);
-        }
-        if book.hold(a) == Reply::Refused(Refusal::Spent) {
-            break;
+        match hold(book, a) {
+            None => drain(book),
+            Some(Reply::Refused(Refusal::Spent)) => break,
+            Some(_) => (),
         }
     }
     same(rt, "events", book.engine().events(), EVENTS);

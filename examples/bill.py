@@ -192,8 +192,11 @@ class Difference(Exception):
 
 
 def expect_equal(found, wanted, what):
-    if found != wanted:
-        raise Difference("%s: %r, not %r" % (what, found, wanted))
+    """Compares a status, what was printed and what was said. Of texts the first lines that differ are shown."""
+    for one, other in zip(found, wanted):
+        if one != other:
+            lines = itertools.zip_longest(str(one).split("\n"), str(other).split("\n"))
+            raise Difference("%s: %r, not %r" % (what, *next(pair for pair in lines if pair[0] != pair[1])))
 
 
 def run_bill(*words, output=subprocess.PIPE):

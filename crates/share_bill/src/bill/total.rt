@@ -60,8 +60,8 @@ impl Figures {
 /// Adds the rows of a book to those of the books before it. Tenants stand in the order in which they first appear, each
 /// once, with the sums of its rows.
 pub fn add_rows(totals: &mut Vec<TenantTotal>, rows: &[TenantBill]) -> Result<(), AllocError>
-    requires { each_once (map name_of totals.old.items) ≡ map name_of totals.old.items }
-    ensures names { OnOk result (map name_of totals.new.items
+    ensures names { each_once (map name_of totals.old.items) ≡ map name_of totals.old.items
+        → OnOk result (map name_of totals.new.items
         ≡ each_once (map name_of totals.old.items ++ map row_name rows.now)) }
     ensures sums { OnOk result ((name : List ℕ) → figures_of totals.new.items name
         ≡ figures_with name rows.now (figures_of totals.old.items name)) }

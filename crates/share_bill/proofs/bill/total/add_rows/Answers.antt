@@ -1,4 +1,4 @@
-use Rattle.std.proofs.Common.{ap, sym, ◌∙◌, ◌++◌, ◌∷◌, [], length, map, take}
+use Rattle.std.proofs.Common.{refl, ap, sym, ◌∙◌, ◌++◌, ◌∷◌, [], map, take}
 use Rattle.std.proofs.lemmas.List.{append-nil, take_more}
 use Rattle.share_bill.specs.declared.bill.running.TenantBill.{TenantBill}
 use Rattle.share_bill.specs.Totals.{name_of, row_name, each_once, figures_and, figures_of, figures_with, with_name}
@@ -14,8 +14,9 @@ loop-row-preserved c =
     let more = take_more rows i row c.loop-row-test.true
     ∙ ap (λ (r : TenantBill). before ++ r ∷ []) (sym c.row-item.is) in
     let names = map name_of c.args.totals.now.items in (
-      c.in_ok-add_row.ensures.names
-          ∙ (ap (λ ns. with_name ns row.name) c.loop-row.invariant.0
+      λ once.
+          c.in_ok-add_row.ensures.names
+          ∙ (ap (λ ns. with_name ns row.name) (c.loop-row.invariant.0 once)
           ∙ (names-more names before row
           ∙ ap (λ (rs : _). each_once (names ++ map row_name rs)) (sym more))),
       λ name.
@@ -24,3 +25,9 @@ loop-row-preserved c =
           ∙ (figures-more name before row (figures_of c.args.totals.now.items name)
           ∙ ap (λ (rs : _). figures_with name rs (figures_of c.args.totals.now.items name)) (sym more))),
     )
+
+pub loop-row-init : goal.loop-row-init
+loop-row-init c = (
+  λ once. sym once ∙ ap each_once (sym (append-nil (map name_of c.args.totals.now.items))),
+  λ name. refl,
+)

@@ -4,7 +4,8 @@ use Rattle.share_bill.proofs.bill.total.add_rows.Given as goal
 
 abbrev pub invariant-loop-row : goal.invariant-loop-row
 invariant-loop-row l =
-    (map name_of l.totals.items
+    (each_once (map name_of l.initial.totals.items) ≡ map name_of l.initial.totals.items
+    → map name_of l.totals.items
     ≡ each_once (map name_of l.initial.totals.items ++ map row_name (take l.row-index l.rows)))
     × ((name : List ℕ) → figures_of l.totals.items name
     ≡ figures_with name (take l.row-index l.rows) (figures_of l.initial.totals.items name))

@@ -23,12 +23,12 @@ returns-in_err-end-in-Err-Output-clause-output g c same =
     let ran = c.in-Err-Output.ensures.output (ap Err is) in (
       ran.0,
       inr
-      record {
-        last = c.run.new.output;
-        calls = ran.1;
-        marked = search rules;
-        lost = c.in_err-end-in-Err-Output.ensures.lost;
-      },
+          record {
+            last = c.run.new.output;
+            calls = ran.1;
+            marked = search rules;
+            lost = c.in_err-end-in-Err-Output.ensures.lost;
+          },
     )
 
 pub returns-in-Err-clause-input : goal.returns-in-Err-clause-input

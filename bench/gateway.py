@@ -11,6 +11,7 @@ import os
 import re
 import subprocess
 import tempfile
+import time
 
 from bench import PROGRAM, ROUNDS, build_crate, median, run
 
@@ -71,13 +72,28 @@ def write_text(path, size):
             sink.write(pair * 1024)
 
 
+def peak_memory(command):
+    """The most memory of a program in bytes, looked at each 20 ms while it runs. What the system reports of a child
+    that has ended counts the memory of its parent."""
+    child, most = subprocess.Popen(command, stdout=subprocess.DEVNULL), 0
+    while child.poll() is None:
+        try:
+            with open("/proc/%d/status" % child.pid, encoding="ascii") as source:
+                found = re.search(r"^VmHWM:\s+(\d+) kB", source.read(), re.MULTILINE)
+        except OSError:
+            break
+        most = max(most, int(found[1]) * 1024 if found else 0)
+        time.sleep(0.02)
+    return most
+
+
 def print_bills(folder):
     path = os.path.join(folder, "book.lengths")
     for size in (64, 9000):
         write_text(path, size)
-        found = run([PROGRAM, "bill", path], os.devnull, os.devnull)
+        spent = run([PROGRAM, "bill", path], os.devnull, os.devnull).seconds
         print("a bill of 2^24 events, packets of %d bytes: %.1f s, %.1f MB"
-              % (size, found.seconds, found.memory / 1e6))
+              % (size, spent, peak_memory([PROGRAM, "bill", path]) / 1e6))
 
 
 def main():

@@ -18,9 +18,9 @@ from bench import PROGRAM, ROUNDS, build_crate, median, run
 USED = ("share_base", "share_model", "share_ledger", "share_stride", "share_tariff", "share_flows", "share_frame",
         "share_core", "share_report", "share_script", "share_journal", "share_ingress", "share_gateway", "share_book")
 SOURCES = ("main", "books", "streams")
-FEW, MANY = 10_000, 510_000
+FEW, MANY = 10_000, 210_000
 COUNTED = 20_000
-STREAMS = 1_000
+STREAMS = 100
 RECORDS = 1000
 NANOSECONDS = 1e9
 EVENTS = 1 << 24

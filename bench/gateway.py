@@ -20,7 +20,7 @@ USED = ("share_base", "share_model", "share_ledger", "share_stride", "share_tari
 SOURCES = ("main", "books", "streams")
 FEW, MANY = 10_000, 210_000
 COUNTED = 20_000
-STREAMS = 100
+STREAMS = 2_000
 RECORDS = 1000
 NANOSECONDS = 1e9
 EVENTS = 1 << 24
@@ -55,7 +55,7 @@ def print_books(program, folder):
 
 
 def print_records(program):
-    for size in (64, 1000, 9000):
+    for size in (64, 1000):
         pairs = [[per_round(program, kind, size, 1, 1 + STREAMS) / (RECORDS * (size + 4)) for kind in ("records", "copy")]
                  for _ in range(ROUNDS)]
         print("records of %d bytes: %.3f ns a byte, a copy %.3f ns, ratio %.2f"

@@ -1,4 +1,4 @@
-//! What books take of memory: some when they are opened, and for each payload of more than 16 bytes. Requests are
+//! The memory of books: some when they are opened, and some for each payload of more than 16 bytes. Requests are
 //! refused by the allocator of `.ci/allocator.c` alone, with which `.ci/memory` runs these tests; with any other the
 //! first call succeeds.
 

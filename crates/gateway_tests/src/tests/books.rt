@@ -154,7 +154,7 @@ pub(super) fn amend(book: &mut Book<Four>, name: Name, number: u64, amount: u64)
     Some(book.amend(name, number, amount))
 }
 
-// What holds and resumes are answered.
+// Holds and resumes have these answers.
 fn holds_and_resumes(rt: &impl Abort, book: &mut Book<Four>) {
     let (a, b, z) = (named(rt, "a"), named(rt, "b"), named(rt, "z"));
     same(rt, "hold a", hold(book, a), Some(Reply::Done));

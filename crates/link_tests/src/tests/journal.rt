@@ -201,7 +201,7 @@ fn are_noted(rt: &impl Abort, said: &mut Said, journal: &Journal, rows: &'static
     holds(rt, rows, entries.next().is_none());
 }
 
-// What the writer holds after a run, and the journal with its audit.
+// The writer's bytes after a run, and the journal with its audit.
 fn is_as_worked(rt: &impl Abort, alloc: Global, recorder: &Recording, run: &Run) {
     let writer = recorder.engine().writer();
     same(rt, run.rows, writer.bytes(), run.bytes);

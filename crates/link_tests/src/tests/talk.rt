@@ -37,7 +37,7 @@ pub(super) trait Talks {
 
     fn version(&self) -> Version;
 
-    /// What a question asks of the link.
+    /// A question to the link.
     fn read(&self, question: &str) -> Option<i128>;
 
     /// What an event changes, and how many entries there are.

@@ -1,6 +1,6 @@
 //! share_model: the wrappers of std's readers and writers, how patient a writer is, and the memory of a tape. The
-//! traits of std say nothing of an error's kind, and no contract counts calls. So these wrong bodies meet every clause, and tests
-//! alone see them: an interruption reported as a failure; a failure, of any kind or of one, reported as an
+//! traits of std say nothing of an error's kind, and no contract counts calls. So these wrong bodies meet every clause,
+//! and tests alone see them: an interruption reported as a failure; a failure, of any kind or of one, reported as an
 //! interruption; an end, or 0 accepted bytes, reported as either; no call for more than 4096 or 40000 bytes, or for
 //! none; half of the bytes passed on; a second call after one that was interrupted, failed or accepted nothing; a
 //! flush.

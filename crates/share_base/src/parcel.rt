@@ -144,11 +144,13 @@ impl Model for Parcel {
 }
 
 impl Parcel {
-    /// Copies these bytes twice. `Range` if there are not 1 to 9000 of them, `NoMemory` if memory was refused.
+    /// Copies these bytes twice. `Range` if there are not 1 to 9000 of them, `NoMemory` if memory was refused. No more
+    /// than 16 bytes take none.
     pub fn new(alloc: Global, bytes: &[u8]) -> Result<Parcel, Refusal>
         ensures ok { IfOk result
             (λ parcel. (parcel ≡ bytes.now) × (payload_refusal bytes.now ≡ None)) }
         ensures refused { IfErr result (IsRefused (payload_refusal bytes.now)) }
+        ensures in_place { payload_refusal bytes.now ≡ None → length bytes.now ≤ 16 → IsOk result }
     {
         let sending = Body::new(alloc, bytes)?;
         let audit = Body::new(alloc, bytes)?;

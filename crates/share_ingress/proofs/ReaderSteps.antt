@@ -1,6 +1,6 @@
 -- What the calls of a reader of records come to.
-use Rattle.std.proofs.Common.{◌≡◌, ◌≢◌, inl, inr, ℕ, ◌+◌, ◌-◌, List, [], ◌∷◌, ◌++◌, length, take, drop}
-use Rattle.std.proofs.Common.{false, ◌==◌, Option, None, Some, IfSome, arith, refl, sym, ap, ◌∙◌, subst}
+use Rattle.std.proofs.Common.{◌≡◌, ◌≢◌, ◌≤◌, inl, inr, ℕ, ◌+◌, ◌-◌, List, [], ◌∷◌, ◌++◌, length, take, drop}
+use Rattle.std.proofs.Common.{true, false, ◌==◌, Option, None, Some, IfSome, arith, refl, sym, ap, ◌∙◌, subst}
 use Rattle.std.proofs.lemmas.List.{append_assoc, append-nil, take_at, drop_at, length-append}
 use Rattle.std.specs.Io.KnownBytes.{Consumes, Keeps, IsAtEnd, prepend_known}
 use Rattle.share_model.specs.declared.ingress.Ended.{Ended}
@@ -12,9 +12,10 @@ use Rattle.share_model.proofs.lemmas.io.CallsLaws.{reads_once, reads_more}
 use Rattle.share_model.specs.io.Given.{Gives}
 use Rattle.share_model.specs.ingress.Records.{Item, two_bytes, record_of, IsCut, IsBad}
 use Rattle.share_model.specs.ingress.Records.{bad_name_length, bad_name, bad_length}
+use Rattle.share_base.specs.Body.{payload_refusal}
 use Rattle.share_ingress.specs.Found.{BeginsWhole, NeedsMore}
 use Rattle.share_ingress.specs.Reader.{Reading, EndsInput, GoesOnReading, LastRead, EndsBy, EndStands, ReadsOn}
-use Rattle.share_ingress.specs.Reader.{TakesItem}
+use Rattle.share_ingress.specs.Reader.{TakesItem, TakesMemory}
 use Rattle.share_ingress.specs.Reader.{Stops, Answers}
 use Rattle.share_ingress.specs.declared.reader.Next.{Next}
 use Rattle.share_ingress.specs.declared.reader.Next.TheVariants.{Item as Found, Ended as Over}
@@ -108,13 +109,13 @@ module _ {R : Type 0} (gives : R → List ℕ → Got → R → Type 0) (left : 
         stands = (none, more);
       }
 
-  pub no_memory : (r : Reading R) → Stops gives left r NoMemory r
-  no_memory r =
+  pub no_memory : (r : Reading R) → TakesMemory r.held r.turns → Stops gives left r NoMemory r
+  no_memory r takes =
       record {
         calls = record { count = 0; reads = no_reads; turns = omega arith };
         kept = keeps_refl _;
         ends = any_known _;
-        stands = tt;
+        stands = takes;
       }
 
   pub bad_record : (r : Reading R) → IsBad r.held → Stops gives left r BadRecord r
@@ -327,6 +328,30 @@ cut_held [] some more = cc
 cut_held (b ∷ bs) some (inl none) = cc
 cut_held (b ∷ bs) some (inr cut) = cut
 
+-- the payload of the record in front
+payload_at : (held name : List ℕ) (size start : ℕ) (whole : BeginsWhole held name size) → start ≡ 3 + length name
+    → take (start + size - start) (drop start held) ≡ whole.payload
+payload_at held name size start whole start_is =
+    let front = (length name ∷ name) ++ two_bytes (length whole.payload) in
+    let long : length front ≡ start =
+    omega (arith, start_is, length-append (length name ∷ name) (two_bytes (length whole.payload))) in
+    let bytes : drop start held ≡ whole.payload ++ whole.rest =
+    ap (λ t. drop start t) (whole.bytes ∙ append_assoc front whole.payload whole.rest)
+    ∙ drop_at front (whole.payload ++ whole.rest) start long in
+    let size_same : start + size - start ≡ size = omega arith in
+    rw size_same (ap (λ t. take size t) bytes ∙ take_at whole.payload whole.rest size whole.size_is)
+
+-- a payload that is not made, though it has a length that payloads have, is longer than 16 bytes
+pub takes_for_payload : (held name : List ℕ) (turns size start : ℕ) → BeginsWhole held name size
+    → start ≡ 3 + length name → (payload : List ℕ) → payload ≡ take (start + size - start) (drop start held)
+    → (payload_refusal payload ≡ None → length payload ≤ 16 → false ≡ true) → TakesMemory held turns
+takes_for_payload held name turns size start whole start_is payload payload_is lacks =
+    let same : payload ≡ whole.payload = payload_is ∙ payload_at held name size start whole start_is in
+    let count : length payload ≡ size = ap length same ∙ whole.size_is in
+    let fits : payload_refusal payload ≡ None = rw (same, whole.item.payload) refl in
+    let long : length payload ≤ 16 → ⊥ = (λ few. let no : false ≡ true = lacks fits few in cc) in
+    inl (name, size, omega (arith, long, count), whole)
+
 module _ {R : Type 0} (gives : R → List ℕ → Got → R → Type 0) (left : R → Option (List ℕ)) where
   -- the record in front was given
   pub given_whole : (reader : R) (held name : List ℕ) (turns size start : ℕ) (ended : Option Ended)
@@ -342,12 +367,7 @@ module _ {R : Type 0} (gives : R → List ℕ → Got → R → Type 0) (left : 
       omega (arith, start_is, length-append (length name ∷ name) (two_bytes (length whole.payload))) in
       let all : length (record_of item) ≡ start + size =
       omega (arith, long, whole.size_is, length-append front whole.payload) in
-      let bytes : drop start held ≡ whole.payload ++ whole.rest =
-      ap (λ t. drop start t) (whole.bytes ∙ append_assoc front whole.payload whole.rest)
-      ∙ drop_at front (whole.payload ++ whole.rest) start long in
-      let size_same : start + size - start ≡ size = omega arith in
-      let payload : parcel ≡ whole.payload =
-      rw size_same at parcel_is ∙ ap (λ t. take size t) bytes ∙ take_at whole.payload whole.rest size whole.size_is in
+      let payload : parcel ≡ whole.payload = parcel_is ∙ payload_at held name size start whole start_is in
       let after : rest ≡ whole.rest =
       rest_is ∙ ap (λ t. drop (start + size) t) whole.bytes ∙ drop_at (record_of item) whole.rest (start + size) all in
       record {

@@ -1,5 +1,5 @@
 -- What a contract sees of a reader of records, and what its calls do.
-use Rattle.std.specs.Prelude.{◌≡◌, ◌+◌, ⊤, ℕ, List, [], Option, None}
+use Rattle.std.specs.Prelude.{◌≡◌, ◌≤◌, ◌⊎◌, ◌+◌, ⊤, ℕ, List, [], Option, None}
 use Rattle.std.specs.Prelude.{Some, IfSome}
 use Rattle.std.specs.Io.KnownBytes.{Consumes, Keeps, prepend_known}
 use Rattle.share_model.specs.declared.ingress.Ended.{Ended}
@@ -8,7 +8,7 @@ use Rattle.share_model.specs.declared.reader.Got.{Got}
 use Rattle.share_model.specs.declared.reader.Got.TheVariants.{End as EndOfInput, Failed}
 use Rattle.share_model.specs.io.Calls.{Reads}
 use Rattle.share_model.specs.ingress.Records.{Item, IsItem, record_of, IsCut, IsBad, EndsAs}
-use Rattle.share_ingress.specs.Found.{NeedsMore}
+use Rattle.share_ingress.specs.Found.{BeginsWhole, NeedsMore}
 use Rattle.share_ingress.specs.declared.reader.Next.{Next}
 use Rattle.share_ingress.specs.declared.reader.Next.TheVariants.{Item as Found, Ended as Over}
 
@@ -32,6 +32,11 @@ EndsInput held BadRecord = ⊥
 EndsInput held Fault = ⊥
 EndsInput held NoMemory = ⊥
 EndsInput held Bound = ⊥
+
+-- memory is asked for: for the payload of a record in front, which is longer than 16 bytes, or for room to read more
+abbrev pub TakesMemory : List ℕ → ℕ → Type 0
+TakesMemory held turns =
+    ((name : List ℕ) × (size : ℕ) × (17 ≤ size) × BeginsWhole held name size) ⊎ ((1 ≤ turns) × NeedsMore held)
 
 module _ {R : Type 0} (gives : R → List ℕ → Got → R → Type 0) where
   -- reads that gave bytes or were interrupted, each of which used up a turn
@@ -62,13 +67,14 @@ module _ {R : Type 0} (gives : R → List ℕ → Got → R → Type 0) where
   abbrev pub Gave : Got → R → Type 0
   Gave got reader = (before : R) × (buffer : List ℕ) × gives before buffer got reader
 
-  -- why it ended so, in this call or an earlier one: the last read found the end, or failed; or no turn was left
+  -- why it ended so, in this call or an earlier one: the last read found the end, or failed; memory was asked for; or no
+  -- turn was left
   abbrev pub EndStands : Reading R → Ended → Type 0
   EndStands r End = (r.held ≡ []) × Gave EndOfInput r.reader
   EndStands r Cut = IsCut r.held × Gave EndOfInput r.reader
   EndStands r BadRecord = IsBad r.held
   EndStands r Fault = Gave Failed r.reader
-  EndStands r NoMemory = ⊤
+  EndStands r NoMemory = TakesMemory r.held r.turns
   EndStands r Bound = (r.turns ≡ 0) × NeedsMore r.held
 
   module _ (left : R → Option (List ℕ)) where

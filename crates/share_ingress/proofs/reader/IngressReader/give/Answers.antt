@@ -1,9 +1,13 @@
 use Rattle.std.proofs.Common.{◌+◌, length, refl}
-use Rattle.share_ingress.proofs.ReaderSteps.{answers_ended, no_memory, given_whole}
+use Rattle.share_ingress.proofs.ReaderSteps.{answers_ended, no_memory, given_whole, takes_for_payload}
 use Rattle.share_ingress.proofs.reader.IngressReader.give.Goals as goal
 
 pub returns-in-Err : goal.returns-in-Err
-returns-in-Err g c = let e = c.end.ensures in answers_ended _ _ _ _ _ _ _ (no_memory _ _ _) c.end.ensures.answer
+returns-in-Err g c =
+    let takes = takes_for_payload c.self.inside.held.items c.args.name c.self.inside.turns c.args.size
+    (3 + length c.as_bytes.result.now) (rw (← c.self.view_is) at c.requires.whole) (rw c.as_bytes.ensures.value refl)
+    _ (rw (← c.as_slice.ensures) refl) c.in-Err.ensures.in_place in
+    answers_ended _ _ _ _ _ _ _ (no_memory _ _ _ (rw (← c.self.view_is) takes)) c.end.ensures.answer
     c.end.ensures.same
 
 pub returns-in-Ok : goal.returns-in-Ok

@@ -1,4 +1,4 @@
-use Rattle.std.proofs.Common.{◌∙◌}
+use Rattle.std.proofs.Common.{◌∙◌, arith, inr}
 use Rattle.share_ingress.proofs.ReaderSteps.{bound_met, no_memory, bytes_read, interrupted, failed, ended_input}
 use Rattle.share_ingress.proofs.ReaderSteps.{read_whole}
 use Rattle.share_ingress.proofs.reader.IngressReader.read.Goals as goal
@@ -11,7 +11,9 @@ pub returns-then-self-eq0-clause-read : goal.returns-then-self-eq0-clause-read
 returns-then-self-eq0-clause-read g c = bound_met _ _ _ (rw (← c.self.view_is) c.if-self-eq0.true) c.requires.more
 
 pub returns-then-is_err-clause-read : goal.returns-then-is_err-clause-read
-returns-then-is_err-clause-read g c = rw (c.reserve.ensures.items, ← c.self.view_is) (no_memory _ _ _)
+returns-then-is_err-clause-read g c =
+    rw (c.reserve.ensures.items, ← c.self.view_is)
+    (no_memory _ _ _ (inr (omega (arith, c.if-self-eq0.false), rw (← c.self.view_is) at c.requires.more)))
 
 pub returns-in-Bytes-clause-read : goal.returns-in-Bytes-clause-read
 returns-in-Bytes-clause-read g c =

@@ -7,7 +7,7 @@ ghost use Rattle.share_script.specs.Lengths.{length_line};
 use crate::spelling::{
     MAX_COMMAND, MAX_SPELLED, push_command, push_length, push_numbered, push_send,
 };
-use crate::text::{ShortText, Text};
+use crate::text::{ROOM, ShortText, Text};
 use share_base::{Body, Command, Name};
 
 /// How many bytes the line of a packet has at most, its payload in hexadecimal and the line feed included.
@@ -17,7 +17,7 @@ pub const MAX_SEND_LINE: usize = MAX_SPELLED + 1;
 pub const MAX_SHORT_LINE: usize = MAX_COMMAND + 1;
 
 /// The line of a packet.
-pub fn spelled_arrival(flow: &Name, body: &Body) -> ShortText
+pub fn spelled_arrival(flow: &Name, body: &Body) -> ShortText<ROOM>
     ensures bytes { result ≡ written_line (Send flow.now body.now) }
     ensures few { length result ≤ MAX_SEND_LINE }
 {
@@ -28,7 +28,7 @@ pub fn spelled_arrival(flow: &Name, body: &Body) -> ShortText
 }
 
 /// The line of a packet that names how many bytes its payload has, and none of them.
-pub fn spelled_length(flow: &Name, count: u64) -> ShortText
+pub fn spelled_length(flow: &Name, count: u64) -> ShortText<MAX_SHORT_LINE>
     ensures bytes { result ≡ length_line flow.now count }
     ensures few { length result ≤ MAX_SHORT_LINE }
 {
@@ -39,7 +39,7 @@ pub fn spelled_length(flow: &Name, count: u64) -> ShortText
 }
 
 /// The line of a command.
-pub fn spelled_command(command: &Command) -> ShortText
+pub fn spelled_command(command: &Command) -> ShortText<MAX_SHORT_LINE>
     ensures bytes { result ≡ written_line (Change command.now) }
     ensures few { length result ≤ MAX_SHORT_LINE }
 {
@@ -50,7 +50,7 @@ pub fn spelled_command(command: &Command) -> ShortText
 }
 
 /// The line of a turn that offers this many bytes.
-pub fn spelled_turn(count: u64) -> ShortText
+pub fn spelled_turn(count: u64) -> ShortText<MAX_SHORT_LINE>
     ensures bytes { result ≡ written_line (Turn count) }
     ensures few { length result ≤ MAX_SHORT_LINE }
 {

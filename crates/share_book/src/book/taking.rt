@@ -1,13 +1,13 @@
 //! Packets that a book takes.
-ghost use Rattle.std.specs.Prelude.{◌≡◌, ◌≢◌, ◌≤◌, length, false, true};
-ghost use Rattle.share_core.specs.Room.{has_room};
+ghost use Rattle.std.specs.Prelude.{◌≡◌, ◌≢◌, ◌≤◌, length, false, Some};
+ghost use Rattle.share_core.specs.Room.{free_flow};
 ghost use Rattle.share_model.specs.link.Calls.{is_spent};
 ghost use Rattle.share_book.specs.Audited.{lacks_text};
 ghost use Rattle.share_book.specs.Book.{Takes, TakesPacket};
 
 use super::{Book, Taken};
 use crate::audited::AuditedEngine;
-use share_base::{Body, MAX_PAYLOAD, Name, Reply};
+use share_base::{Body, FlowNo, MAX_PAYLOAD, Name, Reply};
 use share_model::Rates;
 use std::alloc::Global;
 
@@ -29,24 +29,29 @@ impl<S: Rates> Book<S> {
         if self.audited.lacks_text() {
             return Taken::NoText;
         }
-        if !self.room(tenant) {
+        let Some(number) = self.audited.engine().free_flow(tenant) else {
             return Taken::NoRoom;
-        }
+        };
         match Body::new(alloc, payload) {
             Err(_) => Taken::NoMemory,
-            Ok(body) => accept(&mut self.audited, tenant, body),
+            Ok(body) => accept(&mut self.audited, tenant, number, body),
         }
     }
 }
 
 // Takes a packet for which there is room.
-fn accept<S: Rates>(audited: &mut AuditedEngine<S>, tenant: Name, body: Body) -> Taken
+fn accept<S: Rates>(
+    audited: &mut AuditedEngine<S>,
+    tenant: Name,
+    number: FlowNo,
+    body: Body,
+) -> Taken
     requires living { is_spent audited.old.link ≡ false }
     requires text { lacks_text audited.old ≡ false }
-    requires room { has_room audited.old.link.live tenant ≡ true }
+    requires free { free_flow audited.old.link.live tenant ≡ Some number }
     ensures { TakesPacket audited.old tenant body.payload result audited.new }
 {
-    let Reply::Packet { seq, .. } = audited.arrive(tenant, body) else {
+    let Reply::Packet { seq, .. } = audited.arrive_at(tenant, number, body) else {
         unreachable!()
     };
     Taken::Packet { seq }

@@ -17,7 +17,7 @@ use share_core::{Engine, PayloadBuffers};
 use share_gateway::Outbox;
 use share_model::Rates;
 use share_script::{
-    MAX_SEND_LINE, MAX_SHORT_LINE, spelled_arrival, spelled_command, spelled_length, spelled_turn,
+    MAX_SEND_LINE, MAX_SHORT_LINE, spelled_command, spelled_length, spelled_send, spelled_turn,
 };
 use std::marker::Model;
 
@@ -176,7 +176,11 @@ fn push_arrival(text: &mut BookText, kind: TextKind, flow: &Name, body: &Body)
 {
     let count = body.as_slice().len();
     match kind {
-        TextKind::Whole => text.push(spelled_arrival(flow, body).as_bytes()),
+        TextKind::Whole => {
+            text.push(spelled_send(flow).as_bytes());
+            text.push_hex(body.as_slice());
+            text.push(b"\n");
+        }
         TextKind::Lengths => text.push(spelled_length(flow, count as u64).as_bytes()),
     }
 }

@@ -1,14 +1,14 @@
 //! Lines of a text that is written as its events happen, each with its line feed. None of these calls takes memory.
-ghost use Rattle.std.specs.Prelude.{◌≡◌, ◌≤◌, length};
-ghost use Rattle.share_model.specs.declared.line.Line.TheVariants.{Change, Send, Turn};
+ghost use Rattle.std.specs.Prelude.{◌≡◌, ◌<◌, ◌≤◌, ◌+◌, ◌*◌, ◌++◌, ◌∷◌, [], length, codes};
+ghost use Rattle.share_model.specs.declared.line.Line.TheVariants.{Change, Turn};
 ghost use Rattle.share_model.specs.text.Audit.{written_line};
 ghost use Rattle.share_script.specs.Lengths.{length_line};
 
 use crate::spelling::{
-    MAX_COMMAND, MAX_SPELLED, push_command, push_length, push_numbered, push_send,
+    MAX_COMMAND, MAX_SPELLED, push_command, push_length, push_named, push_numbered,
 };
-use crate::text::{ROOM, ShortText, Text};
-use share_base::{Body, Command, Name};
+use crate::text::{ShortText, Text};
+use share_base::{Command, MAX_PAYLOAD, Name};
 
 /// How many bytes the line of a packet has at most, its payload in hexadecimal and the line feed included.
 pub const MAX_SEND_LINE: usize = MAX_SPELLED + 1;
@@ -16,14 +16,14 @@ pub const MAX_SEND_LINE: usize = MAX_SPELLED + 1;
 /// How many bytes any other line of an event has at most, a packet's whose payload is left out included.
 pub const MAX_SHORT_LINE: usize = MAX_COMMAND + 1;
 
-/// The line of a packet.
-pub fn spelled_arrival(flow: &Name, body: &Body) -> ShortText<ROOM>
-    ensures bytes { result ≡ written_line (Send flow.now body.now) }
-    ensures few { length result ≤ MAX_SEND_LINE }
+/// The line of a packet up to its payload, whose digits and a line feed follow.
+pub fn spelled_send(flow: &Name) -> ShortText<MAX_SHORT_LINE>
+    ensures bytes { result ≡ codes "send" ++ 32 ∷ flow.now ++ 32 ∷ [] }
+    ensures few { length result + 2 * MAX_PAYLOAD < MAX_SEND_LINE }
 {
     let mut text = ShortText::new();
-    push_send(&mut text, flow, body);
-    text.push_str("\n");
+    push_named(&mut text, "send", flow);
+    text.push_str(" ");
     text
 }
 

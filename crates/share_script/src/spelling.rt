@@ -143,8 +143,8 @@ pub fn push_length<const N: usize>(text: &mut ShortText<N>, flow: &Name, count: 
     push_number(text, count);
 }
 
-// A keyword and a name.
-fn push_named<const N: usize>(text: &mut ShortText<N>, keyword: &str, name: &Name)
+/// Adds a keyword and a name to an empty text.
+pub fn push_named<const N: usize>(text: &mut ShortText<N>, keyword: &str, name: &Name)
     requires none { text.old ≡ [] }
     requires room { MAX_COMMAND ≤ N }
     requires short { length keyword.now ≤ 6 }

@@ -195,8 +195,12 @@ module _ (old : Audited) (link : LinkView (Unit {0})) (before after : OutboxView
 
 -- ---- With the line of the turn
 
+-- the link without its writer
+abbrev own_link : LinkView OutboxView → LinkView (Unit {0})
+own_link v = record { life = v.life; rates = v.rates; live = v.live; writer = tt }
+
 -- how many bytes a turn wrote
-wrote_count : Turn → ℕ
+abbrev wrote_count : Turn → ℕ
 wrote_count (Wrote flow seq k whole) = k
 wrote_count _ = 0
 
@@ -263,8 +267,7 @@ module _ (old : Audited) (link : LinkView (Unit {0})) (before after : OutboxView
         → OffersSome OutboxAnswers (lent old.link before) 9017 o turn (lent link after)
         → (turn ≡ Idle) × (link ≡ old.link) × (after ≡ before) × (o ≡ None)
     idle_by None is offers =
-        (offers.0, ap (λ (v : LinkView OutboxView). record v { writer = tt }) offers.1,
-        ap (λ (v : LinkView OutboxView). v.writer) offers.1, refl)
+        (offers.0, ap own_link offers.1, ap (λ (v : LinkView OutboxView). v.writer) offers.1, refl)
     idle_by (Some s) is offers =
         absurd (not_wrote (send-did old link before after s turn was is room living did).turn_is unwritten)
 
@@ -279,6 +282,11 @@ module _ (old : Audited) (link : LinkView (Unit {0})) (before after : OutboxView
         (record { link = link; kind = old.kind; text = old.text }) after
     idle-did =
         subst (λ o. SentNext old before o turn (record { link = link; kind = old.kind; text = old.text }) after)
-        (sym nothing_sent.2.2)
+        (sym nothing_sent.3)
         (nothing_sent.0, ap (λ l. record { link = l; kind = old.kind; text = old.text }) nothing_sent.1,
-        nothing_sent.2.1)
+        nothing_sent.2)
+
+-- no answer of the form is no write
+pub unwritten : (t : Turn) → ((flow seq k : ℕ) → (all : Bool) → t ≡ Wrote flow seq k all → ⊥) → is_wrote t ≡ false
+unwritten (Wrote flow seq k all) not = absurd (not flow seq k all refl)
+unwritten t not = refl

@@ -1,6 +1,6 @@
 //! Packets that a book takes.
-ghost use Rattle.std.specs.Prelude.{◌≡◌, ◌≢◌, ◌≤◌, length, false, Some};
-ghost use Rattle.share_core.specs.Room.{free_flow};
+ghost use Rattle.std.specs.Prelude.{◌≡◌, ◌≢◌, ◌≤◌, length, false, true, Some, is_some};
+ghost use Rattle.share_core.specs.Room.{free_flow, has_room};
 ghost use Rattle.share_model.specs.link.Calls.{is_spent};
 ghost use Rattle.share_book.specs.Audited.{lacks_text};
 ghost use Rattle.share_book.specs.Book.{Takes, TakesPacket};
@@ -8,6 +8,7 @@ ghost use Rattle.share_book.specs.Book.{Takes, TakesPacket};
 use super::{Book, Taken};
 use crate::audited::AuditedEngine;
 use share_base::{Body, FlowNo, MAX_PAYLOAD, Name, Reply};
+use share_core::Engine;
 use share_model::Rates;
 use std::alloc::Global;
 
@@ -29,7 +30,7 @@ impl<S: Rates> Book<S> {
         if self.audited.lacks_text() {
             return Taken::NoText;
         }
-        let Some(number) = self.audited.engine().free_flow(tenant) else {
+        let Some(number) = free_flow(self.audited.engine(), tenant) else {
             return Taken::NoRoom;
         };
         match Body::new(alloc, payload) {
@@ -37,6 +38,14 @@ impl<S: Rates> Book<S> {
             Ok(body) => accept(&mut self.audited, tenant, number, body),
         }
     }
+}
+
+// The number of the tenant's flow, if its buffer has room.
+fn free_flow<S: Rates>(engine: &Engine<(), S>, tenant: Name) -> Option<FlowNo>
+    ensures free { result ≡ free_flow engine.now.live tenant }
+    ensures room { has_room engine.now.live tenant ≡ is_some result }
+{
+    engine.free_flow(tenant)
 }
 
 // Takes a packet for which there is room.
@@ -48,6 +57,7 @@ fn accept<S: Rates>(
 ) -> Taken
     requires living { is_spent audited.old.link ≡ false }
     requires text { lacks_text audited.old ≡ false }
+    requires room { has_room audited.old.link.live tenant ≡ true }
     requires free { free_flow audited.old.link.live tenant ≡ Some number }
     ensures { TakesPacket audited.old tenant body.payload result audited.new }
 {

@@ -3,6 +3,7 @@ pub mod BookHistoryLemmas
 pub mod CarriedLemmas
 pub mod CarryAllLemmas
 pub mod CarryLemmas
+pub mod HexLemmas
 pub mod LaidOutLemmas
 pub mod OpenLemmas
 pub mod RunTextLemmas

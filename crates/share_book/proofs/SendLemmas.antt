@@ -1,5 +1,5 @@
 -- A turn of an engine that is lent an outbox: the frame goes into it as a whole.
-use Rattle.std.specs.Prelude.{◌≡◌, ◌==◌, ◌<◌, ◌≤◌, ℕ, true, false, List, [], ◌∷◌, length, take, drop}
+use Rattle.std.specs.Prelude.{◌≡◌, ◌==◌, ◌<◌, ◌≤◌, ℕ, Bool, true, false, List, [], ◌∷◌, length, take, drop}
 use Rattle.std.specs.Prelude.{Option, None, Some, IsSome, IfSome, option_map, option_and_then}
 use Rattle.std.proofs.Common.{refl, ap, sym, ◌∙◌, subst, arith}
 use Rattle.std.proofs.lemmas.Bool.{cond-true, cond-false}
@@ -10,7 +10,7 @@ use Rattle.share_base.specs.declared.command.Event.TheVariants.{Written}
 use Rattle.share_base.specs.declared.command.Outcome.{Outcome}
 use Rattle.share_base.specs.declared.command.Outcome.TheVariants.{Turned}
 use Rattle.share_base.specs.declared.command.Turn.{Turn}
-use Rattle.share_base.specs.declared.command.Turn.TheVariants.{Wrote}
+use Rattle.share_base.specs.declared.command.Turn.TheVariants.{Idle, Wrote}
 use Rattle.share_model.specs.declared.rates.Rate.{Rate}
 use Rattle.share_model.specs.declared.writer.Answer.{Answer}
 use Rattle.share_model.specs.declared.writer.Answer.TheVariants.{Accepted, Interrupted, Failed}
@@ -32,7 +32,7 @@ use Rattle.share_model.proofs.lemmas.run.SoundLaws.{sending-few, sending-short}
 use Rattle.share_core.specs.Lent.{lent}
 use Rattle.share_journal.proofs.Runs.{run-sound}
 use Rattle.share_book.specs.Audited.{Audited, SendsWhole}
-use Rattle.share_book.specs.Sends.{SentWhole, wrote_count}
+use Rattle.share_book.specs.Sends.{SentNext, SentWhole}
 use Rattle.share_gateway.specs.Outbox.{OutboxView, OutboxAnswers, room_of, takes, with_frame}
 use Rattle.share_book.specs.Texts.{line_in, with_bytes, TextView}
 use Rattle.share_book.specs.declared.book_text.TextKind.{TextKind}
@@ -195,32 +195,98 @@ module _ (old : Audited) (link : LinkView (Unit {0})) (before after : OutboxView
 
 -- ---- With the line of the turn
 
+-- the link without its writer
+abbrev own_link : LinkView OutboxView → LinkView (Unit {0})
+own_link v = record { life = v.life; rates = v.rates; live = v.live; writer = tt }
+
+-- how many bytes a turn wrote
+abbrev wrote_count : Turn → ℕ
+wrote_count (Wrote flow seq k whole) = k
+wrote_count _ = 0
+
+abbrev pub is_wrote : Turn → Bool
+is_wrote (Wrote flow seq k whole) = true
+is_wrote _ = false
+
+not_wrote : {t : Turn} {flow seq k : ℕ} {all : Bool} → t ≡ Wrote flow seq k all → is_wrote t ≡ false → ⊥
+not_wrote is not = let own = ap is_wrote is in cc
+
 line_written : (kind : TextKind) (k : ℕ) → line_in kind (Written k) ≡ written_line (TurnLine k)
 line_written Whole k = refl
 line_written Lengths k = refl
 
-module _ (old : Audited) (link : LinkView (Unit {0})) (before after : OutboxView) (turn : Turn) (text : TextView)
-    (was : IsKept old) (living : is_spent old.link ≡ false) (room : 9017 ≤ room_of before)
-    (did : TurnCall OutboxAnswers (lent old.link before) 9017 turn (lent link after))
-    (text_is : text ≡ with_bytes old.text (written_line (TurnLine (wrote_count turn)))) where
-  sent_text : (s : Sending) → sending old.link.live ≡ Some s
-      → text ≡ with_bytes old.text (line_in old.kind (Written (length (frame_of s))))
-  sent_text s is =
-      text_is
-      ∙ ap (λ t. with_bytes old.text (written_line (TurnLine (wrote_count t))))
-      (send-did old link before after s turn was is room living did).turn_is
+module _ (old : Audited) (link : LinkView (Unit {0})) (before after : OutboxView) (turn : Turn) (was : IsKept old)
+    (living : is_spent old.link ≡ false) (room : 9017 ≤ room_of before)
+    (did : TurnCall OutboxAnswers (lent old.link before) 9017 turn (lent link after)) where
+  offered : OffersSome OutboxAnswers (lent old.link before) 9017 (sending old.link.live) turn (lent link after)
+  offered = of_living old.link.live.broken _ _ was.1.unbroken (of_living (is_spent old.link) _ _ living did)
+
+  -- a turn that wrote sent a frame
+  wrote_some : (o : Option Sending) → OffersSome OutboxAnswers (lent old.link before) 9017 o turn (lent link after)
+      → (flow seq k : ℕ) (all : Bool) → turn ≡ Wrote flow seq k all → IsSome o
+  wrote_some None offers flow seq k all is = let idle = offers.0 in cc
+  wrote_some (Some s) offers flow seq k all is = refl
+
+  sent_text : (s : Sending) → sending old.link.live ≡ Some s → (flow seq k : ℕ) (all : Bool)
+      → turn ≡ Wrote flow seq k all
+      → with_bytes old.text (written_line (TurnLine k))
+      ≡ with_bytes old.text (line_in old.kind (Written (length (frame_of s))))
+  sent_text s is flow seq k all wrote =
+      ap (λ t. with_bytes old.text (written_line (TurnLine (wrote_count t))))
+      (sym wrote ∙ (send-did old link before after s turn was is room living did).turn_is)
       ∙ ap (with_bytes old.text) (sym (line_written old.kind (length (frame_of s))))
 
-  pub sent-kept : (o : Option Sending) → sending old.link.live ≡ o → IsSome o
-      → IsKept (record { link = link; kind = old.kind; text = text })
-  sent-kept None is some = cc
-  sent-kept (Some s) is some =
-      subst (λ t. IsKept (record { link = link; kind = old.kind; text = t })) (sym (sent_text s is))
-      (send-kept old link before after s turn was is room living did)
+  module _ (flow seq k : ℕ) (all : Bool) (wrote : turn ≡ Wrote flow seq k all) (text : TextView)
+      (text_is : text ≡ with_bytes old.text (written_line (TurnLine k))) where
+    kept_some : (o : Option Sending) → sending old.link.live ≡ o → IsSome o
+        → IsKept (record { link = link; kind = old.kind; text = text })
+    kept_some None is some = cc
+    kept_some (Some s) is some =
+        subst (λ t. IsKept (record { link = link; kind = old.kind; text = t }))
+        (sym (text_is ∙ sent_text s is flow seq k all wrote)) (send-kept old link before after s turn was is room living did)
 
-  pub sent-did : (o : Option Sending) → sending old.link.live ≡ o
-      → IfSome o (λ s. SentWhole old before s turn (record { link = link; kind = old.kind; text = text }) after)
-  sent-did None is = tt
-  sent-did (Some s) is =
-      subst (λ t. SentWhole old before s turn (record { link = link; kind = old.kind; text = t }) after)
-      (sym (sent_text s is)) (send-did old link before after s turn was is room living did)
+    pub sent-kept : IsKept (record { link = link; kind = old.kind; text = text })
+    sent-kept =
+        kept_some (sending old.link.live) refl (wrote_some (sending old.link.live) offered flow seq k all wrote)
+
+    did_some : (o : Option Sending) → sending old.link.live ≡ o → IsSome o
+        → SentNext old before o turn (record { link = link; kind = old.kind; text = text }) after
+    did_some None is some = cc
+    did_some (Some s) is some =
+        subst (λ t. SentWhole old before s turn (record { link = link; kind = old.kind; text = t }) after)
+        (sym (text_is ∙ sent_text s is flow seq k all wrote)) (send-did old link before after s turn was is room living did)
+
+    pub sent-did : SentNext old before (sending old.link.live) turn
+        (record { link = link; kind = old.kind; text = text }) after
+    sent-did =
+        did_some (sending old.link.live) refl (wrote_some (sending old.link.live) offered flow seq k all wrote)
+
+  -- a turn that wrote none found none
+  module _ (unwritten : is_wrote turn ≡ false) where
+    idle_by : (o : Option Sending) → sending old.link.live ≡ o
+        → OffersSome OutboxAnswers (lent old.link before) 9017 o turn (lent link after)
+        → (turn ≡ Idle) × (link ≡ old.link) × (after ≡ before) × (o ≡ None)
+    idle_by None is offers =
+        (offers.0, ap own_link offers.1, ap (λ (v : LinkView OutboxView). v.writer) offers.1, refl)
+    idle_by (Some s) is offers =
+        absurd (not_wrote (send-did old link before after s turn was is room living did).turn_is unwritten)
+
+    nothing_sent : (turn ≡ Idle) × (link ≡ old.link) × (after ≡ before) × (sending old.link.live ≡ None)
+    nothing_sent = idle_by (sending old.link.live) refl offered
+
+    pub idle-kept : IsKept (record { link = link; kind = old.kind; text = old.text })
+    idle-kept =
+        subst (λ l. IsKept (record { link = l; kind = old.kind; text = old.text })) (sym nothing_sent.1) was
+
+    pub idle-did : SentNext old before (sending old.link.live) turn
+        (record { link = link; kind = old.kind; text = old.text }) after
+    idle-did =
+        subst (λ o. SentNext old before o turn (record { link = link; kind = old.kind; text = old.text }) after)
+        (sym nothing_sent.3)
+        (nothing_sent.0, ap (λ l. record { link = l; kind = old.kind; text = old.text }) nothing_sent.1,
+        nothing_sent.2)
+
+-- no answer of the form is no write
+pub unwritten : (t : Turn) → ((flow seq k : ℕ) → (all : Bool) → t ≡ Wrote flow seq k all → ⊥) → is_wrote t ≡ false
+unwritten (Wrote flow seq k all) not = absurd (not flow seq k all refl)
+unwritten t not = refl

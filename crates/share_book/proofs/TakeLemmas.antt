@@ -1,9 +1,10 @@
 -- A packet for which there is room is accepted.
 use Rattle.std.specs.Prelude.{◌≡◌, ℕ, Bool, true, false, not, List, Option, None, Some, if◌then◌else◌}
-use Rattle.std.proofs.Common.{refl}
+use Rattle.std.specs.Prelude.{is_some}
+use Rattle.std.proofs.Common.{refl, ap}
 use Rattle.share_base.specs.declared.command.Reply.{Reply}
 use Rattle.share_base.specs.declared.command.Reply.TheVariants.{Packet}
-use Rattle.share_core.specs.Room.{has_place, has_room_by, has_room}
+use Rattle.share_core.specs.Room.{has_place, has_room_by, has_room, free_by, free_flow}
 use Rattle.share_model.specs.declared.funding.OpenFlow.{OpenFlow}
 use Rattle.share_model.specs.funding.Changes.{flow_named, flow_number}
 use Rattle.share_model.specs.funding.Graph.{NameBytes}
@@ -33,3 +34,18 @@ named_number l name = flow_number (flow_named l.graph name)
 pub accept-is : (l : Live) (name : NameBytes) (p : List ℕ) → has_room l name ≡ true
     → arrive_step l name p ≡ (accept l (named_number l name) p, Packet (named_number l name) (next_number l name))
 accept-is l name p free = accept_by l p (flow_named l.graph name) free
+
+-- A name for which a flow is free
+
+free_has : (b : Bool) (n : ℕ) (o : Option ℕ) → (if b then Some n else None) ≡ o → b ≡ is_some o
+free_has true n o is = ap is_some is
+free_has false n o is = ap is_some is
+
+free_room_by : (l : Live) (e : Option OpenFlow) → has_room_by l.buffers e ≡ is_some (free_by l.buffers e)
+free_room_by l None = refl
+free_room_by l (Some e) =
+    free_has (has_place (buffer_of l.buffers e.number)) e.number (free_by l.buffers (Some e)) refl
+
+-- has room
+pub free-room : (l : Live) (name : NameBytes) → has_room l name ≡ is_some (free_flow l name)
+free-room l name = free_room_by l (flow_named l.graph name)

@@ -1,22 +1,23 @@
 //! An engine with the text of its events.
-ghost use Rattle.std.specs.Prelude.{◌≡◌, ◌≤◌, false, length, IfSome, IsSome};
+ghost use Rattle.std.specs.Prelude.{◌≡◌, ◌≤◌, false, length, Some};
 ghost use Rattle.share_base.specs.Body.{unstamped};
 ghost use Rattle.share_base.specs.declared.command.Event.TheVariants.{Arrived};
 ghost use Rattle.share_base.specs.declared.command.Outcome.TheVariants.{Replied};
+ghost use Rattle.share_core.specs.Room.{free_flow};
 ghost use Rattle.share_model.specs.link.Calls.{is_spent};
 ghost use Rattle.share_model.specs.link.Turns.{sending};
 ghost use Rattle.share_book.specs.Audited.{IsRunAndText, SendsWhole, after_event, outcome_in, lacks_text};
 ghost use Rattle.share_book.specs.Audited.{CommandAudited, is_no_memory};
-ghost use Rattle.share_book.specs.Sends.{SentWhole, lacks_room, wrote_count};
+ghost use Rattle.share_book.specs.Sends.{SentNext, lacks_room};
 ghost use Rattle.share_book.specs.Texts.{after_drain, line_in, longest_line, text_room, with_bytes};
 
 use crate::book_text::{BookText, TextKind};
-use share_base::{Body, Command, MAX_PAYLOAD, Name, Refusal, Reply, Turn};
+use share_base::{Body, Command, FlowNo, MAX_PAYLOAD, Name, Refusal, Reply, Turn};
 use share_core::{Engine, PayloadBuffers};
 use share_gateway::Outbox;
 use share_model::Rates;
 use share_script::{
-    MAX_SEND_LINE, MAX_SHORT_LINE, spelled_arrival, spelled_command, spelled_length, spelled_turn,
+    MAX_SEND_LINE, MAX_SHORT_LINE, spelled_command, spelled_length, spelled_send, spelled_turn,
 };
 use std::marker::Model;
 
@@ -117,6 +118,19 @@ impl<S: Rates> AuditedEngine<S> {
         reply
     }
 
+    /// A packet comes for the flow of a name, whose number is the one that the engine's `free_flow` gives: one event,
+    /// with its line. The payload is not copied. It takes no memory.
+    pub fn arrive_at(&mut self, flow: Name, number: FlowNo, body: Body) -> Reply
+        requires living { is_spent self.old.link ≡ false }
+        requires text { lacks_text self.old ≡ false }
+        requires free { free_flow self.old.link.live flow ≡ Some number }
+        ensures reply { Replied result ≡ outcome_in self.old (Arrived flow (unstamped body.payload)) }
+        ensures after { self.new ≡ after_event self.old (Arrived flow (unstamped body.payload)) }
+    {
+        push_arrival(&mut self.text, self.kind, &flow, &body);
+        self.engine.arrive_at(flow, number, body)
+    }
+
     /// A packet comes for the flow of a name: one event, with its line. The payload is not copied. It takes no memory.
     pub fn arrive(&mut self, flow: Name, body: Body) -> Reply
         requires living { is_spent self.old.link ≡ false }
@@ -128,18 +142,18 @@ impl<S: Rates> AuditedEngine<S> {
         self.engine.arrive(flow, body)
     }
 
-    /// Sends the next frame, which there is: it goes into the outbox, which has room for the longest one, as a whole. It
-    /// is one event, with its line. It takes no memory.
+    /// Sends the next frame: it goes into the outbox, which has room for the longest one, as a whole. It is one event,
+    /// with its line. If there is nothing to send, it answers `Idle` and changes nothing. It takes no memory.
     pub fn send(&mut self, outbox: &mut Outbox) -> Turn
         requires living { is_spent self.old.link ≡ false }
         requires text { lacks_text self.old ≡ false }
-        requires sends { IsSome (sending self.old.link.live) }
         requires room { lacks_room outbox.old ≡ false }
-        ensures { IfSome (sending self.old.link.live)
-            (λ s. SentWhole self.old outbox.old s result self.new outbox.new) }
+        ensures { SentNext self.old outbox.old (sending self.old.link.live) result self.new outbox.new }
     {
         let turn = self.engine.turn_into(outbox, MAX_FRAME);
-        self.text.push(spelled_turn(wrote_count(&turn)).as_bytes());
+        if let Turn::Wrote { k, .. } = turn {
+            self.text.push(spelled_turn(u64::from(k)).as_bytes());
+        }
         turn
     }
 }
@@ -162,7 +176,11 @@ fn push_arrival(text: &mut BookText, kind: TextKind, flow: &Name, body: &Body)
 {
     let count = body.as_slice().len();
     match kind {
-        TextKind::Whole => text.push(spelled_arrival(flow, body).as_bytes()),
+        TextKind::Whole => {
+            text.push(spelled_send(flow).as_bytes());
+            text.push_hex(body.as_slice());
+            text.push(b"\n");
+        }
         TextKind::Lengths => text.push(spelled_length(flow, count as u64).as_bytes()),
     }
 }
@@ -171,14 +189,4 @@ fn is_no_memory(reply: &Reply) -> bool
     ensures { result ≡ is_no_memory reply.now }
 {
     matches!(reply, Reply::Refused(Refusal::NoMemory))
-}
-
-// How many bytes a turn wrote.
-fn wrote_count(turn: &Turn) -> u64
-    ensures { result ≡ wrote_count turn.now }
-{
-    match turn {
-        Turn::Wrote { k, .. } => u64::from(*k),
-        _ => 0,
-    }
 }

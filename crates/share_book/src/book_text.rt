@@ -1,9 +1,14 @@
 //! The text of a book, as far as it was not drained.
-ghost use Rattle.std.specs.Prelude.{◌≡◌, ◌≤◌, ◌+◌, [], length, IfOk, IfErr, OnErr};
+ghost use Rattle.std.specs.Prelude.{◌≡◌, ◌≤◌, ◌+◌, ◌*◌, [], length, IfOk, IfErr, OnErr};
+ghost use Rattle.share_model.specs.text.Lines.{hex};
 ghost use Rattle.share_book.specs.Texts.{first_line, text_room, with_bytes, after_drain};
 
+use share_script::spell;
 use std::alloc::{AllocError, Global};
 use std::marker::Model;
+
+/// How many bytes are spelled at a time.
+const PIECE: usize = 512;
 
 /// What the text of a book says of packets.
 #[derive(Clone, Copy, Debug, PartialEq, Eq)]
@@ -81,6 +86,21 @@ impl BookText {
     {
         if self.bytes.extend_from_slice(bytes).is_err() {
             unreachable!();
+        }
+    }
+
+    /// Puts the digits of bytes at the end: two for each, in hexadecimal. It takes no memory.
+    pub fn push_hex(&mut self, bytes: &[u8])
+        requires { 2 * length bytes.now ≤ text_room self.old }
+        ensures { self.new ≡ with_bytes self.old (hex bytes.now) }
+    {
+        let mut digits = [0u8; 2 * PIECE];
+        let mut at = 0;
+        'pieces: while at < bytes.len() {
+            let count = (bytes.len() - at).min(PIECE);
+            spell(&bytes[at..at + count], &mut digits);
+            self.push(&digits[..2 * count]);
+            at += count;
         }
     }
 

@@ -1,7 +1,9 @@
 -- Packets that come for a flow by its name.
 use Rattle.std.proofs.Common.{◌≡◌, ◌<◌, ◌≤◌, ◌^◌, ◌∙◌, ℕ, true, List, map, length, find, Option, None, Some, option_map}
 use Rattle.std.proofs.Common.{IsSome, IfSome, false, bytes_eq, refl, sym, ap, subst, arith}
+use Rattle.std.specs.Prelude.{Bool, if◌then◌else◌}
 use Rattle.std.proofs.lemmas.List.{length-map}
+use Rattle.std.proofs.lemmas.Option.{same_Some}
 use Rattle.share_base.specs.declared.command.Reply.{Reply}
 use Rattle.share_base.specs.declared.command.Reply.TheVariants.{Refused, Packet as PacketReply}
 use Rattle.share_base.specs.declared.refusal.Refusal.TheVariants.{BufferFull}
@@ -24,6 +26,7 @@ use Rattle.share_model.proofs.lemmas.run.SoundStepLaws.{sound-accept}
 use Rattle.share_model.proofs.lemmas.link.BufferLaws.{number-of_named}
 use Rattle.share_model.specs.link.Calls.{Stepped}
 use Rattle.share_model.specs.link.View.{LinkView}
+use Rattle.share_core.specs.Room.{has_place, free_by}
 
 -- the entry of which a number was read
 pub record HasNumber (o : Option OpenFlow) (f : ℕ) : Type 0 where
@@ -142,3 +145,20 @@ module _ {life : ℕ} {rates : List Rate} {l : Live} (sound : Sound life rates l
   pub stands-booked : IsSome (find (is_book_of f) l.books)
   stands-booked =
       is_some-find_number (λ (b : Book). b.flow) f l.books ∙ (ap (has_number f) sound.flows.booked ∙ stands)
+
+-- ---- A flow that is free
+
+some_of : (b : Bool) (m n : ℕ) → (if b then Some m else None) ≡ Some n → (b ≡ true) × (m ≡ n)
+some_of true m n is = (refl, same_Some m n is)
+some_of false m n is = cc
+
+there_of : (o : Option Buffer) → has_place o ≡ true → IsSome o
+there_of None free = cc
+there_of (Some b) free = refl
+
+-- has a buffer
+pub free-there : (bs : List Buffer) (o : Option OpenFlow) (n : ℕ) → free_by bs o ≡ Some n → IsSome (buffer_of bs n)
+free-there bs None n is = cc
+free-there bs (Some e) n is =
+    let both = some_of (has_place (buffer_of bs e.number)) e.number n is in
+    subst (λ (n : ℕ). IsSome (buffer_of bs n)) both.1 (there_of (buffer_of bs e.number) both.0)

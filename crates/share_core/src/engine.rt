@@ -1,6 +1,6 @@
 //! The engine of a link: a link and the writer of its frames.
 ghost use Rattle.std.specs.Prelude.{◌≡◌, ◌<◌, ◌≤◌, ◌^◌, length, find, IfOk, IfErr, IfSome};
-ghost use Rattle.std.specs.Prelude.{None, option_map, is_some};
+ghost use Rattle.std.specs.Prelude.{None, Some, option_map, is_some};
 ghost use Rattle.share_base.specs.Refusal.{IsRefused};
 ghost use Rattle.share_base.specs.Version.{max_payload};
 ghost use Rattle.share_base.specs.declared.version.Version.TheVariants.{One};
@@ -20,7 +20,7 @@ ghost use Rattle.share_model.specs.run.Sound.{Sound};
 ghost use Rattle.share_model.specs.link.Tariff.{AreInRange};
 ghost use Rattle.share_core.specs.Lent.{lent};
 ghost use Rattle.share_core.specs.Life.{life_refusal};
-ghost use Rattle.share_core.specs.Room.{has_room};
+ghost use Rattle.share_core.specs.Room.{has_room, free_flow};
 
 use crate::fields;
 use crate::link::Link;
@@ -180,6 +180,18 @@ impl<W, S: Rates> Engine<W, S> {
         }
     }
 
+    /// The number of the flow for which a packet of this name finds room. `None` if it finds none.
+    pub fn free_flow(&self, flow: Name) -> Option<FlowNo>
+        ensures { result ≡ free_flow self.now.live flow }
+    {
+        let number = self.link.flow(&flow)?;
+        if self.link.has_room(number) {
+            Some(number)
+        } else {
+            None
+        }
+    }
+
     /// What the flows share: the tickets of those that compete, the global pass and the clock at its last update, and
     /// the clock, in units.
     pub fn global(&self) -> GlobalPart
@@ -254,6 +266,21 @@ impl<W, S: Rates> Engine<W, S> {
             return Reply::Refused(Refusal::Spent);
         }
         self.link.arrive(&flow, body)
+    }
+
+    /// A packet comes for the flow of a name, as `arrive` says, whose number is the one that `free_flow` gives: the name
+    /// is not looked up again. It takes no memory.
+    pub fn arrive_at(&mut self, flow: Name, number: FlowNo, body: Body) -> Reply
+        requires body { length body.payload ≤ max_payload self.old.live.version }
+        requires free { free_flow self.old.live flow ≡ Some number }
+        ensures did { Steps (λ _ l. arrive_step l flow body.payload) self.old result self.new }
+        ensures fields { IsName flow × IsBody self.old.live.version body.payload }
+    {
+        fields::of_arrival(&flow, &body);
+        if self.link.spent() {
+            return Reply::Refused(Refusal::Spent);
+        }
+        self.link.arrive_at(&flow, number, body)
     }
 
     /// Offers the writer the next bytes of the frame that is sent, at most `most` bytes, which is at least 1, in one

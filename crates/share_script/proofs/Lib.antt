@@ -3,7 +3,7 @@ mod CallLemmas
 mod ChunkLemmas
 mod DigitLemmas
 mod FeedLemmas
-mod HexLemmas
+pub mod HexLemmas
 mod IncomingLemmas
 mod LaneLemmas
 mod LineLemmas

@@ -1,14 +1,14 @@
 //! Lines of a text that is written as its events happen, each with its line feed. None of these calls takes memory.
-ghost use Rattle.std.specs.Prelude.{◌≡◌, ◌≤◌, length};
-ghost use Rattle.share_model.specs.declared.line.Line.TheVariants.{Change, Send, Turn};
+ghost use Rattle.std.specs.Prelude.{◌≡◌, ◌<◌, ◌≤◌, ◌+◌, ◌*◌, ◌++◌, ◌∷◌, [], length, codes};
+ghost use Rattle.share_model.specs.declared.line.Line.TheVariants.{Change, Turn};
 ghost use Rattle.share_model.specs.text.Audit.{written_line};
 ghost use Rattle.share_script.specs.Lengths.{length_line};
 
 use crate::spelling::{
-    MAX_COMMAND, MAX_SPELLED, push_command, push_length, push_numbered, push_send,
+    MAX_COMMAND, MAX_SPELLED, push_command, push_length, push_named, push_numbered,
 };
 use crate::text::{ShortText, Text};
-use share_base::{Body, Command, Name};
+use share_base::{Command, MAX_PAYLOAD, Name};
 
 /// How many bytes the line of a packet has at most, its payload in hexadecimal and the line feed included.
 pub const MAX_SEND_LINE: usize = MAX_SPELLED + 1;
@@ -16,19 +16,19 @@ pub const MAX_SEND_LINE: usize = MAX_SPELLED + 1;
 /// How many bytes any other line of an event has at most, a packet's whose payload is left out included.
 pub const MAX_SHORT_LINE: usize = MAX_COMMAND + 1;
 
-/// The line of a packet.
-pub fn spelled_arrival(flow: &Name, body: &Body) -> ShortText
-    ensures bytes { result ≡ written_line (Send flow.now body.now) }
-    ensures few { length result ≤ MAX_SEND_LINE }
+/// The line of a packet up to its payload, whose digits and a line feed follow.
+pub fn spelled_send(flow: &Name) -> ShortText<MAX_SHORT_LINE>
+    ensures bytes { result ≡ codes "send" ++ 32 ∷ flow.now ++ 32 ∷ [] }
+    ensures few { length result + 2 * MAX_PAYLOAD < MAX_SEND_LINE }
 {
     let mut text = ShortText::new();
-    push_send(&mut text, flow, body);
-    text.push_str("\n");
+    push_named(&mut text, "send", flow);
+    text.push_str(" ");
     text
 }
 
 /// The line of a packet that names how many bytes its payload has, and none of them.
-pub fn spelled_length(flow: &Name, count: u64) -> ShortText
+pub fn spelled_length(flow: &Name, count: u64) -> ShortText<MAX_SHORT_LINE>
     ensures bytes { result ≡ length_line flow.now count }
     ensures few { length result ≤ MAX_SHORT_LINE }
 {
@@ -39,7 +39,7 @@ pub fn spelled_length(flow: &Name, count: u64) -> ShortText
 }
 
 /// The line of a command.
-pub fn spelled_command(command: &Command) -> ShortText
+pub fn spelled_command(command: &Command) -> ShortText<MAX_SHORT_LINE>
     ensures bytes { result ≡ written_line (Change command.now) }
     ensures few { length result ≤ MAX_SHORT_LINE }
 {
@@ -50,7 +50,7 @@ pub fn spelled_command(command: &Command) -> ShortText
 }
 
 /// The line of a turn that offers this many bytes.
-pub fn spelled_turn(count: u64) -> ShortText
+pub fn spelled_turn(count: u64) -> ShortText<MAX_SHORT_LINE>
     ensures bytes { result ≡ written_line (Turn count) }
     ensures few { length result ≤ MAX_SHORT_LINE }
 {

@@ -21,7 +21,7 @@ const PIECE: usize = 512;
 pub(crate) const MAX_COMMAND: usize = 4 + 1 + MAX_NAME + 2 * (1 + MAX_DIGITS);
 
 /// Adds the spelling of a line to an empty text. What the types of its fields say is enough for it to be a line.
-pub fn push_spelled(text: &mut ShortText, line: &Line)
+pub fn push_spelled(text: &mut ShortText<ROOM>, line: &Line)
     requires { text.old ≡ [] }
     ensures bytes { text.new ≡ spelling_of line.now }
     ensures few { length text.new ≤ MAX_SPELLED }
@@ -38,8 +38,9 @@ pub fn push_spelled(text: &mut ShortText, line: &Line)
 }
 
 // The line of an audit.
-fn push_audit(text: &mut ShortText, version: Version)
-    requires { text.old ≡ [] }
+fn push_audit<const N: usize>(text: &mut ShortText<N>, version: Version)
+    requires none { text.old ≡ [] }
+    requires room { MAX_COMMAND ≤ N }
     ensures bytes { text.new ≡ join_with_byte 32 (codes "audit" ∷ version_word version ∷ []) }
     ensures few { length text.new ≤ MAX_COMMAND }
 {
@@ -50,7 +51,7 @@ fn push_audit(text: &mut ShortText, version: Version)
 }
 
 /// Adds the spelling of the line that makes an event to an empty text, as `push_spelled` does.
-pub fn push_event(text: &mut ShortText, event: &Event)
+pub fn push_event(text: &mut ShortText<ROOM>, event: &Event)
     requires { text.old ≡ [] }
     ensures bytes { text.new ≡ spelling_of (event_line event.now) }
     ensures few { length text.new ≤ MAX_SPELLED }
@@ -65,8 +66,9 @@ pub fn push_event(text: &mut ShortText, event: &Event)
 }
 
 /// Adds the spelling of a command to an empty text.
-pub fn push_command(text: &mut ShortText, command: &Command)
-    requires { text.old ≡ [] }
+pub fn push_command<const N: usize>(text: &mut ShortText<N>, command: &Command)
+    requires none { text.old ≡ [] }
+    requires room { MAX_COMMAND ≤ N }
     ensures bytes { text.new ≡ join_with_byte 32 (command_words command.now) }
     ensures few { length text.new ≤ MAX_COMMAND }
     ensures fields { HasCommandFields command.now }
@@ -101,8 +103,9 @@ pub fn push_command(text: &mut ShortText, command: &Command)
     }
 }
 
-fn push_fund(text: &mut ShortText, ticket: u64, kind: &str, name: &Name)
+fn push_fund<const N: usize>(text: &mut ShortText<N>, ticket: u64, kind: &str, name: &Name)
     requires none { text.old ≡ [] }
+    requires room { MAX_COMMAND ≤ N }
     requires short { length kind.now ≤ 4 }
     ensures bytes { text.new
         ≡ join_with_byte 32 (codes "fund" ∷ decimal ticket ∷ kind.now ∷ name.now ∷ []) }
@@ -117,7 +120,7 @@ fn push_fund(text: &mut ShortText, ticket: u64, kind: &str, name: &Name)
 }
 
 /// Adds the packet of a payload to an empty text.
-pub fn push_send(text: &mut ShortText, flow: &Name, body: &Body)
+pub fn push_send(text: &mut ShortText<ROOM>, flow: &Name, body: &Body)
     requires { text.old ≡ [] }
     ensures bytes { text.new ≡ join_with_byte 32 (codes "send" ∷ flow.now ∷ hex body.now.payload ∷ []) }
     ensures few { length text.new ≤ MAX_SPELLED }
@@ -130,8 +133,9 @@ pub fn push_send(text: &mut ShortText, flow: &Name, body: &Body)
 }
 
 /// Adds a packet of which the length alone is spelled to an empty text.
-pub fn push_length(text: &mut ShortText, flow: &Name, count: u64)
-    requires { text.old ≡ [] }
+pub fn push_length<const N: usize>(text: &mut ShortText<N>, flow: &Name, count: u64)
+    requires none { text.old ≡ [] }
+    requires room { MAX_COMMAND ≤ N }
     ensures bytes { text.new ≡ join_with_byte 32 (length_words flow.now count) }
     ensures few { length text.new ≤ MAX_COMMAND }
 {
@@ -139,9 +143,10 @@ pub fn push_length(text: &mut ShortText, flow: &Name, count: u64)
     push_number(text, count);
 }
 
-// A keyword and a name.
-fn push_named(text: &mut ShortText, keyword: &str, name: &Name)
+/// Adds a keyword and a name to an empty text.
+pub fn push_named<const N: usize>(text: &mut ShortText<N>, keyword: &str, name: &Name)
     requires none { text.old ≡ [] }
+    requires room { MAX_COMMAND ≤ N }
     requires short { length keyword.now ≤ 6 }
     ensures bytes { text.new ≡ keyword.now ++ 32 ∷ name.now }
     ensures few { length text.new ≤ length keyword.now + 1 + MAX_NAME }
@@ -152,8 +157,9 @@ fn push_named(text: &mut ShortText, keyword: &str, name: &Name)
 }
 
 /// Adds a keyword and a number to an empty text.
-pub fn push_numbered(text: &mut ShortText, keyword: &str, number: u64)
+pub fn push_numbered<const N: usize>(text: &mut ShortText<N>, keyword: &str, number: u64)
     requires none { text.old ≡ [] }
+    requires room { MAX_COMMAND ≤ N }
     requires short { length keyword.now ≤ 6 }
     ensures bytes { text.new ≡ keyword.now ++ 32 ∷ decimal number }
     ensures few { length text.new ≤ length keyword.now + 1 + MAX_DIGITS }
@@ -164,8 +170,8 @@ pub fn push_numbered(text: &mut ShortText, keyword: &str, number: u64)
 }
 
 // A space and a name.
-fn push_name(text: &mut ShortText, name: &Name)
-    requires { length text.old + 1 + MAX_NAME ≤ ROOM }
+fn push_name<const N: usize>(text: &mut ShortText<N>, name: &Name)
+    requires { length text.old + 1 + MAX_NAME ≤ N }
     ensures bytes { text.new ≡ text.old ++ 32 ∷ name.now }
     ensures few { length text.new ≤ length text.old + 1 + MAX_NAME }
     ensures name { IsName name.now }
@@ -175,8 +181,8 @@ fn push_name(text: &mut ShortText, name: &Name)
 }
 
 // A space and a number.
-fn push_number(text: &mut ShortText, number: u64)
-    requires { length text.old + 1 + MAX_DIGITS ≤ ROOM }
+fn push_number<const N: usize>(text: &mut ShortText<N>, number: u64)
+    requires { length text.old + 1 + MAX_DIGITS ≤ N }
     ensures bytes { text.new ≡ text.old ++ 32 ∷ decimal number }
     ensures few { length text.new ≤ length text.old + 1 + MAX_DIGITS }
     ensures number { IsNumber number }
@@ -186,7 +192,7 @@ fn push_number(text: &mut ShortText, number: u64)
 }
 
 // Each byte as two lower-case digits.
-fn push_hex(text: &mut ShortText, bytes: &[u8])
+fn push_hex(text: &mut ShortText<ROOM>, bytes: &[u8])
     requires few { length bytes.now ≤ MAX_PAYLOAD }
     requires room { length text.old + 2 * MAX_PAYLOAD ≤ ROOM }
     ensures bytes { text.new ≡ text.old ++ hex bytes.now }
@@ -203,7 +209,7 @@ fn push_hex(text: &mut ShortText, bytes: &[u8])
 }
 
 // A piece of these bytes, spelled in a buffer first.
-fn push_piece(text: &mut ShortText, piece: &[u8], digits: &mut [u8; 2 * PIECE])
+fn push_piece(text: &mut ShortText<ROOM>, piece: &[u8], digits: &mut [u8; 2 * PIECE])
     requires few { length piece.now ≤ PIECE }
     requires room { length text.old + 2 * length piece.now ≤ ROOM }
     ensures bytes { text.new ≡ text.old ++ hex piece.now }

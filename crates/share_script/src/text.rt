@@ -5,7 +5,7 @@ use arrayvec::ArrayVec;
 use itoa::Buffer;
 use std::marker::Model;
 
-/// The room for one line or one answer. The longest is the line of a packet, with 18022 bytes and a line feed.
+/// The room for any line or answer. The longest is the line of a packet, with 18022 bytes and a line feed.
 pub(crate) const ROOM: usize = 18432;
 
 /// How many digits the decimal of a number has at most.
@@ -32,13 +32,13 @@ pub trait Text {
         ensures few { length (held self.new) ≤ length (held self.old) + MAX_DIGITS };
 }
 
-/// A text of at most 18432 bytes, which takes no memory. A contract sees it as its bytes.
+/// A text of at most `N` bytes, which takes no memory. A contract sees it as its bytes.
 #[derive(Drop)]
-pub struct ShortText {
-    bytes: ArrayVec<u8, ROOM>,
+pub struct ShortText<const N: usize> {
+    bytes: ArrayVec<u8, N>,
 }
 
-impl Model for ShortText {
+impl<const N: usize> Model for ShortText<N> {
     ghost use Rattle.std.specs.Prelude.{ℕ, List};
 
     ghost Value = { List ℕ };
@@ -46,9 +46,9 @@ impl Model for ShortText {
     ghost view = { λ text. text.bytes.items };
 }
 
-impl ShortText {
+impl<const N: usize> ShortText<N> {
     /// A text of no bytes.
-    pub(crate) fn new() -> ShortText
+    pub(crate) fn new() -> ShortText<N>
         ensures { result ≡ [] }
     {
         ShortText {
@@ -65,7 +65,7 @@ impl ShortText {
 
     /// Adds bytes at the end.
     pub(crate) fn push(&mut self, bytes: &[u8])
-        requires { length self.old + length bytes.now ≤ ROOM }
+        requires { length self.old + length bytes.now ≤ N }
         ensures bytes { self.new ≡ self.old ++ bytes.now }
         ensures long { length self.new ≡ length self.old + length bytes.now }
     {
@@ -75,10 +75,10 @@ impl ShortText {
     }
 }
 
-impl Text for ShortText {
+impl<const N: usize> Text for ShortText<N> {
     ghost held = { λ text. text };
 
-    ghost room = { 18432 };
+    ghost room = { N };
 
     fn push_str(&mut self, text: &str) {
         self.push(text.as_bytes());

@@ -8,7 +8,7 @@ ghost use Rattle.share_model.specs.text.Texts.{line_text};
 
 use crate::replies::push_line;
 use crate::spelling::{MAX_SPELLED, push_event, push_spelled};
-use crate::text::{ShortText, Text};
+use crate::text::{ROOM, ShortText, Text};
 use share_base::{Event, Outcome, Reply, Turn};
 use share_model::{Fault, Line, TellingWriter, put};
 
@@ -20,7 +20,7 @@ pub fn write_line<V: TellingWriter>(line: &Line, output: &mut V) -> Result<(), F
     ensures line { IsLine (before_stamp line.now) }
     ensures written { WritesText V.told V.answers output.old output.new (spelling_of line.now ++ codes "\n") result }
 {
-    let mut text = ShortText::new();
+    let mut text = ShortText::<ROOM>::new();
     push_spelled(&mut text, line);
     write_spelled(&mut text, output)
 }
@@ -31,13 +31,13 @@ pub fn write_event<V: TellingWriter>(event: &Event, output: &mut V) -> Result<()
     ensures line { IsLine (before_stamp (event_line event.now)) }
     ensures written { WritesText V.told V.answers output.old output.new (written_line (event_line event.now)) result }
 {
-    let mut text = ShortText::new();
+    let mut text = ShortText::<ROOM>::new();
     push_event(&mut text, event);
     write_spelled(&mut text, output)
 }
 
 // The spelling and a line feed.
-fn write_spelled<V: TellingWriter>(text: &mut ShortText, output: &mut V) -> Result<(), Fault>
+fn write_spelled<V: TellingWriter>(text: &mut ShortText<ROOM>, output: &mut V) -> Result<(), Fault>
     requires { length text.old ≤ MAX_SPELLED }
     ensures { WritesText V.told V.answers output.old output.new (text.old ++ codes "\n") result }
 {
@@ -62,7 +62,7 @@ pub fn write_turn<V: TellingWriter>(turn: &Turn, output: &mut V) -> Result<(), F
 fn write_outcome<V: TellingWriter>(outcome: &Outcome, output: &mut V) -> Result<(), Fault>
     ensures { WritesText V.told V.answers output.old output.new (line_text outcome.now) result }
 {
-    let mut text = ShortText::new();
+    let mut text = ShortText::<ROOM>::new();
     push_line(&mut text, outcome);
     put(output, text.as_bytes())
 }

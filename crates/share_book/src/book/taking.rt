@@ -1,13 +1,14 @@
 //! Packets that a book takes.
-ghost use Rattle.std.specs.Prelude.{◌≡◌, ◌≢◌, ◌≤◌, length, false, true};
-ghost use Rattle.share_core.specs.Room.{has_room};
+ghost use Rattle.std.specs.Prelude.{◌≡◌, ◌≢◌, ◌≤◌, length, false, true, Some, is_some};
+ghost use Rattle.share_core.specs.Room.{free_flow, has_room};
 ghost use Rattle.share_model.specs.link.Calls.{is_spent};
 ghost use Rattle.share_book.specs.Audited.{lacks_text};
 ghost use Rattle.share_book.specs.Book.{Takes, TakesPacket};
 
 use super::{Book, Taken};
 use crate::audited::AuditedEngine;
-use share_base::{Body, MAX_PAYLOAD, Name, Reply};
+use share_base::{Body, FlowNo, MAX_PAYLOAD, Name, Reply};
+use share_core::Engine;
 use share_model::Rates;
 use std::alloc::Global;
 
@@ -29,24 +30,38 @@ impl<S: Rates> Book<S> {
         if self.audited.lacks_text() {
             return Taken::NoText;
         }
-        if !self.room(tenant) {
+        let Some(number) = free_flow(self.audited.engine(), tenant) else {
             return Taken::NoRoom;
-        }
+        };
         match Body::new(alloc, payload) {
             Err(_) => Taken::NoMemory,
-            Ok(body) => accept(&mut self.audited, tenant, body),
+            Ok(body) => accept(&mut self.audited, tenant, number, body),
         }
     }
 }
 
+// The number of the tenant's flow, if its buffer has room.
+fn free_flow<S: Rates>(engine: &Engine<(), S>, tenant: Name) -> Option<FlowNo>
+    ensures free { result ≡ free_flow engine.now.live tenant }
+    ensures room { has_room engine.now.live tenant ≡ is_some result }
+{
+    engine.free_flow(tenant)
+}
+
 // Takes a packet for which there is room.
-fn accept<S: Rates>(audited: &mut AuditedEngine<S>, tenant: Name, body: Body) -> Taken
+fn accept<S: Rates>(
+    audited: &mut AuditedEngine<S>,
+    tenant: Name,
+    number: FlowNo,
+    body: Body,
+) -> Taken
     requires living { is_spent audited.old.link ≡ false }
     requires text { lacks_text audited.old ≡ false }
     requires room { has_room audited.old.link.live tenant ≡ true }
+    requires free { free_flow audited.old.link.live tenant ≡ Some number }
     ensures { TakesPacket audited.old tenant body.payload result audited.new }
 {
-    let Reply::Packet { seq, .. } = audited.arrive(tenant, body) else {
+    let Reply::Packet { seq, .. } = audited.arrive_at(tenant, number, body) else {
         unreachable!()
     };
     Taken::Packet { seq }

@@ -25,11 +25,8 @@ impl<S: Rates> Book<S> {
         if self.audited.engine().spent() {
             return Turned::Spent;
         }
-        if !self.audited.engine().sends() {
-            return Turned::Idle;
-        }
         let Turn::Wrote { flow, seq, k, .. } = self.audited.send(outbox) else {
-            unreachable!()
+            return Turned::Idle;
         };
         Turned::Wrote {
             flow,

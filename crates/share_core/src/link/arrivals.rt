@@ -1,10 +1,11 @@
 //! Packets that come for a flow.
-ghost use Rattle.std.specs.Prelude.{◌≡◌, ◌&&◌, not, false, IsSome};
+ghost use Rattle.std.specs.Prelude.{◌≡◌, ◌&&◌, not, false, IsSome, Some};
 ghost use Rattle.share_model.specs.link.Books.{is_held};
 ghost use Rattle.share_model.specs.link.Buffers.{buffer_of, is_busy};
 ghost use Rattle.share_model.specs.link.Calls.{is_spent, Stepped, Steps};
 ghost use Rattle.share_model.specs.link.Fields.{IsBody};
 ghost use Rattle.share_model.specs.link.Arrivals.{arrive_in, arrive_step};
+ghost use Rattle.share_core.specs.Room.{free_flow};
 ghost use Rattle.share_flows.specs.Places.{Stands};
 
 use super::Link;
@@ -63,6 +64,16 @@ impl<S: Rates> Link<S> {
             );
         }
         Reply::Packet { flow, seq }
+    }
+
+    /// A packet comes for the flow of a name, which has this number, and whose buffer has room. It takes no memory.
+    pub fn arrive_at(&mut self, name: &Name, number: FlowNo, body: Body) -> Reply
+        requires living { is_spent self.old ≡ false }
+        requires body { IsBody self.old.live.version body.payload }
+        requires free { free_flow self.old.live name.now ≡ Some number }
+        ensures { Steps (λ _ l. arrive_step l name.now body.payload) self.old result self.new }
+    {
+        self.accept(number, body)
     }
 
     /// A packet comes for the flow of a name. It takes no memory.

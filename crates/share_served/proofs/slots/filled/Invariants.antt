@@ -1,6 +1,6 @@
 use Rattle.std.proofs.Common.{◌≡◌, ◌≤◌, ◌+◌, vec_len, vec_capacity}
 use Rattle.share_model.specs.lists.Each.{Each}
-use Rattle.share_server.proofs.slots.filled.Given as goal
+use Rattle.share_served.proofs.slots.filled.Given as goal
 
 abbrev pub invariant-loop-end : goal.invariant-loop-end
 invariant-loop-end g l = record {

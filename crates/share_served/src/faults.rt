@@ -1,6 +1,6 @@
 //! What went wrong in a run of the server, and which fault is told.
 ghost use Rattle.std.specs.Prelude.{◌≡◌, None};
-ghost use Rattle.share_server.specs.Faults.{first_of, faults_of, no_fault};
+ghost use Rattle.share_served.specs.Faults.{first_of, faults_of, no_fault};
 
 use share_base::Refusal;
 use std::alloc::AllocError;
@@ -116,7 +116,7 @@ impl FoundFaults {
 
 impl From<AllocError> for ServeFault {
     ghost use Rattle.std.specs.Prelude.{◌≡◌};
-    ghost use Rattle.share_server.specs.declared.faults.ServeFault.TheVariants.{NoMemory};
+    ghost use Rattle.share_served.specs.declared.faults.ServeFault.TheVariants.{NoMemory};
 
     ghost from_gives = { λ _ fault. fault ≡ NoMemory };
 
@@ -127,7 +127,7 @@ impl From<AllocError> for ServeFault {
 
 impl From<Refusal> for ServeFault {
     ghost use Rattle.std.specs.Prelude.{◌≡◌};
-    ghost use Rattle.share_server.specs.declared.faults.ServeFault.TheVariants.{NoMemory};
+    ghost use Rattle.share_served.specs.declared.faults.ServeFault.TheVariants.{NoMemory};
 
     ghost from_gives = { λ _ fault. fault ≡ NoMemory };
 

@@ -1,9 +1,9 @@
 -- The faults of a run of the server, in the order in which they are told.
 use Rattle.std.specs.Prelude.{Bool, false, List, [], ◌∷◌, Option, None, Some, if◌then◌else◌}
-use Rattle.share_server.specs.declared.faults.FoundFaults.{FoundFaults}
-use Rattle.share_server.specs.declared.faults.ServeFault.{ServeFault}
-use Rattle.share_server.specs.declared.faults.ServeFault.TheVariants.{Accept, Thread, Uplink, Life, Unsent, LeftOver}
-use Rattle.share_server.specs.declared.faults.ServeFault.TheVariants.{Mismatch, NoMemory, Audit, Output}
+use Rattle.share_served.specs.declared.faults.FoundFaults.{FoundFaults}
+use Rattle.share_served.specs.declared.faults.ServeFault.{ServeFault}
+use Rattle.share_served.specs.declared.faults.ServeFault.TheVariants.{Accept, Thread, Uplink, Life, Unsent, LeftOver}
+use Rattle.share_served.specs.declared.faults.ServeFault.TheVariants.{Mismatch, NoMemory, Audit, Output}
 
 -- the fault of the first test that holds
 abbrev pub first_of : List (Bool × ServeFault) → Option ServeFault

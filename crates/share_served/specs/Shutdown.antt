@@ -16,14 +16,14 @@ use Rattle.share_model.specs.io.Calls.{Offers, OfferRefused}
 use Rattle.share_model.specs.io.Printing.{bytes_told, AppendsPart}
 use Rattle.share_model.specs.io.Told.{Told}
 use Rattle.share_model.specs.text.Report.{report}
-use Rattle.share_server.specs.Faults.{first_of, faults_of, no_fault}
-use Rattle.share_server.specs.declared.faults.FoundFaults.{FoundFaults}
-use Rattle.share_server.specs.declared.faults.ServeFault.{ServeFault}
-use Rattle.share_server.specs.declared.faults.ServeFault.TheVariants.{Accept, Thread, Uplink as TornUplink, Life}
-use Rattle.share_server.specs.declared.faults.ServeFault.TheVariants.{Unsent as UnsentFault}
-use Rattle.share_server.specs.declared.faults.ServeFault.TheVariants.{LeftOver as LeftOverFault}
-use Rattle.share_server.specs.declared.faults.ServeFault.TheVariants.{Mismatch as MismatchFault}
-use Rattle.share_server.specs.declared.faults.ServeFault.TheVariants.{NoMemory as NoMemoryFault, Audit, Output}
+use Rattle.share_served.specs.Faults.{first_of, faults_of, no_fault}
+use Rattle.share_served.specs.declared.faults.FoundFaults.{FoundFaults}
+use Rattle.share_served.specs.declared.faults.ServeFault.{ServeFault}
+use Rattle.share_served.specs.declared.faults.ServeFault.TheVariants.{Accept, Thread, Uplink as TornUplink, Life}
+use Rattle.share_served.specs.declared.faults.ServeFault.TheVariants.{Unsent as UnsentFault}
+use Rattle.share_served.specs.declared.faults.ServeFault.TheVariants.{LeftOver as LeftOverFault}
+use Rattle.share_served.specs.declared.faults.ServeFault.TheVariants.{Mismatch as MismatchFault}
+use Rattle.share_served.specs.declared.faults.ServeFault.TheVariants.{NoMemory as NoMemoryFault, Audit, Output}
 use Rattle.share_connections.specs.declared.uplink.Uplink.{Uplink}
 
 -- the journal of a recorder

@@ -1,6 +1,6 @@
 use Rattle.std.proofs.Common.{rules, sym, ◌∙◌}
-use Rattle.share_server.proofs.ShutdownLemmas.{new_of}
-use Rattle.share_server.proofs.setup.recording.Goals as goal
+use Rattle.share_served.proofs.ShutdownLemmas.{new_of}
+use Rattle.share_served.proofs.setup.recording.Goals as goal
 
 pub returns-in-Err-new-clause-refused : goal.returns-in-Err-new-clause-refused
 returns-in-Err-new-clause-refused g c =

@@ -1,5 +1,5 @@
-use Rattle.share_server.proofs.ShutdownLemmas.{closing_settled, closing_unsettled}
-use Rattle.share_server.proofs.shutdown.close.Goals as goal
+use Rattle.share_served.proofs.ShutdownLemmas.{closing_settled, closing_unsettled}
+use Rattle.share_served.proofs.shutdown.close.Goals as goal
 
 pub returns-in-Ok : goal.returns-in-Ok
 returns-in-Ok g c =

@@ -3,7 +3,7 @@ ghost use Rattle.std.specs.Prelude.{◌≡◌, ◌≤◌, ◌⊎◌, [], true, I
 ghost use Rattle.share_base.specs.declared.version.Version.TheVariants.{Two};
 ghost use Rattle.share_model.specs.lists.Each.{Each};
 ghost use Rattle.share_ingress.specs.Ends.{new_ends, new_intake};
-ghost use Rattle.share_server.specs.Shutdown.{CanServe, RefusesToBegin, is_new};
+ghost use Rattle.share_served.specs.Shutdown.{CanServe, RefusesToBegin, is_new};
 
 use crate::faults::ServeFault;
 use share_base::Version;

@@ -2,7 +2,7 @@
 ghost use Rattle.std.specs.Prelude.{◌≡◌, not};
 ghost use Rattle.share_model.specs.lists.Each.{Each};
 ghost use Rattle.share_model.specs.text.Report.{report};
-ghost use Rattle.share_server.specs.Shutdown.{journal_of, with_want, with_end, IsWritten, IsClosing};
+ghost use Rattle.share_served.specs.Shutdown.{journal_of, with_want, with_end, IsWritten, IsClosing};
 
 use crate::audit_file::Keep;
 use crate::faults::FoundFaults;

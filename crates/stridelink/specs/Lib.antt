@@ -1,2 +1,4 @@
 pub mod Rates
+pub mod Serves
+pub mod Statuses
 pub mod Tariffs

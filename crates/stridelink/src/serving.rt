@@ -1,18 +1,19 @@
 //! What a server needs before it runs.
-ghost use Rattle.std.specs.Prelude.{◌≡◌, [], IsErr, IsOk, IfOk, MatchResult};
+ghost use Rattle.std.specs.Prelude.{◌≡◌, [], IsErr, IsOk, IfOk, OnOk, MatchResult};
 ghost use Rattle.share_base.specs.declared.version.Version.TheVariants.{Two};
 ghost use Rattle.share_words.specs.Orders.{CanBeServed};
 ghost use Rattle.stridelink.specs.Rates.{program_rates};
+ghost use Rattle.stridelink.specs.Serves.{HasServed};
 
 use share_base::Version;
 use share_journal::Journal;
-use share_model::{PatientWriter, PlainWriter, Rates};
-use share_server::{AuditFile, Plan, ServeFault, Sockets, serve_on};
+use share_model::{PatientWriter, PlainWriter, Rates, TellingWriter};
+use share_server::{AuditFile, Keep, Plan, ServeFault, Sockets, serve_on};
 use share_words::{ServeOrders, Word};
 use std::alloc::Global;
 use std::fs::Files;
 use std::io;
-use std::io::{Eprint, ErrorKind, Print, Read};
+use std::io::{Eprint, ErrorKind, Print, Printer, Read};
 use std::net::{Net, TcpListener, TcpStream};
 use std::sync::Wait;
 use std::thread::Threads;
@@ -127,6 +128,9 @@ where
     I: Read + Send + Drop + 'static,
     requires rates { S.rates shelf ≡ program_rates }
     requires orders { CanBeServed orders.life orders.workers orders.clerks }
+    ensures { OnOk result (HasServed ⟦<AuditFile<'a, R> as Keep>⟧.kept
+        ⟦<PatientWriter<PlainWriter<Printer<'a, R>>> as TellingWriter>⟧.told
+        ⟦<PatientWriter<PlainWriter<Printer<'a, R>>> as TellingWriter>⟧.answers) }
 {
     let (journal, audit, sockets) = match prepared(rt, alloc, orders) {
         Ok(all) => all,

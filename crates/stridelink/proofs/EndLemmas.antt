@@ -1,31 +1,13 @@
 -- How a run of the program ended, from how the calls ended that it made.
-use Rattle.std.proofs.Common.{◌≡◌, ℕ, Bool, false, List, Option}
+use Rattle.std.proofs.Common.{ℕ, Bool, List, Option}
 use Rattle.std.specs.Prelude.{Result, Ok, Err, IfOk, IsOk, IsErr, OnOk, MatchResult}
 use Rattle.std.specs.declared.process.ExitCode.{ExitCode}
 use Rattle.share_journal.specs.Entries.{JournalView}
-use Rattle.share_model.specs.declared.reader.Got.{Got}
 use Rattle.share_model.specs.declared.writer.Answer.{Answer}
 use Rattle.share_model.specs.io.Told.{Told}
-use Rattle.share_server.specs.Shutdown.{WasServed}
+use Rattle.share_asked.specs.Statuses.{OfSomeScript}
+use Rattle.share_served.specs.Shutdown.{WasServed}
 use Rattle.stridelink.specs.Serves.{HasServed}
-use Rattle.stridelink.specs.Statuses.{EndsStrictly, OfSomeScript, RanStrictly}
-
-pub ran_strictly : {R S W E : Type 0} {gives : R → List ℕ → Got → R → Type 0} (over : R → S)
-    {answers : W → List ℕ → Answer → W → Type 0} {mark : W → Bool} (script : S) (input rest : R) (output after : W)
-    (result : Result ExitCode E) → over input ≡ script → mark output ≡ false
-    → IfOk result (EndsStrictly gives answers mark input rest output after)
-    → IfOk result (RanStrictly gives over answers mark script)
-ran_strictly over script input rest output after (Ok status) is no ends =
-    record {
-      input = input;
-      rest = rest;
-      output = output;
-      after = after;
-      is_over = is;
-      has_no_mark = no;
-      ends = ends;
-    }
-ran_strictly over script input rest output after (Err fault) is no ends = tt
 
 pub has_served : {X Y E F K O : Type 0} {kept : K → JournalView → Bool → Type 0} {told : O → Option Told}
     {answers : O → List ℕ → Answer → O → Type 0} (keep : K) (output after : O) (result : Result X E)

@@ -1,4 +1,1 @@
-pub mod Rates
 pub mod Serves
-pub mod Statuses
-pub mod Tariffs

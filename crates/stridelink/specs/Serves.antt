@@ -5,7 +5,7 @@ use Rattle.std.specs.declared.process.ExitCode.{ExitCode}
 use Rattle.share_journal.specs.Entries.{JournalView}
 use Rattle.share_model.specs.declared.writer.Answer.{Answer}
 use Rattle.share_model.specs.io.Told.{Told}
-use Rattle.share_server.specs.Shutdown.{WasServed}
+use Rattle.share_served.specs.Shutdown.{WasServed}
 
 -- a run without a fault, whose audit went to some keeper and whose report to some output
 pub record HasServed {K O : Type 0} (kept : K → JournalView → Bool → Type 0) (told : O → Option Told)

@@ -1,6 +1,6 @@
 //! Standard streams that are closed.
 
-use share_server::found_at;
+use share_served::found_at;
 use std::fs;
 use std::fs::Files;
 

@@ -1,7 +1,7 @@
 -- The tariffs of the program are in range.
 use Rattle.std.proofs.Common.{arith}
 use Rattle.share_model.specs.link.Tariff.{AreInRange}
-use Rattle.stridelink.specs.Rates.{program_rates}
+use Rattle.share_asked.specs.Rates.{program_rates}
 
 pub are_in_range : AreInRange program_rates
 are_in_range = record {

@@ -2,7 +2,7 @@
 //! another thread; the toolchain does not show that of boxed closures in a type of another crate.
 ghost use Rattle.std.specs.Prelude.{◌≡◌, ◌≤◌, true, IfSome};
 ghost use Rattle.share_model.specs.link.Tariff.{rate_at, is_rate};
-ghost use Rattle.stridelink.specs.Rates.{program_rates};
+ghost use Rattle.share_asked.specs.Rates.{program_rates};
 
 use share_model::{Rate, Rates};
 use share_tariff::{account_after, units_by_division};
@@ -31,8 +31,8 @@ fn tariff(number: u64) -> Option<Rate>
 }
 
 impl Rates for PlainTariffs {
-    ghost use Rattle.stridelink.specs.Rates.{program_rates};
-    ghost use Rattle.stridelink.specs.Tariffs.{are_in_range};
+    ghost use Rattle.share_asked.specs.Rates.{program_rates};
+    ghost use Rattle.share_asked.specs.Tariffs.{are_in_range};
 
     ghost rates = { λ _. program_rates };
 

@@ -1,6 +1,6 @@
 use Rattle.std.proofs.Common.{rules}
-use Rattle.stridelink.proofs.EndLemmas.{ran_strictly}
-use Rattle.stridelink.proofs.run_and_tell.Goals as goal
+use Rattle.share_asked.proofs.StrictLemmas.{ran_strictly}
+use Rattle.share_asked.proofs.scripts.run_and_tell.Goals as goal
 
 pub returns : goal.returns
 returns g c =

@@ -56,8 +56,8 @@ fn run_to_refusal<S: Rates + Drop, I: TellingReader, O: TellingWriter>(
 }
 
 // Runs a script up to its first refused line; the replies go to standard output.
-fn run_and_tell<P: Print + Eprint, S: Rates + Drop, R: Read + Drop>(
-    rt: &P,
+fn run_and_tell<'a, P: Print + Eprint, S: Rates + Drop, R: Read + Drop>(
+    rt: &'a P,
     alloc: Global,
     shelf: S,
     life: u64,
@@ -66,7 +66,7 @@ fn run_and_tell<P: Print + Eprint, S: Rates + Drop, R: Read + Drop>(
     requires { life_refusal life ≡ None }
     ensures { IfOk result (RanStrictly ⟦<LineReader<PlainReader<BufReader<R>>> as TellingReader>⟧.gives
         (λ lines. reader_inner lines.input.0)
-        ⟦<StrictWriter<PatientWriter<PlainWriter<Printer<'_, P>>>> as TellingWriter>⟧.answers
+        ⟦<StrictWriter<PatientWriter<PlainWriter<Printer<'a, P>>>> as TellingWriter>⟧.answers
         (λ w. w.is_refused) script) }
 {
     let Ok(script) = BufReader::new(alloc, script) else {
@@ -78,8 +78,8 @@ fn run_and_tell<P: Print + Eprint, S: Rates + Drop, R: Read + Drop>(
 }
 
 // Runs a script to its end; the replies go to standard output.
-fn run_whole<P: Print, S: Rates + Drop, R: Read + Drop>(
-    rt: &P,
+fn run_whole<'a, P: Print, S: Rates + Drop, R: Read + Drop>(
+    rt: &'a P,
     alloc: Global,
     shelf: S,
     life: u64,
@@ -87,7 +87,7 @@ fn run_whole<P: Print, S: Rates + Drop, R: Read + Drop>(
 ) -> Result<ExitCode, ScriptFault>
     requires { life_refusal life ≡ None }
     ensures { IfOk result (RanWhole ⟦<PlainReader<R> as TellingReader>⟧.gives (λ plain. plain.0)
-        ⟦<PatientWriter<PlainWriter<Printer<'_, P>>> as TellingWriter>⟧.answers script) }
+        ⟦<PatientWriter<PlainWriter<Printer<'a, P>>> as TellingWriter>⟧.answers script) }
 {
     let mut input = PlainReader(script);
     let mut output = PatientWriter(PlainWriter(io::writer(rt)));
@@ -96,8 +96,8 @@ fn run_whole<P: Print, S: Rates + Drop, R: Read + Drop>(
 }
 
 // Runs a script over this shelf, whose tariffs are the program's; the replies go to standard output.
-fn run_on_tariffs<P: Print + Eprint, S: Rates + Drop, R: Read + Drop>(
-    rt: &P,
+fn run_on_tariffs<'a, P: Print + Eprint, S: Rates + Drop, R: Read + Drop>(
+    rt: &'a P,
     alloc: Global,
     shelf: S,
     orders: Orders<'_>,
@@ -108,10 +108,10 @@ fn run_on_tariffs<P: Print + Eprint, S: Rates + Drop, R: Read + Drop>(
     ensures { IfOk result (λ status. IsAsAsked orders.is_strict
         (RanStrictly ⟦<LineReader<PlainReader<BufReader<R>>> as TellingReader>⟧.gives
         (λ lines. reader_inner lines.input.0)
-        ⟦<StrictWriter<PatientWriter<PlainWriter<Printer<'_, P>>>> as TellingWriter>⟧.answers
+        ⟦<StrictWriter<PatientWriter<PlainWriter<Printer<'a, P>>>> as TellingWriter>⟧.answers
         (λ w. w.is_refused) script status)
         (RanWhole ⟦<PlainReader<R> as TellingReader>⟧.gives (λ plain. plain.0)
-        ⟦<PatientWriter<PlainWriter<Printer<'_, P>>> as TellingWriter>⟧.answers script status)) }
+        ⟦<PatientWriter<PlainWriter<Printer<'a, P>>> as TellingWriter>⟧.answers script status)) }
 {
     if orders.is_strict {
         run_and_tell(rt, alloc, shelf, orders.life, script)
@@ -121,8 +121,8 @@ fn run_on_tariffs<P: Print + Eprint, S: Rates + Drop, R: Read + Drop>(
 }
 
 /// Runs a script over the program's shelf, which is made here.
-pub fn run_on_standard<P: Print + Eprint, R: Read + Drop>(
-    rt: &P,
+pub fn run_on_standard<'a, P: Print + Eprint, R: Read + Drop>(
+    rt: &'a P,
     alloc: Global,
     orders: Orders<'_>,
     script: R,
@@ -131,10 +131,10 @@ pub fn run_on_standard<P: Print + Eprint, R: Read + Drop>(
     ensures { IfOk result (λ status. IsAsAsked orders.is_strict
         (RanStrictly ⟦<LineReader<PlainReader<BufReader<R>>> as TellingReader>⟧.gives
         (λ lines. reader_inner lines.input.0)
-        ⟦<StrictWriter<PatientWriter<PlainWriter<Printer<'_, P>>>> as TellingWriter>⟧.answers
+        ⟦<StrictWriter<PatientWriter<PlainWriter<Printer<'a, P>>>> as TellingWriter>⟧.answers
         (λ w. w.is_refused) script status)
         (RanWhole ⟦<PlainReader<R> as TellingReader>⟧.gives (λ plain. plain.0)
-        ⟦<PatientWriter<PlainWriter<Printer<'_, P>>> as TellingWriter>⟧.answers script status)) }
+        ⟦<PatientWriter<PlainWriter<Printer<'a, P>>> as TellingWriter>⟧.answers script status)) }
 {
     let shelf = program_shelf!(alloc);
     run_on_tariffs(rt, alloc, shelf, orders, script)

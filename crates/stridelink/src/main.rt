@@ -34,15 +34,15 @@ const AT_TERMINAL: &str =
     "stridelink: reads the lines of a script; 'stridelink run --help' tells them";
 
 // Runs the script that standard input brings.
-fn run_input(rt: &HostRuntime, orders: Orders<'_>) -> Result<ExitCode, ScriptFault>
+fn run_input<'a>(rt: &'a HostRuntime, orders: Orders<'_>) -> Result<ExitCode, ScriptFault>
     requires { life_refusal orders.life ≡ None }
     ensures { IfOk result (λ status. OfSomeScript (λ script. IsAsAsked orders.is_strict
-        (RanStrictly ⟦<LineReader<PlainReader<BufReader<StdinLock>>> as TellingReader>⟧.gives
+        (RanStrictly ⟦<LineReader<PlainReader<BufReader<StdinLock<'a>>>> as TellingReader>⟧.gives
         (λ lines. reader_inner lines.input.0)
-        ⟦<StrictWriter<PatientWriter<PlainWriter<Printer<'_, HostRuntime>>>> as TellingWriter>⟧.answers
+        ⟦<StrictWriter<PatientWriter<PlainWriter<Printer<'a, HostRuntime>>>> as TellingWriter>⟧.answers
         (λ w. w.is_refused) script status)
-        (RanWhole ⟦<PlainReader<StdinLock> as TellingReader>⟧.gives (λ plain. plain.0)
-        ⟦<PatientWriter<PlainWriter<Printer<'_, HostRuntime>>> as TellingWriter>⟧.answers script status))) }
+        (RanWhole ⟦<PlainReader<StdinLock<'a>> as TellingReader>⟧.gives (λ plain. plain.0)
+        ⟦<PatientWriter<PlainWriter<Printer<'a, HostRuntime>>> as TellingWriter>⟧.answers script status))) }
 {
     if rt.stdin().is_terminal() {
         let _ = eprintln!(rt; "{AT_TERMINAL}");
@@ -51,15 +51,15 @@ fn run_input(rt: &HostRuntime, orders: Orders<'_>) -> Result<ExitCode, ScriptFau
 }
 
 // Runs the script of this file.
-fn run_file(rt: &HostRuntime, orders: Orders<'_>, path: &str) -> Result<ExitCode, ScriptFault>
+fn run_file<'a>(rt: &'a HostRuntime, orders: Orders<'_>, path: &str) -> Result<ExitCode, ScriptFault>
     requires { life_refusal orders.life ≡ None }
     ensures { IfOk result (λ status. OfSomeScript (λ script. IsAsAsked orders.is_strict
         (RanStrictly ⟦<LineReader<PlainReader<BufReader<File>>> as TellingReader>⟧.gives
         (λ lines. reader_inner lines.input.0)
-        ⟦<StrictWriter<PatientWriter<PlainWriter<Printer<'_, HostRuntime>>>> as TellingWriter>⟧.answers
+        ⟦<StrictWriter<PatientWriter<PlainWriter<Printer<'a, HostRuntime>>>> as TellingWriter>⟧.answers
         (λ w. w.is_refused) script status)
         (RanWhole ⟦<PlainReader<File> as TellingReader>⟧.gives (λ plain. plain.0)
-        ⟦<PatientWriter<PlainWriter<Printer<'_, HostRuntime>>> as TellingWriter>⟧.answers script status))) }
+        ⟦<PatientWriter<PlainWriter<Printer<'a, HostRuntime>>> as TellingWriter>⟧.answers script status))) }
 {
     let Ok(file) = File::open(rt, path) else {
         return Err(ScriptFault::Input);
@@ -68,22 +68,22 @@ fn run_file(rt: &HostRuntime, orders: Orders<'_>, path: &str) -> Result<ExitCode
 }
 
 // Runs the script that is asked for.
-fn run_given(rt: &HostRuntime, orders: Orders<'_>) -> Result<ExitCode, ScriptFault>
+fn run_given<'a>(rt: &'a HostRuntime, orders: Orders<'_>) -> Result<ExitCode, ScriptFault>
     requires { life_refusal orders.life ≡ None }
     ensures input { IsNone orders.file → IfOk result (λ status. OfSomeScript (λ script. IsAsAsked orders.is_strict
-        (RanStrictly ⟦<LineReader<PlainReader<BufReader<StdinLock>>> as TellingReader>⟧.gives
+        (RanStrictly ⟦<LineReader<PlainReader<BufReader<StdinLock<'a>>>> as TellingReader>⟧.gives
         (λ lines. reader_inner lines.input.0)
-        ⟦<StrictWriter<PatientWriter<PlainWriter<Printer<'_, HostRuntime>>>> as TellingWriter>⟧.answers
+        ⟦<StrictWriter<PatientWriter<PlainWriter<Printer<'a, HostRuntime>>>> as TellingWriter>⟧.answers
         (λ w. w.is_refused) script status)
-        (RanWhole ⟦<PlainReader<StdinLock> as TellingReader>⟧.gives (λ plain. plain.0)
-        ⟦<PatientWriter<PlainWriter<Printer<'_, HostRuntime>>> as TellingWriter>⟧.answers script status))) }
+        (RanWhole ⟦<PlainReader<StdinLock<'a>> as TellingReader>⟧.gives (λ plain. plain.0)
+        ⟦<PatientWriter<PlainWriter<Printer<'a, HostRuntime>>> as TellingWriter>⟧.answers script status))) }
     ensures file { IsSome orders.file → IfOk result (λ status. OfSomeScript (λ script. IsAsAsked orders.is_strict
         (RanStrictly ⟦<LineReader<PlainReader<BufReader<File>>> as TellingReader>⟧.gives
         (λ lines. reader_inner lines.input.0)
-        ⟦<StrictWriter<PatientWriter<PlainWriter<Printer<'_, HostRuntime>>>> as TellingWriter>⟧.answers
+        ⟦<StrictWriter<PatientWriter<PlainWriter<Printer<'a, HostRuntime>>>> as TellingWriter>⟧.answers
         (λ w. w.is_refused) script status)
         (RanWhole ⟦<PlainReader<File> as TellingReader>⟧.gives (λ plain. plain.0)
-        ⟦<PatientWriter<PlainWriter<Printer<'_, HostRuntime>>> as TellingWriter>⟧.answers script status))) }
+        ⟦<PatientWriter<PlainWriter<Printer<'a, HostRuntime>>> as TellingWriter>⟧.answers script status))) }
 {
     match orders.file {
         None => run_input(rt, orders),
@@ -92,15 +92,15 @@ fn run_given(rt: &HostRuntime, orders: Orders<'_>) -> Result<ExitCode, ScriptFau
 }
 
 // Serves the link that is asked for, and tells what went wrong.
-fn serve_given<R, I>(rt: &R, alloc: Global, orders: ServeOrders<'_>, input: I) -> ExitCode
+fn serve_given<'a, R, I>(rt: &'a R, alloc: Global, orders: ServeOrders<'_>, input: I) -> ExitCode
 where
     R: Net<Listener = TcpListener, Stream = TcpStream> + Files + Threads + Wait + Clock,
     R: Print + Eprint + Copy + Send + Sync + 'static,
     I: Read + Send + Drop + 'static,
     requires { CanBeServed orders.life orders.workers orders.clerks }
-    ensures { IsStatusOfService (HasServed ⟦<AuditFile<'_, R> as Keep>⟧.kept
-        ⟦<PatientWriter<PlainWriter<Printer<'_, R>>> as TellingWriter>⟧.told
-        ⟦<PatientWriter<PlainWriter<Printer<'_, R>>> as TellingWriter>⟧.answers) result }
+    ensures { IsStatusOfService (HasServed ⟦<AuditFile<'a, R> as Keep>⟧.kept
+        ⟦<PatientWriter<PlainWriter<Printer<'a, R>>> as TellingWriter>⟧.told
+        ⟦<PatientWriter<PlainWriter<Printer<'a, R>>> as TellingWriter>⟧.answers) result }
 {
     let stand_ins = StandIns::open(rt);
     let served = serve(rt, alloc, PlainTariffs, orders, input);

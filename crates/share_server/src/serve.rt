@@ -10,8 +10,10 @@ use share_ingress::IngressEnd;
 use share_journal::Journal;
 use share_locked::{Clerk, LinkBrand, Locked};
 use share_model::{Rates, TellingWriter};
-use share_served::{Doors, EndedLink, FoundFaults, Fresh, Keep, Places, Plan, ServeFault, Setting, Sockets};
-use share_served::{all_clerks, all_ends, close, filled, make_places, set_up, with_clerks};
+use share_served::{
+    Doors, EndedLink, FoundFaults, Fresh, Keep, Places, Plan, ServeFault, Setting, Sockets,
+    all_clerks, all_ends, close, filled, make_places, set_up, with_clerks,
+};
 use std::alloc::Global;
 use std::io::{Eprint, Read};
 use std::marker::Brand;

@@ -51,7 +51,11 @@ fn run_input<'a>(rt: &'a HostRuntime, orders: Orders<'_>) -> Result<ExitCode, Sc
 }
 
 // Runs the script of this file.
-fn run_file<'a>(rt: &'a HostRuntime, orders: Orders<'_>, path: &str) -> Result<ExitCode, ScriptFault>
+fn run_file<'a>(
+    rt: &'a HostRuntime,
+    orders: Orders<'_>,
+    path: &str,
+) -> Result<ExitCode, ScriptFault>
     requires { life_refusal orders.life ≡ None }
     ensures { IfOk result (λ status. OfSomeScript (λ script. IsAsAsked orders.is_strict
         (RanStrictly ⟦<LineReader<PlainReader<BufReader<File>>> as TellingReader>⟧.gives

@@ -6,19 +6,19 @@ use Rattle.share_asked.specs.Statuses.{EndsStrictly, RanStrictly}
 use Rattle.share_model.specs.declared.reader.Got.{Got}
 use Rattle.share_model.specs.declared.writer.Answer.{Answer}
 
-pub ran_strictly : {R S W E : Type 0} {gives : R → List ℕ → Got → R → Type 0} (over : R → S)
-    {answers : W → List ℕ → Answer → W → Type 0} {mark : W → Bool} (script : S) (input rest : R) (output after : W)
+pub ran_strictly : {R S W E : Type 0} (gives : R → List ℕ → Got → R → Type 0) (over : R → S)
+    (answers : W → List ℕ → Answer → W → Type 0) (mark : W → Bool) (script : S) (input rest : R) (output after : W)
     (result : Result ExitCode E) → over input ≡ script → mark output ≡ false
     → IfOk result (EndsStrictly gives answers mark input rest output after)
     → IfOk result (RanStrictly gives over answers mark script)
-ran_strictly over script input rest output after (Ok status) is no ends =
+ran_strictly gives over answers mark script input rest output after (Ok status) is unmarked ends =
     record {
       input = input;
       rest = rest;
       output = output;
       after = after;
       is_over = is;
-      has_no_mark = no;
+      has_no_mark = unmarked;
       ends = ends;
     }
-ran_strictly over script input rest output after (Err fault) is no ends = tt
+ran_strictly gives over answers mark script input rest output after (Err fault) is unmarked ends = tt

@@ -105,7 +105,7 @@ fn run_on_tariffs<'a, P: Print + Eprint, S: Rates + Drop, R: Read + Drop>(
 ) -> Result<ExitCode, ScriptFault>
     requires rates { S.rates shelf ≡ program_rates }
     requires life { life_refusal orders.life ≡ None }
-    ensures { IfOk result (λ status. IsAsAsked orders.is_strict
+    ensures { IfOk result (λ status. IsAsAsked orders.entry.is_strict
         (RanStrictly ⟦<LineReader<PlainReader<BufReader<R>>> as TellingReader>⟧.gives
         (λ lines. reader_inner lines.input.0)
         ⟦<StrictWriter<PatientWriter<PlainWriter<Printer<'a, P>>>> as TellingWriter>⟧.answers
@@ -128,7 +128,7 @@ pub fn run_on_standard<'a, P: Print + Eprint, R: Read + Drop>(
     script: R,
 ) -> Result<ExitCode, ScriptFault>
     requires { life_refusal orders.life ≡ None }
-    ensures { IfOk result (λ status. IsAsAsked orders.is_strict
+    ensures { IfOk result (λ status. IsAsAsked orders.entry.is_strict
         (RanStrictly ⟦<LineReader<PlainReader<BufReader<R>>> as TellingReader>⟧.gives
         (λ lines. reader_inner lines.input.0)
         ⟦<StrictWriter<PatientWriter<PlainWriter<Printer<'a, P>>>> as TellingWriter>⟧.answers

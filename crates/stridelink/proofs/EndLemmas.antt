@@ -9,16 +9,16 @@ use Rattle.share_asked.specs.Statuses.{OfSomeScript}
 use Rattle.share_served.specs.Shutdown.{WasServed}
 use Rattle.stridelink.specs.Serves.{HasServed}
 
-pub has_served : {X Y E F K O : Type 0} {kept : K → JournalView → Bool → Type 0} {told : O → Option Told}
-    {answers : O → List ℕ → Answer → O → Type 0} (keep : K) (output after : O) (result : Result X E)
+pub has_served : {X Y E F K O : Type 0} (kept : K → JournalView → Bool → Type 0) (told : O → Option Told)
+    (answers : O → List ℕ → Answer → O → Type 0) (keep : K) (output after : O) (result : Result X E)
     (served : Result Y F) → MatchResult result (λ _. IsOk served) (λ _. IsErr served)
     → OnOk served (WasServed kept told answers keep output after) → OnOk result (HasServed kept told answers)
-has_served keep output after (Ok x) (Ok y) is was =
+has_served kept told answers keep output after (Ok x) (Ok y) is was =
     record { keep = keep; output = output; after = after; served = was }
-has_served keep output after (Ok x) (Err fault) is was = absurd is
-has_served keep output after (Err fault) served is was = tt
+has_served kept told answers keep output after (Ok x) (Err fault) is was = absurd is
+has_served kept told answers keep output after (Err fault) served is was = tt
 
-pub of_some_script : {S E : Type 0} {P : S → ExitCode → Type 0} (script : S) (result : Result ExitCode E)
+pub of_some_script : {S E : Type 0} (P : S → ExitCode → Type 0) (script : S) (result : Result ExitCode E)
     → IfOk result (λ status. P script status) → IfOk result (λ status. OfSomeScript (λ script. P script status))
-of_some_script script (Ok status) holds = record { script = script; holds = holds }
-of_some_script script (Err fault) holds = tt
+of_some_script P script (Ok status) holds = record { script = script; holds = holds }
+of_some_script P script (Err fault) holds = tt

@@ -36,7 +36,7 @@ const AT_TERMINAL: &str =
 // Runs the script that standard input brings.
 fn run_input<'a>(rt: &'a HostRuntime, orders: Orders<'_>) -> Result<ExitCode, ScriptFault>
     requires { life_refusal orders.life ≡ None }
-    ensures { IfOk result (λ status. OfSomeScript (λ script. IsAsAsked orders.is_strict
+    ensures { IfOk result (λ status. OfSomeScript (λ script. IsAsAsked orders.entry.is_strict
         (RanStrictly ⟦<LineReader<PlainReader<BufReader<StdinLock<'a>>>> as TellingReader>⟧.gives
         (λ lines. reader_inner lines.input.0)
         ⟦<StrictWriter<PatientWriter<PlainWriter<Printer<'a, HostRuntime>>>> as TellingWriter>⟧.answers
@@ -57,7 +57,7 @@ fn run_file<'a>(
     path: &str,
 ) -> Result<ExitCode, ScriptFault>
     requires { life_refusal orders.life ≡ None }
-    ensures { IfOk result (λ status. OfSomeScript (λ script. IsAsAsked orders.is_strict
+    ensures { IfOk result (λ status. OfSomeScript (λ script. IsAsAsked orders.entry.is_strict
         (RanStrictly ⟦<LineReader<PlainReader<BufReader<File>>> as TellingReader>⟧.gives
         (λ lines. reader_inner lines.input.0)
         ⟦<StrictWriter<PatientWriter<PlainWriter<Printer<'a, HostRuntime>>>> as TellingWriter>⟧.answers
@@ -74,14 +74,16 @@ fn run_file<'a>(
 // Runs the script that is asked for.
 fn run_given<'a>(rt: &'a HostRuntime, orders: Orders<'_>) -> Result<ExitCode, ScriptFault>
     requires { life_refusal orders.life ≡ None }
-    ensures input { IsNone orders.file → IfOk result (λ status. OfSomeScript (λ script. IsAsAsked orders.is_strict
+    ensures input { IsNone orders.entry.file
+        → IfOk result (λ status. OfSomeScript (λ script. IsAsAsked orders.entry.is_strict
         (RanStrictly ⟦<LineReader<PlainReader<BufReader<StdinLock<'a>>>> as TellingReader>⟧.gives
         (λ lines. reader_inner lines.input.0)
         ⟦<StrictWriter<PatientWriter<PlainWriter<Printer<'a, HostRuntime>>>> as TellingWriter>⟧.answers
         (λ w. w.is_refused) script status)
         (RanWhole ⟦<PlainReader<StdinLock<'a>> as TellingReader>⟧.gives (λ plain. plain.0)
         ⟦<PatientWriter<PlainWriter<Printer<'a, HostRuntime>>> as TellingWriter>⟧.answers script status))) }
-    ensures file { IsSome orders.file → IfOk result (λ status. OfSomeScript (λ script. IsAsAsked orders.is_strict
+    ensures file { IsSome orders.entry.file
+        → IfOk result (λ status. OfSomeScript (λ script. IsAsAsked orders.entry.is_strict
         (RanStrictly ⟦<LineReader<PlainReader<BufReader<File>>> as TellingReader>⟧.gives
         (λ lines. reader_inner lines.input.0)
         ⟦<StrictWriter<PatientWriter<PlainWriter<Printer<'a, HostRuntime>>>> as TellingWriter>⟧.answers

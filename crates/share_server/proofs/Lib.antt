@@ -1,1 +1,1 @@
-mod ShutdownLemmas
+mod RunLemmas

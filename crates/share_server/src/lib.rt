@@ -1,16 +1,8 @@
-//! A link that is served over sockets: its connections, its threads, and its end.
+//! A link that is served over sockets: its threads, and its run from the first connection to the report.
 #![tactic(auto)]
 
-mod audit_file;
-mod faults;
-mod ingress;
 mod serve;
-mod setup;
-mod shutdown;
-mod slots;
 mod threads;
 
-pub use audit_file::{AuditFile, Keep, found_at};
-pub use faults::ServeFault;
 pub use serve::serve_on;
-pub use setup::{Plan, Sockets};
+pub use share_served::{AuditFile, Keep, Plan, ServeFault, Sockets, found_at};

@@ -2,19 +2,18 @@
 ghost use Rattle.std.specs.Prelude.{◌≡◌, ◌≤◌, ◌⊎◌, [], Err, OnOk, vec_len, vec_capacity};
 ghost use Rattle.share_base.specs.declared.version.Version.TheVariants.{Two};
 ghost use Rattle.share_model.specs.lists.Each.{Each};
-ghost use Rattle.share_server.specs.Shutdown.{CanServe, HasNotBegun, IsResultOf, IsRunClosed, WasServed};
+ghost use Rattle.share_served.specs.Shutdown.{CanServe, HasNotBegun, IsResultOf, IsRunClosed, WasServed};
 
-use crate::audit_file::Keep;
-use crate::faults::{FoundFaults, ServeFault};
-use crate::setup::{Doors, Fresh, Plan, Setting, Sockets, set_up};
-use crate::shutdown::{EndedLink, close};
-use crate::slots::{Places, all_clerks, all_ends, filled, make_places, with_clerks};
 use crate::threads::{Server, run};
 use share_connections::end_at_eof;
 use share_ingress::IngressEnd;
 use share_journal::Journal;
 use share_locked::{Clerk, LinkBrand, Locked};
 use share_model::{Rates, TellingWriter};
+use share_served::{
+    Doors, EndedLink, FoundFaults, Fresh, Keep, Places, Plan, ServeFault, Setting, Sockets,
+    all_clerks, all_ends, close, filled, make_places, set_up, with_clerks,
+};
 use std::alloc::Global;
 use std::io::{Eprint, Read};
 use std::marker::Brand;

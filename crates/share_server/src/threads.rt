@@ -1,13 +1,11 @@
 //! The threads of a running server.
 
-use crate::faults::FoundFaults;
-use crate::ingress::{why_text, work};
-use crate::slots::{LinkedEnd, Slot};
 use share_connections::{ConnectionReader, Connections, Kind, Uplink};
 use share_control::{Attended, How, attend};
 use share_locked::{Clerk, LinkBrand, LinkEnd, Port, serve_while};
 use share_model::{PlainReader, PlainWriter, Rates};
 use share_script::IncomingLines;
+use share_served::{FoundFaults, LinkedEnd, Slot, why_text, work};
 use std::alloc::Global;
 use std::io::{Eprint, ErrorKind};
 use std::net::{TcpListener, TcpStream};

@@ -1,38 +1,27 @@
 //! A link that shares its bandwidth among packet flows by tickets, driven by a script of lines or by sockets.
 #![tactic(auto)]
 
-ghost use Rattle.std.specs.Prelude.{◌≡◌, ◌≢◌, ◌⊎◌, None, IfOk, IfErr, IsOkAnd, MatchResult};
+ghost use Rattle.std.specs.Prelude.{◌≡◌, None, IfOk, IfErr, IsNone, IsSome};
+ghost use Rattle.std.specs.Io.Buffered.{reader_inner};
 ghost use Rattle.std.specs.Process.{exit_status};
-ghost use Rattle.clap.specs.Values.{kind_of};
+ghost use Rattle.share_asked.specs.Statuses.{IsAsAsked, OfSomeScript, RanStrictly, RanWhole};
 ghost use Rattle.share_core.specs.Life.{life_refusal};
-ghost use Rattle.share_script.specs.declared.script.ScriptFault.TheVariants.{Output, NoMemory};
+ghost use Rattle.share_script.specs.declared.script.ScriptFault.TheVariants.{NoMemory};
 ghost use Rattle.share_words.specs.Orders.{CanBeServed};
-ghost use Rattle.stridelink.specs.Rates.{program_rates};
-
-// The shelf of the program: tariffs 1 to 4. Their boxes are made in the body that uses it, which returns an error if
-// memory is refused.
-macro_rules! program_shelf {
-    ($alloc:expr) => {
-        share_tariff::shelf!($alloc, (1, 0, 1), (48, 16, 2), (1024, 0, 1), (2048, 1024, 3))
-    };
-}
+ghost use Rattle.stridelink.specs.Serves.{HasServed, IsStatusOfService};
 
 mod serving;
-mod streams;
-mod tariffs;
 
-use crate::serving::{Unserved, serve};
-use crate::streams::StandIns;
-use crate::tariffs::PlainTariffs;
-use clap::error::ErrorKind;
-use share_billing::{Billing, NotShown, print_bill};
-use share_model::{PatientWriter, PlainReader, PlainWriter, Rates, TellingReader, TellingWriter};
-use share_runs::{LineReader, StrictWriter, run, run_strictly};
+use crate::serving::serve;
+use share_asked::{PlainTariffs, StandIns, bill_given, run_on_standard, show, tell_served};
+use share_model::{PatientWriter, PlainReader, PlainWriter, TellingReader, TellingWriter};
+use share_runs::{LineReader, StrictWriter};
 use share_script::ScriptFault;
-use share_words::{Asked, BillOrders, Orders, ServeOrders, parse};
+use share_server::{AuditFile, Keep};
+use share_words::{Asked, Orders, ServeOrders, parse};
 use std::alloc::Global;
 use std::fs::{File, Files};
-use std::io::{BufReader, IsTerminal, Read};
+use std::io::{BufReader, Eprint, IsTerminal, Print, Printer, Read, StdinLock};
 use std::net::{Net, TcpListener, TcpStream};
 use std::process::ExitCode;
 use std::sync::Wait;
@@ -40,160 +29,90 @@ use std::thread::Threads;
 use std::time::Clock;
 use std::{env, io};
 
-/// The status of a usage fault.
-const USAGE: u8 = 2;
-
 /// What is told if the lines of a script come from a terminal.
 const AT_TERMINAL: &str =
     "stridelink: reads the lines of a script; 'stridelink run --help' tells them";
 
-// Tells which line was refused, and how. The status says that a line was refused even if standard error takes no text.
-fn tell_refusal<I: TellingReader, O: TellingWriter>(
-    rt: &impl Eprint,
-    input: &LineReader<I>,
-    output: &StrictWriter<O>,
-) {
-    let number = input.number();
-    let line = input.line().escape_ascii();
-    let answer = output.line().escape_ascii();
-    let _ = eprintln!(rt; "stridelink: line {number}, '{line}': {answer}");
-}
-
-// Runs a script up to its first refused line, which standard error tells; the replies go to standard output.
-fn run_and_tell<S: Rates + Drop, R: Read + Drop>(
-    rt: &(impl Print + Eprint),
-    alloc: Global,
-    shelf: S,
-    life: u64,
-    script: R,
-) -> Result<ExitCode, ScriptFault>
-    requires { life_refusal life ≡ None }
+// Runs the script that standard input brings.
+fn run_input<'a>(rt: &'a HostRuntime, orders: Orders<'_>) -> Result<ExitCode, ScriptFault>
+    requires { life_refusal orders.life ≡ None }
+    ensures { IfOk result (λ status. OfSomeScript (λ script. IsAsAsked orders.entry.is_strict
+        (RanStrictly ⟦<LineReader<PlainReader<BufReader<StdinLock<'a>>>> as TellingReader>⟧.gives
+        (λ lines. reader_inner lines.input.0)
+        ⟦<StrictWriter<PatientWriter<PlainWriter<Printer<'a, HostRuntime>>>> as TellingWriter>⟧.answers
+        (λ w. w.is_refused) script status)
+        (RanWhole ⟦<PlainReader<StdinLock<'a>> as TellingReader>⟧.gives (λ plain. plain.0)
+        ⟦<PatientWriter<PlainWriter<Printer<'a, HostRuntime>>> as TellingWriter>⟧.answers script status))) }
 {
-    let Ok(script) = BufReader::new(alloc, script) else {
-        return Err(ScriptFault::NoMemory);
-    };
-    let mut input = LineReader::new(PlainReader(script));
-    let mut output = StrictWriter::new(PatientWriter(PlainWriter(io::writer(rt))));
-    if run_strictly(alloc, shelf, life, &mut input, &mut output)? {
-        return Ok(ExitCode::SUCCESS);
+    if rt.stdin().is_terminal() {
+        let _ = eprintln!(rt; "{AT_TERMINAL}");
     }
-    tell_refusal(rt, &input, &output);
-    Ok(ExitCode::FAILURE)
+    run_on_standard(rt, rt.alloc(), orders, rt.reader())
 }
 
-// Runs a script over this shelf, whose tariffs are the program's; the replies go to standard output.
-fn run_on_tariffs<S: Rates + Drop, R: Read + Drop>(
-    rt: &(impl Print + Eprint),
-    alloc: Global,
-    shelf: S,
+// Runs the script of this file.
+fn run_file<'a>(
+    rt: &'a HostRuntime,
     orders: Orders<'_>,
-    script: R,
-) -> Result<ExitCode, ScriptFault>
-    requires rates { S.rates shelf ≡ program_rates }
-    requires life { life_refusal orders.life ≡ None }
-{
-    if orders.is_strict {
-        return run_and_tell(rt, alloc, shelf, orders.life, script);
-    }
-    let mut input = PlainReader(script);
-    let mut output = PatientWriter(PlainWriter(io::writer(rt)));
-    run(alloc, shelf, orders.life, &mut input, &mut output)?;
-    Ok(ExitCode::SUCCESS)
-}
-
-// Runs a script over the program's shelf, which is made here.
-fn run_on_standard<R: Read + Drop>(
-    rt: &(impl Print + Eprint),
-    alloc: Global,
-    orders: Orders<'_>,
-    script: R,
+    path: &str,
 ) -> Result<ExitCode, ScriptFault>
     requires { life_refusal orders.life ≡ None }
+    ensures { IfOk result (λ status. OfSomeScript (λ script. IsAsAsked orders.entry.is_strict
+        (RanStrictly ⟦<LineReader<PlainReader<BufReader<File>>> as TellingReader>⟧.gives
+        (λ lines. reader_inner lines.input.0)
+        ⟦<StrictWriter<PatientWriter<PlainWriter<Printer<'a, HostRuntime>>>> as TellingWriter>⟧.answers
+        (λ w. w.is_refused) script status)
+        (RanWhole ⟦<PlainReader<File> as TellingReader>⟧.gives (λ plain. plain.0)
+        ⟦<PatientWriter<PlainWriter<Printer<'a, HostRuntime>>> as TellingWriter>⟧.answers script status))) }
 {
-    let shelf = program_shelf!(alloc);
-    run_on_tariffs(rt, alloc, shelf, orders, script)
+    let Ok(file) = File::open(rt, path) else {
+        return Err(ScriptFault::Input);
+    };
+    run_on_standard(rt, rt.alloc(), orders, file)
 }
 
 // Runs the script that is asked for.
-fn run_given(rt: &HostRuntime, orders: Orders<'_>) -> Result<ExitCode, ScriptFault>
+fn run_given<'a>(rt: &'a HostRuntime, orders: Orders<'_>) -> Result<ExitCode, ScriptFault>
     requires { life_refusal orders.life ≡ None }
+    ensures input { IsNone orders.entry.file
+        → IfOk result (λ status. OfSomeScript (λ script. IsAsAsked orders.entry.is_strict
+        (RanStrictly ⟦<LineReader<PlainReader<BufReader<StdinLock<'a>>>> as TellingReader>⟧.gives
+        (λ lines. reader_inner lines.input.0)
+        ⟦<StrictWriter<PatientWriter<PlainWriter<Printer<'a, HostRuntime>>>> as TellingWriter>⟧.answers
+        (λ w. w.is_refused) script status)
+        (RanWhole ⟦<PlainReader<StdinLock<'a>> as TellingReader>⟧.gives (λ plain. plain.0)
+        ⟦<PatientWriter<PlainWriter<Printer<'a, HostRuntime>>> as TellingWriter>⟧.answers script status))) }
+    ensures file { IsSome orders.entry.file
+        → IfOk result (λ status. OfSomeScript (λ script. IsAsAsked orders.entry.is_strict
+        (RanStrictly ⟦<LineReader<PlainReader<BufReader<File>>> as TellingReader>⟧.gives
+        (λ lines. reader_inner lines.input.0)
+        ⟦<StrictWriter<PatientWriter<PlainWriter<Printer<'a, HostRuntime>>>> as TellingWriter>⟧.answers
+        (λ w. w.is_refused) script status)
+        (RanWhole ⟦<PlainReader<File> as TellingReader>⟧.gives (λ plain. plain.0)
+        ⟦<PatientWriter<PlainWriter<Printer<'a, HostRuntime>>> as TellingWriter>⟧.answers script status))) }
 {
     match orders.file {
-        None => {
-            if rt.stdin().is_terminal() {
-                let _ = eprintln!(rt; "{AT_TERMINAL}");
-            }
-            run_on_standard(rt, rt.alloc(), orders, rt.reader())
-        }
-        Some(path) => {
-            let Ok(file) = File::open(rt, path) else {
-                return Err(ScriptFault::Input);
-            };
-            run_on_standard(rt, rt.alloc(), orders, file)
-        }
+        None => run_input(rt, orders),
+        Some(path) => run_file(rt, orders, path),
     }
 }
 
 // Serves the link that is asked for, and tells what went wrong.
-fn serve_given<R, I>(
-    rt: &R,
-    alloc: Global,
-    orders: ServeOrders<'_>,
-    input: I,
-) -> Result<ExitCode, ScriptFault>
+fn serve_given<'a, R, I>(rt: &'a R, alloc: Global, orders: ServeOrders<'_>, input: I) -> ExitCode
 where
     R: Net<Listener = TcpListener, Stream = TcpStream> + Files + Threads + Wait + Clock,
     R: Print + Eprint + Copy + Send + Sync + 'static,
     I: Read + Send + Drop + 'static,
     requires { CanBeServed orders.life orders.workers orders.clerks }
+    ensures { IsStatusOfService (HasServed ⟦<AuditFile<'a, R> as Keep>⟧.kept
+        ⟦<PatientWriter<PlainWriter<Printer<'a, R>>> as TellingWriter>⟧.told
+        ⟦<PatientWriter<PlainWriter<Printer<'a, R>>> as TellingWriter>⟧.answers) result }
 {
     let stand_ins = StandIns::open(rt);
     let served = serve(rt, alloc, PlainTariffs, orders, input);
     let status = tell_served(rt, served);
     drop(stand_ins);
-    Ok(status)
-}
-
-// Tells what went wrong in a service, if something did.
-fn tell_served(rt: &impl Eprint, served: Result<(), Unserved<'_>>) -> ExitCode
-    ensures { MatchResult served.entry (λ _. exit_status result ≡ 0) (λ _. exit_status result ≡ 1) }
-{
-    match served {
-        Ok(()) => ExitCode::SUCCESS,
-        Err(fault) => {
-            // The status tells the fault even if standard error takes no text.
-            let _ = eprintln!(rt; "stridelink: {fault}");
-            ExitCode::FAILURE
-        }
-    }
-}
-
-// Prints the bill of the books that are asked for.
-fn bill_given<R: Files + Print + Eprint>(
-    rt: &R,
-    alloc: Global,
-    orders: BillOrders<'_>,
-) -> Result<ExitCode, ScriptFault> {
-    let billing = Billing {
-        paths: orders.files.as_slice(),
-        form: orders.form,
-    };
-    let printed = print_bill(rt, alloc, PlainTariffs, &billing);
-    drop(orders);
-    status_of(printed)
-}
-
-// The status of a bill that was printed, or was not since standard error says why.
-fn status_of(printed: Result<(), NotShown>) -> Result<ExitCode, ScriptFault>
-    ensures { MatchResult printed (λ _. IsOkAnd result (λ status. exit_status status ≡ 0))
-        (λ fault. IfOk result (λ status. exit_status status ≡ 1)) }
-{
-    match printed {
-        Ok(()) => Ok(ExitCode::SUCCESS),
-        Err(NotShown::Book) => Ok(ExitCode::FAILURE),
-        Err(NotShown::NoMemory) => Err(ScriptFault::NoMemory),
-        Err(NotShown::Output) => Err(ScriptFault::Output),
-    }
+    status
 }
 
 // The words of the command line. `None` if one of them is not UTF-8.
@@ -204,24 +123,6 @@ fn given_words(rt: &HostRuntime) -> Result<Option<Vec<String>>, ScriptFault>
         Ok(words) => Ok(Some(words.collect(rt.alloc())?)),
         Err(error) if error.kind() == io::ErrorKind::OutOfMemory => Err(ScriptFault::NoMemory),
         Err(_) => Ok(None),
-    }
-}
-
-// Shows a text of `clap`. A wrong word is a usage fault even if standard error does not take the text.
-fn show(rt: &(impl Print + Eprint), text: &clap::Error) -> Result<ExitCode, ScriptFault>
-    ensures usage { kind_of text.now ≢ ErrorKind.DisplayHelp
-        → kind_of text.now ≢ ErrorKind.DisplayVersion
-        → IsOkAnd result (λ status. exit_status status ≡ 2) }
-    ensures shown { (kind_of text.now ≡ ErrorKind.DisplayHelp) ⊎ (kind_of text.now ≡ ErrorKind.DisplayVersion)
-        → MatchResult result (λ status. exit_status status ≡ 0) (λ fault. fault ≡ Output) }
-{
-    let shown = text.print(rt);
-    if text.use_stderr() {
-        return Ok(ExitCode::from(USAGE));
-    }
-    match shown {
-        Ok(()) => Ok(ExitCode::SUCCESS),
-        Err(_) => Err(ScriptFault::Output),
     }
 }
 
@@ -243,7 +144,7 @@ fn main(rt: HostRuntime) -> ExitCode {
     let obeyed = match parse(rt.alloc(), words.as_ref().map(|words| words.as_slice())) {
         Ok(Asked::Text(text)) => show(&rt, &text),
         Ok(Asked::Run(orders)) => run_given(&rt, orders),
-        Ok(Asked::Serve(orders)) => serve_given(&rt, rt.alloc(), orders, rt.reader()),
+        Ok(Asked::Serve(orders)) => Ok(serve_given(&rt, rt.alloc(), orders, rt.reader())),
         Ok(Asked::Bill(orders)) => bill_given(&rt, rt.alloc(), orders),
         Err(_) => Err(ScriptFault::NoMemory),
     };

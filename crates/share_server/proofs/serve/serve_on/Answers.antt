@@ -1,5 +1,5 @@
 use Rattle.std.proofs.Common.{refl, inr}
-use Rattle.share_server.proofs.ShutdownLemmas.{served_if, ends_so}
+use Rattle.share_server.proofs.RunLemmas.{served_if, ends_so}
 use Rattle.share_server.proofs.serve.serve_on.Goals as goal
 
 pub returns-in-Ok-clause-served : goal.returns-in-Ok-clause-served

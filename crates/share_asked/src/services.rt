@@ -1,0 +1,132 @@
+//! What a server needs before it runs, and what is told after its run.
+ghost use Rattle.std.specs.Prelude.{◌≡◌, [], IfOk, IsErr, IsOk, MatchResult};
+ghost use Rattle.std.specs.Process.{exit_status};
+ghost use Rattle.share_base.specs.declared.version.Version.TheVariants.{Two};
+
+use share_base::Version;
+use share_journal::Journal;
+use share_served::{AuditFile, ServeFault, Sockets};
+use share_words::{ServeOrders, Word};
+use std::alloc::Global;
+use std::fs::Files;
+use std::io::{Eprint, ErrorKind};
+use std::net::{Net, TcpListener, TcpStream};
+use std::process::ExitCode;
+use thiserror::Error;
+
+/// Why a server did not run, or what went wrong in its run, with the word of the command line that it is about.
+#[derive(Clone, Copy, Debug, PartialEq, Eq, Error)]
+pub enum Unserved<'a> {
+    /// Memory was refused.
+    #[error("out of memory")]
+    NoMemory,
+    /// The file of the audit could not be made, or the audit could not be written.
+    #[error("cannot write the audit {0}")]
+    Audit(Word<'a>),
+    /// The server cannot listen on an address.
+    #[error("cannot listen on {0}")]
+    Listen(Word<'a>),
+    /// The uplink's peer could not be reached.
+    #[error("cannot connect to {0}")]
+    Connect(Word<'a>),
+    /// The run had a fault.
+    #[error("{0}")]
+    Run(ServeFault),
+}
+
+fn listen<'a, R: Net<Listener = TcpListener, Stream = TcpStream>>(
+    rt: &R,
+    address: &'a str,
+) -> Result<TcpListener, Unserved<'a>> {
+    match TcpListener::bind(rt, address) {
+        Ok(listener) => Ok(listener),
+        Err(_) => Err(Unserved::Listen(Word(address))),
+    }
+}
+
+// Listens on both addresses, and connects to the uplink's peer.
+fn sockets<'a, R: Net<Listener = TcpListener, Stream = TcpStream>>(
+    rt: &R,
+    orders: ServeOrders<'a>,
+) -> Result<Sockets, Unserved<'a>> {
+    let ingress = listen(rt, orders.ingress)?;
+    let control = listen(rt, orders.control)?;
+    match TcpStream::connect(rt, orders.uplink) {
+        Ok(uplink) => Ok(Sockets {
+            ingress,
+            control,
+            uplink,
+        }),
+        Err(_) => Err(Unserved::Connect(Word(orders.uplink))),
+    }
+}
+
+// Opens the file of the audit.
+fn audit_file<'a, R: Files>(
+    rt: &'a R,
+    alloc: Global,
+    path: &'a str,
+) -> Result<AuditFile<'a, R>, Unserved<'a>> {
+    match AuditFile::open(rt, alloc, path) {
+        Ok(audit) => Ok(audit),
+        Err(fault) if fault.kind() == ErrorKind::OutOfMemory => Err(Unserved::NoMemory),
+        Err(_) => Err(Unserved::Audit(Word(path))),
+    }
+}
+
+/// What a run needs, in this order: a journal of version 2, the file of the audit, and sockets. At a fault what was made
+/// already is dropped by calls, which keeps the proof short.
+pub fn prepared<'a, R>(
+    rt: &'a R,
+    alloc: Global,
+    orders: ServeOrders<'a>,
+) -> Result<(Journal, AuditFile<'a, R>, Sockets), Unserved<'a>>
+where
+    R: Net<Listener = TcpListener, Stream = TcpStream> + Files,
+    ensures { IfOk result (λ made. made.0 ≡ record { life = orders.entry.life; version = Two; entries = [] }) }
+{
+    let Ok(mut journal) = Journal::new(alloc, orders.life) else {
+        return Err(Unserved::NoMemory);
+    };
+    journal.choose(Version::Two);
+    let audit = match audit_file(rt, alloc, orders.audit) {
+        Ok(audit) => audit,
+        Err(fault) => {
+            drop(journal);
+            return Err(fault);
+        }
+    };
+    match sockets(rt, orders) {
+        Ok(sockets) => Ok((journal, audit, sockets)),
+        Err(fault) => {
+            drop(journal);
+            drop(audit);
+            Err(fault)
+        }
+    }
+}
+
+/// What went wrong in a run whose audit goes to this file, if something did.
+pub fn result_of_run<'a>(served: Result<(), ServeFault>, audit: &'a str) -> Result<(), Unserved<'a>>
+    ensures { MatchResult result (λ _. IsOk served) (λ _. IsErr served) }
+{
+    match served {
+        Ok(()) => Ok(()),
+        Err(ServeFault::Audit) => Err(Unserved::Audit(Word(audit))),
+        Err(fault) => Err(Unserved::Run(fault)),
+    }
+}
+
+/// Tells what went wrong in a service, if something did.
+pub fn tell_served(rt: &impl Eprint, served: Result<(), Unserved<'_>>) -> ExitCode
+    ensures { MatchResult served.entry (λ _. exit_status result ≡ 0) (λ _. exit_status result ≡ 1) }
+{
+    match served {
+        Ok(()) => ExitCode::SUCCESS,
+        Err(fault) => {
+            // The status tells the fault even if standard error takes no text.
+            let _ = eprintln!(rt; "stridelink: {fault}");
+            ExitCode::FAILURE
+        }
+    }
+}

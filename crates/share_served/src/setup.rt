@@ -1,0 +1,252 @@
+//! A new link over its sockets, before it is served.
+ghost use Rattle.std.specs.Prelude.{◌≡◌, ◌≤◌, ◌⊎◌, [], true, IfOk, IfErr};
+ghost use Rattle.share_base.specs.declared.version.Version.TheVariants.{Two};
+ghost use Rattle.share_model.specs.lists.Each.{Each};
+ghost use Rattle.share_ingress.specs.Ends.{new_ends, new_intake};
+ghost use Rattle.share_served.specs.Shutdown.{CanServe, RefusesToBegin, is_new};
+
+use crate::faults::ServeFault;
+use share_base::Version;
+use share_connections::{Connections, Listening, Uplink, Wire};
+use share_core::Engine;
+use share_ingress::{IngressEnd, Intake, queue};
+use share_journal::{Journal, Recorder};
+use share_locked::Pace;
+use share_model::{PlainWriter, Rates};
+use std::alloc::Global;
+use std::io;
+use std::io::{Eprint, ErrorKind};
+use std::net::{TcpListener, TcpStream};
+use std::sync::Arc;
+
+/// How many places the queue has.
+const PLACES: usize = 256;
+
+/// How many connections there are, and how the server behaves.
+#[derive(Clone, Copy, Debug, PartialEq, Eq)]
+pub struct Plan {
+    /// How many ingress connections are accepted.
+    pub workers: usize,
+    /// How many control connections are accepted, before those.
+    pub clerks: usize,
+    /// Whether standard error tells what happens.
+    pub is_verbose: bool,
+}
+
+/// Where the server listens, and the uplink that is connected.
+#[derive(Drop)]
+pub struct Sockets {
+    pub ingress: TcpListener,
+    pub control: TcpListener,
+    pub uplink: TcpStream,
+}
+
+/// A new link that is not served yet, with both sides of its queue.
+#[derive(Drop)]
+pub struct Fresh<S: Rates> {
+    pub recorder: Recorder<PlainWriter<Uplink>, S>,
+    pub intake: Intake,
+    pub ends: Vec<IngressEnd>,
+}
+
+/// The listeners, and the connections that are open.
+#[derive(Drop)]
+pub struct Doors {
+    pub ingress: TcpListener,
+    pub control: TcpListener,
+    pub connections: Arc<Connections>,
+}
+
+/// All that there is before a link is served. It is one value, so that a function that ends early drops it in one step,
+/// which keeps the proof short.
+#[derive(Drop)]
+pub struct Setting<S: Rates> {
+    pub fresh: Fresh<S>,
+    pub doors: Doors,
+    pub clerks: usize,
+}
+
+// A recorder of a new link of version 2 over the uplink.
+fn recording<S: Rates + Drop>(
+    alloc: Global,
+    shelf: S,
+    journal: Journal,
+    uplink: Uplink,
+) -> Result<Recorder<PlainWriter<Uplink>, S>, ServeFault>
+    ensures empty { IfOk result (λ r. r.entries ≡ []) }
+    ensures version { IfOk result (λ r. r.link.live.version ≡ Two) }
+    ensures new { IfOk result (λ _. is_new journal ≡ true) }
+    ensures refused { IfErr result (RefusesToBegin journal) }
+{
+    let mut engine = match Engine::new(alloc, shelf, journal.life(), PlainWriter(uplink)) {
+        Ok(engine) => engine,
+        Err(refused) => {
+            drop(journal);
+            return Err(ServeFault::from(refused));
+        }
+    };
+    engine.choose(Version::Two);
+    match Recorder::new(engine, journal) {
+        Ok(recorder) => Ok(recorder),
+        Err(back) => {
+            drop(back);
+            Err(ServeFault::Mismatch)
+        }
+    }
+}
+
+// A new link over the uplink, with a queue of `PLACES` places for these workers.
+fn link_over<S: Rates + Drop>(
+    alloc: Global,
+    shelf: S,
+    journal: Journal,
+    uplink: Uplink,
+    workers: usize,
+) -> Result<Fresh<S>, ServeFault>
+    requires { (1 ≤ workers) × (workers ≤ 8) }
+    ensures empty { IfOk result (λ fresh. fresh.recorder.entries ≡ []) }
+    ensures version { IfOk result (λ fresh. fresh.recorder.link.live.version ≡ Two) }
+    ensures new { IfOk result (λ _. is_new journal ≡ true) }
+    ensures queue { IfOk result (λ fresh.
+        (fresh.intake ≡ new_intake fresh.intake.link PLACES workers)
+        × (fresh.ends.items ≡ new_ends fresh.intake.link PLACES workers)) }
+    ensures linked { IfOk result (λ fresh. Each (λ e. e.link ≡ fresh.intake.link) fresh.ends.items) }
+    ensures refused { IfErr result (RefusesToBegin journal) }
+{
+    let recorder = recording(alloc, shelf, journal, uplink)?;
+    match queue(alloc, PLACES, workers) {
+        Ok((intake, ends)) => Ok(Fresh {
+            recorder,
+            intake,
+            ends,
+        }),
+        Err(refused) => {
+            drop(recorder);
+            Err(ServeFault::from(refused))
+        }
+    }
+}
+
+// The uplink, and the writer of the link over it.
+fn writer_over(alloc: Global, uplink: TcpStream) -> Result<(Arc<Wire>, Uplink), ServeFault>
+    ensures { IfErr result (λ fault. fault ≡ ServeFault.NoMemory) }
+{
+    let _ = uplink.set_nodelay(true);
+    let Ok(wire) = Arc::new(alloc, Wire::new(uplink)) else {
+        return Err(ServeFault::NoMemory);
+    };
+    let writer = Uplink::new(&wire)?;
+    Ok((wire, writer))
+}
+
+// What is wrong if listeners cannot be shared.
+fn fault_of_listeners(fault: &io::Error) -> ServeFault
+    ensures { (result ≡ ServeFault.NoMemory) ⊎ (result ≡ ServeFault.Accept) }
+{
+    match fault.kind() {
+        ErrorKind::OutOfMemory => ServeFault::NoMemory,
+        _ => ServeFault::Accept,
+    }
+}
+
+// The connections at these listeners, none yet, with room for those of a plan.
+fn no_connections(
+    alloc: Global,
+    ingress: &TcpListener,
+    control: &TcpListener,
+    wire: Arc<Wire>,
+    plan: Plan,
+) -> Result<Arc<Connections>, ServeFault>
+    ensures { IfErr result (λ fault. (fault ≡ ServeFault.NoMemory) ⊎ (fault ≡ ServeFault.Accept)) }
+{
+    let listening = match Listening::of(control, ingress) {
+        Ok(listening) => listening,
+        Err(fault) => {
+            drop(wire);
+            return Err(fault_of_listeners(&fault));
+        }
+    };
+    let pace = Pace::new(alloc, PLACES, plan.workers)?;
+    let room = plan.workers.saturating_add(plan.clerks);
+    let connections = Connections::new(alloc, listening, wire, pace, room, plan.is_verbose)?;
+    match Arc::new(alloc, connections) {
+        Ok(connections) => Ok(connections),
+        Err(_) => Err(ServeFault::NoMemory),
+    }
+}
+
+// The listeners, with no connection yet, and the writer of the link.
+fn open_doors(alloc: Global, sockets: Sockets, plan: Plan) -> Result<(Doors, Uplink), ServeFault>
+    ensures { IfErr result (λ fault. (fault ≡ ServeFault.NoMemory) ⊎ (fault ≡ ServeFault.Accept)) }
+{
+    let Sockets {
+        ingress,
+        control,
+        uplink,
+    } = sockets;
+    let (wire, writer) = writer_over(alloc, uplink)?;
+    let connections = no_connections(alloc, &ingress, &control, wire, plan)?;
+    let doors = Doors {
+        ingress,
+        control,
+        connections,
+    };
+    Ok((doors, writer))
+}
+
+// Tells where the server listens.
+fn tell_addresses<R: Eprint>(rt: &R, doors: &Doors) {
+    if let Ok(address) = doors.ingress.local_addr() {
+        let line = format_args!("listening for ingress on {address}");
+        doors.connections.tell(rt, line);
+    }
+    if let Ok(address) = doors.control.local_addr() {
+        let line = format_args!("listening for control on {address}");
+        doors.connections.tell(rt, line);
+    }
+}
+
+/// A new link with these sockets. Once all is there, it tells where the server listens.
+pub fn set_up<R: Eprint, S: Rates + Drop>(
+    rt: &R,
+    alloc: Global,
+    shelf: S,
+    journal: Journal,
+    sockets: Sockets,
+    plan: Plan,
+) -> Result<Setting<S>, ServeFault>
+    requires { CanServe plan.workers plan.clerks }
+    ensures empty { IfOk result (λ s. s.fresh.recorder.entries ≡ []) }
+    ensures version { IfOk result (λ s. s.fresh.recorder.link.live.version ≡ Two) }
+    ensures new { IfOk result (λ _. is_new journal ≡ true) }
+    ensures queue { IfOk result (λ s.
+        (s.fresh.intake ≡ new_intake s.fresh.intake.link PLACES plan.workers)
+        × (s.fresh.ends.items ≡ new_ends s.fresh.intake.link PLACES plan.workers)) }
+    ensures linked { IfOk result (λ s. Each (λ e. e.link ≡ s.fresh.intake.link) s.fresh.ends.items) }
+    ensures clerks { IfOk result (λ s. s.clerks ≡ plan.clerks) }
+    ensures refused { IfErr result (RefusesToBegin journal) }
+{
+    let (doors, uplink) = match open_doors(alloc, sockets, plan) {
+        Ok(both) => both,
+        Err(fault) => {
+            drop(shelf);
+            drop(journal);
+            return Err(fault);
+        }
+    };
+    match link_over(alloc, shelf, journal, uplink, plan.workers) {
+        Ok(fresh) => {
+            tell_addresses(rt, &doors);
+            let clerks = plan.clerks;
+            Ok(Setting {
+                fresh,
+                doors,
+                clerks,
+            })
+        }
+        Err(fault) => {
+            drop(doors);
+            Err(fault)
+        }
+    }
+}

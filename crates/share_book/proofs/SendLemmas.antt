@@ -282,9 +282,11 @@ module _ (old : Audited) (link : LinkView (Unit {0})) (before after : OutboxView
         (record { link = link; kind = old.kind; text = old.text }) after
     idle-did =
         subst (λ o. SentNext old before o turn (record { link = link; kind = old.kind; text = old.text }) after)
-        (sym nothing_sent.3)
-        (nothing_sent.0, ap (λ l. record { link = l; kind = old.kind; text = old.text }) nothing_sent.1,
-        nothing_sent.2)
+        (sym nothing_sent.3) (
+          nothing_sent.0,
+          ap (λ l. record { link = l; kind = old.kind; text = old.text }) nothing_sent.1,
+          nothing_sent.2,
+        )
 
 -- no answer of the form is no write
 pub unwritten : (t : Turn) → ((flow seq k : ℕ) → (all : Bool) → t ≡ Wrote flow seq k all → ⊥) → is_wrote t ≡ false

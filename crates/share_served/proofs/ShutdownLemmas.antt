@@ -1,7 +1,7 @@
--- What is found when a link is closed, and what its run comes to.
-use Rattle.std.proofs.Common.{◌≡◌, ◌||◌, ◌&&◌, ◌∙◌, Bool, true, false, not, refl, sym, ap, subst, true≢false, inl, inr}
+-- What is found when a link is closed.
+use Rattle.std.proofs.Common.{◌≡◌, ◌&&◌, Bool, true, false, not, refl, subst, inl, inr}
 use Rattle.std.proofs.Common.{arith, ℕ, List, length, nat_eq, Option, Result, Ok, Err}
-use Rattle.std.specs.Prelude.{is_err, OnOk, ◌⊎◌}
+use Rattle.std.specs.Prelude.{is_err}
 use Rattle.share_base.specs.declared.version.Version.TheVariants.{Two}
 use Rattle.share_ingress.specs.Ends.{EndView}
 use Rattle.share_journal.specs.Entries.{JournalView}
@@ -9,19 +9,15 @@ use Rattle.share_journal.specs.Records.{RecorderView, IsRunNow, are_new}
 use Rattle.share_locked.specs.Settles.{IsSettled, IsAccounted, Unsettles}
 use Rattle.share_locked.specs.Views.{LockedView, ClerkView}
 use Rattle.share_locked.specs.declared.locked.settling.WhyUnsettled.{WhyUnsettled}
-use Rattle.share_locked.specs.declared.locked.settling.WhyUnsettled.TheVariants.{Unsent, Mismatch, LeftOver, NoMemory}
 use Rattle.share_model.specs.declared.writer.Answer.{Answer}
 use Rattle.share_model.specs.io.Printing.{WritesText}
 use Rattle.share_model.specs.io.Told.{Told}
 use Rattle.share_model.specs.link.View.{LinkView}
 use Rattle.share_model.specs.text.Report.{report}
-use Rattle.share_served.specs.Faults.{no_fault}
-use Rattle.share_served.specs.Shutdown.{journal_of, with_want, with_end, is_unsettled, IsWritten, LinkWasSettled}
-use Rattle.share_served.specs.Shutdown.{Settling, IsClosing, IsResultOf, IsRunClosed, WasServed, HasNotBegun, is_new}
+use Rattle.share_served.specs.Shutdown.{journal_of, with_want, with_end, IsWritten, LinkWasSettled}
+use Rattle.share_served.specs.Shutdown.{Settling, IsClosing, is_new}
 use Rattle.share_served.specs.Shutdown.{untold}
 use Rattle.share_served.specs.declared.faults.FoundFaults.{FoundFaults}
-use Rattle.share_served.specs.declared.faults.ServeFault.{ServeFault}
-use Rattle.share_served.specs.declared.faults.ServeFault.TheVariants.{NoMemory as NoMemoryFault}
 
 -- whether a text was written, from the result of the call that wrote it
 pub is_written_of : {O X E : Type 0} (told : O → Option Told) (answers : O → List ℕ → Answer → O → Type 0)

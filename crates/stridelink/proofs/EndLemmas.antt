@@ -1,5 +1,5 @@
 -- How a run of the program ended, from how the calls ended that it made.
-use Rattle.std.proofs.Common.{ℕ, Bool, List, Option}
+use Rattle.std.proofs.Common.{ℕ, Bool, List, Option, sym, true≢false}
 use Rattle.std.specs.Prelude.{Result, Ok, Err, IfOk, IsOk, IsErr, OnOk, MatchResult}
 use Rattle.std.specs.declared.process.ExitCode.{ExitCode}
 use Rattle.share_journal.specs.Entries.{JournalView}
@@ -15,7 +15,7 @@ pub has_served : {X Y E F K O : Type 0} (kept : K → JournalView → Bool → T
     → OnOk served (WasServed kept told answers keep output after) → OnOk result (HasServed kept told answers)
 has_served kept told answers keep output after (Ok x) (Ok y) is was =
     record { keep = keep; output = output; after = after; served = was }
-has_served kept told answers keep output after (Ok x) (Err fault) is was = absurd is
+has_served kept told answers keep output after (Ok x) (Err fault) is was = absurd (true≢false (sym is))
 has_served kept told answers keep output after (Err fault) served is was = tt
 
 pub of_some_script : {S E : Type 0} (P : S → ExitCode → Type 0) (script : S) (result : Result ExitCode E)

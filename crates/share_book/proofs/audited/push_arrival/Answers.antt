@@ -1,4 +1,4 @@
-use Rattle.std.proofs.Common.{◌≡◌, ◌≤◌, ◌∙◌, ap, arith, length, subst, sym}
+use Rattle.std.proofs.Common.{◌≤◌, ap, arith, length, subst}
 use Rattle.share_book.specs.Texts.{longest_line, text_room}
 use Rattle.share_book.specs.declared.book_text.TextKind.{TextKind}
 use Rattle.share_book.proofs.HexLemmas.{feed-room}

@@ -1,6 +1,6 @@
 -- A turn of an engine that is lent an outbox: the frame goes into it as a whole.
 use Rattle.std.specs.Prelude.{◌≡◌, ◌==◌, ◌<◌, ◌≤◌, ℕ, Bool, true, false, List, [], ◌∷◌, length, take, drop}
-use Rattle.std.specs.Prelude.{Option, None, Some, IsSome, IfSome, option_map, option_and_then}
+use Rattle.std.specs.Prelude.{Option, None, Some, IsSome, option_map, option_and_then}
 use Rattle.std.proofs.Common.{refl, ap, sym, ◌∙◌, subst, arith}
 use Rattle.std.proofs.lemmas.Bool.{cond-true, cond-false}
 use Rattle.std.proofs.lemmas.Bool.Decides.{nat_tests}

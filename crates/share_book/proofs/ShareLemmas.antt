@@ -1,5 +1,5 @@
 -- Shares hold in the events of every book.
-use Rattle.std.specs.Prelude.{◌≡◌, ◌++◌, List}
+use Rattle.std.specs.Prelude.{◌++◌, List}
 use Rattle.std.proofs.Common.{subst}
 use Rattle.share_base.specs.declared.command.Event.{Event}
 use Rattle.share_base.specs.declared.version.Version.TheVariants.{Two}

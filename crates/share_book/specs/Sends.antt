@@ -1,5 +1,5 @@
 -- A turn of a book: a whole frame, or none.
-use Rattle.std.specs.Prelude.{◌≡◌, ℕ, Bool, true, length, nat_lt, Option, None, Some}
+use Rattle.std.specs.Prelude.{◌≡◌, Bool, true, length, nat_lt, Option, None, Some}
 use Rattle.share_base.specs.declared.command.Event.TheVariants.{Written}
 use Rattle.share_base.specs.declared.command.Turn.{Turn}
 use Rattle.share_base.specs.declared.command.Turn.TheVariants.{Idle, Wrote as WroteTurn}

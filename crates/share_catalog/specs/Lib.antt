@@ -1,0 +1,4 @@
+pub mod Pieces
+pub mod Reads
+pub mod Texts
+pub mod Times

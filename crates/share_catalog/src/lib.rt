@@ -1,0 +1,17 @@
+//! The catalog of a folder of books: the names of its files, the rows of `books.csv`, and what a bill checks of them.
+//! The caller reads and writes the files.
+#![tactic(auto)]
+
+mod digest;
+mod fields;
+mod kinds;
+mod number;
+mod tariffs;
+mod text;
+mod time;
+
+pub use digest::Digest;
+pub use kinds::{Closing, TextKind};
+pub use tariffs::{BookTariff, MAX_TARIFFS, Tariffs};
+pub use text::ShortText;
+pub use time::Time;

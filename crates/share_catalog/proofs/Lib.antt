@@ -1,3 +1,4 @@
 pub mod NumberLemmas
 pub mod PieceLemmas
 pub mod TariffLemmas
+pub mod TimeLemmas

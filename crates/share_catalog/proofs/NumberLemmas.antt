@@ -1,6 +1,6 @@
 -- The value of digits is read digit by digit.
 use Rattle.std.proofs.Common.{◌≡◌, ◌<◌, ◌≤◌, ◌+◌, ◌-◌, ◌*◌, ◌^◌, ℕ, zero, suc, List, [], ◌∷◌, ◌++◌, length, drop, get_or}
-use Rattle.std.proofs.Common.{Option, None, Some, decimal, replicate, arith, sym, ◌∙◌, ap, refl, ◌⊎◌, inl, inr}
+use Rattle.std.proofs.Common.{Option, None, Some, Bool, true, false, decimal, replicate, arith, sym, ◌∙◌, ap, refl, ◌⊎◌, inl, inr}
 use Rattle.std.specs.Char.{digit_value}
 use Rattle.std.specs.Str.Parse.{AllDigits, digits_value, digits_value_after}
 use Rattle.std.proofs.Math.Seq.{drop-cons}
@@ -8,6 +8,10 @@ use Rattle.std.proofs.lemmas.List.{drop_all}
 use Rattle.std.proofs.lemmas.Bool.Decides.{nat_tests}
 use Rattle.std.proofs.lemmas.Str.Parse.{digit_at}
 use Rattle.std.proofs.lemmas.Fmt.{decimal_is_IsNumeral}
+use Rattle.std.proofs.lemmas.Slice.Eq.{bytes_eq-Decides}
+use Rattle.std.specs.Str.{bytes_eq}
+use Rattle.share_catalog.specs.Reads.{IsSpelledByNone}
+use Rattle.share_catalog.specs.Texts.{IsNumber}
 
 -- the digits from the place on, after the value so far, are those of the whole word
 pub record ValueUpTo (w : List ℕ) (at value : ℕ) : Type 0 where
@@ -57,4 +61,35 @@ padded_value (suc k) w = padded_value k w
 
 pub padded_digits : (k : ℕ) (w : List ℕ) → AllDigits 10 w → AllDigits 10 (replicate k 48 ++ w)
 padded_digits zero w h = h
-padded_digits (suc k) w h = (refl, padded_digits k w h)
+padded_digits (suc k) w h = (omega arith, padded_digits k w h)
+
+-- Bytes that spell no number
+
+pub not_a_number : (w : List ℕ)
+    → (AllDigits 10 w → digits_value 10 w < 2 ^ 64 → None ≡ Some (digits_value 10 w))
+    → IsSpelledByNone ℕ decimal IsNumber w
+not_a_number w none = record {
+  none = λ n few e.
+      let p = decimal_is_IsNumeral n few in
+      let all : AllDigits 10 w = rw (← e) p.0.1 in
+      let is : digits_value 10 w ≡ n = ap (digits_value 10) (sym e) ∙ p.1 in
+      let never = none all (rw is few) in
+      cc;
+}
+
+pub another_spelling : (w : List ℕ) (n : ℕ)
+    → (AllDigits 10 w → digits_value 10 w < 2 ^ 64 → Some n ≡ Some (digits_value 10 w))
+    → false ≡ bytes_eq (decimal n) w → IsSpelledByNone ℕ decimal IsNumber w
+another_spelling w n read other = record {
+  none = λ m few e.
+      let p = decimal_is_IsNumeral m few in
+      let all : AllDigits 10 w = rw (← e) p.0.1 in
+      let is : digits_value 10 w ≡ m = ap (digits_value 10) (sym e) ∙ p.1 in
+      let got : Some n ≡ Some (digits_value 10 w) = read all (rw is few) in
+      let same : n ≡ m = (let v : n ≡ digits_value 10 w = cc in v) ∙ is in
+      let yes : bytes_eq (decimal n) w ≡ true = (bytes_eq-Decides (decimal n) w).1 (ap decimal same ∙ e) in
+      cc;
+}
+
+pub other_bytes : (v w : List ℕ) → false ≡ bytes_eq v w → v ≡ w → ⊥
+other_bytes v w other e = let yes : bytes_eq v w ≡ true = (bytes_eq-Decides v w).1 e in cc

@@ -100,8 +100,8 @@ no_pieces A text Fits ps e = record { none = λ a rest fits q. let z : text a �
 
 pub other_piece : (A : Type 0) (text : A → List ℕ) (Fits : A → Type 0) (ps : List (List ℕ)) (p : List ℕ)
     (after : List (List ℕ)) → ps ≡ p ∷ after → IsSpelledByNone A text Fits p → BeginsWithNone A text Fits ps
-other_piece A text Fits ps p after e no = record {
+other_piece A text Fits ps p after e lacks = record {
   none = λ a rest fits q.
       let z : text a ∷ rest ≡ p ∷ after = sym q ∙ e in
-      no.none a fits (let w : text a ≡ p = cc in w);
+      lacks.none a fits (let w : text a ≡ p = cc in w);
 }

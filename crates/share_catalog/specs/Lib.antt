@@ -1,4 +1,5 @@
 pub mod Pieces
 pub mod Reads
+pub mod Rows
 pub mod Texts
 pub mod Times

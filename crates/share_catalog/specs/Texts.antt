@@ -1,6 +1,6 @@
 -- How the fields of a row are spelled.
 use Rattle.std.specs.Prelude.{◌≡◌, ◌<◌, ◌+◌, ◌/◌, ◌%◌, ◌^◌, ◌==◌, ℕ, Bool, true, ◌&&◌, ◌||◌, not, List, [], ◌∷◌, ◌++◌}
-use Rattle.std.specs.Prelude.{length, nat_le, codes, decimal, map, if◌then◌else◌}
+use Rattle.std.specs.Prelude.{length, slice_index, nat_le, codes, decimal, map, if◌then◌else◌}
 use Rattle.std.specs.List.{join_with_byte, list_all}
 use Rattle.share_catalog.specs.declared.kinds.TextKind.{TextKind}
 use Rattle.share_catalog.specs.declared.kinds.TextKind.TheVariants.{Whole, Lengths}
@@ -42,6 +42,16 @@ abbrev pub time_bytes : ℕ → ℕ → ℕ → ℕ → ℕ → ℕ → List ℕ
 time_bytes year month day hour minute second =
     four_digits year ++ codes "-" ++ two_digits month ++ codes "-" ++ two_digits day ++ codes "T"
     ++ two_digits hour ++ codes ":" ++ two_digits minute ++ codes ":" ++ two_digits second ++ codes "Z"
+
+-- the number that these digits spell, if they spell one
+abbrev pub IsTwoAt : List ℕ → ℕ → ℕ → Type 0
+IsTwoAt bytes at read =
+    (n : ℕ) → n < 100 → slice_index bytes at ≡ 48 + n / 10 → slice_index bytes (at + 1) ≡ 48 + n % 10 → read ≡ n
+
+abbrev pub IsFourAt : List ℕ → ℕ → ℕ → Type 0
+IsFourAt bytes at read =
+    (n : ℕ) → n < 10000 → slice_index bytes at ≡ 48 + n / 1000 → slice_index bytes (at + 1) ≡ 48 + n / 100 % 10
+    → slice_index bytes (at + 2) ≡ 48 + n / 10 % 10 → slice_index bytes (at + 3) ≡ 48 + n % 10 → read ≡ n
 
 -- Kinds of a text, and why a book was closed
 

@@ -6,12 +6,14 @@ mod digest;
 mod fields;
 mod kinds;
 mod number;
+mod row;
 mod tariffs;
 mod text;
 mod time;
 
 pub use digest::Digest;
 pub use kinds::{Closing, TextKind};
+pub use row::{Column, Row, Totals, read_row, row_line};
 pub use tariffs::{BookTariff, MAX_TARIFFS, Tariffs};
 pub use text::ShortText;
 pub use time::Time;

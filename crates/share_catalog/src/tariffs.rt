@@ -66,6 +66,7 @@ impl Tariffs {
     pub fn add(&mut self, tariff: BookTariff) -> bool
         ensures added { IsTrue result → (self.new ≡ self.old ++ tariff ∷ []) × (is_tariff tariff ≡ true) }
         ensures refused { ¬ IsTrue result → self.new ≡ self.old }
+        ensures fit { AreTariffs self.new }
         ensures test { IsTrue result ↔ ((length self.old < MAX_TARIFFS) × (is_tariff tariff ≡ true)) }
     {
         if !is_tariff(&tariff) || self.tariffs.is_full() {
@@ -125,6 +126,7 @@ pub(crate) fn push_tariffs(text: &mut ShortText, tariffs: &Tariffs)
     requires { length text.old + 504 ≤ 1024 }
     ensures bytes { text.new ≡ text.old ++ tariffs_text tariffs.now }
     ensures few { length text.new ≤ length text.old + 504 }
+    ensures fit { AreTariffs tariffs.now }
 {
     let tariffs = tariffs.as_slice();
     for place in 0..tariffs.len() {

@@ -2,6 +2,7 @@
 ghost use Rattle.std.specs.Prelude.{◌≡◌, ◌<◌, ◌≤◌, ◌+◌, ◌/◌, ◌%◌, ℕ, length, slice_index, true, false};
 ghost use Rattle.std.specs.Prelude.{MatchOption, IfSome};
 ghost use Rattle.share_catalog.specs.Texts.{is_leap, has_thirty, days_in, is_date, is_time_of_day, time_bytes, two_digits as two_digits_of, four_digits as four_digits_of};
+ghost use Rattle.share_catalog.specs.Texts.{IsTwoAt, IsFourAt};
 
 /// A second of universal time, from the year 0 to the year 9999. Each month has its days.
 #[derive(Clone, Copy, Debug)]
@@ -145,8 +146,7 @@ fn digit(byte: u8) -> u8
 fn two_at(word: &[u8], at: usize) -> u8
     requires { at + 2 ≤ length word.now }
     ensures few { result < 100 }
-    ensures value { (n : ℕ) → n < 100 → slice_index word.now at ≡ 48 + n / 10
-        → slice_index word.now (at + 1) ≡ 48 + n % 10 → result ≡ n }
+    ensures value { IsTwoAt word.now at result }
 {
     digit(word[at]) * 10 + digit(word[at + 1])
 }
@@ -154,9 +154,7 @@ fn two_at(word: &[u8], at: usize) -> u8
 // The number whose four digits stand at a place.
 fn four_at(word: &[u8], at: usize) -> u16
     requires { at + 4 ≤ length word.now }
-    ensures value { (n : ℕ) → n < 10000 → slice_index word.now at ≡ 48 + n / 1000
-        → slice_index word.now (at + 1) ≡ 48 + n / 100 % 10 → slice_index word.now (at + 2) ≡ 48 + n / 10 % 10
-        → slice_index word.now (at + 3) ≡ 48 + n % 10 → result ≡ n }
+    ensures { IsFourAt word.now at result }
 {
     u16::from(two_at(word, at)) * 100 + u16::from(two_at(word, at + 2))
 }

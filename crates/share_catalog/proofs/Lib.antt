@@ -1,4 +1,6 @@
+pub mod NameLemmas
 pub mod NumberLemmas
 pub mod PieceLemmas
+pub mod RowLemmas
 pub mod TariffLemmas
 pub mod TimeLemmas

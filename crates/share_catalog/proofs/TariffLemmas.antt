@@ -256,5 +256,16 @@ some_word [] b e f q = cc
 some_word (c ∷ w) b e f q = cc
 
 pub not_added : (n : ℕ) (A : Type 0) (r : Bool) → ((n < 8) × A → r ≡ true) → A → r ≡ false → 8 ≤ n
-not_added n A r test fit no =
+not_added n A r test fit refused =
     let many : (n < 8 → ⊥) = λ h. let yes = test (h, fit) in cc in omega arith
+
+no_comma_more : (t : BookTariff) (ts : List BookTariff) → list_all is_tariff (t ∷ ts) ≡ true
+    → NoByte 44 (tariffs_text (t ∷ ts))
+no_comma_more t [] h = no_byte-tariff 44 t (omega arith) (and_parts _ _ h).0
+no_comma_more t (u ∷ us) h =
+    no_byte-append 44 (tariff_text t) (32 ∷ tariffs_text (u ∷ us))
+    (no_byte-tariff 44 t (omega arith) (and_parts _ _ h).0) (refl, no_comma_more u us (and_parts _ _ h).1)
+
+pub no_comma-tariffs : (ts : List BookTariff) → AreTariffs ts → NoByte 44 (tariffs_text ts)
+no_comma-tariffs [] h = tt
+no_comma-tariffs (t ∷ ts) h = no_comma_more t ts (and_parts (nat_le (length (t ∷ ts)) 8) (list_all is_tariff (t ∷ ts)) h).1

@@ -1,5 +1,5 @@
 -- Times are read from the bytes that spell them.
-use Rattle.std.proofs.Common.{◌≡◌, ◌<◌, ◌≤◌, ◌+◌, ◌*◌, ◌/◌, ◌%◌, ℕ, Bool, true, false, ◌&&◌, List, arith, sym, ◌∙◌, ap, refl}
+use Rattle.std.proofs.Common.{◌≡◌, ◌<◌, ◌≤◌, ◌+◌, ◌*◌, ◌/◌, ◌%◌, ℕ, Bool, true, false, ◌&&◌, List, length, arith, sym, ◌∙◌, ap, refl, eqb}
 use Rattle.std.specs.Prelude.{slice_index, if◌then◌else◌}
 use Rattle.std.proofs.lemmas.Bool.{and_parts}
 use Rattle.std.proofs.lemmas.Bool.Decides.{nat_tests}
@@ -7,6 +7,7 @@ use Rattle.share_catalog.specs.Reads.{IsSpelledByNone, Any}
 use Rattle.share_catalog.specs.Texts.{is_date, is_time_of_day, days_in, is_leap, has_thirty, IsTwoAt, IsFourAt, time_bytes}
 use Rattle.share_catalog.specs.Times.{time_text, HasNumbers}
 use Rattle.share_catalog.specs.declared.time.Time.{Time}
+use Rattle.share_catalog.proofs.PieceLemmas.{NoByte}
 
 pub two_back : (word : List ℕ) (at high low : ℕ)
     → ((n : ℕ) → n < 10 → slice_index word at ≡ 48 + n → high ≡ n)
@@ -58,6 +59,7 @@ are_small year month day hour minute second date clock =
 pub numbers_back : (t : Time) (word : List ℕ) (year month day hour minute second : ℕ) → time_text t ≡ word
     → IsFourAt word 0 year → IsTwoAt word 5 month → IsTwoAt word 8 day → IsTwoAt word 11 hour → IsTwoAt word 14 minute
     → IsTwoAt word 17 second → HasNumbers year month day hour minute second t
+unfolding time_text
 numbers_back t word year month day hour minute second e y mo d h mi s =
     let few = are_small t.year t.month t.day t.hour t.minute t.second t.date t.time_of_day in
     let at : (i : ℕ) → slice_index word i ≡ slice_index (time_text t) i = λ i. ap (λ w. slice_index w i) (sym e) in record {
@@ -81,6 +83,7 @@ no_time t year month day hour minute second has none =
 
 pub same_text : (t u : Time) (year month day hour minute second : ℕ) → HasNumbers year month day hour minute second t
     → HasNumbers year month day hour minute second u → time_text t ≡ time_text u
+unfolding time_text
 same_text t u year month day hour minute second a b =
     rw (a.year_is, a.month_is, a.day_is, a.hour_is, a.minute_is, a.second_is, b.year_is, b.month_is, b.day_is,
     b.hour_is, b.minute_is, b.second_is) refl
@@ -103,3 +106,17 @@ another_time word u year month day hour minute second y mo d h mi s has other = 
       other (same_text u t year month day hour minute second has
       (numbers_back t word year month day hour minute second e y mo d h mi s) ∙ e);
 }
+
+low_digit : (n : ℕ) → (eqb (48 + n) 44) ≡ false
+low_digit n = grind (arith, nat_tests)
+
+-- no time has a comma
+pub no_comma-time : (t : Time) → NoByte 44 (time_text t)
+unfolding time_text
+no_comma-time t = (low_digit _, (low_digit _, (low_digit _, (low_digit _, (refl, (low_digit _, (low_digit _, (refl,
+    (low_digit _, (low_digit _, (refl, (low_digit _, (low_digit _, (refl, (low_digit _, (low_digit _, (refl,
+    (low_digit _, (low_digit _, (refl, tt))))))))))))))))))))
+
+pub other_length : (word : List ℕ) → (length word ≡ 20 → ⊥) → IsSpelledByNone Time time_text Any word
+unfolding time_text
+other_length word other = record { none = λ t any e. other (ap length (sym e)) }

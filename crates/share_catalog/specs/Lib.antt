@@ -1,3 +1,5 @@
+pub mod Folder
+pub mod Names
 pub mod Pieces
 pub mod Reads
 pub mod Rows

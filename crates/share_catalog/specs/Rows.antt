@@ -26,10 +26,11 @@ pub record IsRow (r : Row) : Type 0 where
 
 -- How it is spelled
 
+abbrev pub time_columns : Row → List (List ℕ)
+time_columns r = time_text r.opened ∷ time_text r.closed ∷ closing_text r.why ∷ []
+
 abbrev pub head_columns : Row → List (List ℕ)
-head_columns r =
-    decimal r.book ∷ kind_text r.kind ∷ time_text r.opened ∷ time_text r.closed ∷ closing_text r.why
-    ∷ tariffs_text r.tariffs ∷ []
+head_columns r = decimal r.book ∷ kind_text r.kind ∷ (time_columns r ++ tariffs_text r.tariffs ∷ [])
 
 abbrev pub total_columns : Totals → List (List ℕ)
 total_columns t =

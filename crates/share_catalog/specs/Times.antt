@@ -3,7 +3,7 @@ use Rattle.std.specs.Prelude.{◌≡◌, ℕ, List, Option, MatchOption, ◌&&�
 use Rattle.share_catalog.specs.Texts.{is_date, is_time_of_day, time_bytes}
 use Rattle.share_catalog.specs.declared.time.Time.{Time}
 
-abbrev pub time_text : Time → List ℕ
+unfoldable pub time_text : Time → List ℕ
 time_text t = time_bytes t.year t.month t.day t.hour t.minute t.second
 
 -- the time that has these numbers

@@ -4,7 +4,10 @@
 
 mod digest;
 mod fields;
+mod folder;
 mod kinds;
+mod laws;
+mod names;
 mod number;
 mod row;
 mod tariffs;
@@ -12,7 +15,10 @@ mod text;
 mod time;
 
 pub use digest::Digest;
+pub use folder::{next_number, whole_lines};
 pub use kinds::{Closing, TextKind};
+pub use laws::names_are_one_to_one;
+pub use names::{BookFile, FileKind, file_name, read_file_name};
 pub use row::{Column, Row, Totals, read_row, row_line};
 pub use tariffs::{BookTariff, MAX_TARIFFS, Tariffs};
 pub use text::ShortText;

@@ -7,7 +7,8 @@ ghost use Rattle.share_catalog.specs.Reads.{IsSpelledByNone, ReadsNext, Any};
 ghost use Rattle.share_catalog.specs.Texts.{IsNumber, IsDigest, AreTariffs, kind_text, closing_text, tariffs_text};
 ghost use Rattle.share_catalog.specs.Texts.{digest_text};
 ghost use Rattle.share_catalog.specs.Times.{time_text};
-ghost use Rattle.share_catalog.specs.Rows.{IsRow, AreTotals, row_text, columns, head_columns, total_columns, ReadsRow};
+ghost use Rattle.share_catalog.specs.Rows.{IsRow, AreTotals, row_text, columns, head_columns, time_columns};
+ghost use Rattle.share_catalog.specs.Rows.{total_columns, ReadsRow};
 ghost use Rattle.share_catalog.specs.Rows.{ReadsTotals, IsWrong};
 ghost use Rattle.share_catalog.specs.declared.row.Row.{Row};
 
@@ -92,13 +93,22 @@ fn push_head(text: &mut ShortText, row: &Row)
     text.push(b",");
     text.push(row.kind.text());
     text.push(b",");
+    push_times(text, row);
+    text.push(b",");
+    push_tariffs(text, &row.tariffs);
+}
+
+// Adds the columns of both times, and why the book was closed.
+fn push_times(text: &mut ShortText, row: &Row)
+    requires { length text.old ≤ 29 }
+    ensures bytes { text.new ≡ text.old ++ join_with_byte 44 (time_columns row.now) }
+    ensures few { length text.new ≤ length text.old + 48 }
+{
     text.push(&row.opened.text());
     text.push(b",");
     text.push(&row.closed.text());
     text.push(b",");
     text.push(row.why.text());
-    text.push(b",");
-    push_tariffs(text, &row.tariffs);
 }
 
 // Adds the columns of the totals.

@@ -32,15 +32,14 @@ pub struct Tariffs {
 
 impl Model for Tariffs {
     ghost use Rattle.std.specs.Prelude.{◌≡◌, List, true};
-    ghost use Rattle.std.specs.List.{list_all};
     ghost use Rattle.share_catalog.specs.declared.tariffs.BookTariff.{BookTariff};
-    ghost use Rattle.share_catalog.specs.Texts.{is_tariff};
+    ghost use Rattle.share_catalog.specs.Texts.{are_tariffs};
 
     ghost Value = { List BookTariff };
 
     ghost view = { λ tariffs. tariffs.tariffs.items };
 
-    ghost invariant = { λ tariffs. list_all is_tariff tariffs.tariffs.items ≡ true };
+    ghost invariant = { λ tariffs. are_tariffs tariffs.tariffs.items ≡ true };
 }
 
 impl Tariffs {

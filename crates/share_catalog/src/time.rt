@@ -43,6 +43,7 @@ impl Time {
     }
 
     /// The bytes of the time, as `2026-01-31T23:59:59Z`.
+    #[tactic(auto, unfolding(crate::specs::Times::time_text))]
     pub fn text(self) -> [u8; LENGTH]
         ensures { result ≡ time_text self }
     {

@@ -1,6 +1,7 @@
 -- Names of files are read from the bytes that spell them.
-use Rattle.std.proofs.Common.{◌≡◌, ◌≢◌, ◌<◌, ◌≤◌, ◌+◌, ◌-◌, ◌^◌, ℕ, zero, suc, List, [], ◌∷◌, ◌++◌, length, take, replicate}
+use Rattle.std.proofs.Common.{◌≡◌, ◌≢◌, ◌<◌, ◌≤◌, ◌+◌, ◌-◌, ◌^◌, ℕ, zero, suc, List, [], ◌∷◌, ◌++◌, length, take, get_or, replicate}
 use Rattle.std.proofs.Common.{Option, None, Some, decimal, arith, sym, ◌∙◌, ap, refl, max, append-nil}
+use Rattle.std.proofs.Math.Seq.{take-suc}
 use Rattle.std.specs.Str.Parse.{AllDigits, digits_value}
 use Rattle.std.specs.List.{join_with_byte}
 use Rattle.std.proofs.lemmas.Fmt.{decimal_is_IsNumeral}
@@ -15,16 +16,6 @@ use Rattle.share_catalog.specs.declared.names.FileKind.TheVariants.{Open, Audit,
 use Rattle.share_catalog.proofs.NumberLemmas.{padded_value, padded_digits}
 use Rattle.share_catalog.proofs.PieceLemmas.{NoByte, no_byte-append, no_byte-decimal, pieces_of-join}
 use Rattle.share_catalog.proofs.TariffLemmas.{head_is, tail_is}
-
-pub taken_zeros : (k : ℕ) → k ≤ 6 → take k (replicate 6 48) ≡ replicate k 48
-taken_zeros zero h = refl
-taken_zeros (suc zero) h = refl
-taken_zeros (suc (suc zero)) h = refl
-taken_zeros (suc (suc (suc zero))) h = refl
-taken_zeros (suc (suc (suc (suc zero)))) h = refl
-taken_zeros (suc (suc (suc (suc (suc zero))))) h = refl
-taken_zeros (suc (suc (suc (suc (suc (suc zero)))))) h = refl
-taken_zeros (suc (suc (suc (suc (suc (suc (suc k))))))) h = absurd (omega arith)
 
 no_point-zeros : (k : ℕ) → NoByte 46 (replicate k 48)
 no_point-zeros zero = tt
@@ -120,3 +111,10 @@ one_to_one f g fits other e =
 pub greatest-snoc : (ns : List ℕ) (n : ℕ) → greatest (ns ++ n ∷ []) ≡ max (greatest ns) n
 greatest-snoc [] n = omega arith
 greatest-snoc (m ∷ ns) n = omega (arith, greatest-snoc ns n)
+
+pub greatest_more : (ns : List ℕ) (i : ℕ) → i < length ns
+    → greatest (take (i + 1) ns) ≡ max (greatest (take i ns)) (get_or ns i 0)
+greatest_more ns i inside =
+    let on : i + 1 ≡ suc i = omega arith in
+    ap (λ k. greatest (take k ns)) on ∙ ap greatest (take-suc ns i 0 inside)
+    ∙ greatest-snoc (take i ns) (get_or ns i 0)

@@ -162,10 +162,10 @@ no_cell w ps e lacks = record {
   none = λ t h q. lacks.none t.cell _ (numbers_of t h).cell (spelled_pieces w ps t e h q);
 }
 
-tail_is : (p q : List ℕ) (ps qs : List (List ℕ)) → p ∷ ps ≡ q ∷ qs → ps ≡ qs
+pub tail_is : (p q : List ℕ) (ps qs : List (List ℕ)) → p ∷ ps ≡ q ∷ qs → ps ≡ qs
 tail_is p q ps qs e = cc
 
-head_is : (p q : List ℕ) (ps qs : List (List ℕ)) → p ∷ ps ≡ q ∷ qs → p ≡ q
+pub head_is : (p q : List ℕ) (ps qs : List (List ℕ)) → p ∷ ps ≡ q ∷ qs → p ≡ q
 head_is p q ps qs e = cc
 
 pub no_overhead : (w a : List ℕ) (ps qs : List (List ℕ)) → ps ≡ pieces_of 47 w → ps ≡ a ∷ qs

@@ -1,5 +1,5 @@
 //! What a start finds in a folder of books.
-ghost use Rattle.std.specs.Prelude.{◌≡◌, ◌+◌, ◌-◌, ◌^◌, MatchOption};
+ghost use Rattle.std.specs.Prelude.{◌≡◌, ◌+◌, ◌-◌, ◌^◌, max, MatchOption};
 ghost use Rattle.share_catalog.specs.Folder.{greatest, IsWholeLines};
 
 use memchr::memrchr;
@@ -18,9 +18,15 @@ fn greatest(numbers: &[u64]) -> u64
 {
     let mut most = 0;
     for number in numbers {
-        most = most.max(*number);
+        most = larger(most, *number);
     }
     most
+}
+
+fn larger(one: u64, other: u64) -> u64
+    ensures { result ≡ max one other }
+{
+    if one < other { other } else { one }
 }
 
 /// How many bytes the whole lines of a text have, with their line feeds. What follows them is a line that was cut.

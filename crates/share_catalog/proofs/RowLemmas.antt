@@ -1,15 +1,14 @@
 -- Rows are read from the bytes that spell them.
-use Rattle.std.proofs.Common.{◌≡◌, ◌≢◌, ◌<◌, ◌≤◌, ◌+◌, ℕ, Bool, true, false, List, [], ◌∷◌, ◌++◌, length, suc, zero, eqb, nat_eq}
-use Rattle.std.proofs.Common.{Option, None, Some, decimal, arith, sym, ◌∙◌, ap, refl, append_assoc, length-append, subst}
+use Rattle.std.proofs.Common.{◌≡◌, ◌≢◌, ◌<◌, ◌+◌, ℕ, true, false, List, [], ◌∷◌, ◌++◌, length, eqb, nat_eq}
+use Rattle.std.proofs.Common.{Some, decimal, arith, sym, ◌∙◌, ap, refl, append_assoc, length-append}
 use Rattle.std.specs.Prelude.{slice_get, Result, Ok, Err, MatchResult}
-use Rattle.std.specs.List.{join_with_byte, list_all, AllByRecursion}
+use Rattle.std.specs.List.{join_with_byte, list_all}
 use Rattle.std.proofs.lemmas.Bool.{and_parts}
 use Rattle.std.proofs.lemmas.Bool.Decides.{nat_tests}
 use Rattle.share_catalog.specs.Pieces.{pieces_of}
 use Rattle.share_catalog.specs.Reads.{IsSpelledByNone, BeginsWithNone}
-use Rattle.share_catalog.specs.Texts.{kind_text, closing_text, tariffs_text, digest_text, is_hex_digit, is_digest, IsDigest}
+use Rattle.share_catalog.specs.Texts.{kind_text, closing_text, tariffs_text, is_hex_digit, IsDigest}
 use Rattle.share_catalog.specs.Texts.{IsNumber}
-use Rattle.share_catalog.specs.Times.{time_text}
 use Rattle.share_catalog.specs.Rows.{IsRow, AreTotals, columns, time_columns, head_columns, total_columns, row_text, IsNoColumn, IsWrong}
 use Rattle.share_catalog.specs.Rows.{ReadsRow}
 use Rattle.share_catalog.specs.declared.kinds.TextKind.{TextKind}
@@ -55,11 +54,37 @@ pub columns_back : (r : Row) → IsRow r → pieces_of 44 (row_text r) ≡ colum
 columns_back r is =
     let t = is.totals in
     let few : 44 < 48 = omega arith in
-    pieces_of-join 44 (decimal r.book) _ (no_byte-decimal 44 _ few is.book)
-    (no_comma-kind r.kind, (no_comma-time r.opened, (no_comma-time r.closed, (no_comma-closing r.why,
-    (no_comma-tariffs r.tariffs is.tariffs, (no_byte-decimal 44 _ few t.events, (no_byte-decimal 44 _ few t.packets,
-    (no_byte-decimal 44 _ few t.bytes, (no_byte-decimal 44 _ few t.units, (no_byte-decimal 44 _ few t.amount,
-    (no_comma-digest r.sha256 is.sha256, tt)))))))))))
+    pieces_of-join 44 (decimal r.book) _ (no_byte-decimal 44 _ few is.book) (
+      no_comma-kind r.kind,
+      (
+        no_comma-time r.opened,
+        (
+          no_comma-time r.closed,
+          (
+            no_comma-closing r.why,
+            (
+              no_comma-tariffs r.tariffs is.tariffs,
+              (
+                no_byte-decimal 44 _ few t.events,
+                (
+                  no_byte-decimal 44 _ few t.packets,
+                  (
+                    no_byte-decimal 44 _ few t.bytes,
+                    (
+                      no_byte-decimal 44 _ few t.units,
+                      (
+                        no_byte-decimal 44 _ few t.amount,
+                        (no_comma-digest r.sha256 is.sha256, tt),
+                      ),
+                    ),
+                  ),
+                ),
+              ),
+            ),
+          ),
+        ),
+      ),
+    )
 
 -- A piece that is none of a column
 
@@ -148,7 +173,7 @@ pushed_row r a b c d e f ha hb hc hd he hf =
     (decimal r.totals.events)
     (decimal r.totals.packets ∷ decimal r.totals.bytes ∷ decimal r.totals.units ∷ decimal r.totals.amount ∷ []) in
     let all : e ≡ row_text r = he ∙ ap (λ t. t ++ r.sha256) (hd ∙ ap (λ t. t ++ 44 ∷ []) both)
-    ∙ append_assoc _ (44 ∷ []) r.sha256 
+    ∙ append_assoc _ (44 ∷ []) r.sha256
     ∙ join-append 44 (decimal r.book)
     (kind_text r.kind ∷ (time_columns r ++ tariffs_text r.tariffs ∷ [] ++ total_columns r.totals)) r.sha256 [] in
     hf ∙ ap (λ t. t ++ 10 ∷ []) all

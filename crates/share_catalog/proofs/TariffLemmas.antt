@@ -1,5 +1,5 @@
 -- Tariffs are read from the text that spells them.
-use Rattle.std.proofs.Common.{◌≡◌, ◌≢◌, ◌<◌, ◌≤◌, ◌+◌, ◌-◌, ◌*◌, ◌^◌, ℕ, Bool, true, false, ◌&&◌, List, [], ◌∷◌, ◌++◌}
+use Rattle.std.proofs.Common.{◌≡◌, ◌≢◌, ◌<◌, ◌≤◌, ◌+◌, ◌^◌, ℕ, Bool, true, false, List, [], ◌∷◌, ◌++◌}
 use Rattle.std.proofs.Common.{length, map, nat_le, nat_eq, take, get_or, zero, suc, decimal, arith, sym, ◌∙◌, ap, refl, append_assoc, append-nil, length-append}
 use Rattle.std.specs.List.{join_with_byte, list_all, AllByRecursion}
 use Rattle.std.proofs.Math.Seq.{take-suc}
@@ -9,7 +9,7 @@ use Rattle.std.proofs.lemmas.Bool.{and_parts, leb-true}
 use Rattle.std.proofs.lemmas.Bool.Decides.{nat_tests}
 use Rattle.share_catalog.specs.Pieces.{pieces_of}
 use Rattle.share_catalog.specs.Reads.{IsSpelledByNone, BeginsWithNone}
-use Rattle.share_catalog.specs.Texts.{is_tariff, IsTariff, tariff_text, are_tariffs, AreTariffs, tariffs_text, IsNumber}
+use Rattle.share_catalog.specs.Texts.{is_tariff, IsTariff, tariff_text, AreTariffs, tariffs_text, IsNumber}
 use Rattle.share_catalog.specs.declared.tariffs.BookTariff.{BookTariff}
 use Rattle.share_catalog.proofs.PieceLemmas.{NoByte, no_byte-append, no_byte-decimal, pieces_of-join, join-pieces_of}
 
@@ -36,9 +36,10 @@ pub tariff_pieces : (t : BookTariff) → IsTariff t
 tariff_pieces t h =
     let n = numbers_of t h in
     pieces_of-join 47 (decimal t.cell) (decimal t.overhead ∷ decimal t.price ∷ [])
-    (no_byte-decimal 47 t.cell (omega arith) n.cell)
-    (no_byte-decimal 47 t.overhead (omega arith) n.overhead,
-    (no_byte-decimal 47 t.price (omega arith) n.price, tt))
+    (no_byte-decimal 47 t.cell (omega arith) n.cell) (
+      no_byte-decimal 47 t.overhead (omega arith) n.overhead,
+      (no_byte-decimal 47 t.price (omega arith) n.price, tt),
+    )
 
 pub no_byte-tariff : (c : ℕ) (t : BookTariff) → c < 47 → IsTariff t → NoByte c (tariff_text t)
 no_byte-tariff c t few h =
@@ -47,9 +48,11 @@ no_byte-tariff c t few h =
     let slash : (47 ≡ c → ⊥) = λ e. omega arith in
     let other : NoByte c (47 ∷ []) = (grind (arith, nat_tests), tt) in
     no_byte-append c (decimal t.cell) (47 ∷ (decimal t.overhead ++ 47 ∷ decimal t.price))
-    (no_byte-decimal c t.cell below n.cell)
-    (other.0, no_byte-append c (decimal t.overhead) (47 ∷ decimal t.price)
-    (no_byte-decimal c t.overhead below n.overhead) (other.0, no_byte-decimal c t.price below n.price))
+    (no_byte-decimal c t.cell below n.cell) (
+      other.0,
+      no_byte-append c (decimal t.overhead) (47 ∷ decimal t.price)
+          (no_byte-decimal c t.overhead below n.overhead) (other.0, no_byte-decimal c t.price below n.price),
+    )
 
 no_space : (ts : List BookTariff) → list_all is_tariff ts ≡ true → AllByRecursion (NoByte 32) (map tariff_text ts)
 no_space [] h = tt
@@ -87,7 +90,7 @@ pub no_tariff : (w : List ℕ) (got : List BookTariff) (p : List ℕ) (before re
 no_tariff w got p before rest some e b lacks = record {
   none = λ ts fits q.
       let is = sym (tariffs_pieces ts fits (some_tariffs w ts some q)) ∙ ap (pieces_of 32) q ∙ e
-          ∙ ap (λ r. map tariff_text got ++ r) b in
+      ∙ ap (λ r. map tariff_text got ++ r) b in
       let found = piece_in ts got p rest (and_parts (nat_le (length ts) 8) (list_all is_tariff ts) fits).1 is in
       lacks.none found.0 found.1 found.2;
 }
@@ -102,9 +105,9 @@ pub too_many : (w : List ℕ) (got : List BookTariff) (p : List ℕ) (before res
 too_many w got p before rest some e b many = record {
   none = λ ts fits q.
       let is = sym (tariffs_pieces ts fits (some_tariffs w ts some q)) ∙ ap (pieces_of 32) q ∙ e
-          ∙ ap (λ r. map tariff_text got ++ r) b in
+      ∙ ap (λ r. map tariff_text got ++ r) b in
       let long : length ts ≡ length got + length (p ∷ rest) = sym (length_map ts) ∙ ap length is
-          ∙ length-append (map tariff_text got) (p ∷ rest) ∙ ap (λ n. n + length (p ∷ rest)) (length_map got) in
+      ∙ length-append (map tariff_text got) (p ∷ rest) ∙ ap (λ n. n + length (p ∷ rest)) (length_map got) in
       let few = leb-true (length ts) 8 (and_parts _ _ fits).0 in
       omega arith;
 }

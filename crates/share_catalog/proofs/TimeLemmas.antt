@@ -1,10 +1,9 @@
 -- Times are read from the bytes that spell them.
-use Rattle.std.proofs.Common.{◌≡◌, ◌<◌, ◌≤◌, ◌+◌, ◌*◌, ◌/◌, ◌%◌, ℕ, Bool, true, false, ◌&&◌, List, length, arith, sym, ◌∙◌, ap, refl, eqb}
-use Rattle.std.specs.Prelude.{slice_index, if◌then◌else◌}
-use Rattle.std.proofs.lemmas.Bool.{and_parts}
+use Rattle.std.proofs.Common.{◌≡◌, ◌<◌, ◌≤◌, ◌+◌, ◌*◌, ◌/◌, ◌%◌, ℕ, true, false, ◌&&◌, List, length, arith, sym, ◌∙◌, ap, refl, eqb}
+use Rattle.std.specs.Prelude.{slice_index}
 use Rattle.std.proofs.lemmas.Bool.Decides.{nat_tests}
 use Rattle.share_catalog.specs.Reads.{IsSpelledByNone, Any}
-use Rattle.share_catalog.specs.Texts.{is_date, is_time_of_day, days_in, is_leap, has_thirty, IsTwoAt, IsFourAt, time_bytes}
+use Rattle.share_catalog.specs.Texts.{is_date, is_time_of_day, days_in, IsTwoAt, IsFourAt}
 use Rattle.share_catalog.specs.Times.{time_text, HasNumbers}
 use Rattle.share_catalog.specs.declared.time.Time.{Time}
 use Rattle.share_catalog.proofs.PieceLemmas.{NoByte}
@@ -29,7 +28,7 @@ four_back word at high low h l n few a b c d =
     let next : at + 2 + 1 ≡ at + 3 = omega arith in
     let x = h (n / 100) p.0 (a ∙ ap (λ k. 48 + k) (sym p.2)) b in
     let y = l (n % 100) p.1 (c ∙ ap (λ k. 48 + k) (sym p.3))
-        (ap (slice_index word) next ∙ d ∙ ap (λ k. 48 + k) (sym p.4)) in
+    (ap (slice_index word) next ∙ d ∙ ap (λ k. 48 + k) (sym p.4)) in
     omega (arith, x, y, p.5)
 
 pub record AreSmall (year month day hour minute second : ℕ) : Type 0 where
@@ -85,8 +84,20 @@ pub same_text : (t u : Time) (year month day hour minute second : ℕ) → HasNu
     → HasNumbers year month day hour minute second u → time_text t ≡ time_text u
 unfolding time_text
 same_text t u year month day hour minute second a b =
-    rw (a.year_is, a.month_is, a.day_is, a.hour_is, a.minute_is, a.second_is, b.year_is, b.month_is, b.day_is,
-    b.hour_is, b.minute_is, b.second_is) refl
+    rw (
+      a.year_is,
+      a.month_is,
+      a.day_is,
+      a.hour_is,
+      a.minute_is,
+      a.second_is,
+      b.year_is,
+      b.month_is,
+      b.day_is,
+      b.hour_is,
+      b.minute_is,
+      b.second_is,
+    ) refl
 
 pub not_a_time : (word : List ℕ) (year month day hour minute second : ℕ) → IsFourAt word 0 year → IsTwoAt word 5 month
     → IsTwoAt word 8 day → IsTwoAt word 11 hour → IsTwoAt word 14 minute → IsTwoAt word 17 second
@@ -113,9 +124,58 @@ low_digit n = grind (arith, nat_tests)
 -- no time has a comma
 pub no_comma-time : (t : Time) → NoByte 44 (time_text t)
 unfolding time_text
-no_comma-time t = (low_digit _, (low_digit _, (low_digit _, (low_digit _, (refl, (low_digit _, (low_digit _, (refl,
-    (low_digit _, (low_digit _, (refl, (low_digit _, (low_digit _, (refl, (low_digit _, (low_digit _, (refl,
-    (low_digit _, (low_digit _, (refl, tt))))))))))))))))))))
+no_comma-time t = (
+  low_digit _,
+  (
+    low_digit _,
+    (
+      low_digit _,
+      (
+        low_digit _,
+        (
+          refl,
+          (
+            low_digit _,
+            (
+              low_digit _,
+              (
+                refl,
+                (
+                  low_digit _,
+                  (
+                    low_digit _,
+                    (
+                      refl,
+                      (
+                        low_digit _,
+                        (
+                          low_digit _,
+                          (
+                            refl,
+                            (
+                              low_digit _,
+                              (
+                                low_digit _,
+                                (
+                                  refl,
+                                  (low_digit _, (low_digit _, (refl, tt))),
+                                ),
+                              ),
+                            ),
+                          ),
+                        ),
+                      ),
+                    ),
+                  ),
+                ),
+              ),
+            ),
+          ),
+        ),
+      ),
+    ),
+  ),
+)
 
 pub other_length : (word : List ℕ) → (length word ≡ 20 → ⊥) → IsSpelledByNone Time time_text Any word
 unfolding time_text

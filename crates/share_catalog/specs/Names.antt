@@ -1,5 +1,5 @@
 -- The names of the files of a folder of books.
-use Rattle.std.specs.Prelude.{◌≡◌, ◌-◌, ℕ, List, [], ◌∷◌, ◌++◌, length, codes, decimal, replicate}
+use Rattle.std.specs.Prelude.{◌-◌, ℕ, List, [], ◌∷◌, ◌++◌, length, codes, decimal, replicate}
 use Rattle.std.specs.List.{join_with_byte}
 use Rattle.share_catalog.specs.Texts.{IsNumber}
 use Rattle.share_catalog.specs.declared.names.BookFile.{BookFile}

@@ -1,5 +1,5 @@
 -- The rows of `books.csv`: how they are spelled, and which column of other bytes is no row's.
-use Rattle.std.specs.Prelude.{◌≡◌, ◌≢◌, ◌<◌, ℕ, List, [], ◌∷◌, ◌++◌, Option, Some, Result, MatchResult, length, slice_get, decimal}
+use Rattle.std.specs.Prelude.{◌≡◌, ◌≢◌, ◌<◌, ℕ, List, [], ◌∷◌, ◌++◌, Some, Result, MatchResult, length, slice_get, decimal}
 use Rattle.std.specs.List.{join_with_byte}
 use Rattle.share_catalog.specs.Texts.{IsNumber, IsDigest, AreTariffs, kind_text, closing_text, tariffs_text, digest_text}
 use Rattle.share_catalog.specs.Times.{time_text}

@@ -1,5 +1,5 @@
 -- Times, as a row spells them.
-use Rattle.std.specs.Prelude.{◌≡◌, ℕ, List, Option, MatchOption, ◌&&◌, false, true}
+use Rattle.std.specs.Prelude.{◌≡◌, ℕ, List, Option, MatchOption, ◌&&◌, false}
 use Rattle.share_catalog.specs.Texts.{is_date, is_time_of_day, time_bytes}
 use Rattle.share_catalog.specs.declared.time.Time.{Time}
 

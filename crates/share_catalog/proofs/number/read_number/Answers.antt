@@ -1,4 +1,4 @@
-use Rattle.std.proofs.Common.{false, sym, ◌∙◌, ap}
+use Rattle.std.proofs.Common.{sym, ◌∙◌, ap}
 use Rattle.std.specs.Str.{bytes_eq}
 use Rattle.share_catalog.proofs.NumberLemmas.{not_a_number, another_spelling}
 use Rattle.share_catalog.proofs.number.read_number.Goals as goal

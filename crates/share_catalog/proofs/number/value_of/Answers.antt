@@ -1,4 +1,4 @@
-use Rattle.std.proofs.Common.{◌<◌, ◌≤◌, ◌+◌, ◌-◌, ◌*◌, ◌^◌, length, get_or, inl, inr, arith, sym}
+use Rattle.std.proofs.Common.{◌<◌, ◌≤◌, ◌+◌, ◌-◌, ◌*◌, ◌^◌, length, get_or, inl, inr, arith}
 use Rattle.share_catalog.proofs.NumberLemmas.{not_a_digit, too_great, not_below}
 use Rattle.share_catalog.proofs.number.value_of.Goals as goal
 use Rattle.share_catalog.proofs.number.value_of.Goals.{then-digit-lt48-via-then-digit-lt48}

@@ -1,5 +1,3 @@
-use Rattle.std.proofs.Common.{Result, Ok, Err}
-use Rattle.share_catalog.specs.Rows.{ReadsRow}
 use Rattle.share_catalog.proofs.RowLemmas.{read_by}
 use Rattle.share_catalog.proofs.row.read_row.Goals as goal
 

@@ -1,6 +1,6 @@
 use Rattle.share_catalog.proofs.TariffLemmas.{no_cell, no_overhead, no_price, three, three_whole, more_than_three}
 use Rattle.share_catalog.proofs.TariffLemmas.{out_of_range}
-use Rattle.std.proofs.Common.{false, sym, ◌∙◌}
+use Rattle.std.proofs.Common.{sym, ◌∙◌}
 use Rattle.share_catalog.proofs.tariffs.read_tariff.Goals as goal
 use Rattle.share_catalog.proofs.tariffs.read_tariff.Goals.{else-is_end-via-then-is_end+else-is_tariff}
 use Rattle.share_catalog.proofs.tariffs.read_tariff.Goals.{else-is_end-via-else-is_end}

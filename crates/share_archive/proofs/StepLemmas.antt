@@ -145,8 +145,15 @@ few_file false = omega arith
 
 pub few : (s : BookState) → steps_left s ≤ 6
 few s =
-    omega (arith, few_text s.text, few_report s.text s.report, few_row s.text s.row, few_cut s.row, few_file s.part,
-    few_file s.tariffs)
+    omega (
+      arith,
+      few_text s.text,
+      few_report s.text s.report,
+      few_row s.text s.row,
+      few_cut s.row,
+      few_file s.part,
+      few_file s.tariffs,
+    )
 
 -- No step is left
 

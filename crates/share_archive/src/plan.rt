@@ -77,7 +77,9 @@ pub fn next_step(book: BookState) -> Option<Step>
         BookText::Absent => tariffs_step(book),
         BookText::Headless => Some(Step::RemoveText),
         BookText::Open { is_run: true } => Some(Step::CloseText),
-        BookText::Open { is_run: false } | BookText::Closed { is_run: false } => Some(Step::MarkBad),
+        BookText::Open { is_run: false } | BookText::Closed { is_run: false } => Some(
+            Step::MarkBad,
+        ),
         BookText::Closed { is_run: true } => closed_step(book),
         BookText::Bad => bad_step(book),
     }

@@ -1,3 +1,4 @@
+pub mod BilledLemmas
 pub mod NameLemmas
 pub mod NumberLemmas
 pub mod PieceLemmas

@@ -1,5 +1,5 @@
 -- The rows of `books.csv`: how they are spelled, and which column of other bytes is no row's.
-use Rattle.std.specs.Prelude.{◌≡◌, ◌≢◌, ◌<◌, ℕ, List, [], ◌∷◌, ◌++◌, Some, Result, MatchResult, length, slice_get, decimal}
+use Rattle.std.specs.Prelude.{◌≡◌, ◌≢◌, ◌<◌, ℕ, List, [], ◌∷◌, ◌++◌, Some, Result, MatchResult, length, slice_get, codes, decimal}
 use Rattle.std.specs.List.{join_with_byte}
 use Rattle.share_catalog.specs.Texts.{IsNumber, IsDigest, AreTariffs, kind_text, closing_text, tariffs_text, digest_text}
 use Rattle.share_catalog.specs.Times.{time_text}
@@ -25,6 +25,10 @@ pub record IsRow (r : Row) : Type 0 where
   pub sha256 : IsDigest r.sha256
 
 -- How it is spelled
+
+-- the first line, before the rows
+abbrev pub header_text : List ℕ
+header_text = codes "book,kind,opened,closed,why,tariffs,events,packets,bytes,units,amount,sha256\n"
 
 abbrev pub time_columns : Row → List (List ℕ)
 time_columns r = time_text r.opened ∷ time_text r.closed ∷ closing_text r.why ∷ []

@@ -8,7 +8,7 @@ ghost use Rattle.share_catalog.specs.Texts.{IsNumber, IsDigest, AreTariffs, kind
 ghost use Rattle.share_catalog.specs.Texts.{digest_text};
 ghost use Rattle.share_catalog.specs.Times.{time_text};
 ghost use Rattle.share_catalog.specs.Rows.{IsRow, AreTotals, row_text, columns, head_columns, time_columns};
-ghost use Rattle.share_catalog.specs.Rows.{total_columns, ReadsRow};
+ghost use Rattle.share_catalog.specs.Rows.{header_text, total_columns, ReadsRow};
 ghost use Rattle.share_catalog.specs.Rows.{ReadsTotals, IsWrong};
 ghost use Rattle.share_catalog.specs.declared.row.Row.{Row};
 
@@ -64,6 +64,13 @@ pub enum Column {
     Sha256,
     /// More columns than a row has.
     End,
+}
+
+/// The first line of `books.csv`: the names of the columns, and a line feed.
+pub fn header_line() -> &'static [u8]
+    ensures { result.now ≡ header_text }
+{
+    b"book,kind,opened,closed,why,tariffs,events,packets,bytes,units,amount,sha256\n"
 }
 
 /// The line of a row: its columns with commas between them, and a line feed. It takes no memory.

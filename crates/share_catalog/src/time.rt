@@ -1,7 +1,8 @@
 //! Times of a row, in universal time.
 ghost use Rattle.std.specs.Prelude.{◌≡◌, ◌<◌, ◌≤◌, ◌+◌, ◌/◌, ◌%◌, ℕ, length, slice_index, true, false};
 ghost use Rattle.std.specs.Prelude.{MatchOption, IfSome};
-ghost use Rattle.share_catalog.specs.Texts.{is_leap, has_thirty, days_in, is_date, is_time_of_day, time_bytes, two_digits as two_digits_of, four_digits as four_digits_of};
+ghost use Rattle.share_catalog.specs.Texts.{is_leap, has_thirty, days_in, is_date, is_time_of_day, time_bytes};
+ghost use Rattle.share_catalog.specs.Texts.{two_digits as two_digits_of, four_digits as four_digits_of};
 ghost use Rattle.share_catalog.specs.Texts.{IsTwoAt, IsFourAt};
 
 /// A second of universal time, from the year 0 to the year 9999. Each month has its days.

@@ -1,0 +1,9 @@
+//! The order in which a book on disk is closed and recovered, so that a kill at any moment changes nothing of what the
+//! folder comes to. The caller looks at the folder and makes the steps.
+#![tactic(auto)]
+
+mod laws;
+mod plan;
+
+pub use laws::{books_come_to_rest, killed_books_come_to_the_same};
+pub use plan::{BookState, BookText, RowState, Step, next_step};

@@ -1,0 +1,105 @@
+//! What a bill checks of the books that `books.csv` has.
+ghost use Rattle.std.specs.Prelude.{◌≡◌, ◌≤◌, ◌<◌, ◌&&◌, ◌==◌, [], length, slice_index, true, false, MatchOption};
+ghost use Rattle.std.specs.List.{list_any};
+ghost use Rattle.share_catalog.specs.Billed.{mismatch_of, is_bad, is_accounted, is_bad_book, IsFirstMissing, IsMissing};
+ghost use Rattle.share_catalog.specs.Billed.{Accounts};
+
+use crate::digest::Digest;
+use crate::kinds::Closing;
+use crate::row::Row;
+
+/// The first figure of a book that is not that of its row.
+#[derive(Clone, Copy, Debug, PartialEq, Eq)]
+pub enum Mismatch {
+    Sha256,
+    Units,
+    Amount,
+}
+
+/// The first of these figures of a book that its row has otherwise. `None` if the row has all three.
+pub fn compare(row: &Row, sha256: &Digest, units: u64, amount: u64) -> Option<Mismatch>
+    ensures { result ≡ mismatch_of row.now sha256.now units amount }
+{
+    if row.sha256.as_bytes() != sha256.as_bytes() {
+        return Some(Mismatch::Sha256);
+    }
+    if row.totals.units != units {
+        return Some(Mismatch::Units);
+    }
+    if row.totals.amount != amount {
+        return Some(Mismatch::Amount);
+    }
+    None
+}
+
+/// The least number from that of the first row to that of the last for which no book is given and no row says that its
+/// text is no run. `None` if there is no such number.
+pub fn first_missing(rows: &[Row], given: &[u64]) -> Option<u64>
+    ensures { IsFirstMissing rows.now given.now result }
+{
+    if rows.is_empty() {
+        return None;
+    }
+    let last = rows[rows.len() - 1].book;
+    if let Some(number) = missing_below(rows, given, last) {
+        return Some(number);
+    }
+    if rows[0].book <= last && !is_accounted(last, rows, given) {
+        return Some(last);
+    }
+    None
+}
+
+// The least such number below a number.
+fn missing_below(rows: &[Row], given: &[u64], end: u64) -> Option<u64>
+    requires { 1 ≤ length rows.now }
+    ensures { MatchOption result
+        (Accounts rows.now given.now end)
+        (λ number. (number < end) × IsMissing rows.now given.now number) }
+{
+    for number in rows[0].book..end {
+        if !is_accounted(number, rows, given) {
+            return Some(number);
+        }
+    }
+    None
+}
+
+// Whether a book is given, or its row says that its text is no run.
+fn is_accounted(number: u64, rows: &[Row], given: &[u64]) -> bool
+    ensures { result ≡ is_accounted rows.now given.now number }
+{
+    is_given(number, given) || is_set_aside(number, rows)
+}
+
+fn is_given(number: u64, given: &[u64]) -> bool
+    ensures { result ≡ list_any (λ n. n == number) given.now }
+{
+    given.iter().any(|other| *other == number)
+}
+
+fn is_set_aside(number: u64, rows: &[Row]) -> bool
+    ensures { result ≡ list_any (is_bad_book number) rows.now }
+{
+    rows.iter().any(|row| is_bad_book(row, number))
+}
+
+fn is_bad_book(row: &Row, number: u64) -> bool
+    ensures { result ≡ is_bad_book number row.now }
+{
+    row.book == number && is_bad(row.why)
+}
+
+fn is_bad(why: Closing) -> bool
+    ensures { result ≡ is_bad why }
+{
+    match why {
+        Closing::Bad => true,
+        Closing::Spent
+        | Closing::Period
+        | Closing::Reload
+        | Closing::Rotate
+        | Closing::End
+        | Closing::Cut => false,
+    }
+}

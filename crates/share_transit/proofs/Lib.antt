@@ -1,0 +1,2 @@
+pub mod PacedLemmas
+pub mod TransitLemmas

@@ -1,7 +1,9 @@
 -- Lines and the orders that they spell.
 use Rattle.std.specs.Prelude.{◌≡◌, codes, refl, None, Some}
 use Rattle.share_orders.specs.Orders.{order_in}
-use Rattle.share_orders.specs.declared.orders.Order.TheVariants.{Report, Status, Hold, Resume, Rotate, Reload, End}
+use Rattle.std.specs.Fmt.{digits}
+use Rattle.share_model.specs.text.Lines.{number_of}
+use Rattle.share_orders.specs.declared.orders.Order.TheVariants.{Report, Status, Hold, Resume, Amend, Rotate, Reload, End}
 
 report_line : order_in (codes "report") ≡ Some Report
 report_line = refl
@@ -14,6 +16,14 @@ hold_line = refl
 
 resume_line : order_in (codes "resume acme") ≡ Some (Resume (codes "acme"))
 resume_line = refl
+
+amend_line : order_in (codes "amend gold 1 300") ≡ Some (Amend (codes "gold") 1 300)
+unfolding number_of digits
+amend_line = refl
+
+amend_with_zero : order_in (codes "amend gold 01 300") ≡ None
+unfolding number_of digits
+amend_with_zero = refl
 
 rotate_line : order_in (codes "rotate") ≡ Some Rotate
 rotate_line = refl

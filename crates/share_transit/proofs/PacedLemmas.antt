@@ -4,7 +4,7 @@ use Rattle.std.proofs.Common.{if◌then◌else◌, List, [], ◌∷◌, ◌++◌
 use Rattle.std.specs.Prelude.{codes, Option, None, Some, MatchOption, is_some}
 use Rattle.std.proofs.lemmas.Bool.{le-leb, lt-leb, leb-true, leb-false, ltb-false}
 use Rattle.std.proofs.lemmas.List.{append_assoc, append-nil, length-append, map-append, length-take, length-drop}
-use Rattle.std.proofs.lemmas.List.{drop-append-le}
+use Rattle.std.proofs.lemmas.List.{drop-append-le, drop_all}
 use Rattle.std.specs.List.{concat}
 use Rattle.share_base.specs.declared.command.Event.{Event}
 use Rattle.share_base.specs.declared.command.Event.TheVariants.{Written}
@@ -390,7 +390,9 @@ module _ (handed : List ℕ) (turns : List TextTurn) (before : List (List ℕ)) 
       (omega (arith, whole, s.counted)) (omega (arith, whole, rest, few)))
     where
       dropped : (page bytes : List ℕ) → drop (length page) (page ++ bytes) ≡ bytes
-      dropped page bytes = grind arith
+      dropped page bytes =
+          drop-append-le (length page) page bytes (omega arith)
+          ∙ ap (λ t. t ++ bytes) (drop_all (length page) page (omega arith))
 
   -- the disk wrote some of it
   wrote_by : (total : ℕ) → State handed turns before given (text_written total t) a

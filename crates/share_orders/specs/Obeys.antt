@@ -8,7 +8,8 @@ use Rattle.share_book.specs.Book.{BookView}
 use Rattle.share_book.specs.Changes.{Amends, Changes}
 use Rattle.share_gateway.specs.PlanChanges.{with_hold}
 use Rattle.share_orders.specs.declared.orders.Order.{Order}
-use Rattle.share_orders.specs.declared.orders.Order.TheVariants.{Report, Status, Hold, Resume, Amend, Rotate, Reload, End}
+use Rattle.share_orders.specs.declared.orders.Order.TheVariants.{Report, Status, Hold, Resume, Amend, Rotate, Reload}
+use Rattle.share_orders.specs.declared.orders.Order.TheVariants.{End}
 use Rattle.share_orders.specs.declared.obeying.Duty.{Duty}
 use Rattle.share_orders.specs.declared.obeying.Duty.TheVariants.{
   Report as ReportDuty,

@@ -3,7 +3,8 @@ use Rattle.std.specs.Prelude.{◌≡◌, codes, refl, None, Some}
 use Rattle.share_orders.specs.Orders.{order_in}
 use Rattle.std.specs.Fmt.{digits}
 use Rattle.share_model.specs.text.Lines.{number_of}
-use Rattle.share_orders.specs.declared.orders.Order.TheVariants.{Report, Status, Hold, Resume, Amend, Rotate, Reload, End}
+use Rattle.share_orders.specs.declared.orders.Order.TheVariants.{Report, Status, Hold, Resume, Amend, Rotate, Reload}
+use Rattle.share_orders.specs.declared.orders.Order.TheVariants.{End}
 
 report_line : order_in (codes "report") ≡ Some Report
 report_line = refl

@@ -2,7 +2,8 @@
 use Rattle.std.specs.Prelude.{ℕ, List, [], ◌∷◌, codes, bytes_eq, Option, None, Some, if◌then◌else◌}
 use Rattle.share_model.specs.text.Lines.{field, name_of, number_of, words_of, ◌>>=◌}
 use Rattle.share_orders.specs.declared.orders.Order.{Order}
-use Rattle.share_orders.specs.declared.orders.Order.TheVariants.{Report, Status, Hold, Resume, Amend, Rotate, Reload, End}
+use Rattle.share_orders.specs.declared.orders.Order.TheVariants.{Report, Status, Hold, Resume, Amend, Rotate, Reload}
+use Rattle.share_orders.specs.declared.orders.Order.TheVariants.{End}
 
 -- the order, if no word is left
 abbrev pub at_end : List (List ℕ) → Order → Option Order

@@ -1,6 +1,7 @@
 -- The wire takes the frames whose text is written, over the whole life of a transit.
 use Rattle.std.proofs.Common.{◌≡◌, ◌≤◌, ◌<◌, ℕ, ◌+◌, ◌-◌, ◌^◌, min, max, Bool, true, false, not, nat_le, nat_lt}
-use Rattle.std.proofs.Common.{if◌then◌else◌, List, [], ◌∷◌, ◌++◌, length, map, take, drop, arith, refl, sym, ap, ◌∙◌, subst}
+use Rattle.std.proofs.Common.{if◌then◌else◌, List, [], ◌∷◌, ◌++◌, length, map, take, drop, arith, refl, sym, ap, ◌∙◌}
+use Rattle.std.proofs.Common.{subst}
 use Rattle.std.specs.Prelude.{codes, Option, None, Some, MatchOption, is_some}
 use Rattle.std.proofs.lemmas.Bool.{le-leb, lt-leb, leb-true, leb-false, ltb-false}
 use Rattle.std.proofs.lemmas.List.{append_assoc, append-nil, length-append, map-append, length-take, length-drop}
@@ -26,7 +27,8 @@ use Rattle.share_book.specs.declared.book_text.TextKind.TheVariants.{Whole, Leng
 use Rattle.share_transit.specs.declared.transit.Due.{Due}
 use Rattle.share_transit.specs.Transit.{TransitView, TurnsInto, Hands, AreSolid, due_bytes, still_due, handed_count}
 use Rattle.share_transit.specs.Transit.{text_written}
-use Rattle.share_transit.specs.Paced.{TextTurn, frames_of, Paced, turned, happened, handed_over, wrote, sent, again, opened}
+use Rattle.share_transit.specs.Paced.{TextTurn, frames_of, Paced, turned, happened, handed_over, wrote, sent, again}
+use Rattle.share_transit.specs.Paced.{opened}
 use Rattle.share_transit.specs.Paced.{began as paced_began, turn_by, turn_made, AreWithin, AreBeyond, FollowsText}
 use Rattle.share_transit.proofs.TransitLemmas.{length-concat-append, keeps_others, ready_same, ready_alone}
 
@@ -102,7 +104,8 @@ stays_by a before answer new after false false false (Some s) none did =
 pub stays_is : (a : Audited) (before : OutboxView) (answer : Turned) (new : Audited) (after : OutboxView)
     → is_wrote answer ≡ false → Turns a before answer new after → (new ≡ a) × (after ≡ before)
 stays_is a before answer new after none did =
-    stays_by a before answer new after (lacks_text a) (lacks_room before) (is_spent a.link) (sending a.link.live) none did
+    stays_by a before answer new after (lacks_text a) (lacks_room before) (is_spent a.link) (sending a.link.live) none
+    did
 
 line_some : (kind : TextKind) (n : ℕ) → 0 < length (line_in kind (Written n))
 line_some Whole n =
@@ -204,7 +207,8 @@ split n top low (t ∷ late) above below f =
 
 -- ---- The outbox of the frames whose text is written
 
-along : (frames others : List (List ℕ)) (total more : ℕ) (before : List (List ℕ)) (given all : List ℕ) (o p : OutboxView)
+along : (frames others : List (List ℕ)) (total more : ℕ) (before : List (List ℕ)) (given all : List ℕ)
+    (o p : OutboxView)
     → frames ≡ others → total ≡ more → given ≡ all → o ≡ p → History frames total before given o
     → History others more before all p
 along frames others total more before given all o p is count bytes same h =
@@ -303,7 +307,7 @@ module _ (handed : List ℕ) (turns : List TextTurn) (before : List (List ℕ)) 
       let ends : ℕ = length handed + length after.text.bytes in
       let turn : TextTurn = record { frame = frame_of p.frame; ends = ends } in
       let text : length after.text.bytes
-          ≡ length a.text.bytes + length (line_in a.kind (Written (length (frame_of p.frame)))) =
+      ≡ length a.text.bytes + length (line_in a.kind (Written (length (frame_of p.frame)))) =
       ap (λ (a : Audited). length a.text.bytes) p.event
       ∙ length-append a.text.bytes (line_in a.kind (Written (length (frame_of p.frame)))) in
       let line = line_some a.kind (length (frame_of p.frame)) in
@@ -327,9 +331,9 @@ module _ (handed : List ℕ) (turns : List TextTurn) (before : List (List ℕ)) 
             ∙ append_assoc s.left (frames_of s.late) (frame_of p.frame ∷ [])
             ∙ ap (λ fs. s.left ++ fs) (sym (map-append (λ (t : TextTurn). t.frame) s.late (turn ∷ [])));
         due_are = (λ k. s.due_are k ++ record {
-              ends = ap (λ n. n + length after.text.bytes) s.counted k;
-              count = p.count_is k;
-            } ∷ [])
+          ends = ap (λ n. n + length after.text.bytes) s.counted k;
+          count = p.count_is k;
+        } ∷ [])
             ∙ sym (map-append (λ (t : TextTurn). record { ends = t.ends; count = length t.frame }) s.late (turn ∷ []));
         counted = s.counted;
         fits = s.fits;
@@ -349,19 +353,21 @@ module _ (handed : List ℕ) (turns : List TextTurn) (before : List (List ℕ)) 
   turned_by (Wrote flow seq count) new after did =
       let p = put_is a t.outbox flow seq count after did.outbox did.turns in
       let made : turn_by (sending a.link.live) (length handed + length after.text.bytes)
-          ≡ record { frame = frame_of p.frame; ends = length handed + length after.text.bytes } ∷ [] =
+      ≡ record { frame = frame_of p.frame; ends = length handed + length after.text.bytes } ∷ [] =
       ap (λ o. turn_by o (length handed + length after.text.bytes)) p.next in
       let P : List TextTurn → Type 0 = λ ts. State handed (turns ++ ts) before given new after in
       let Q : TransitView → Type 0 = λ new. State handed
-          (turns ++ record { frame = frame_of p.frame; ends = length handed + length after.text.bytes } ∷ []) before given
-          new after in
+      (turns ++ record { frame = frame_of p.frame; ends = length handed + length after.text.bytes } ∷ []) before given
+      new after in
       subst P (sym made) (subst Q (sym did.transit) (put_frame count after did.outbox p))
   turned_by NoText new after did =
       let P : TransitView → Type 0 = λ new. State handed (turns ++ []) before given new after in
-      subst P (sym did.transit) (none_came after did.outbox (stays_is a t.outbox NoText after did.outbox refl did.turns))
+      subst P (sym did.transit)
+      (none_came after did.outbox (stays_is a t.outbox NoText after did.outbox refl did.turns))
   turned_by NoRoom new after did =
       let P : TransitView → Type 0 = λ new. State handed (turns ++ []) before given new after in
-      subst P (sym did.transit) (none_came after did.outbox (stays_is a t.outbox NoRoom after did.outbox refl did.turns))
+      subst P (sym did.transit)
+      (none_came after did.outbox (stays_is a t.outbox NoRoom after did.outbox refl did.turns))
   turned_by Spent new after did =
       let P : TransitView → Type 0 = λ new. State handed (turns ++ []) before given new after in
       subst P (sym did.transit) (none_came after did.outbox (stays_is a t.outbox Spent after did.outbox refl did.turns))
@@ -401,27 +407,29 @@ module _ (handed : List ℕ) (turns : List TextTurn) (before : List (List ℕ)) 
       let above : t.written ≤ n = omega arith in
       let below : n ≤ t.handed = omega (arith, s.fits) in
       let p = split n (length handed + length a.text.bytes) t.written s.late above (omega (arith, below, s.counted))
-          s.late_follow in
-      let count : due_bytes n t.due ≡ length (concat (frames_of p.now)) = ap (λ ds. due_bytes n ds) s.due_are ∙ p.bytes in
+      s.late_follow in
+      let count : due_bytes n t.due ≡ length (concat (frames_of p.now)) =
+      ap (λ ds. due_bytes n ds) s.due_are ∙ p.bytes in
       let frames : frames_of s.late ≡ frames_of p.now ++ frames_of p.rest =
       ap frames_of p.late_are ∙ map-append (λ (t : TextTurn). t.frame) p.now p.rest in
       let kept : t.outbox.frames ≡ (s.left ++ frames_of p.now) ++ frames_of p.rest =
       s.kept ∙ ap (λ fs. s.left ++ fs) frames ∙ sym (append_assoc s.left (frames_of p.now) (frames_of p.rest)) in
       let long = length-concat-append s.left (frames_of p.now) in
       let all : length (concat t.outbox.frames)
-          ≡ length (concat (s.left ++ frames_of p.now)) + length (concat (frames_of p.rest)) =
+      ≡ length (concat (s.left ++ frames_of p.now)) + length (concat (frames_of p.rest)) =
       ap (λ fs. length (concat fs)) kept ∙ length-concat-append (s.left ++ frames_of p.now) (frames_of p.rest) in
       let own : min (t.outbox.allowed + due_bytes n t.due) (length (concat t.outbox.frames))
-          ≡ length (concat (s.left ++ frames_of p.now)) = omega (arith, count, long, all, s.allowed_are) in
+      ≡ length (concat (s.left ++ frames_of p.now)) = omega (arith, count, long, all, s.allowed_are) in
       let alone : min (t.outbox.allowed + due_bytes n t.due) (length (concat (s.left ++ frames_of p.now)))
-          ≡ length (concat (s.left ++ frames_of p.now)) = omega (arith, count, long, s.allowed_are) in
+      ≡ length (concat (s.left ++ frames_of p.now)) = omega (arith, count, long, s.allowed_are) in
       record {
         total = s.total + due_bytes n t.due;
         early = s.early ++ p.now;
         late = p.rest;
         left = s.left ++ frames_of p.now;
         turns_are = s.turns_are ∙ ap (λ ts. s.early ++ ts) p.late_are ∙ sym (append_assoc s.early p.now p.rest);
-        early_written = within-append n s.early p.now (within-more t.written n s.early above s.early_written) p.now_written;
+        early_written = within-append n s.early p.now (within-more t.written n s.early above s.early_written)
+            p.now_written;
         late_follow = p.rest_follow;
         history = along (frames_of s.early ++ frames_of p.now) (frames_of (s.early ++ p.now))
             (s.total + due_bytes n t.due) (s.total + due_bytes n t.due) before given given _ _
@@ -459,9 +467,10 @@ module _ (handed : List ℕ) (turns : List TextTurn) (before : List (List ℕ)) 
       let some : n ≤ length (ready_of alone) = subst (λ bs. n ≤ length bs) (sym own) fewer in
       let past : t.outbox.out + n ≤ t.outbox.allowed = omega (arith, fewer, size, s.allowed_are, less) in
       let k = keeps_others s.left (frames_of s.late) (t.outbox.out + n) t.outbox.allowed s.allowed_are past
-          (follow-solid t.written (length handed + length a.text.bytes) s.late s.late_follow) in
+      (follow-solid t.written (length handed + length a.text.bytes) s.late s.late_follow) in
       let p : OutboxView = passed s.left (t.outbox.out + n) t.outbox.allowed in
-      let is : send_more n t.outbox ≡ record { frames = p.frames ++ frames_of s.late; out = p.out; allowed = p.allowed } =
+      let is : send_more n t.outbox
+          ≡ record { frames = p.frames ++ frames_of s.late; out = p.out; allowed = p.allowed } =
       ap (λ fs. passed fs (t.outbox.out + n) t.outbox.allowed) s.kept ∙ k.is in
       let out : p.out ≡ (send_more n t.outbox).out = sym (ap (λ (o : OutboxView). o.out) is) in
       let allowed : p.allowed ≡ (send_more n t.outbox).allowed = sym (ap (λ (o : OutboxView). o.allowed) is) in

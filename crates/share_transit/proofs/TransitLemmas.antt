@@ -19,7 +19,8 @@ if_false : {A : Type 0} (b : Bool) (x y : A) → b ≡ false → (if b then x el
 if_false true x y is = cc
 if_false false x y is = refl
 
-pub length-concat-append : (xs ys : List (List ℕ)) → length (concat (xs ++ ys)) ≡ length (concat xs) + length (concat ys)
+pub length-concat-append : (xs ys : List (List ℕ))
+    → length (concat (xs ++ ys)) ≡ length (concat xs) + length (concat ys)
 length-concat-append xs ys = ap (λ t. length t) (concat-append xs ys) ∙ length-append (concat xs) (concat ys)
 
 -- ---- What the wire takes is of the first frames
@@ -32,7 +33,8 @@ pub record HasOthers (others : List (List ℕ)) (all part : OutboxView) : Type 0
 
 -- the other frames stay as they are
 abbrev pub KeepsOthers : List (List ℕ) → List (List ℕ) → ℕ → ℕ → Type 0
-KeepsOthers first others out allowed = HasOthers others (passed (first ++ others) out allowed) (passed first out allowed)
+KeepsOthers first others out allowed =
+    HasOthers others (passed (first ++ others) out allowed) (passed first out allowed)
 
 none_first : (others : List (List ℕ)) (out allowed : ℕ) → allowed ≡ 0 → out ≤ allowed → AreSolid others
     → KeepsOthers [] others out allowed
@@ -106,11 +108,11 @@ sent-trails o due n t few =
     let less = ready_count o due t n few in
     let k = keeps_others t.first t.others (o.out + n) o.allowed t.allowed_are less t.solid in
     let is : send_more n o
-        ≡ record {
-          frames = (passed t.first (o.out + n) o.allowed).frames ++ t.others;
-          out = (passed t.first (o.out + n) o.allowed).out;
-          allowed = (passed t.first (o.out + n) o.allowed).allowed;
-        } =
+    ≡ record {
+      frames = (passed t.first (o.out + n) o.allowed).frames ++ t.others;
+      out = (passed t.first (o.out + n) o.allowed).out;
+      allowed = (passed t.first (o.out + n) o.allowed).allowed;
+    } =
     ap (λ fs. passed fs (o.out + n) o.allowed) t.frames_are ∙ k.is in
     subst (λ (p : OutboxView). Trails p due) (sym is) (record {
       first = (passed t.first (o.out + n) o.allowed).frames;
@@ -207,8 +209,8 @@ pub settled-more : (o : OutboxView) (d : Due) (due : List Due) (handed written :
 settled-more o d due handed written within =
     let test : nat_le d.ends written ≡ true = le-leb d.ends written within in
     let allowed : min (min (o.allowed + d.count) (length (concat o.frames)) + due_bytes written due)
-        (length (concat o.frames))
-        ≡ min (o.allowed + (d.count + due_bytes written due)) (length (concat o.frames)) = omega arith in
+    (length (concat o.frames))
+    ≡ min (o.allowed + (d.count + due_bytes written due)) (length (concat o.frames)) = omega arith in
     let bytes : d.count + due_bytes written due ≡ due_bytes written (d ∷ due) =
     sym (if_true (nat_le d.ends written) (d.count + due_bytes written due) 0 test) in
     let left : still_due written due ≡ still_due written (d ∷ due) =

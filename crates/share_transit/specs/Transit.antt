@@ -1,5 +1,5 @@
--- What a contract sees of the frames on their way to the wire and of the text on its way to the disk, and what the calls
--- do. Text is counted in bytes over all books.
+-- What a contract sees of the frames on their way to the wire and of the text on its way to the disk, and what the
+-- calls do. Text is counted in bytes over all books.
 use Rattle.std.specs.Prelude.{◌≡◌, ◌≤◌, ◌<◌, ℕ, ◌+◌, ◌-◌, ◌^◌, min, max, nat_le, if◌then◌else◌}
 use Rattle.std.specs.Prelude.{List, [], ◌∷◌, ◌++◌, length, map, take}
 use Rattle.std.specs.List.{concat}
@@ -11,8 +11,8 @@ use Rattle.share_book.specs.declared.book.Turned.TheVariants.{NoText, NoRoom, Sp
 use Rattle.share_gateway.specs.Outbox.{OutboxView, empty_outbox, allow_more}
 use Rattle.share_transit.specs.declared.transit.Due.{Due}
 
--- the outbox; the frames whose text is not written, which are the last ones in it; how many bytes of text were handed to
--- the disk; and how many of these it has written
+-- the outbox; the frames whose text is not written, which are the last ones in it; how many bytes of text were handed
+-- to the disk; and how many of these it has written
 pub record TransitView : Type 0 where
   pub outbox : OutboxView
   pub due : List Due

@@ -16,7 +16,8 @@ use std::marker::Model;
 /// How many frames an outbox holds at most.
 const MAX_FRAMES: usize = 4096;
 
-/// A frame that the disk's progress does not allow on the wire: where the text of its turn ends, counted in bytes of the
+/// A frame that the disk's progress does not allow on the wire: where the text of its turn ends, counted in bytes of
+/// the
 /// text of all books, and how many bytes the frame has.
 #[derive(Clone, Copy)]
 pub struct Due {

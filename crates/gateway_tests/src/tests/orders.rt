@@ -50,10 +50,7 @@ const LINES: [(&str, Obeyed); 22] = [
         "report now",
         Obeyed::Replied(Reply::Refused(Refusal::Syntax)),
     ),
-    (
-        "hold  a",
-        Obeyed::Replied(Reply::Refused(Refusal::Syntax)),
-    ),
+    ("hold  a", Obeyed::Replied(Reply::Refused(Refusal::Syntax))),
     (
         "send a 61",
         Obeyed::Replied(Reply::Refused(Refusal::Syntax)),

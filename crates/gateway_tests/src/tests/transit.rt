@@ -18,7 +18,8 @@ const FRAMES: [&[u8; 18]; 3] = [
 ];
 
 /// The text of a book of lengths up to its first turn.
-const TEXT: &str = "lengths 2\nmkcur x\nopen a 4 1\nopen b 4 1\nmktkt 1000 base\nfund 1 cur x\nmktkt 1 x\n\
+const TEXT: &str =
+    "lengths 2\nmkcur x\nopen a 4 1\nopen b 4 1\nmktkt 1000 base\nfund 1 cur x\nmktkt 1 x\n\
     fund 2 flow a\nmktkt 2 x\nfund 3 flow b\nsend a 1\nsend a 1\nsend b 1\nturn 18\n";
 
 fn transit(rt: &impl Abort, alloc: Global) -> Transit {

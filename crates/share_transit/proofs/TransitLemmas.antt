@@ -266,3 +266,21 @@ settled-later o d due rest handed written t is beyond =
       handed = handed;
       written = written;
     })
+
+-- the first of those that are due
+pub first-due-is : (ds : List Due) (d : Due) → 0 < length ds → d ≡ get_or ds 0 d → ds ≡ d ∷ drop 1 ds
+first-due-is [] d some is = absurd (omega (arith, some))
+first-due-is (e ∷ ds) d some is = ap (λ t. t ∷ ds) (sym is)
+
+abbrev pub as_view : OutboxView → List Due → ℕ → ℕ → TransitView
+as_view o due handed written = record { outbox = o; due = due; handed = handed; written = written }
+
+-- one more is due
+pub one-more-due : (after : OutboxView) (due pushed : List Due) (handed written ends count : ℕ) (text : List ℕ)
+    → pushed ≡ due ++ record { ends = ends; count = count } ∷ [] → ends ≡ handed + length text
+    → as_view after pushed handed written
+    ≡ as_view after (due ++ record { ends = handed + length text; count = count } ∷ []) handed written
+one-more-due after due pushed handed written ends count text is same =
+    let all : pushed ≡ due ++ record { ends = handed + length text; count = count } ∷ [] =
+    is ∙ (λ k. due ++ record { ends = same k; count = count } ∷ []) in
+    (λ k. as_view after (all k) handed written)

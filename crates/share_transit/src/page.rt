@@ -42,7 +42,8 @@ impl Page {
 
     /// How many bytes more have room.
     pub fn room(&self) -> usize
-        ensures { result ≡ PAGE - length self.now }
+        ensures room { result ≡ PAGE - length self.now }
+        ensures fits { length self.now ≤ PAGE }
     {
         PAGE - self.bytes.len()
     }

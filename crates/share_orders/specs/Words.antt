@@ -1,5 +1,5 @@
 -- The words of a line that are left, and how a number begins.
-use Rattle.std.specs.Prelude.{ℕ, ◌==◌, Bool, ◌&&◌, ◌||◌, not, List, [], ◌∷◌, length, nat_lt, slice_index, Option, None}
+use Rattle.std.specs.Prelude.{ℕ, ◌==◌, Bool, ◌&&◌, ◌||◌, not, List, [], length, nat_lt, slice_index, Option, None}
 use Rattle.std.specs.Prelude.{Some}
 use Rattle.share_model.specs.text.Lines.{words_of}
 

@@ -1,20 +1,19 @@
 -- The wire takes the frames whose text is written, over the whole life of a transit.
-use Rattle.std.proofs.Common.{◌≡◌, ◌≤◌, ◌<◌, ℕ, ◌+◌, ◌-◌, ◌^◌, min, max, Bool, true, false, not, nat_le, nat_lt}
-use Rattle.std.proofs.Common.{if◌then◌else◌, List, [], ◌∷◌, ◌++◌, length, map, take, drop, arith, refl, sym, ap, ◌∙◌}
+use Rattle.std.proofs.Common.{◌≡◌, ◌≤◌, ◌<◌, ℕ, ◌+◌, ◌-◌, min, max, Bool, true, false, not, nat_le}
+use Rattle.std.proofs.Common.{List, [], ◌∷◌, ◌++◌, length, map, take, drop, arith, refl, sym, ap, ◌∙◌}
 use Rattle.std.proofs.Common.{subst}
 use Rattle.std.specs.Prelude.{codes, Option, None, Some, MatchOption, is_some}
-use Rattle.std.proofs.lemmas.Bool.{le-leb, lt-leb, leb-true, leb-false, ltb-false}
+use Rattle.std.proofs.lemmas.Bool.{leb-true, leb-false}
 use Rattle.std.proofs.lemmas.List.{append_assoc, append-nil, length-append, map-append, length-take, length-drop}
 use Rattle.std.proofs.lemmas.List.{drop-append-le, drop_all}
 use Rattle.std.specs.List.{concat}
-use Rattle.share_base.specs.declared.command.Event.{Event}
 use Rattle.share_base.specs.declared.command.Event.TheVariants.{Written}
 use Rattle.share_model.specs.link.Calls.{is_spent}
 use Rattle.share_model.specs.link.Turns.{Sending, frame_of, sending}
-use Rattle.share_model.specs.text.Audit.{event_line, written_line}
+use Rattle.share_model.specs.text.Audit.{event_line}
 use Rattle.share_model.specs.text.Lines.{spelling_of}
 use Rattle.share_model.proofs.lemmas.link.FrameLaws.{length-frame, header_length-some}
-use Rattle.share_gateway.specs.Outbox.{OutboxView, passed, with_frame, allow_more, ready_of, send_more, begun_again}
+use Rattle.share_gateway.specs.Outbox.{OutboxView, passed, with_frame, ready_of, send_more, begun_again}
 use Rattle.share_gateway.specs.OutboxHistory.{History, began, put, allow, send, again as again_sent, AreParts}
 use Rattle.share_book.specs.Audited.{Audited, after_event, lacks_text}
 use Rattle.share_book.specs.Book.{Turns, SendsNext, first_of}
@@ -470,7 +469,7 @@ module _ (handed : List ℕ) (turns : List TextTurn) (before : List (List ℕ)) 
       (follow-solid t.written (length handed + length a.text.bytes) s.late s.late_follow) in
       let p : OutboxView = passed s.left (t.outbox.out + n) t.outbox.allowed in
       let is : send_more n t.outbox
-          ≡ record { frames = p.frames ++ frames_of s.late; out = p.out; allowed = p.allowed } =
+      ≡ record { frames = p.frames ++ frames_of s.late; out = p.out; allowed = p.allowed } =
       ap (λ fs. passed fs (t.outbox.out + n) t.outbox.allowed) s.kept ∙ k.is in
       let out : p.out ≡ (send_more n t.outbox).out = sym (ap (λ (o : OutboxView). o.out) is) in
       let allowed : p.allowed ≡ (send_more n t.outbox).allowed = sym (ap (λ (o : OutboxView). o.allowed) is) in

@@ -1,13 +1,12 @@
 -- The frames of an outbox whose text is written are the first ones, and stay so.
-use Rattle.std.proofs.Common.{◌≡◌, ◌≤◌, ◌<◌, ℕ, ◌+◌, ◌-◌, min, Bool, true, false, nat_le, nat_lt, if◌then◌else◌}
+use Rattle.std.proofs.Common.{◌≡◌, ◌≤◌, ◌<◌, ℕ, ◌+◌, ◌-◌, min, Bool, true, false, nat_le, if◌then◌else◌}
 use Rattle.std.proofs.Common.{List, [], ◌∷◌, ◌++◌, length, map, take, drop, arith, refl, sym, ap, ◌∙◌, subst, get_or}
-use Rattle.std.proofs.lemmas.Bool.{le-leb, lt-leb, leb-true, leb-false}
-use Rattle.std.proofs.lemmas.List.{append_assoc, append-nil, take-append-le, drop-append-le, length-append, map-append}
+use Rattle.std.proofs.lemmas.Bool.{le-leb, lt-leb, leb-true}
+use Rattle.std.proofs.lemmas.List.{append_assoc, take-append-le, drop-append-le, length-append, map-append}
 use Rattle.std.proofs.lemmas.List.{length-drop, take_all}
 use Rattle.std.proofs.lemmas.List.Folds.{concat-append}
 use Rattle.std.specs.List.{concat}
 use Rattle.share_gateway.specs.Outbox.{OutboxView, passed, with_frame, allow_more, ready_of, send_more, begun_again}
-use Rattle.share_gateway.specs.Outbox.{frame_bytes, room_of}
 use Rattle.share_transit.specs.declared.transit.Due.{Due}
 use Rattle.share_transit.specs.Transit.{TransitView, Trails, AreSolid, due_bytes, still_due, settled}
 

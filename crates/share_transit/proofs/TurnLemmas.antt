@@ -1,9 +1,9 @@
 -- What a turn does to the frames that are due.
-use Rattle.std.proofs.Common.{◌≡◌, ◌<◌, ◌≤◌, ℕ, ◌+◌, ◌-◌, Bool, true, false, nat_lt, if◌then◌else◌}
-use Rattle.std.proofs.Common.{List, [], ◌∷◌, ◌++◌, length, arith, refl, sym, ap, ◌∙◌, subst}
+use Rattle.std.proofs.Common.{◌≡◌, ◌<◌, ℕ, ◌-◌, Bool, true, false, nat_lt, if◌then◌else◌}
+use Rattle.std.proofs.Common.{List, [], ◌∷◌, ◌++◌, length, arith, refl, sym, subst}
 use Rattle.std.proofs.lemmas.Bool.{ltb-true, ltb-false}
 use Rattle.share_model.specs.link.Turns.{frame_of}
-use Rattle.share_gateway.specs.Outbox.{OutboxView, empty_outbox, frame_bytes, room_of, with_frame}
+use Rattle.share_gateway.specs.Outbox.{OutboxView, empty_outbox, frame_bytes}
 use Rattle.share_book.specs.Audited.{Audited}
 use Rattle.share_book.specs.Book.{Turns}
 use Rattle.share_book.specs.Sends.{lacks_room}
@@ -11,7 +11,7 @@ use Rattle.share_book.specs.declared.book.Turned.{Turned}
 use Rattle.share_book.specs.declared.book.Turned.TheVariants.{NoText, NoRoom, Spent, Idle, Wrote}
 use Rattle.share_transit.specs.declared.transit.Due.{Due}
 use Rattle.share_transit.specs.Transit.{Trails, TransitView, TurnsInto}
-use Rattle.share_transit.proofs.PacedLemmas.{PutFrame, put_is, frame_some, is_wrote, stays_is}
+use Rattle.share_transit.proofs.PacedLemmas.{put_is, frame_some, is_wrote, stays_is}
 use Rattle.share_transit.proofs.TransitLemmas.{few-due, frame-trails}
 
 pub empty-trails : (o : OutboxView) → o ≡ empty_outbox → Trails o []

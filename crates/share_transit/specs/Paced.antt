@@ -8,7 +8,7 @@ use Rattle.share_book.specs.declared.book.Turned.{Turned}
 use Rattle.share_book.specs.declared.book.Turned.TheVariants.{NoText, NoRoom, Spent, Idle, Wrote}
 use Rattle.share_gateway.specs.Outbox.{ready_of, send_more, begun_again}
 use Rattle.share_gateway.specs.OutboxHistory.{AreParts}
-use Rattle.share_transit.specs.Transit.{TransitView, TurnsInto, Hands, empty_transit, handed_count, text_written}
+use Rattle.share_transit.specs.Transit.{TransitView, TurnsInto, Hands, empty_transit, text_written}
 
 -- a turn: its frame, and how many bytes the text of all books had when its line was in it
 pub record TextTurn : Type 0 where

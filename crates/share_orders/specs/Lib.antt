@@ -1,0 +1,5 @@
+pub mod Obeys
+pub mod Orders
+pub mod OrderRows
+pub mod Replies
+pub mod Words

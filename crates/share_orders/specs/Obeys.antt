@@ -1,0 +1,72 @@
+-- What an order does to a book, and which orders wait.
+use Rattle.std.specs.Prelude.{◌≡◌, Bool, true, false, ◌||◌, MatchBool, Option, None, Some}
+use Rattle.share_base.specs.declared.command.Command.TheVariants.{Hold as HoldFlow, Resume as ResumeFlow}
+use Rattle.share_base.specs.declared.command.Reply.TheVariants.{Refused}
+use Rattle.share_base.specs.declared.refusal.Refusal.TheVariants.{Syntax}
+use Rattle.share_book.specs.Audited.{lacks_text}
+use Rattle.share_book.specs.Book.{BookView}
+use Rattle.share_book.specs.Changes.{Amends, Changes}
+use Rattle.share_gateway.specs.PlanChanges.{with_hold}
+use Rattle.share_orders.specs.declared.orders.Order.{Order}
+use Rattle.share_orders.specs.declared.orders.Order.TheVariants.{Report, Status, Hold, Resume, Amend, Rotate, Reload}
+use Rattle.share_orders.specs.declared.orders.Order.TheVariants.{End}
+use Rattle.share_orders.specs.declared.obeying.Duty.{Duty}
+use Rattle.share_orders.specs.declared.obeying.Duty.TheVariants.{
+  Report as ReportDuty,
+  Status as StatusDuty,
+  Rotate as RotateDuty,
+  Reload as ReloadDuty,
+  End as EndDuty,
+}
+use Rattle.share_orders.specs.declared.obeying.Obeyed.{Obeyed}
+use Rattle.share_orders.specs.declared.obeying.Obeyed.TheVariants.{Replied, Asks, Waits}
+
+-- an order that is an event waits while the text has no room for its line; and, as those that close the book, while the
+-- disk fails
+abbrev pub waits : Bool → Bool → Order → Bool
+waits fails lacks Report = false
+waits fails lacks Status = false
+waits fails lacks (Hold name) = fails || lacks
+waits fails lacks (Resume name) = fails || lacks
+waits fails lacks (Amend name number amount) = fails || lacks
+waits fails lacks Rotate = fails
+waits fails lacks Reload = fails
+waits fails lacks End = false
+
+-- the book is as it was, and this is asked of the gateway
+abbrev pub IsAsked : BookView → Duty → Obeyed → BookView → Type 0
+IsAsked old duty (Replied reply) new = ⊥
+IsAsked old duty (Asks asked) new = (asked ≡ duty) × (new ≡ old)
+IsAsked old duty Waits new = ⊥
+
+abbrev pub Holds : BookView → Order → Obeyed → BookView → Type 0
+Holds old order (Asks duty) new = ⊥
+Holds old order Waits new = ⊥
+Holds old (Hold name) (Replied reply) new = Changes old (HoldFlow name) (with_hold name true old.plan) reply new
+Holds old (Resume name) (Replied reply) new = Changes old (ResumeFlow name) (with_hold name false old.plan) reply new
+Holds old (Amend name number amount) (Replied reply) new = Amends old name number amount reply new
+Holds old Report (Replied reply) new = ⊥
+Holds old Status (Replied reply) new = ⊥
+Holds old Rotate (Replied reply) new = ⊥
+Holds old Reload (Replied reply) new = ⊥
+Holds old End (Replied reply) new = ⊥
+
+-- what an order does that does not wait: three are events of the book, which answers them; the others are the gateway's
+abbrev pub Does : BookView → Order → Obeyed → BookView → Type 0
+Does old Report obeyed new = IsAsked old ReportDuty obeyed new
+Does old Status obeyed new = IsAsked old StatusDuty obeyed new
+Does old (Hold name) obeyed new = Holds old (Hold name) obeyed new
+Does old (Resume name) obeyed new = Holds old (Resume name) obeyed new
+Does old (Amend name number amount) obeyed new = Holds old (Amend name number amount) obeyed new
+Does old Rotate obeyed new = IsAsked old RotateDuty obeyed new
+Does old Reload obeyed new = IsAsked old ReloadDuty obeyed new
+Does old End obeyed new = IsAsked old EndDuty obeyed new
+
+abbrev pub Obeys : Bool → BookView → Order → Obeyed → BookView → Type 0
+Obeys fails old order obeyed new =
+    MatchBool (waits fails (lacks_text old.audited) order) ((obeyed ≡ Waits) × (new ≡ old)) (Does old order obeyed new)
+
+-- a line that spells no order is answered, and does nothing
+abbrev pub ObeysLine : Bool → BookView → Option Order → Obeyed → BookView → Type 0
+ObeysLine fails old None obeyed new = (obeyed ≡ Replied (Refused Syntax)) × (new ≡ old)
+ObeysLine fails old (Some order) obeyed new = Obeys fails old order obeyed new

@@ -1,0 +1,3 @@
+pub mod PacedLemmas
+pub mod TransitLemmas
+pub mod TurnLemmas

@@ -1,5 +1,5 @@
 -- The sums that a bill adds up line by line are those over the packets of the whole run.
-use Rattle.std.specs.Prelude.{◌≡◌, ◌≤◌, ◌+◌, ◌==◌, ℕ, Bool, true, false, List, [], ◌∷◌, ◌++◌, length, map, filter, find}
+use Rattle.std.specs.Prelude.{◌≡◌, ◌+◌, ◌==◌, ℕ, Bool, true, false, List, [], ◌∷◌, ◌++◌, length, map, find}
 use Rattle.std.specs.Prelude.{nat_eq, sum_by, Option, None, Some, is_some, option_map, option_and_then}
 use Rattle.std.specs.Prelude.{Result, Ok, Err, if◌then◌else◌}
 use mathlib.Core.List.{append_assoc}
@@ -11,10 +11,9 @@ use Rattle.std.proofs.lemmas.List.Elements.{filter-append}
 use Rattle.std.proofs.lemmas.List.Sums.{sum_by-append}
 use Rattle.std.proofs.lemmas.Option.{same_Some}
 use Rattle.share_base.specs.Body.{BodyView}
-use Rattle.share_base.specs.declared.command.Command.{Command}
 use Rattle.share_base.specs.declared.command.Command.TheVariants.{OpenFlow}
 use Rattle.share_base.specs.declared.command.Event.{Event}
-use Rattle.share_base.specs.declared.command.Event.TheVariants.{Commanded, Arrived, Written, Faulted}
+use Rattle.share_base.specs.declared.command.Event.TheVariants.{Commanded, Arrived, Written}
 use Rattle.share_base.specs.declared.command.Outcome.{Outcome}
 use Rattle.share_base.specs.declared.command.Outcome.TheVariants.{Replied}
 use Rattle.share_base.specs.declared.command.Reply.{Reply}
@@ -50,17 +49,16 @@ use Rattle.share_model.proofs.lemmas.run.FoldLaws.{state-after, state-empty, sta
 use Rattle.share_model.proofs.lemmas.run.FoldLaws.{may_follow-one}
 use Rattle.share_model.proofs.lemmas.run.SoundLaws.{rest-short, head-stands, sending-head, sending-tariff}
 use Rattle.share_bill.specs.declared.bill.kind.Kind.{Kind}
-use Rattle.share_bill.specs.declared.bill.line.Wrong.{Wrong}
 use Rattle.share_bill.specs.declared.bill.line.Wrong.TheVariants.{Spent as SpentLine, Sent as SentLine}
 use Rattle.share_bill.specs.declared.bill.making.Made.{Made}
 use Rattle.share_bill.specs.declared.bill.making.Made.TheVariants.{Opened, Sent as SentMade, Other}
 use Rattle.share_bill.specs.declared.bill.running.TenantFlow.{TenantFlow}
 use Rattle.share_bill.specs.declared.bill.sums.Sums.{Sums}
-use Rattle.share_bill.specs.Bills.{AreEvents, tenants_in, opened_by, sums_of, row_with, row_of, rows_of, tenant_flow}
-use Rattle.share_bill.specs.BookLines.{event_of, event_by, next_event, book_reading, taken_by, written_by}
-use Rattle.share_bill.specs.Makings.{BillView, IsBookLink, IsKept, IsSentFrame, KeepsMade, MakesLine, TakesLine}
+use Rattle.share_bill.specs.Bills.{AreEvents, tenants_in, opened_by, sums_of, row_with, row_of, rows_of}
+use Rattle.share_bill.specs.BookLines.{event_of, event_by, next_event, taken_by, written_by}
+use Rattle.share_bill.specs.Makings.{BillView, IsBookLink, IsKept, IsSentFrame, KeepsMade, TakesLine}
 use Rattle.share_bill.specs.Runs.{IsBillOf}
-use Rattle.share_bill.specs.Sums.{nothing_sent, one_more, sums_at}
+use Rattle.share_bill.specs.Sums.{one_more, sums_at}
 use Rattle.share_bill.proofs.MakingLemmas.{clock-written}
 
 -- ---- Lists of lines

@@ -100,7 +100,11 @@ fn nothing_goes_while_the_disk_fails_and_nothing_is_lost(rt: HostRuntime) {
     same(&rt, "the first book is", transit.ready().len(), 36);
     transit.written(count);
     same(&rt, "all is", transit.ready().len(), 54);
-    holds(&rt, "in order", transit.ready().get(18..36) == Some(FRAMES[1].as_slice()));
+    holds(
+        &rt,
+        "in order",
+        transit.ready().get(18..36) == Some(FRAMES[1].as_slice()),
+    );
     sends(&mut transit, 54);
     same(&rt, "room", transit.room(), 65536);
     drop(transit);

@@ -1,7 +1,7 @@
 -- Rates, times and modes, as a file spells them: a number, a space and a unit, or octal digits.
-use Rattle.std.specs.Prelude.{◌+◌, ◌-◌, ◌*◌, ◌/◌, ◌^◌, ◌&&◌, ◌==◌, ℕ, Bool, not, List, [], ◌∷◌, length, slice_index}
+use Rattle.std.specs.Prelude.{◌+◌, ◌-◌, ◌*◌, ◌/◌, ◌^◌, ◌&&◌, ◌||◌, ◌==◌, ℕ, Bool, false, not, List, [], ◌∷◌, length, slice_index}
 use Rattle.std.specs.Prelude.{codes, nat_le, nat_lt, Option, None, Some, if◌then◌else◌}
-use Rattle.std.specs.List.{list_all, list_any, before_first, after_first}
+use Rattle.std.specs.List.{list_all, position_or_len, before_first, after_first}
 use Rattle.std.specs.Str.{bytes_eq}
 use Rattle.std.specs.Str.Parse.{digits_value}
 
@@ -13,9 +13,14 @@ Some x >>= f = f x
 abbrev pub is_digit : ℕ → Bool
 is_digit b = nat_le 48 b && nat_le b 57
 
+-- there is a first byte, which is not `0`
+abbrev pub begins_well : List ℕ → Bool
+begins_well [] = false
+begins_well (b ∷ bs) = not (b == 48)
+
 -- digits, the first of which is not zero
 abbrev pub is_decimal : List ℕ → Bool
-is_decimal text = not (length text == 0) && not (slice_index text 0 == 48) && list_all is_digit text
+is_decimal text = begins_well text && list_all is_digit text
 
 -- the number of a decimal, if it is below 2^64
 abbrev pub number_of : List ℕ → Option ℕ
@@ -27,9 +32,10 @@ is_space b = b == 32
 
 -- the number before the first space, and the text after it
 abbrev pub with_unit : List ℕ → Option (ℕ × List ℕ)
-with_unit text = do
-  number ← number_of (before_first is_space text)
-  if list_any is_space text then Some (number, after_first is_space text) else None
+with_unit text =
+    if position_or_len is_space text == length text then None else do
+    number ← number_of (before_first is_space text)
+    Some (number, after_first is_space text)
 
 -- the value of a word in a table
 abbrev pub value_in : List (List ℕ × ℕ) → List ℕ → Option ℕ
@@ -76,9 +82,9 @@ octal digit = if nat_le 48 digit && nat_le digit 55 then Some (digit - 48) else 
 
 -- a zero and three octal digits
 abbrev pub mode_of : List ℕ → Option ℕ
-mode_of (48 ∷ owner ∷ group ∷ others ∷ []) = do
-  a ← octal owner
-  b ← octal group
-  c ← octal others
-  Some (64 * a + 8 * b + c)
-mode_of _ = None
+mode_of text =
+    if not (length text == 4) || not (slice_index text 0 == 48) then None else do
+    a ← octal (slice_index text 1)
+    b ← octal (slice_index text 2)
+    c ← octal (slice_index text 3)
+    Some (64 * a + 8 * b + c)

@@ -1,7 +1,11 @@
 //! Addresses, as a file spells them.
-ghost use Rattle.std.specs.Prelude.{◌≡◌, IfOk, IfErr, Ok, Err, None, Some, MatchOption, codes};
-ghost use Rattle.share_config.specs.Addresses.{address_of, host_of, peer_of, is_path, descriptor_of, is_listed};
+ghost use Rattle.std.specs.Prelude.{◌≡◌, IfOk, IfErr, OnErr, Ok, None, Some, MatchOption, codes};
+ghost use Rattle.share_config.specs.Addresses.{address_of, host_of, peer_of, listener_of, port_of, path_of};
+ghost use Rattle.share_config.specs.Addresses.{descriptor_of, plain_port_of, is_path, after};
 
+use crate::amount::read_number;
+use share_settings::{Listener, Peer, Port, Text};
+use std::alloc::{AllocError, Global};
 use std::net::{IpAddr, SocketAddr};
 
 /// The longest path of a Unix socket, in bytes.
@@ -20,4 +24,92 @@ pub fn read_host(text: &str) -> Option<IpAddr>
     ensures { result ≡ host_of text.now }
 {
     text.parse::<IpAddr>().ok()
+}
+
+/// `ADDRESS` or `udp:ADDRESS`. `None` if it is neither.
+pub fn read_peer(text: &str) -> Option<Peer>
+    ensures { result ≡ peer_of text.now }
+{
+    match after(text, "udp:") {
+        Some(rest) => Some(Peer::Udp(read_address(rest)?)),
+        None => Some(Peer::Tcp(read_address(text)?)),
+    }
+}
+
+/// `ADDRESS` or `unix:PATH`. `None` if it is neither.
+pub fn read_listener(alloc: Global, text: &str) -> Result<Option<Listener>, AllocError>
+    ensures { IfOk result (λ listener. listener ≡ listener_of text.now) }
+{
+    match after(text, "unix:") {
+        Some(path) => match read_path(alloc, path)? {
+            None => Ok(None),
+            Some(path) => Ok(Some(Listener::Unix(path))),
+        },
+        None => match read_address(text) {
+            None => Ok(None),
+            Some(address) => Ok(Some(Listener::Tcp(address))),
+        },
+    }
+}
+
+/// A port of a tenant. `None` if it is none of the five kinds.
+pub fn read_port(alloc: Global, text: &str) -> Result<Option<Port>, AllocError>
+    ensures { IfOk result (λ port. port ≡ port_of text.now) }
+{
+    match after(text, "unix:") {
+        Some(path) => match read_path(alloc, path)? {
+            None => Ok(None),
+            Some(path) => Ok(Some(Port::Unix(path))),
+        },
+        None => Ok(read_plain_port(text)),
+    }
+}
+
+// A port that is not the path of a Unix socket.
+fn read_plain_port(text: &str) -> Option<Port>
+    ensures { result ≡ plain_port_of text.now }
+{
+    if let Some(rest) = after(text, "udp:") {
+        return Some(Port::Udp(read_address(rest)?));
+    }
+    if let Some(rest) = after(text, "udp-to:") {
+        return Some(Port::UdpTo(read_address(rest)?));
+    }
+    if let Some(rest) = after(text, "fd:") {
+        return Some(Port::Descriptor(read_descriptor(rest)?));
+    }
+    Some(Port::Tcp(read_address(text)?))
+}
+
+// The path that a Unix socket may have: 1 to 107 bytes, none of which is zero.
+fn read_path(alloc: Global, text: &str) -> Result<Option<Text>, AllocError>
+    ensures { IfOk result (λ path. path ≡ path_of MAX_PATH text.now) }
+{
+    if is_path(text.as_bytes(), MAX_PATH) {
+        Ok(Some(Text::copy(alloc, text)?))
+    } else {
+        Ok(None)
+    }
+}
+
+/// Whether a text is a path: at least one byte and at most so many, none of which is zero.
+pub(crate) fn is_path(text: &[u8], most: usize) -> bool
+    ensures { result ≡ is_path most text.now }
+{
+    !text.is_empty() && text.len() <= most && text.iter().all(|byte| *byte != 0)
+}
+
+// A descriptor that is not a standard stream, and below 2^31.
+fn read_descriptor(text: &str) -> Option<u32>
+    ensures { result ≡ descriptor_of text.now }
+{
+    let number = read_number(text)?;
+    if number < 3 || number > 0x7fff_ffff { None } else { Some(number as u32) }
+}
+
+// What follows a prefix. `None` if the text does not begin with it.
+fn after<'a>(text: &'a str, prefix: &str) -> Option<&'a str>
+    ensures { MatchOption result (after prefix.now text.entry.now ≡ None) (λ rest. after prefix.now text.entry.now ≡ Some rest.now) }
+{
+    text.strip_prefix(prefix)
 }

@@ -1,7 +1,7 @@
 //! Rates, times and modes, as a file spells them.
 ghost use Rattle.std.specs.Prelude.{◌≡◌, None, Some, MatchOption};
 ghost use Rattle.share_config.specs.Amounts.{bits_of, seconds_of, rate_of, period_of, mode_of, number_of, octal};
-ghost use Rattle.share_config.specs.Amounts.{with_unit, is_decimal, is_digit};
+ghost use Rattle.share_config.specs.Amounts.{with_unit, is_decimal, is_digit, begins_well};
 
 /// The bytes a second of a text such as `20 Mbit/s`: a decimal number, one space, and one of bit/s, kbit/s, Mbit/s,
 /// Gbit/s, B/s, kB/s and MB/s, whose prefixes are decimal. `None` if it is no such text, if the bits are not below
@@ -28,12 +28,11 @@ pub fn read_period(text: &str) -> Option<u64>
 pub fn read_mode(text: &str) -> Option<u32>
     ensures { result ≡ mode_of text.now }
 {
-    match text.as_bytes() {
-        [b'0', owner, group, others] => {
-            Some(64 * octal(*owner)? + 8 * octal(*group)? + octal(*others)?)
-        }
-        _ => None,
+    let digits = text.as_bytes();
+    if digits.len() != 4 || digits[0] != b'0' {
+        return None;
     }
+    Some(64 * octal(digits[1])? + 8 * octal(digits[2])? + octal(digits[3])?)
 }
 
 // The number before the first space, and the text after it.
@@ -45,8 +44,8 @@ fn with_unit(text: &str) -> Option<(u64, &str)>
     Some((number, unit))
 }
 
-// The number of a decimal: digits, the first of which is not zero. `None` if it is not below 2^64.
-fn read_number(text: &str) -> Option<u64>
+/// The number of a decimal: digits, the first of which is not zero. `None` if it is not below 2^64.
+pub(crate) fn read_number(text: &str) -> Option<u64>
     ensures { result ≡ number_of text.now }
 {
     if !is_decimal(text.as_bytes()) {
@@ -58,7 +57,17 @@ fn read_number(text: &str) -> Option<u64>
 fn is_decimal(text: &[u8]) -> bool
     ensures { result ≡ is_decimal text.now }
 {
-    !text.is_empty() && text[0] != b'0' && text.iter().all(|byte| is_digit(*byte))
+    begins_well(text) && text.iter().all(|byte| is_digit(*byte))
+}
+
+// Whether there is a first byte, which is not `0`.
+fn begins_well(text: &[u8]) -> bool
+    ensures { result ≡ begins_well text.now }
+{
+    match text.first() {
+        None => false,
+        Some(first) => *first != b'0',
+    }
 }
 
 fn is_digit(byte: u8) -> bool
@@ -71,15 +80,22 @@ fn is_digit(byte: u8) -> bool
 fn bits_of(unit: &[u8]) -> Option<u64>
     ensures { result ≡ bits_of unit.now }
 {
-    match unit {
-        b"bit/s" => Some(1),
-        b"kbit/s" => Some(1000),
-        b"Mbit/s" => Some(1_000_000),
-        b"Gbit/s" => Some(1_000_000_000),
-        b"B/s" => Some(8),
-        b"kB/s" => Some(8000),
-        b"MB/s" => Some(8_000_000),
-        _ => None,
+    if unit == b"bit/s".as_slice() {
+        Some(1)
+    } else if unit == b"kbit/s".as_slice() {
+        Some(1000)
+    } else if unit == b"Mbit/s".as_slice() {
+        Some(1_000_000)
+    } else if unit == b"Gbit/s".as_slice() {
+        Some(1_000_000_000)
+    } else if unit == b"B/s".as_slice() {
+        Some(8)
+    } else if unit == b"kB/s".as_slice() {
+        Some(8000)
+    } else if unit == b"MB/s".as_slice() {
+        Some(8_000_000)
+    } else {
+        None
     }
 }
 
@@ -87,12 +103,16 @@ fn bits_of(unit: &[u8]) -> Option<u64>
 fn seconds_of(unit: &[u8]) -> Option<u64>
     ensures { result ≡ seconds_of unit.now }
 {
-    match unit {
-        b"s" => Some(1),
-        b"min" => Some(60),
-        b"h" => Some(3600),
-        b"d" => Some(86400),
-        _ => None,
+    if unit == b"s".as_slice() {
+        Some(1)
+    } else if unit == b"min".as_slice() {
+        Some(60)
+    } else if unit == b"h".as_slice() {
+        Some(3600)
+    } else if unit == b"d".as_slice() {
+        Some(86400)
+    } else {
+        None
     }
 }
 

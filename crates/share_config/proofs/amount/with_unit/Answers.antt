@@ -1,0 +1,5 @@
+use Rattle.std.proofs.Common.{◌≡◌, lit<}
+use Rattle.share_config.proofs.amount.with_unit.Goals as goal
+
+pub returns-in_err-digits : goal.returns-in_err-digits
+returns-in_err-digits c = let split = c.split_once.ensures.byte (lit< tt) (λ w o h. h) in ?

@@ -52,11 +52,15 @@ socket_v6 parts =
 abbrev pub socket_of : List ℕ → Option SocketAddr
 socket_of text = or_else (mapped socket_v4 (whole (read_socket_v4 text))) (mapped socket_v6 (whole (read_socket_v6 text)))
 
+abbrev pub host_v4 : List ℕ → IpAddr
+host_v4 octets = host.V4 (ipv4 octets)
+
+abbrev pub host_v6 : List ℕ → IpAddr
+host_v6 segments = host.V6 (ipv6 segments)
+
 -- the IP address that a text spells
 abbrev pub host_of : List ℕ → Option IpAddr
-host_of text =
-    or_else (mapped (λ octets. host.V4 (ipv4 octets)) (whole (read_ipv4 text)))
-    (mapped (λ segments. host.V6 (ipv6 segments)) (whole (read_ipv6 text)))
+host_of text = or_else (mapped host_v4 (whole (read_ipv4 text))) (mapped host_v6 (whole (read_ipv6 text)))
 
 abbrev pub with_port : Option SocketAddr → Option SocketAddr
 with_port None = None

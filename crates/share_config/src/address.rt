@@ -1,6 +1,6 @@
 //! Addresses, as a file spells them.
 ghost use Rattle.std.specs.Prelude.{◌≡◌, IfOk, IfErr, OnErr, Ok, None, Some, MatchOption, codes};
-ghost use Rattle.share_config.specs.Addresses.{address_of, host_of, peer_of, listener_of, port_of, path_of};
+ghost use Rattle.share_config.specs.Addresses.{address_of, socket_of, host_of, peer_of, listener_of, port_of, path_of};
 ghost use Rattle.share_config.specs.Addresses.{descriptor_of, plain_port_of, is_path, after};
 
 use crate::amount::read_number;
@@ -15,8 +15,14 @@ pub const MAX_PATH: usize = 107;
 pub fn read_address(text: &str) -> Option<SocketAddr>
     ensures { result ≡ address_of text.now }
 {
-    let address = text.parse::<SocketAddr>().ok()?;
+    let address = socket(text)?;
     if address.port() == 0 { None } else { Some(address) }
+}
+
+fn socket(text: &str) -> Option<SocketAddr>
+    ensures { result ≡ socket_of text.now }
+{
+    text.parse::<SocketAddr>().ok()
 }
 
 /// An IP address. `None` if the text spells none.

@@ -3,10 +3,12 @@
 
 mod address;
 mod amount;
+mod entry;
 mod fault;
 mod key;
-
-
+mod reading;
+mod section;
+mod tariff;
 
 pub use address::{MAX_PATH, read_address, read_host};
 pub use amount::{read_mode, read_period, read_rate};

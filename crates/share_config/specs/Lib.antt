@@ -1,6 +1,8 @@
 pub mod Addresses
 pub mod Amounts
+pub mod Files
 pub mod Keys
 pub mod Lists
 pub mod Reading
 pub mod Sections
+pub mod Tenants

@@ -1,7 +1,7 @@
 //! Why a text is no file of a gateway.
 use crate::key::{Key, Place};
+use share_gateway::PlanFault;
 use share_settings::Text;
-use std::alloc::{AllocError, AllocFailed};
 use thiserror::Error;
 
 /// What is wrong at a key.
@@ -70,6 +70,9 @@ pub enum ConfigFault {
         key: Key,
         reason: Reason,
     },
+    /// The currencies and the tenants are not a plan.
+    #[error("the plan: {0}")]
+    NoPlan(PlanFault),
 }
 
 impl ConfigFault {

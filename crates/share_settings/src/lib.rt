@@ -3,8 +3,10 @@
 
 mod port;
 mod section;
+mod settings;
 mod text;
 
 pub use port::{Listener, Peer, Port, TenantPorts};
 pub use section::{BookText, Books, Control, Downlink, Uplink};
+pub use settings::Settings;
 pub use text::Text;

@@ -1,0 +1,3 @@
+mod assertions;
+mod files;
+mod rows;

@@ -91,5 +91,5 @@ abbrev pub each : {A : Type 0} → (ℕ → Data → Said A) → ℕ → Items �
 each read n no_items = Ok []
 each read n (item d ds) = do
   a ← read n d
-  as ← each read (n + 1) ds
-  Ok (a ∷ as)
+  rest ← each read (n + 1) ds
+  Ok (a ∷ rest)

@@ -1,5 +1,5 @@
 //! Lists of a file, whose items are read one after the other.
-ghost use Rattle.std.specs.Prelude.{◌≡◌, ¬, IfOk, IfErr, Ok, Err, string_bytes};
+ghost use Rattle.std.specs.Prelude.{◌≡◌, IfOk, IfErr, Ok, Err, string_bytes};
 ghost use Rattle.toml.specs.View.{view, items_view};
 ghost use Rattle.share_config.specs.Reading.{each};
 ghost use Rattle.share_config.specs.declared.fault.ConfigFault.TheVariants.{NoMemory};

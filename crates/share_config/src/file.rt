@@ -1,5 +1,5 @@
 //! A file from its text.
-ghost use Rattle.std.specs.Prelude.{◌≡◌, ◌≤◌, ¬, [], IfOk, IfErr, Ok, Err, None, Some, option_map};
+ghost use Rattle.std.specs.Prelude.{◌≡◌, ◌≤◌, [], IfOk, IfErr, Ok, Err, None, Some, option_map};
 ghost use Rattle.toml.specs.View.{table_view};
 ghost use Rattle.toml.specs.Parse.{parse_document};
 ghost use Rattle.toml.specs.Errors.{IsMemory};

@@ -1,5 +1,5 @@
 //! Values of a table, by their keys.
-ghost use Rattle.std.specs.Prelude.{◌≡◌, ¬, IfOk, IfErr, Ok, Err, None, Some, MatchOption, option_map, string_bytes};
+ghost use Rattle.std.specs.Prelude.{◌≡◌, IfOk, IfErr, Ok, Err, None, Some, MatchOption, option_map, string_bytes};
 ghost use Rattle.toml.specs.View.{view, table_view, items_view};
 ghost use Rattle.toml.specs.Data.{get_member};
 ghost use Rattle.share_config.specs.Keys.{spelling};

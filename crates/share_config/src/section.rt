@@ -1,5 +1,5 @@
 //! The sections of a file that are not lists.
-ghost use Rattle.std.specs.Prelude.{◌≡◌, ¬, IfOk, IfErr, Ok, Err, None, Some};
+ghost use Rattle.std.specs.Prelude.{◌≡◌, IfOk, IfErr, Ok, Err, None, Some};
 ghost use Rattle.toml.specs.View.{table_view};
 ghost use Rattle.share_config.specs.Sections.{uplink_of, books_of, control_of, downlink_of, book_text_of, mode_at, paced};
 ghost use Rattle.share_config.specs.Sections.{value_in, some_in};

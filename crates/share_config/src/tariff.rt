@@ -1,5 +1,5 @@
 //! The tariffs of a file.
-ghost use Rattle.std.specs.Prelude.{◌≡◌, ¬, IfOk, IfErr, Ok, Err};
+ghost use Rattle.std.specs.Prelude.{◌≡◌, IfOk, IfErr, Ok, Err};
 ghost use Rattle.toml.specs.View.{table_view, items_view};
 ghost use Rattle.share_config.specs.Lists.{tariffs_of, default_tariffs, some_tariffs, rate};
 ghost use Rattle.share_config.specs.declared.fault.ConfigFault.TheVariants.{NoMemory};

@@ -1,5 +1,5 @@
 //! The currencies and the tenants of a file.
-ghost use Rattle.std.specs.Prelude.{◌≡◌, ¬, IfOk, IfErr, Ok, Err, false};
+ghost use Rattle.std.specs.Prelude.{◌≡◌, IfOk, IfErr, Ok, Err, false};
 ghost use Rattle.toml.specs.View.{table_view};
 ghost use Rattle.share_config.specs.Sections.{value_in};
 ghost use Rattle.share_config.specs.Reading.{needed, optional, boolean_in};

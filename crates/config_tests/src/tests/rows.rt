@@ -300,7 +300,7 @@ pub(super) const SHAPES: [Row; 12] = [
     Row {
         old: "price = 2",
         new: "price = 2\nprice = 3",
-        line: Some(19),
+        line: Some(20),
         fault: "",
     },
     Row {

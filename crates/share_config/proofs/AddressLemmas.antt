@@ -19,13 +19,13 @@ use Rattle.share_config.specs.Addresses.{host_v4, host_v6, host_of}
 at_whole : {A : Type 0} (Spells : List ℕ → A → Type 0) (text : List ℕ) (o : Option (A × List ℕ))
     → ((a : A) (rest : List ℕ) → o ≡ Some (a, rest) → (front : List ℕ) × (text ≡ front ++ rest) × Spells front a)
     → (a : A) → whole o ≡ Some a → Spells text a
-at_whole Spells text None sound a e = elim cc e [ ]
+at_whole Spells text None sound a e = let no : ⊥ = cc in absurd no
 at_whole Spells text (Some (b, [])) sound a e =
     let found = sound b [] refl in
     let text_is : found.0 ≡ text = sym (found.1 ∙ append-nil found.0) in
     let value_is : b ≡ a = cc in
     subst (Spells text) value_is (subst (λ t. Spells t b) text_is found.2)
-at_whole Spells text (Some (b, c ∷ rest)) sound a e = elim cc e [ ]
+at_whole Spells text (Some (b, c ∷ rest)) sound a e = let no : ⊥ = cc in absurd no
 
 -- ---- Socket addresses
 

@@ -82,9 +82,12 @@ peer_by text None = mapped peer.Tcp (address_of text)
 abbrev pub peer_of : List ℕ → Option Peer
 peer_of text = peer_by text (after (codes "udp:") text)
 
+abbrev pub is_no_zero : ℕ → Bool
+is_no_zero b = not (b == 0)
+
 -- at least one byte and at most so many, none of which is zero
 abbrev pub is_path : ℕ → List ℕ → Bool
-is_path most text = not (length text == 0) && nat_le (length text) most && list_all (λ b. not (b == 0)) text
+is_path most text = not (length text == 0) && nat_le (length text) most && list_all is_no_zero text
 
 abbrev pub path_of : ℕ → List ℕ → Option (List ℕ)
 path_of most text = if is_path most text then Some text else None

@@ -1,7 +1,8 @@
 //! Addresses, as a file spells them.
 ghost use Rattle.std.specs.Prelude.{◌≡◌, IfOk, IfErr, OnErr, Ok, None, Some, MatchOption, codes};
 ghost use Rattle.share_config.specs.Addresses.{address_of, socket_of, host_of, peer_of, listener_of, port_of, path_of};
-ghost use Rattle.share_config.specs.Addresses.{descriptor_of, plain_port_of, is_path, after};
+ghost use Rattle.share_config.specs.Addresses.{descriptor_of, plain_port_of, is_path, is_no_zero, after};
+ghost use Rattle.std.specs.List.{list_all};
 
 use crate::amount::read_number;
 use share_settings::{Listener, Peer, Port, Text};
@@ -102,7 +103,13 @@ fn read_path(alloc: Global, text: &str) -> Result<Option<Text>, AllocError>
 pub(crate) fn is_path(text: &[u8], most: usize) -> bool
     ensures { result ≡ is_path most text.now }
 {
-    !text.is_empty() && text.len() <= most && text.iter().all(|byte| *byte != 0)
+    !text.is_empty() && text.len() <= most && has_no_zero(text)
+}
+
+fn has_no_zero(text: &[u8]) -> bool
+    ensures { result ≡ list_all is_no_zero text.now }
+{
+    text.iter().all(|byte| *byte != 0)
 }
 
 // A descriptor that is not a standard stream, and below 2^31.

@@ -1,6 +1,7 @@
 //! Rates, times and modes, as a file spells them.
 ghost use Rattle.std.specs.Prelude.{◌≡◌, None, Some, MatchOption};
 ghost use Rattle.share_config.specs.Amounts.{bits_of, seconds_of, rate_of, period_of, mode_of, number_of, octal};
+ghost use Rattle.std.specs.List.{list_all};
 ghost use Rattle.share_config.specs.Amounts.{with_unit, is_decimal, is_digit, begins_well};
 
 /// The bytes a second of a text such as `20 Mbit/s`: a decimal number, one space, and one of bit/s, kbit/s, Mbit/s,
@@ -57,7 +58,13 @@ pub(crate) fn read_number(text: &str) -> Option<u64>
 fn is_decimal(text: &[u8]) -> bool
     ensures { result ≡ is_decimal text.now }
 {
-    begins_well(text) && text.iter().all(|byte| is_digit(*byte))
+    begins_well(text) && are_digits(text)
+}
+
+fn are_digits(text: &[u8]) -> bool
+    ensures { result ≡ list_all is_digit text.now }
+{
+    text.iter().all(|byte| is_digit(*byte))
 }
 
 // Whether there is a first byte, which is not `0`.

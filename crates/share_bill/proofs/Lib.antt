@@ -4,4 +4,5 @@ pub mod RowsLemmas
 pub mod RunLemmas
 pub mod SeenLemmas
 pub mod SumsLemmas
+pub mod TextLemmas
 pub mod TotalsLemmas

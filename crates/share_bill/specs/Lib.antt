@@ -6,3 +6,4 @@ pub mod Runs
 pub mod Seen
 pub mod Sums
 pub mod Totals
+pub mod Texts

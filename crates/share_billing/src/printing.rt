@@ -1,10 +1,11 @@
 //! The text of a bill, in three forms.
+ghost use Rattle.std.specs.Prelude.{◌≡◌, ◌≤◌, ◌++◌, IfOk, OnOk, decimal};
+ghost use Rattle.share_billing.specs.Texts.{csv_row, csv_text, json_figures, json_row, json_rows, json_text};
+ghost use Rattle.share_billing.specs.Texts.{table_row, table_text, shown_text, field, right, left, sum_of};
 
+use itoa::Buffer;
 use share_bill::{Figures, TenantTotal};
 use std::alloc::{AllocError, Global};
-use std::fmt;
-use std::fmt::{Display, Formatter};
-use std::str::from_utf8;
 
 /// How a bill is printed.
 #[derive(Clone, Copy, Debug, PartialEq, Eq)]
@@ -17,82 +18,96 @@ pub enum Form {
     Json,
 }
 
-// The letters of a name.
-fn letters(total: &TenantTotal) -> &str {
-    match from_utf8(total.name.as_bytes()) {
-        Ok(text) => text,
-        Err(_) => "",
-    }
+/// The width of the widest column.
+const WIDEST: usize = 20;
+
+/// Spaces that fill it.
+const SPACES: [u8; WIDEST] = [b' '; WIDEST];
+
+// Adds the decimal of a number behind some bytes.
+fn push_field(text: &mut Vec<u8>, before: &[u8], number: u128) -> Result<(), AllocError>
+    ensures { OnOk result (text.new.items ≡ text.old.items ++ field before.now number) }
+{
+    let mut digits = Buffer::new();
+    text.extend_from_slice(before)?;
+    text.extend_from_slice(digits.format(number).as_bytes())?;
+    Ok(())
 }
 
-/// A row of the table.
-#[derive(Clone, Copy, Debug)]
-struct TableRow<'a> {
-    name: &'a str,
-    sent: Figures,
+// Adds the decimal of a number at the right of a column, behind a space. A longer one is shown whole.
+fn push_right(text: &mut Vec<u8>, width: usize, number: u128) -> Result<(), AllocError>
+    requires { width ≤ 20 }
+    ensures { OnOk result (text.new.items ≡ text.old.items ++ right width (decimal number)) }
+{
+    let mut buffer = Buffer::new();
+    let digits = buffer.format(number).as_bytes();
+    text.extend_from_slice(b" ")?;
+    text.extend_from_slice(&SPACES[..width.saturating_sub(digits.len())])?;
+    text.extend_from_slice(digits)?;
+    Ok(())
 }
 
-impl<'a> Display for TableRow<'a> {
-    fn fmt<W: fmt::Write>(&self, f: &mut Formatter<W>) -> fmt::Result {
-        let TableRow { name, sent } = *self;
-        let Figures {
-            packets,
-            bytes,
-            units,
-            amount,
-        } = sent;
-        write!(
-            f,
-            "{name:<16} {packets:>12} {bytes:>16} {units:>16} {amount:>20}\n"
-        )
-    }
+// Adds a name at the left of the first column.
+fn push_left(text: &mut Vec<u8>, name: &[u8]) -> Result<(), AllocError>
+    ensures { OnOk result (text.new.items ≡ text.old.items ++ left 16 name.now) }
+{
+    text.extend_from_slice(name)?;
+    text.extend_from_slice(&SPACES[..16usize.saturating_sub(name.len())])?;
+    Ok(())
 }
 
-/// A row of CSV.
-#[derive(Clone, Copy, Debug)]
-struct CsvRow<'a> {
-    name: &'a str,
-    sent: Figures,
+// A row of the table.
+fn push_table_row(text: &mut Vec<u8>, name: &[u8], sent: &Figures) -> Result<(), AllocError>
+    ensures { OnOk result (text.new.items ≡ text.old.items ++ table_row name.now sent.now) }
+{
+    push_left(text, name)?;
+    push_right(text, 12, sent.packets)?;
+    push_right(text, 16, sent.bytes)?;
+    push_right(text, 16, sent.units)?;
+    push_right(text, 20, sent.amount)?;
+    text.extend_from_slice(b"\n")?;
+    Ok(())
 }
 
-impl<'a> Display for CsvRow<'a> {
-    fn fmt<W: fmt::Write>(&self, f: &mut Formatter<W>) -> fmt::Result {
-        let CsvRow { name, sent } = *self;
-        let Figures {
-            packets,
-            bytes,
-            units,
-            amount,
-        } = sent;
-        write!(f, "{name},{packets},{bytes},{units},{amount}\n")
-    }
+// A row of CSV.
+fn push_csv_row(text: &mut Vec<u8>, name: &[u8], sent: &Figures) -> Result<(), AllocError>
+    ensures { OnOk result (text.new.items ≡ text.old.items ++ csv_row name.now sent.now) }
+{
+    text.extend_from_slice(name)?;
+    push_field(text, b",", sent.packets)?;
+    push_field(text, b",", sent.bytes)?;
+    push_field(text, b",", sent.units)?;
+    push_field(text, b",", sent.amount)?;
+    text.extend_from_slice(b"\n")?;
+    Ok(())
 }
 
-/// A tenant in JSON.
-#[derive(Clone, Copy, Debug)]
-struct JsonRow<'a> {
-    name: &'a str,
-    sent: Figures,
+// The figures of a tenant in JSON.
+fn push_json_figures(text: &mut Vec<u8>, sent: &Figures) -> Result<(), AllocError>
+    ensures { OnOk result (text.new.items ≡ text.old.items ++ json_figures sent.now) }
+{
+    push_field(text, b"\",\"packets\":", sent.packets)?;
+    push_field(text, b",\"bytes\":", sent.bytes)?;
+    push_field(text, b",\"units\":", sent.units)?;
+    push_field(text, b",\"amount\":", sent.amount)?;
+    Ok(())
 }
 
-impl<'a> Display for JsonRow<'a> {
-    fn fmt<W: fmt::Write>(&self, f: &mut Formatter<W>) -> fmt::Result {
-        let JsonRow { name, sent } = *self;
-        let Figures {
-            packets,
-            bytes,
-            units,
-            amount,
-        } = sent;
-        write!(
-            f,
-            "{{\"name\":\"{name}\",\"packets\":{packets},\"bytes\":{bytes},\"units\":{units},\"amount\":{amount}}}"
-        )
-    }
+// A tenant in JSON.
+fn push_json_row(text: &mut Vec<u8>, name: &[u8], sent: &Figures) -> Result<(), AllocError>
+    ensures { OnOk result (text.new.items ≡ text.old.items ++ json_row name.now sent.now) }
+{
+    text.extend_from_slice(b"{\"name\":\"")?;
+    text.extend_from_slice(name)?;
+    push_json_figures(text, sent)?;
+    text.extend_from_slice(b"}")?;
+    Ok(())
 }
 
 // What all tenants sent.
-fn sum_of_all(tenants: &[TenantTotal]) -> Figures {
+fn sum_of(tenants: &[TenantTotal]) -> Figures
+    ensures { result ≡ sum_of tenants.now }
+{
     let mut sum = Figures::none();
     for tenant in tenants {
         sum.join(&tenant.sent);
@@ -100,67 +115,79 @@ fn sum_of_all(tenants: &[TenantTotal]) -> Figures {
     sum
 }
 
-fn push_table(text: &mut String, tenants: &[TenantTotal]) -> Result<(), AllocError> {
-    text.push_str(
-        "tenant                packets            bytes            units               amount\n",
+fn push_table(text: &mut Vec<u8>, tenants: &[TenantTotal]) -> Result<(), AllocError>
+    ensures { OnOk result (text.new.items ≡ text.old.items ++ table_text tenants.now) }
+{
+    text.extend_from_slice(
+        b"tenant                packets            bytes            units               amount\n",
     )?;
     for tenant in tenants {
-        let row = TableRow {
-            name: letters(tenant),
-            sent: tenant.sent,
-        };
-        write!(text, "{row}")?;
+        push_table_row(text, tenant.name.as_bytes(), &tenant.sent)?;
     }
-    let sums = TableRow {
-        name: "all tenants",
-        sent: sum_of_all(tenants),
-    };
-    write!(text, "{sums}")?;
-    Ok(())
+    push_table_row(text, b"all tenants", &sum_of(tenants))
 }
 
-fn push_csv(text: &mut String, tenants: &[TenantTotal]) -> Result<(), AllocError> {
-    text.push_str("tenant,packets,bytes,units,amount\n")?;
+fn push_csv(text: &mut Vec<u8>, tenants: &[TenantTotal]) -> Result<(), AllocError>
+    ensures { OnOk result (text.new.items ≡ text.old.items ++ csv_text tenants.now) }
+{
+    text.extend_from_slice(b"tenant,packets,bytes,units,amount\n")?;
     for tenant in tenants {
-        let row = CsvRow {
-            name: letters(tenant),
-            sent: tenant.sent,
-        };
-        write!(text, "{row}")?;
+        push_csv_row(text, tenant.name.as_bytes(), &tenant.sent)?;
     }
     Ok(())
 }
 
-fn push_json(text: &mut String, books: u64, tenants: &[TenantTotal]) -> Result<(), AllocError> {
-    write!(text, "{{\"books\":{books},\"tenants\":[")?;
-    for at in 0..tenants.len() {
-        if at > 0 {
-            text.push_str(",")?;
-        }
-        let row = JsonRow {
-            name: letters(&tenants[at]),
-            sent: tenants[at].sent,
-        };
-        write!(text, "{row}")?;
+// The tenants in JSON, parted by commas.
+fn push_json_rows(text: &mut Vec<u8>, tenants: &[TenantTotal]) -> Result<(), AllocError>
+    ensures { OnOk result (text.new.items ≡ text.old.items ++ json_rows tenants.now) }
+{
+    let Some((first, others)) = tenants.split_first() else {
+        return Ok(());
+    };
+    push_json_row(text, first.name.as_bytes(), &first.sent)?;
+    for tenant in others {
+        text.extend_from_slice(b",")?;
+        push_json_row(text, tenant.name.as_bytes(), &tenant.sent)?;
     }
-    text.push_str("]}\n")?;
     Ok(())
 }
 
-/// The text of a bill of that many books.
+fn push_json(text: &mut Vec<u8>, books: u64, tenants: &[TenantTotal]) -> Result<(), AllocError>
+    ensures { OnOk result (text.new.items ≡ text.old.items ++ json_text books tenants.now) }
+{
+    push_field(text, b"{\"books\":", u128::from(books))?;
+    text.extend_from_slice(b",\"tenants\":[")?;
+    push_json_rows(text, tenants)?;
+    text.extend_from_slice(b"]}\n")?;
+    Ok(())
+}
+
+fn push_form(
+    text: &mut Vec<u8>,
+    form: Form,
+    books: u64,
+    tenants: &[TenantTotal],
+) -> Result<(), AllocError>
+    ensures { OnOk result (text.new.items ≡ text.old.items ++ shown_text form books tenants.now) }
+{
+    match form {
+        Form::Table => push_table(text, tenants),
+        Form::Csv => push_csv(text, tenants),
+        Form::Json => push_json(text, books, tenants),
+    }
+}
+
+/// The text of the bill of that many books.
 pub(crate) fn shown(
     alloc: Global,
     form: Form,
     books: u64,
     tenants: &[TenantTotal],
-) -> Result<String, AllocError> {
-    let mut text = String::new(alloc);
-    let pushed = match form {
-        Form::Table => push_table(&mut text, tenants),
-        Form::Csv => push_csv(&mut text, tenants),
-        Form::Json => push_json(&mut text, books, tenants),
-    };
-    match pushed {
+) -> Result<Vec<u8>, AllocError>
+    ensures { IfOk result (λ text. text.items ≡ shown_text form books tenants.now) }
+{
+    let mut text = Vec::new(alloc);
+    match push_form(&mut text, form, books, tenants) {
         Ok(()) => Ok(text),
         Err(refused) => {
             drop(text);

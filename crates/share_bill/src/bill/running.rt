@@ -2,6 +2,7 @@
 ghost use Rattle.std.specs.Prelude.{◌≡◌, ◌++◌, [], map, IfOk, IfErr, OnOk, MatchResult};
 ghost use Rattle.share_base.specs.declared.version.Version.TheVariants.{Two};
 ghost use Rattle.share_model.specs.link.Live.{empty_link};
+ghost use Rattle.share_model.specs.link.Tariff.{AreInRange};
 ghost use Rattle.share_model.specs.run.Sound.{max_life};
 ghost use Rattle.share_bill.specs.Bills.{row_with, tenant_flow};
 ghost use Rattle.share_bill.specs.BookLines.{next_event, event_of, IsUnstampedLine};
@@ -72,6 +73,7 @@ impl<S: Rates + Drop> Bill<S> {
         ensures live { IfOk result (λ b. b.link.live ≡ empty_link Two) }
         ensures tenants { IfOk result (λ b. b.tenants ≡ []) }
         ensures sent { IfOk result (λ b. b.sent ≡ []) }
+        ensures book { IfOk result (λ b. IsBookLink b.link) }
     {
         let mut engine = Engine::new(alloc, shelf, MAX_LIFE, Discard)?;
         engine.choose(Version::Two);
@@ -88,13 +90,23 @@ impl<S: Rates> Bill<S> {
     /// Takes the next line of the book, without its line feed: it is read, its event is made, and what it sent or
     /// opened is kept. After an error no further line is to be taken.
     pub fn line(&mut self, alloc: Global, bytes: &[u8]) -> Result<(), LineFault>
-        ensures { MatchResult result (λ _. TakesLine self.old bytes.now self.new)
+        ensures takes { MatchResult result (λ _. TakesLine self.old bytes.now self.new)
             (λ fault. IsFault (next_event self.old.kind self.old.link.live bytes.now) fault) }
+        ensures book { IsBookLink self.new.link }
+        ensures rates { self.new.link.rates ≡ self.old.link.rates }
     {
         match read(alloc, self.kind, bytes) {
             Ok(line) => obey(&mut self.engine, &mut self.tenants, &mut self.sent, line),
             Err(refusal) => Err(unread(refusal)),
         }
+    }
+
+    /// How many lines were taken.
+    pub fn events(&self) -> u64
+        ensures events { result ≡ self.now.link.live.counts.events }
+        ensures range { AreInRange self.now.link.rates }
+    {
+        self.engine.events()
     }
 
     /// What each tenant sent, in the order in which their flows were opened.

@@ -1,5 +1,9 @@
 //! The bill of a whole text.
-ghost use Rattle.std.specs.Prelude.{◌≡◌};
+ghost use Rattle.std.specs.Prelude.{◌≡◌, ◌+◌, [], ℕ, List, MatchOption, MatchResult, if◌then◌else◌};
+ghost use Rattle.share_model.specs.declared.rates.Rate.{Rate};
+ghost use Rattle.share_model.specs.link.Tariff.{AreInRange};
+ghost use Rattle.share_bill.specs.Texts.{text_of, HasReadAt, IsAt, PassesLine, IsFirstFault, IsTextFault};
+ghost use Rattle.share_bill.specs.Texts.{TakesLines, TakesAll, Bills};
 
 use super::kind::kind_of;
 use super::{Bill, Kind, LineFault, TenantBill, Wrong};
@@ -64,30 +68,50 @@ enum Next {
     Failed,
 }
 
+// The next line if it is here, or else one read: what comes next, if this shows it.
+fn advance<I: TellingReader + Drop>(lines: &mut IncomingLines<I>) -> Option<Next>
+    ensures { (first : I) (passed : List ℕ) (n : ℕ) → HasReadAt I.left I.gives first n passed lines.old
+        → MatchOption result (HasReadAt I.left I.gives first (n + 1) passed lines.new)
+        (λ next. PassesLine I.left I.gives first passed next lines.new) }
+{
+    match lines.next() {
+        Incoming::Line => return Some(Next::Line),
+        Incoming::OverLong => return Some(Next::Long),
+        Incoming::Unfinished => (),
+    }
+    match lines.read() {
+        Got::Bytes(_) => None,
+        Got::Interrupted => None,
+        Got::End => Some(Next::End),
+        Got::Failed => Some(Next::Failed),
+    }
+}
+
 // Reads to the end of the next line.
-fn next_line<I: TellingReader + Drop>(lines: &mut IncomingLines<I>) -> Next {
-    for _reads in 0..MAX_READS {
-        match lines.next() {
-            Incoming::Line => return Next::Line,
-            Incoming::OverLong => return Next::Long,
-            Incoming::Unfinished => (),
-        }
-        match lines.read() {
-            Got::Bytes(_) => (),
-            Got::Interrupted => (),
-            Got::End => return Next::End,
-            Got::Failed => return Next::Failed,
+fn next_line<I: TellingReader + Drop>(lines: &mut IncomingLines<I>) -> Next
+    ensures { (first : I) (passed : List ℕ) → IsAt I.left I.gives first passed lines.old
+        → PassesLine I.left I.gives first passed result lines.new }
+{
+    for reads in 0..MAX_READS {
+        if let Some(next) = advance(lines) {
+            return next;
         }
     }
     Next::Failed
 }
 
-fn wrong(number: u64, wrong: Wrong) -> NotBilled {
+fn wrong(number: u64, wrong: Wrong) -> NotBilled
+    ensures { result ≡ NotBilled.Line number wrong }
+{
     NotBilled::Line { number, wrong }
 }
 
 // The kind of a text, by its first line.
-fn first_line<I: TellingReader + Drop>(lines: &mut IncomingLines<I>) -> Result<Kind, NotBilled> {
+fn first_line<I: TellingReader + Drop>(lines: &mut IncomingLines<I>) -> Result<Kind, NotBilled>
+    ensures { (first : I) → IsAt I.left I.gives first [] lines.old
+        → MatchResult result (λ kind. IsAt I.left I.gives first (text_of kind []) lines.new)
+        (λ fault. IsFirstFault I.left I.gives first fault) }
+{
     match next_line(lines) {
         Next::Line => match kind_of(lines.line()) {
             Some(kind) => Ok(kind),
@@ -98,23 +122,49 @@ fn first_line<I: TellingReader + Drop>(lines: &mut IncomingLines<I>) -> Result<K
     }
 }
 
+// Takes the line of this number, and says whether there was one.
+fn take_line<S: Rates, I: TellingReader + Drop>(
+    alloc: Global,
+    bill: &mut Bill<S>,
+    lines: &mut IncomingLines<I>,
+    number: u64,
+) -> Result<bool, NotBilled>
+    requires range { AreInRange bill.old.link.rates }
+    ensures rates { bill.new.link.rates ≡ bill.old.link.rates }
+    ensures takes { (first : I) (rates : List Rate)
+        → TakesLines I.left I.gives first rates bill.old lines.old number
+        → MatchResult result
+        (λ more. if more then TakesLines I.left I.gives first rates bill.new lines.new (number + 1)
+            else TakesAll I.left I.gives first rates bill.new lines.new number)
+        (λ fault. IsTextFault I.left I.gives first rates fault) }
+{
+    match next_line(lines) {
+        Next::Line => match bill.line(alloc, lines.line()) {
+            Ok(()) => Ok(true),
+            Err(LineFault::NoMemory) => Err(NotBilled::NoMemory),
+            Err(LineFault::Wrong(why)) => Err(wrong(number, why)),
+        },
+        Next::Long => Err(wrong(number, Wrong::Long)),
+        Next::End => Ok(false),
+        Next::Failed => Err(NotBilled::Input),
+    }
+}
+
 // Takes the lines after the first one, and answers the number of the line that would come next. A life has no events for
 // more lines than these.
 fn take_lines<S: Rates, I: TellingReader + Drop>(
     alloc: Global,
     bill: &mut Bill<S>,
     lines: &mut IncomingLines<I>,
-) -> Result<u64, NotBilled> {
+) -> Result<u64, NotBilled>
+    ensures { (first : I) (rates : List Rate) → TakesLines I.left I.gives first rates bill.old lines.old 2
+        → MatchResult result (λ number. TakesAll I.left I.gives first rates bill.new lines.new number)
+        (λ fault. IsTextFault I.left I.gives first rates fault) }
+{
+    bill.events();
     for number in 2..MAX_LIFE + 3 {
-        match next_line(lines) {
-            Next::Line => match bill.line(alloc, lines.line()) {
-                Ok(()) => (),
-                Err(LineFault::NoMemory) => return Err(NotBilled::NoMemory),
-                Err(LineFault::Wrong(why)) => return Err(wrong(number, why)),
-            },
-            Next::Long => return Err(wrong(number, Wrong::Long)),
-            Next::End => return Ok(number),
-            Next::Failed => return Err(NotBilled::Input),
+        if !take_line(alloc, bill, lines, number)? {
+            return Ok(number);
         }
     }
     Err(wrong(MAX_LIFE + 3, Wrong::Spent))
@@ -126,7 +176,11 @@ fn bill_by<S: Rates, I: TellingReader + Drop>(
     kind: Kind,
     bill: &mut Bill<S>,
     lines: &mut IncomingLines<I>,
-) -> Result<BookBill, NotBilled> {
+) -> Result<BookBill, NotBilled>
+    ensures { (first : I) (rates : List Rate) → bill.old.kind ≡ kind
+        → TakesLines I.left I.gives first rates bill.old lines.old 2
+        → Bills I.left I.gives first rates result }
+{
     let next = take_lines(alloc, bill, lines)?;
     let rows = bill.rows(alloc)?;
     let cut = if lines.has_more() { Some(next) } else { None };
@@ -138,7 +192,10 @@ fn bill_lines<S: Rates + Drop, I: TellingReader + Drop>(
     alloc: Global,
     shelf: S,
     lines: &mut IncomingLines<I>,
-) -> Result<BookBill, NotBilled> {
+) -> Result<BookBill, NotBilled>
+    ensures { (first : I) → IsAt I.left I.gives first [] lines.old
+        → Bills I.left I.gives first (S.rates shelf) result }
+{
     let kind = first_line(lines)?;
     let Ok(mut bill) = Bill::new(alloc, kind, shelf) else {
         return Err(NotBilled::NoMemory);
@@ -148,12 +205,16 @@ fn bill_lines<S: Rates + Drop, I: TellingReader + Drop>(
     billed
 }
 
-/// The bill of a book, by its text, read line by line.
+/// The bill of a book, by its text, read line by line. The lines of the text are those of a run of the engine, the rows
+/// those of this run, and bytes after the last line feed are left out. Otherwise the first line that is no such line is
+/// named, with what is wrong with it.
 pub fn bill_text<S: Rates + Drop, I: TellingReader + Drop>(
     alloc: Global,
     shelf: S,
     text: I,
-) -> Result<BookBill, NotBilled> {
+) -> Result<BookBill, NotBilled>
+    ensures { Bills I.left I.gives text (S.rates shelf) result }
+{
     let mut lines = IncomingLines::new(alloc, text)?;
     let billed = bill_lines(alloc, shelf, &mut lines);
     drop(lines);

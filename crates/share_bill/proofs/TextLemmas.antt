@@ -1,25 +1,56 @@
 -- How the text of a book is passed, line by line.
 use Rattle.std.specs.Prelude.{◌≡◌, ◌<◌, ◌≤◌, ◌+◌, ◌⊎◌, ℕ, Bool, true, false, List, [], ◌∷◌, ◌++◌, length, take, drop, get_or}
-use Rattle.std.specs.Prelude.{flat_map, nat_lt, Option, None, Some, IfSome}
+use Rattle.std.specs.Prelude.{codes, flat_map, map, nat_lt, Option, None, Some, IfSome, Err, if◌then◌else◌}
 use mathlib.Core.List.{append_assoc}
 use Rattle.std.proofs.Common.{refl, ap, sym, ◌∙◌, subst, arith, inl, inr, length-take}
 use Rattle.std.proofs.Math.Seq.{drop-append_seam, take-append_seam, get_or-append_seam}
 use Rattle.std.proofs.lemmas.Bool.Decides.{leb_tells, nat_tests}
 use Rattle.std.proofs.lemmas.List.{append-nil, get_or_append_left, get_or-take, length-append, take_all, take-append-le}
+use Rattle.std.proofs.lemmas.Slice.Eq.{bytes_eq-Decides}
+use Rattle.std.specs.Str.{bytes_eq}
+use Rattle.std.proofs.lemmas.List.Concat.{flat_map-append}
 use Rattle.std.proofs.lemmas.List.Elements.{All-append, All-drop, All-get_or, All-nil, All-same, All-take}
 use Rattle.std.proofs.KnownBytes.{Consumes-trans}
 use Rattle.std.specs.Io.KnownBytes.{Consumes, Keeps, IsAtEnd}
 use Rattle.share_model.specs.declared.reader.Got.{Got}
 use Rattle.share_model.specs.declared.reader.Got.TheVariants.{Bytes, End, Interrupted, Failed}
-use Rattle.share_model.specs.io.Calls.{Reads, GoesOn, one_read}
+use Rattle.share_model.specs.io.Calls.{Reads, GoesOn, no_reads, one_read}
 use Rattle.share_model.specs.io.Given.{Gives}
 use Rattle.share_model.specs.text.Talk.{is_feed}
 use Rattle.share_script.specs.declared.lines.Incoming.{Incoming}
 use Rattle.share_script.specs.declared.lines.Incoming.TheVariants.{Line, OverLong, Unfinished}
 use Rattle.share_script.specs.Lines.{Connection, Came, FirstLine, IsNextLine, IsUnfinished}
 use Rattle.share_script.specs.Script.{NoFeed}
-use Rattle.share_bill.specs.Texts.{fed, IsLongNext, KeepsBeginning, IsAhead, IsAt, EndsAfter, InputFails}
+use Rattle.share_base.specs.declared.command.Event.{Event}
+use Rattle.share_base.specs.declared.version.Version.TheVariants.{Two}
+use Rattle.share_model.specs.declared.rates.Rate.{Rate}
+use Rattle.share_model.specs.link.Tariff.{AreInRange}
+use Rattle.share_model.specs.lists.Each.{Each}
+use Rattle.share_model.specs.run.Events.{MayFollow}
+use Rattle.share_model.specs.run.Fold.{State, empty_state, step, state_after}
+use Rattle.share_model.specs.run.Sound.{max_life}
+use Rattle.share_model.proofs.lemmas.lists.Laws.{each-append}
+use Rattle.share_model.proofs.lemmas.run.FoldLaws.{events-after}
+use Rattle.share_bill.specs.declared.bill.kind.Kind.{Kind}
+use Rattle.share_bill.specs.declared.bill.kind.Kind.TheVariants.{Whole, Lengths}
+use Rattle.share_bill.specs.declared.bill.line.Wrong.{Wrong}
+use Rattle.share_bill.specs.declared.bill.line.Wrong.TheVariants.{First, Long}
+use Rattle.share_bill.specs.declared.bill.running.TenantBill.{TenantBill}
+use Rattle.share_bill.specs.declared.bill.running.TenantFlow.{TenantFlow}
+use Rattle.share_bill.specs.declared.bill.text.Next.TheVariants.{Line as NextLine, Long as NextLong, End as NextEnd}
+use Rattle.share_bill.specs.declared.bill.text.NotBilled.{NotBilled}
+use Rattle.share_bill.specs.declared.bill.text.NotBilled.TheVariants.{Input, NoMemory, Line as LineFault}
+use Rattle.share_bill.specs.Bills.{AreEvents, row_with, rows_of}
+use Rattle.share_bill.specs.BookLines.{first_line, kind_of, next_event}
+use Rattle.share_bill.specs.Makings.{BillView, IsBookLink, TakesLine}
+use Rattle.share_bill.specs.Runs.{IsBillOf}
+use Rattle.share_bill.specs.Sums.{sums_at}
+use Rattle.share_bill.specs.Texts.{fed, text_of, next_number, cut_of, BeginsAsBook, IsBook, IsWrongText, IsWrongAfter}
+use Rattle.share_bill.specs.Texts.{IsNoFirst, other_first, first_long, no_first, IsNext, IsWrongNext}
+use Rattle.share_bill.specs.Texts.{IsLongNext, KeepsBeginning, IsAhead, IsAt, HasReadAt, EndsAfter, InputFails}
+use Rattle.share_bill.specs.Texts.{PassesLine, TakesLines, TakesAll, IsFirstFault, IsTextFault}
 use Rattle.share_bill.specs.Texts.{read_failed, too_many_reads}
+use Rattle.share_bill.proofs.RunLemmas.{bill-more, rows-are}
 
 -- ---- Bytes without a line feed
 
@@ -263,3 +294,284 @@ module _ {R : Type 0} (left : R → Option (List ℕ)) (gives : R → List ℕ �
 
     pub read-failed : Came left gives old Failed new → InputFails gives first
     read-failed did = read_failed at.count old.reader did.call.buffer new.reader at.reads did.call.called
+
+  -- What comes next of a text
+
+  pub at-text : (c : Connection R) (P : List ℕ → Type 0) → IsAt left gives first passed c
+      → ((rest : List ℕ) → P (passed ++ rest)) → IfSome (left first) P
+  at-text c P at all =
+      whole_text (left first) (left c.reader) at.came P at.read
+      (λ more. subst P
+      (sym (ap (λ bs. bs ++ more) at.came_is ∙ append_assoc passed at.ahead more)) (all (at.ahead ++ more)))
+
+  -- the bytes that are here, which may have a line
+  module _ (n : ℕ) (old new : Connection R) (at : HasReadAt left gives first n passed old)
+      (same : new.reader ≡ old.reader) where
+    pub next-line : IsNextLine old.ahead Line new.line new.ahead → PassesLine left gives first passed NextLine new
+    next-line is = (is.0.clean, line-passed old new at.0 same is.0 is.1)
+
+    pub next-long : IsNextLine old.ahead OverLong new.line new.ahead
+        → PassesLine left gives first passed NextLong new
+    next-long is = long-next old is.1.0 new.ahead at.0 is.1.1.0 is.1.1.1
+
+    pub next-none : IsNextLine old.ahead Unfinished new.line new.ahead → HasReadAt left gives first n passed new
+    next-none is = (none-passed old new at.0 same is.1 is.2.1, at.1)
+
+  -- a read
+  module _ (n : ℕ) (old new : Connection R) (at : HasReadAt left gives first n passed old) where
+    read_more : (a b : ℕ) → a ≤ b → a + 1 ≤ b + 1
+    read_more a b few = omega arith
+
+    pub next-bytes : (k : ℕ) → Came left gives old (Bytes k) new → HasReadAt left gives first (n + 1) passed new
+    next-bytes k did = (bytes-came old new at.0 k did, read_more n at.0.count at.1)
+
+    pub next-interrupted : Came left gives old Interrupted new → HasReadAt left gives first (n + 1) passed new
+    next-interrupted did = (none-came old new at.0 did, read_more n at.0.count at.1)
+
+-- ---- Lines of a run
+
+lines_append : (kind : Kind) (lines : List (List ℕ)) (line : List ℕ)
+    → text_of kind lines ++ fed line ≡ text_of kind (lines ++ line ∷ [])
+lines_append kind lines line =
+    append_assoc (fed (first_line kind)) (flat_map fed lines) (fed line)
+    ∙ ap (λ bs. fed (first_line kind) ++ bs)
+    (ap (λ bs. flat_map fed lines ++ bs) (sym (append-nil (fed line)))
+    ∙ sym (flat_map-append fed lines (line ∷ [])))
+
+same_count : (kind : Kind) (rates : List Rate) (s : State) (lines : List (List ℕ)) (events : List Event)
+    → AreEvents kind rates s lines events → length lines ≡ length events
+unfolding AreEvents
+same_count kind rates s [] [] are = refl
+same_count kind rates s [] (e ∷ es) are = absurd are
+same_count kind rates s (l ∷ ls) [] are = absurd are
+same_count kind rates s (l ∷ ls) (e ∷ es) are = ap suc (same_count kind rates (step rates s e) ls es are.1)
+
+-- a life has no more events than it is long
+few_events : (life : ℕ) (rates : List Rate) (s : State) (es : List Event) → s.live.counts.events ≤ life
+    → MayFollow life rates s es → s.live.counts.events + length es ≤ life
+unfolding MayFollow state_after
+few_events life rates s [] few may = omega (arith, few)
+few_events life rates s (e ∷ es) few may =
+    let one : (step rates s e).live.counts.events ≡ s.live.counts.events + 1
+    = events-after life rates s (e ∷ []) (may.0, may.1, tt) in
+    let below = may.0 in
+    let here : (step rates s e).live.counts.events ≤ life = omega (arith, one, below) in
+    let rest = few_events life rates (step rates s e) es here may.2 in
+    omega (arith, one, rest)
+
+pub lines-few : {W : Type 0} (rates : List Rate) (lines : List (List ℕ)) (events : List Event) (bill : BillView W)
+    → IsBillOf rates lines events bill → length lines ≤ 2 ^ 24
+lines-few rates lines events bill is =
+    let same = same_count bill.kind rates (empty_state Two) lines events is.are in
+    let few : 0 + length events ≤ max_life
+    = few_events max_life rates (empty_state Two) events (omega arith) is.may in
+    omega (arith, same, few)
+
+module _ {R : Type 0} (left : R → Option (List ℕ)) (gives : R → List ℕ → Got → R → Type 0) (first : R)
+    {W : Type 0} (rates : List Rate) where
+  pub line-taken : (old new : BillView W) (before after : Connection R) (number : ℕ)
+      (was : TakesLines left gives first rates old before number)
+      → PassesLine left gives first (text_of old.kind was.lines) NextLine after
+      → AreInRange old.link.rates → TakesLine old after.line new → IsBookLink new.link
+      → TakesLines left gives first rates new after (number + 1)
+  line-taken old new before after number was passes range takes book = record {
+    lines = was.lines ++ after.line ∷ [];
+    events = was.events ++ takes.obeys.makes.event ∷ [];
+    bill_is = bill-more rates (subst AreInRange was.bill_is.rates_are range) was.lines was.events old new after.line
+        was.bill_is takes book;
+    clean = each-append NoFeed was.lines (after.line ∷ []) was.clean (passes.0, tt);
+    number_is =
+        let n = length-append was.lines (after.line ∷ []) in
+        let was_number = was.number_is in
+        omega (arith, n, was_number);
+    at = subst (λ bs. IsAt left gives first bs after)
+        (lines_append old.kind was.lines after.line
+        ∙ ap (λ k. text_of k (was.lines ++ after.line ∷ [])) (sym takes.kind))
+        passes.1;
+  }
+
+  begins : (bill : BillView W) (c : Connection R) (number : ℕ)
+      (was : TakesLines left gives first rates bill c number) (bytes rest : List ℕ)
+      → bytes ≡ text_of bill.kind was.lines ++ rest → BeginsAsBook rates bytes bill.kind
+  begins bill c number was bytes rest is = record {
+    lines = was.lines;
+    events = was.events;
+    rest = rest;
+    text = is;
+    clean = was.clean;
+    are = was.bill_is.are;
+    may = was.bill_is.may;
+  }
+
+  pub line-wrong : (bill : BillView W) (before after : Connection R) (number : ℕ) (wrong : Wrong)
+      (was : TakesLines left gives first rates bill before number)
+      → PassesLine left gives first (text_of bill.kind was.lines) NextLine after
+      → next_event bill.kind bill.link.live after.line ≡ Err wrong
+      → IsTextFault left gives first rates (LineFault number wrong)
+  line-wrong bill before after number wrong was passes is =
+      let passed = text_of bill.kind was.lines in
+      at-text left gives first (passed ++ fed after.line) after
+      (λ bytes. IsWrongText rates bytes number wrong) passes.1
+      (λ rest. inr record {
+        kind = bill.kind;
+        book = begins bill before number was ((passed ++ fed after.line) ++ rest) (fed after.line ++ rest)
+            (append_assoc passed (fed after.line) rest);
+        number_is = was.number_is;
+        next_is = inr (
+          after.line,
+          record { more = rest; is = refl; clean = passes.0 },
+          subst (λ l. next_event bill.kind l after.line ≡ Err wrong) was.bill_is.live is,
+        );
+      })
+
+  long_text : (start : Option (List ℕ)) (bill : BillView W) (c : Connection R) (number : ℕ)
+      (was : TakesLines left gives first rates bill c number)
+      → IfSome start (λ bytes. (rest : List ℕ) × (bytes ≡ text_of bill.kind was.lines ++ rest) × IsLongNext rest)
+      → IfSome start (λ bytes. IsWrongText rates bytes number Long)
+  long_text None bill c number was long = tt
+  long_text (Some bytes) bill c number was long = inr record {
+    kind = bill.kind;
+    book = begins bill c number was bytes long.0 long.1.0;
+    number_is = was.number_is;
+    next_is = inl (long.1.1, refl);
+  }
+
+  pub line-long : (bill : BillView W) (before after : Connection R) (number : ℕ)
+      (was : TakesLines left gives first rates bill before number)
+      → PassesLine left gives first (text_of bill.kind was.lines) NextLong after
+      → IsTextFault left gives first rates (LineFault number Long)
+  line-long bill before after number was passes = long_text (left first) bill before number was passes
+
+  pub lines-end : (bill : BillView W) (before after : Connection R) (number : ℕ)
+      (was : TakesLines left gives first rates bill before number)
+      → PassesLine left gives first (text_of bill.kind was.lines) NextEnd after
+      → TakesAll left gives first rates bill after number
+  lines-end bill before after number was passes = record {
+    lines = was.lines;
+    events = was.events;
+    bill_is = was.bill_is;
+    clean = was.clean;
+    number_is = was.number_is;
+    ends = passes;
+  }
+
+  pub first-taken : (bill : BillView W) (c : Connection R) → IsAt left gives first (text_of bill.kind []) c
+      → IsBillOf rates [] [] bill → TakesLines left gives first rates bill c 2
+  first-taken bill c at is = record {
+    lines = [];
+    events = [];
+    bill_is = is;
+    clean = tt;
+    number_is = refl;
+    at = at;
+  }
+
+  book_text : (start : Option (List ℕ)) (bill : BillView W) (c : Connection R) (number : ℕ)
+      (rows : List TenantBill) (cut : Option ℕ) (was : TakesAll left gives first rates bill c number)
+      → rows ≡ rows_of rates was.events → cut ≡ cut_of number c.ahead
+      → IfSome start (λ bytes. (rest : List ℕ) × (bytes ≡ text_of bill.kind was.lines ++ rest) × NoFeed rest
+      × (nat_lt 0 (length c.ahead) ≡ nat_lt 0 (length rest)))
+      → IfSome start (λ bytes. IsBook rates bytes bill.kind rows cut)
+  book_text None bill c number rows cut was rows_are cut_is ends = tt
+  book_text (Some bytes) bill c number rows cut was rows_are cut_is ends = record {
+    book = record {
+      lines = was.lines;
+      events = was.events;
+      rest = ends.0;
+      text = ends.1.0;
+      clean = was.clean;
+      are = was.bill_is.are;
+      may = was.bill_is.may;
+    };
+    clean = ends.1.1.0;
+    rows_are = rows_are;
+    cut_is = cut_is
+        ∙ (ap (λ n. cut_of n c.ahead) was.number_is
+        ∙ ap (λ (b : Bool). if b then Some (next_number was.lines) else None) ends.1.1.1);
+  }
+
+  pub book-billed : (bill : BillView W) (c : Connection R) (number : ℕ) (rows : List TenantBill) (cut : Option ℕ)
+      (was : TakesAll left gives first rates bill c number)
+      → rows ≡ map (λ (t : TenantFlow). row_with t (sums_at bill.sent t.flow)) bill.tenants
+      → cut ≡ cut_of number c.ahead
+      → IfSome (left first) (λ bytes. IsBook rates bytes bill.kind rows cut)
+  book-billed bill c number rows cut was rows_are cut_is =
+      book_text (left first) bill c number rows cut was
+      (rows_are ∙ rows-are rates was.lines was.events bill was.bill_is) cut_is was.ends
+
+-- ---- The first line
+
+kind_line : (line : List ℕ) (kind : Kind) → kind_of line ≡ Some kind → line ≡ first_line kind
+kind_line line kind is =
+    kind_by (bytes_eq line (codes "audit 2")) (bytes_eq line (codes "lengths 2"))
+    (bytes_eq-Decides line (codes "audit 2")).0 (bytes_eq-Decides line (codes "lengths 2")).0 is
+  where
+    kind_in : Option Kind → Kind
+    kind_in None = kind
+    kind_in (Some k) = k
+
+    kind_by : (a b : Bool) → (a ≡ true → line ≡ codes "audit 2") → (b ≡ true → line ≡ codes "lengths 2")
+        → (if a then Some Whole else if b then Some Lengths else None) ≡ Some kind → line ≡ first_line kind
+    kind_by true b one two same = one refl ∙ ap (λ o. first_line (kind_in o)) same
+    kind_by false true one two same = two refl ∙ ap (λ o. first_line (kind_in o)) same
+    kind_by false false one two same = cc
+
+module _ {R : Type 0} (left : R → Option (List ℕ)) (gives : R → List ℕ → Got → R → Type 0) (first : R) where
+  pub first-kind : (c : Connection R) (kind : Kind) → PassesLine left gives first [] NextLine c
+      → kind_of c.line ≡ Some kind → IsAt left gives first (text_of kind []) c
+  first-kind c kind passes is =
+      subst (λ bs. IsAt left gives first bs c)
+      (ap fed (kind_line c.line kind is) ∙ sym (append-nil (fed (first_line kind)))) passes.1
+
+  pub first-other : (c : Connection R) → PassesLine left gives first [] NextLine c → kind_of c.line ≡ None
+      → IsFirstFault left gives first (LineFault 1 First)
+  first-other c passes is =
+      at-text left gives first (fed c.line) c (λ bytes. IsNoFirst bytes × (1 ≡ 1) × (First ≡ First)) passes.1
+      (λ rest. (other_first c.line record { more = rest; is = refl; clean = passes.0 } is, refl, refl))
+
+  long_first : (start : Option (List ℕ)) → IfSome start (λ bytes. (rest : List ℕ) × (bytes ≡ rest) × IsLongNext rest)
+      → IfSome start (λ bytes. IsNoFirst bytes × (1 ≡ 1) × (First ≡ First))
+  long_first None long = tt
+  long_first (Some bytes) long = (subst IsNoFirst (sym long.1.0) (first_long long.1.1), refl, refl)
+
+  pub first-long : (c : Connection R) → PassesLine left gives first [] NextLong c
+      → IsFirstFault left gives first (LineFault 1 First)
+  first-long c passes = long_first (left first) passes
+
+  none_first : (start : Option (List ℕ)) (c : Connection R)
+      → IfSome start (λ bytes. (rest : List ℕ) × (bytes ≡ rest) × NoFeed rest
+      × (nat_lt 0 (length c.ahead) ≡ nat_lt 0 (length rest)))
+      → IfSome start (λ bytes. IsNoFirst bytes × (1 ≡ 1) × (First ≡ First))
+  none_first None c ends = tt
+  none_first (Some bytes) c ends = (subst IsNoFirst (sym ends.1.0) (no_first ends.1.1.0), refl, refl)
+
+  pub first-none : (c : Connection R) → PassesLine left gives first [] NextEnd c
+      → IsFirstFault left gives first (LineFault 1 First)
+  first-none c passes = none_first (left first) c passes
+
+  first_fault : (rates : List Rate) (start : Option (List ℕ)) (number : ℕ) (wrong : Wrong)
+      → IfSome start (λ bytes. IsNoFirst bytes × (number ≡ 1) × (wrong ≡ First))
+      → IfSome start (λ bytes. IsWrongText rates bytes number wrong)
+  first_fault rates None number wrong is = tt
+  first_fault rates (Some bytes) number wrong is = inl is
+
+  pub first-fault : (rates : List Rate) (fault : NotBilled) → IsFirstFault left gives first fault
+      → IsTextFault left gives first rates fault
+  first-fault rates Input is = is
+  first-fault rates NoMemory is = tt
+  first-fault rates (LineFault number wrong) is = first_fault rates (left first) number wrong is
+
+  pub at-first : IsAt left gives first [] record { reader = first; line = []; ahead = [] }
+  at-first = record {
+    count = 0;
+    reads = no_reads;
+    came = [];
+    ahead = [];
+    read = consumed_none (left first);
+    came_is = refl;
+    kept = inl refl;
+  }
+    where
+      consumed_none : (o : Option (List ℕ)) → Consumes o o []
+      consumed_none None = tt
+      consumed_none (Some bytes) = refl

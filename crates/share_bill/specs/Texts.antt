@@ -1,6 +1,6 @@
 -- The whole text of a book: its lines, what is left of it, and what a bill of it says.
-use Rattle.std.specs.Prelude.{◌≡◌, ◌⊎◌, ◌<◌, ◌≤◌, ◌+◌, ℕ, List, [], ◌∷◌, ◌++◌, flat_map, length, nat_lt, take}
-use Rattle.std.specs.Prelude.{Option, None, Some, IfSome, Result, Err, MatchResult, ⊤, ⊥, if◌then◌else◌}
+use Rattle.std.specs.Prelude.{◌≡◌, ◌⊎◌, ◌<◌, ◌≤◌, ◌+◌, ◌^◌, ℕ, List, [], ◌∷◌, ◌++◌, flat_map, length, nat_lt, take}
+use Rattle.std.specs.Prelude.{Option, None, Some, IfSome, Result, Err, MatchResult, ⊤, if◌then◌else◌}
 use Rattle.std.specs.Io.KnownBytes.{Consumes}
 use Rattle.share_base.specs.declared.command.Event.{Event}
 use Rattle.share_base.specs.declared.version.Version.TheVariants.{Two}
@@ -17,7 +17,7 @@ use Rattle.share_script.specs.Lines.{Connection}
 use Rattle.share_script.specs.Script.{NoFeed}
 use Rattle.share_bill.specs.declared.bill.kind.Kind.{Kind}
 use Rattle.share_bill.specs.declared.bill.line.Wrong.{Wrong}
-use Rattle.share_bill.specs.declared.bill.line.Wrong.TheVariants.{First, Long, Unread, Foreign, Spent, Untaken, Idle, Sent}
+use Rattle.share_bill.specs.declared.bill.line.Wrong.TheVariants.{First, Long}
 use Rattle.share_bill.specs.declared.bill.running.TenantBill.{TenantBill}
 use Rattle.share_bill.specs.declared.bill.text.BookBill.{BookBill}
 use Rattle.share_bill.specs.declared.bill.text.Next.{Next}
@@ -83,19 +83,13 @@ pub record IsNext (rest line : List ℕ) : Type 0 where
 -- no line comes that begins a book
 pub data IsNoFirst (rest : List ℕ) : Type 0 where
   other_first : (line : List ℕ) → IsNext rest line → kind_of line ≡ None → IsNoFirst rest
-  long_first : IsLongNext rest → IsNoFirst rest
+  first_long : IsLongNext rest → IsNoFirst rest
   no_first : NoFeed rest → IsNoFirst rest
 
 -- what is wrong with what comes next, by the link of the lines so far
 abbrev pub IsWrongNext : Kind → Live → List ℕ → Wrong → Type 0
-IsWrongNext kind l rest First = ⊥
-IsWrongNext kind l rest Long = IsLongNext rest
-IsWrongNext kind l rest (Unread why) = (line : List ℕ) × IsNext rest line × (next_event kind l line ≡ Err (Unread why))
-IsWrongNext kind l rest Foreign = (line : List ℕ) × IsNext rest line × (next_event kind l line ≡ Err Foreign)
-IsWrongNext kind l rest Spent = (line : List ℕ) × IsNext rest line × (next_event kind l line ≡ Err Spent)
-IsWrongNext kind l rest (Untaken why) = (line : List ℕ) × IsNext rest line × (next_event kind l line ≡ Err (Untaken why))
-IsWrongNext kind l rest Idle = (line : List ℕ) × IsNext rest line × (next_event kind l line ≡ Err Idle)
-IsWrongNext kind l rest (Sent count) = (line : List ℕ) × IsNext rest line × (next_event kind l line ≡ Err (Sent count))
+IsWrongNext kind l rest wrong = (IsLongNext rest × (wrong ≡ Long))
+    ⊎ ((line : List ℕ) × IsNext rest line × (next_event kind l line ≡ Err wrong))
 
 -- the line of this number is the first one that is no run's
 pub record IsWrongAfter (rates : List Rate) (bytes : List ℕ) (number : ℕ) (wrong : Wrong) : Type 0 where

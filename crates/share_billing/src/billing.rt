@@ -129,7 +129,7 @@ pub fn print_bill<R: Files + Print + Eprint, S: Rates + Copy + Drop>(
         return Err(NotShown::NoMemory);
     };
     let mut output = PatientWriter(PlainWriter(io::writer(rt)));
-    match put(&mut output, text.as_bytes()) {
+    match put(&mut output, text.as_slice()) {
         Ok(()) => Ok(()),
         Err(_) => Err(NotShown::Output),
     }

@@ -93,20 +93,13 @@ impl<S: Rates> Bill<S> {
         ensures takes { MatchResult result (λ _. TakesLine self.old bytes.now self.new)
             (λ fault. IsFault (next_event self.old.kind self.old.link.live bytes.now) fault) }
         ensures book { IsBookLink self.new.link }
-        ensures rates { self.new.link.rates ≡ self.old.link.rates }
+        ensures range { AreInRange self.old.link.rates }
     {
+        let _ = self.engine.events();
         match read(alloc, self.kind, bytes) {
             Ok(line) => obey(&mut self.engine, &mut self.tenants, &mut self.sent, line),
             Err(refusal) => Err(unread(refusal)),
         }
-    }
-
-    /// How many lines were taken.
-    pub fn events(&self) -> u64
-        ensures events { result ≡ self.now.link.live.counts.events }
-        ensures range { AreInRange self.now.link.rates }
-    {
-        self.engine.events()
     }
 
     /// What each tenant sent, in the order in which their flows were opened.

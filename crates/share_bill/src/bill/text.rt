@@ -1,7 +1,6 @@
 //! The bill of a whole text.
-ghost use Rattle.std.specs.Prelude.{◌≡◌, ◌+◌, [], ℕ, List, MatchOption, MatchResult, if◌then◌else◌};
+ghost use Rattle.std.specs.Prelude.{◌≡◌, ◌+◌, [], ℕ, List, MatchBool, MatchOption, MatchResult};
 ghost use Rattle.share_model.specs.declared.rates.Rate.{Rate};
-ghost use Rattle.share_model.specs.link.Tariff.{AreInRange};
 ghost use Rattle.share_bill.specs.Texts.{text_of, HasReadAt, IsAt, PassesLine, IsFirstFault, IsTextFault};
 ghost use Rattle.share_bill.specs.Texts.{TakesLines, TakesAll, Bills};
 
@@ -129,13 +128,11 @@ fn take_line<S: Rates, I: TellingReader + Drop>(
     lines: &mut IncomingLines<I>,
     number: u64,
 ) -> Result<bool, NotBilled>
-    requires range { AreInRange bill.old.link.rates }
-    ensures rates { bill.new.link.rates ≡ bill.old.link.rates }
-    ensures takes { (first : I) (rates : List Rate)
+    ensures { (first : I) (rates : List Rate)
         → TakesLines I.left I.gives first rates bill.old lines.old number
         → MatchResult result
-        (λ more. if more then TakesLines I.left I.gives first rates bill.new lines.new (number + 1)
-            else TakesAll I.left I.gives first rates bill.new lines.new number)
+        (λ more. MatchBool more (TakesLines I.left I.gives first rates bill.new lines.new (number + 1))
+            (TakesAll I.left I.gives first rates bill.new lines.new number))
         (λ fault. IsTextFault I.left I.gives first rates fault) }
 {
     match next_line(lines) {
@@ -161,7 +158,6 @@ fn take_lines<S: Rates, I: TellingReader + Drop>(
         → MatchResult result (λ number. TakesAll I.left I.gives first rates bill.new lines.new number)
         (λ fault. IsTextFault I.left I.gives first rates fault) }
 {
-    bill.events();
     for number in 2..MAX_LIFE + 3 {
         if !take_line(alloc, bill, lines, number)? {
             return Ok(number);

@@ -2,12 +2,12 @@ use Rattle.std.proofs.Common.{refl}
 use Rattle.share_bill.proofs.LineLemmas.{fault-unread, line-taken}
 use Rattle.share_bill.proofs.bill.running.Bill.line.Goals as goal
 
-pub returns-in-Ok : goal.returns-in-Ok
-returns-in-Ok g c =
+pub returns-in-Ok-clause-takes : goal.returns-in-Ok-clause-takes
+returns-in-Ok-clause-takes g c =
     line-taken _ c.args.bytes.now c.in-Ok.line _ _ c.obey.result c.self.view_is c.in-Ok.ensures.reads refl
     c.obey.ensures.obeys
 
-pub returns-in-Err : goal.returns-in-Err
-returns-in-Err g c =
+pub returns-in-Err-clause-takes : goal.returns-in-Err-clause-takes
+returns-in-Err-clause-takes g c =
     rw c.unread.ensures
     (fault-unread _ _ c.args.bytes.now c.in-Err.refusal c.self.view_is c.in-Err.ensures.reads)

@@ -1,0 +1,7 @@
+use Rattle.std.proofs.Common.{◌≡◌, ◌++◌, codes, flat_map, take}
+use Rattle.share_billing.specs.Texts.{csv_of, csv_head}
+use Rattle.share_billing.proofs.printing.push_csv.Given as goal
+
+abbrev pub invariant-loop-tenant : goal.invariant-loop-tenant
+invariant-loop-tenant l =
+    l.text.items ≡ (l.initial.text.items ++ csv_head) ++ flat_map csv_of (take l.tenant-index l.tenants)

@@ -14,9 +14,9 @@ pub(crate) enum BookFault {
     Text(NotBilled),
 }
 
-/// A path, shown with its control characters escaped.
-#[derive(Clone, Copy, Debug)]
-pub(crate) struct Shown<'a>(pub(crate) &'a str);
+/// A word of the command line, shown with its control characters escaped, as `\n` and `\u{1b}`.
+#[derive(Clone, Copy, Debug, PartialEq, Eq)]
+pub struct Shown<'a>(pub &'a str);
 
 impl<'a> Display for Shown<'a> {
     fn fmt<W: fmt::Write>(&self, f: &mut Formatter<W>) -> fmt::Result {

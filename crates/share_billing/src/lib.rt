@@ -7,4 +7,5 @@ mod faults;
 mod printing;
 
 pub use billing::{Billing, NotShown, print_bill};
+pub use faults::Shown;
 pub use printing::Form;

@@ -1,8 +1,6 @@
 //! What the words of the command line ask for.
 
 use share_billing::Form;
-use std::fmt;
-use std::fmt::{Display, Formatter};
 
 /// How a script is to be run.
 #[derive(Clone, Copy, Debug)]
@@ -57,22 +55,4 @@ pub enum Asked<'a> {
     Bill(BillOrders<'a>),
     /// To show a text: help, the version, or what is wrong with the words.
     Text(clap::Error),
-}
-
-/// A word of the command line, shown with its control characters escaped, as `\n` and `\u{1b}`.
-#[derive(Clone, Copy, Debug, PartialEq, Eq)]
-pub struct Word<'a>(pub &'a str);
-
-impl<'a> Display for Word<'a> {
-    fn fmt<W: fmt::Write>(&self, f: &mut Formatter<W>) -> fmt::Result {
-        for c in self.0.chars() {
-            if c.is_control() {
-                let escape = c.escape_default();
-                write!(f, "{escape}")?;
-            } else {
-                f.write_char(c)?;
-            }
-        }
-        Ok(())
-    }
 }

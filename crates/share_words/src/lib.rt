@@ -6,5 +6,6 @@ mod bill_words;
 mod help;
 mod words;
 
-pub use asked::{Asked, BillOrders, Orders, ServeOrders, Word};
+pub use asked::{Asked, BillOrders, Orders, ServeOrders};
+pub use share_billing::Shown;
 pub use words::parse;

@@ -4,12 +4,13 @@ ghost use Rattle.clap.specs.Values.{kind_of};
 ghost use Rattle.share_core.specs.Life.{life_refusal};
 ghost use Rattle.share_words.specs.Orders.{CanBeObeyed, CanBeServed};
 
-use crate::asked::{Asked, Orders, ServeOrders, Word};
+use crate::asked::{Asked, Orders, ServeOrders};
 use crate::bill_words::{bill_command, bill_orders};
 use crate::help;
 use clap::builder::ValueParser;
 use clap::error::ErrorKind;
 use clap::{Arg, ArgAction, ArgMatches, Command, value_parser};
+use share_billing::Shown;
 use share_core::MAX_LIFE;
 use std::alloc::{AllocError, Global};
 
@@ -294,7 +295,7 @@ fn has_control(words: &[String]) -> bool {
 
 fn escaped_text(alloc: Global, word: &str) -> Result<String, AllocError> {
     let mut text = String::new(alloc);
-    let word = Word(word);
+    let word = Shown(word);
     write!(text, "{word}")?;
     Ok(text)
 }

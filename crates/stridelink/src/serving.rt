@@ -8,7 +8,7 @@ use share_base::Version;
 use share_journal::Journal;
 use share_model::{PatientWriter, PlainWriter, Rates};
 use share_server::{AuditFile, Plan, ServeFault, Sockets, serve_on};
-use share_words::{ServeOrders, Word};
+use share_words::{ServeOrders, Shown};
 use std::alloc::Global;
 use std::fs::Files;
 use std::io;
@@ -27,13 +27,13 @@ pub enum Unserved<'a> {
     NoMemory,
     /// The file of the audit could not be made, or the audit could not be written.
     #[error("cannot write the audit {0}")]
-    Audit(Word<'a>),
+    Audit(Shown<'a>),
     /// The server cannot listen on an address.
     #[error("cannot listen on {0}")]
-    Listen(Word<'a>),
+    Listen(Shown<'a>),
     /// The uplink's peer could not be reached.
     #[error("cannot connect to {0}")]
-    Connect(Word<'a>),
+    Connect(Shown<'a>),
     /// The run had a fault.
     #[error("{0}")]
     Run(ServeFault),
@@ -45,7 +45,7 @@ fn listen<'a, R: Net<Listener = TcpListener, Stream = TcpStream>>(
 ) -> Result<TcpListener, Unserved<'a>> {
     match TcpListener::bind(rt, address) {
         Ok(listener) => Ok(listener),
-        Err(_) => Err(Unserved::Listen(Word(address))),
+        Err(_) => Err(Unserved::Listen(Shown(address))),
     }
 }
 
@@ -62,7 +62,7 @@ fn sockets<'a, R: Net<Listener = TcpListener, Stream = TcpStream>>(
             control,
             uplink,
         }),
-        Err(_) => Err(Unserved::Connect(Word(orders.uplink))),
+        Err(_) => Err(Unserved::Connect(Shown(orders.uplink))),
     }
 }
 
@@ -75,7 +75,7 @@ fn audit_file<'a, R: Files>(
     match AuditFile::open(rt, alloc, path) {
         Ok(audit) => Ok(audit),
         Err(fault) if fault.kind() == ErrorKind::OutOfMemory => Err(Unserved::NoMemory),
-        Err(_) => Err(Unserved::Audit(Word(path))),
+        Err(_) => Err(Unserved::Audit(Shown(path))),
     }
 }
 
@@ -168,7 +168,7 @@ fn result_of_run<'a>(served: Result<(), ServeFault>, audit: &'a str) -> Result<(
 {
     match served {
         Ok(()) => Ok(()),
-        Err(ServeFault::Audit) => Err(Unserved::Audit(Word(audit))),
+        Err(ServeFault::Audit) => Err(Unserved::Audit(Shown(audit))),
         Err(fault) => Err(Unserved::Run(fault)),
     }
 }

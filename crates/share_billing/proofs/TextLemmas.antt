@@ -1,7 +1,7 @@
 -- Texts that grow by a row.
 use Rattle.std.specs.Prelude.{◌≡◌, ℕ, ◌+◌, ◌-◌, ◌<◌, ◌≤◌, List, [], ◌∷◌, ◌++◌, flat_map, length, take, get_or, replicate}
-use Rattle.std.proofs.Common.{refl, sym, ap, ◌∙◌, append_assoc, arith}
-use Rattle.std.proofs.lemmas.List.{append-nil, take_more}
+use Rattle.std.proofs.Common.{refl, sym, ap, ◌∙◌, append_assoc, arith, suc, zero}
+use Rattle.std.proofs.lemmas.List.{append-nil, take_all, take_more}
 use Rattle.std.proofs.lemmas.List.Concat.{flat_map-append}
 use Rattle.share_bill.specs.declared.bill.total.Figures.{Figures}
 use Rattle.share_bill.specs.declared.bill.total.TenantTotal.{TenantTotal}
@@ -26,30 +26,33 @@ rows-more f xs i d text before after more was pushed =
 
 -- ---- Columns
 
-spaces : (n m : ℕ) → n ≤ m → take n (replicate m 32) ≡ replicate n 32
+abbrev pub filled_to : ℕ → List ℕ
+filled_to n = replicate n 32
+
+spaces : (n m : ℕ) → n ≤ m → take n (filled_to m) ≡ filled_to n
 spaces zero m few = refl
 spaces (suc n) zero few = cc
 spaces (suc n) (suc m) few = ap (λ bs. 32 ∷ bs) (spaces n m (omega (arith, few)))
 
-few_spaces : (width n k : ℕ) → width ≤ 20 → k ≡ width - n → take k (replicate 20 32) ≡ replicate (width - n) 32
-few_spaces width n k few is = spaces k 20 (omega (arith, few, is)) ∙ ap (λ j. replicate j 32) is
+few_spaces : (width n k : ℕ) → width ≤ 20 → k ≡ width - n → take k (filled_to 20) ≡ filled_to (width - n)
+few_spaces width n k few is = spaces k 20 (omega (arith, few, is)) ∙ ap filled_to is
 
 pub left-pushed : (k : ℕ) (old name one two : List ℕ) → k ≡ 16 - length name → one ≡ old ++ name
-    → two ≡ one ++ take k (replicate 20 32) → two ≡ old ++ left 16 name
+    → two ≡ one ++ take k (filled_to 20) → two ≡ old ++ left 16 name
 left-pushed k old name one two is named filled =
     filled
-    ∙ ap (λ bs. bs ++ take k (replicate 20 32)) named
-    ∙ append_assoc old name (take k (replicate 20 32))
+    ∙ ap (λ bs. bs ++ take k (filled_to 20)) named
+    ∙ append_assoc old name (take k (filled_to 20))
     ∙ ap (λ bs. old ++ (name ++ bs)) (few_spaces 16 (length name) k (omega arith) is)
 
 pub right-pushed : (width k : ℕ) (old digits text one two three : List ℕ) → width ≤ 20 → digits ≡ text
-    → k ≡ width - length digits → one ≡ old ++ 32 ∷ [] → two ≡ one ++ take k (replicate 20 32)
+    → k ≡ width - length digits → one ≡ old ++ 32 ∷ [] → two ≡ one ++ take k (filled_to 20)
     → three ≡ two ++ digits → three ≡ old ++ right width text
 right-pushed width k old digits text one two three few same is begun filled ended =
     ended
-    ∙ ap (λ bs. bs ++ digits) (filled ∙ ap (λ bs. bs ++ take k (replicate 20 32)) begun
-    ∙ append_assoc old (32 ∷ []) (take k (replicate 20 32)))
-    ∙ append_assoc old (32 ∷ take k (replicate 20 32)) digits
+    ∙ ap (λ bs. bs ++ digits) (filled ∙ ap (λ bs. bs ++ take k (filled_to 20)) begun
+    ∙ append_assoc old (32 ∷ []) (take k (filled_to 20)))
+    ∙ append_assoc old (32 ∷ take k (filled_to 20)) digits
     ∙ ap (λ bs. old ++ 32 ∷ (bs ++ digits)) (few_spaces width (length digits) k few is)
     ∙ ap (λ bs. old ++ right width bs) same
 
@@ -67,6 +70,10 @@ sums-more ts i d sum after more was joined =
     ∙ ap (λ s. plus s (get_or ts i d).sent) was
     ∙ sym (sum-last no_figures (take i ts) (get_or ts i d))
     ∙ ap sum_of (sym (take_more ts i d more))
+
+pub rows-all : {X : Type 0} (f : X → List ℕ) (xs : List X) (i : ℕ) (text before : List ℕ) → length xs ≤ i
+    → text ≡ before ++ flat_map f (take i xs) → text ≡ before ++ flat_map f xs
+rows-all f xs i text before all is = is ∙ ap (λ ys. before ++ flat_map f ys) (take_all i xs all)
 
 -- ---- A head before the rows
 

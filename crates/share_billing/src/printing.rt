@@ -124,7 +124,8 @@ fn push_table(text: &mut Vec<u8>, tenants: &[TenantTotal]) -> Result<(), AllocEr
     for tenant in tenants {
         push_table_row(text, tenant.name.as_bytes(), &tenant.sent)?;
     }
-    push_table_row(text, b"all tenants", &sum_of(tenants))
+    push_table_row(text, b"all tenants", &sum_of(tenants))?;
+    Ok(())
 }
 
 fn push_csv(text: &mut Vec<u8>, tenants: &[TenantTotal]) -> Result<(), AllocError>

@@ -2,7 +2,7 @@
 use Rattle.std.specs.Prelude.{◌≡◌, ◌<◌, ◌≤◌, ◌+◌, ◌⊎◌, ℕ, Bool, true, false, List, [], ◌∷◌, ◌++◌, length, take, drop, get_or}
 use Rattle.std.specs.Prelude.{codes, flat_map, map, nat_lt, Option, None, Some, IfSome, Err, if◌then◌else◌}
 use mathlib.Core.List.{append_assoc}
-use Rattle.std.proofs.Common.{refl, ap, sym, ◌∙◌, subst, arith, inl, inr, length-take}
+use Rattle.std.proofs.Common.{suc, ◌^◌, refl, ap, sym, ◌∙◌, subst, arith, inl, inr, length-take}
 use Rattle.std.proofs.Math.Seq.{drop-append_seam, take-append_seam, get_or-append_seam}
 use Rattle.std.proofs.lemmas.Bool.Decides.{leb_tells, nat_tests}
 use Rattle.std.proofs.lemmas.List.{append-nil, get_or_append_left, get_or-take, length-append, take_all, take-append-le}
@@ -46,7 +46,7 @@ use Rattle.share_bill.specs.Makings.{BillView, IsBookLink, TakesLine}
 use Rattle.share_bill.specs.Runs.{IsBillOf}
 use Rattle.share_bill.specs.Sums.{sums_at}
 use Rattle.share_bill.specs.Texts.{fed, text_of, next_number, cut_of, BeginsAsBook, IsBook, IsWrongText, IsWrongAfter}
-use Rattle.share_bill.specs.Texts.{IsNoFirst, other_first, first_long, no_first, IsNext, IsWrongNext}
+use Rattle.share_bill.specs.Texts.{IsFirstWrong, IsNoFirst, other_first, first_long, no_first, IsNext, IsWrongNext}
 use Rattle.share_bill.specs.Texts.{IsLongNext, KeepsBeginning, IsAhead, IsAt, HasReadAt, EndsAfter, InputFails}
 use Rattle.share_bill.specs.Texts.{PassesLine, TakesLines, TakesAll, IsFirstFault, IsTextFault}
 use Rattle.share_bill.specs.Texts.{read_failed, too_many_reads}
@@ -312,10 +312,11 @@ module _ {R : Type 0} (left : R → Option (List ℕ)) (gives : R → List ℕ �
 
     pub next-long : IsNextLine old.ahead OverLong new.line new.ahead
         → PassesLine left gives first passed NextLong new
-    next-long is = long-next old is.1.0 new.ahead at.0 is.1.1.0 is.1.1.1
+    next-long is = long-next old is.1.0 new.ahead at.0 is.1.1 is.1.2
 
     pub next-none : IsNextLine old.ahead Unfinished new.line new.ahead → HasReadAt left gives first n passed new
-    next-none is = (none-passed old new at.0 same is.1 is.2.1, at.1)
+    unfolding none-passed
+    next-none is = (none-passed old new at.0 same is.1 is.3, at.1)
 
   -- a read
   module _ (n : ℕ) (old new : Connection R) (at : HasReadAt left gives first n passed old) where
@@ -323,9 +324,11 @@ module _ {R : Type 0} (left : R → Option (List ℕ)) (gives : R → List ℕ �
     read_more a b few = omega arith
 
     pub next-bytes : (k : ℕ) → Came left gives old (Bytes k) new → HasReadAt left gives first (n + 1) passed new
+    unfolding bytes-came read_on
     next-bytes k did = (bytes-came old new at.0 k did, read_more n at.0.count at.1)
 
     pub next-interrupted : Came left gives old Interrupted new → HasReadAt left gives first (n + 1) passed new
+    unfolding none-came read_on
     next-interrupted did = (none-came old new at.0 did, read_more n at.0.count at.1)
 
 -- ---- Lines of a run
@@ -377,8 +380,8 @@ module _ {R : Type 0} (left : R → Option (List ℕ)) (gives : R → List ℕ �
   line-taken old new before after number was passes range takes book = record {
     lines = was.lines ++ after.line ∷ [];
     events = was.events ++ takes.obeys.makes.event ∷ [];
-    bill_is = bill-more rates (subst AreInRange was.bill_is.rates_are range) was.lines was.events old new after.line
-        was.bill_is takes book;
+    bill_is = bill-more rates (subst AreInRange was.bill_is.rates_are range) was.lines was.events old new
+        was.bill_is after.line takes book;
     clean = each-append NoFeed was.lines (after.line ∷ []) was.clean (passes.0, tt);
     number_is =
         let n = length-append was.lines (after.line ∷ []) in
@@ -408,6 +411,7 @@ module _ {R : Type 0} (left : R → Option (List ℕ)) (gives : R → List ℕ �
       → PassesLine left gives first (text_of bill.kind was.lines) NextLine after
       → next_event bill.kind bill.link.live after.line ≡ Err wrong
       → IsTextFault left gives first rates (LineFault number wrong)
+  unfolding begins
   line-wrong bill before after number wrong was passes is =
       let passed = text_of bill.kind was.lines in
       at-text left gives first (passed ++ fed after.line) after
@@ -428,12 +432,13 @@ module _ {R : Type 0} (left : R → Option (List ℕ)) (gives : R → List ℕ �
       (was : TakesLines left gives first rates bill c number)
       → IfSome start (λ bytes. (rest : List ℕ) × (bytes ≡ text_of bill.kind was.lines ++ rest) × IsLongNext rest)
       → IfSome start (λ bytes. IsWrongText rates bytes number Long)
+  unfolding begins
   long_text None bill c number was long = tt
   long_text (Some bytes) bill c number was long = inr record {
     kind = bill.kind;
-    book = begins bill c number was bytes long.0 long.1.0;
+    book = begins bill c number was bytes long.0 long.1;
     number_is = was.number_is;
-    next_is = inl (long.1.1, refl);
+    next_is = inl (long.2, refl);
   }
 
   pub line-long : (bill : BillView W) (before after : Connection R) (number : ℕ)
@@ -478,16 +483,16 @@ module _ {R : Type 0} (left : R → Option (List ℕ)) (gives : R → List ℕ �
       lines = was.lines;
       events = was.events;
       rest = ends.0;
-      text = ends.1.0;
+      text = ends.1;
       clean = was.clean;
       are = was.bill_is.are;
       may = was.bill_is.may;
     };
-    clean = ends.1.1.0;
+    clean = ends.2;
     rows_are = rows_are;
     cut_is = cut_is
         ∙ (ap (λ n. cut_of n c.ahead) was.number_is
-        ∙ ap (λ (b : Bool). if b then Some (next_number was.lines) else None) ends.1.1.1);
+        ∙ ap (λ (b : Bool). if b then Some (next_number was.lines) else None) ends.3);
   }
 
   pub book-billed : (bill : BillView W) (c : Connection R) (number : ℕ) (rows : List TenantBill) (cut : Option ℕ)
@@ -526,13 +531,13 @@ module _ {R : Type 0} (left : R → Option (List ℕ)) (gives : R → List ℕ �
   pub first-other : (c : Connection R) → PassesLine left gives first [] NextLine c → kind_of c.line ≡ None
       → IsFirstFault left gives first (LineFault 1 First)
   first-other c passes is =
-      at-text left gives first (fed c.line) c (λ bytes. IsNoFirst bytes × (1 ≡ 1) × (First ≡ First)) passes.1
+      at-text left gives first (fed c.line) c (λ bytes. IsFirstWrong bytes 1 First) passes.1
       (λ rest. (other_first c.line record { more = rest; is = refl; clean = passes.0 } is, refl, refl))
 
   long_first : (start : Option (List ℕ)) → IfSome start (λ bytes. (rest : List ℕ) × (bytes ≡ rest) × IsLongNext rest)
-      → IfSome start (λ bytes. IsNoFirst bytes × (1 ≡ 1) × (First ≡ First))
+      → IfSome start (λ bytes. IsFirstWrong bytes 1 First)
   long_first None long = tt
-  long_first (Some bytes) long = (subst IsNoFirst (sym long.1.0) (first_long long.1.1), refl, refl)
+  long_first (Some bytes) long = (subst IsNoFirst (sym long.1) (first_long long.2), refl, refl)
 
   pub first-long : (c : Connection R) → PassesLine left gives first [] NextLong c
       → IsFirstFault left gives first (LineFault 1 First)
@@ -541,16 +546,16 @@ module _ {R : Type 0} (left : R → Option (List ℕ)) (gives : R → List ℕ �
   none_first : (start : Option (List ℕ)) (c : Connection R)
       → IfSome start (λ bytes. (rest : List ℕ) × (bytes ≡ rest) × NoFeed rest
       × (nat_lt 0 (length c.ahead) ≡ nat_lt 0 (length rest)))
-      → IfSome start (λ bytes. IsNoFirst bytes × (1 ≡ 1) × (First ≡ First))
+      → IfSome start (λ bytes. IsFirstWrong bytes 1 First)
   none_first None c ends = tt
-  none_first (Some bytes) c ends = (subst IsNoFirst (sym ends.1.0) (no_first ends.1.1.0), refl, refl)
+  none_first (Some bytes) c ends = (subst IsNoFirst (sym ends.1) (no_first ends.2), refl, refl)
 
   pub first-none : (c : Connection R) → PassesLine left gives first [] NextEnd c
       → IsFirstFault left gives first (LineFault 1 First)
   first-none c passes = none_first (left first) c passes
 
   first_fault : (rates : List Rate) (start : Option (List ℕ)) (number : ℕ) (wrong : Wrong)
-      → IfSome start (λ bytes. IsNoFirst bytes × (number ≡ 1) × (wrong ≡ First))
+      → IfSome start (λ bytes. IsFirstWrong bytes number wrong)
       → IfSome start (λ bytes. IsWrongText rates bytes number wrong)
   first_fault rates None number wrong is = tt
   first_fault rates (Some bytes) number wrong is = inl is

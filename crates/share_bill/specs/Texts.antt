@@ -86,6 +86,10 @@ pub data IsNoFirst (rest : List ℕ) : Type 0 where
   first_long : IsLongNext rest → IsNoFirst rest
   no_first : NoFeed rest → IsNoFirst rest
 
+-- the first line is wrong
+abbrev pub IsFirstWrong : List ℕ → ℕ → Wrong → Type 0
+IsFirstWrong bytes number wrong = IsNoFirst bytes × (number ≡ 1) × (wrong ≡ First)
+
 -- what is wrong with what comes next, by the link of the lines so far
 abbrev pub IsWrongNext : Kind → Live → List ℕ → Wrong → Type 0
 IsWrongNext kind l rest wrong = (IsLongNext rest × (wrong ≡ Long))
@@ -100,7 +104,7 @@ pub record IsWrongAfter (rates : List Rate) (bytes : List ℕ) (number : ℕ) (w
 
 abbrev pub IsWrongText : List Rate → List ℕ → ℕ → Wrong → Type 0
 IsWrongText rates bytes number wrong =
-    (IsNoFirst bytes × (number ≡ 1) × (wrong ≡ First)) ⊎ IsWrongAfter rates bytes number wrong
+    IsFirstWrong bytes number wrong ⊎ IsWrongAfter rates bytes number wrong
 
 -- Reads of the text
 
@@ -155,8 +159,7 @@ module _ {R : Type 0} (left : R → Option (List ℕ)) (gives : R → List ℕ �
   abbrev pub IsFirstFault : NotBilled → Type 0
   IsFirstFault Input = InputFails gives first
   IsFirstFault NoMemory = ⊥
-  IsFirstFault (LineFault number wrong) =
-      IfSome (left first) (λ bytes. IsNoFirst bytes × (number ≡ 1) × (wrong ≡ First))
+  IsFirstFault (LineFault number wrong) = IfSome (left first) (λ bytes. IsFirstWrong bytes number wrong)
 
   -- why the text has no bill. Of memory that was refused nothing is said
   abbrev pub IsTextFault : List Rate → NotBilled → Type 0

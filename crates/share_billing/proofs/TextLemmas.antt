@@ -31,7 +31,7 @@ filled_to n = replicate n 32
 
 spaces : (n m : ℕ) → n ≤ m → take n (filled_to m) ≡ filled_to n
 spaces zero m few = refl
-spaces (suc n) zero few = cc
+spaces (suc n) zero few = let bad : ⊥ = omega (arith, few) in absurd bad
 spaces (suc n) (suc m) few = ap (λ bs. 32 ∷ bs) (spaces n m (omega (arith, few)))
 
 few_spaces : (width n k : ℕ) → width ≤ 20 → k ≡ width - n → take k (filled_to 20) ≡ filled_to (width - n)

@@ -116,7 +116,8 @@ fn first_line<I: TellingReader + Drop>(lines: &mut IncomingLines<I>) -> Result<K
             Some(kind) => Ok(kind),
             None => Err(wrong(1, Wrong::First)),
         },
-        Next::Long | Next::End => Err(wrong(1, Wrong::First)),
+        Next::Long => Err(wrong(1, Wrong::First)),
+        Next::End => Err(wrong(1, Wrong::First)),
         Next::Failed => Err(NotBilled::Input),
     }
 }

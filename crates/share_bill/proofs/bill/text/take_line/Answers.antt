@@ -1,0 +1,23 @@
+use Rattle.std.proofs.Common.{subst}
+use Rattle.share_bill.specs.Makings.{TakesLine}
+use Rattle.share_bill.proofs.TextLemmas.{line-taken, line-wrong, line-long}
+use Rattle.share_bill.proofs.bill.text.take_line.Goals as goal
+
+pub returns-in-Ok : goal.returns-in-Ok
+returns-in-Ok g c = λ first rates was.
+    line-taken _ _ first rates c.args.bill.now c.line-in-Line.new.self c.args.lines.now c.next_line.new.lines
+    c.args.number was (c.in-Line.ensures first _ was.at) c.in-Ok.ensures.range
+    (subst (λ l. TakesLine c.args.bill.now l c.line-in-Line.new.self) c.line.ensures c.in-Ok.ensures.takes)
+    c.in-Ok.ensures.book
+
+pub returns-in-Err-Wrong : goal.returns-in-Err-Wrong
+returns-in-Err-Wrong g c = λ first rates was. rw c.wrong.ensures ?
+
+pub returns-in-Long : goal.returns-in-Long
+returns-in-Long g c = λ first rates was.
+    rw c.wrong-in-Long.ensures
+    (line-long _ _ first rates c.args.bill.now c.args.lines.now c.next_line.new.lines c.args.number was
+    (c.in-Long.ensures first _ was.at))
+
+pub returns-in-Failed : goal.returns-in-Failed
+returns-in-Failed g c = λ first rates was. c.in-Failed.ensures first _ was.at

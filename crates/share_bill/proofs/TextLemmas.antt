@@ -1,6 +1,6 @@
 -- How the text of a book is passed, line by line.
 use Rattle.std.specs.Prelude.{◌≡◌, ◌<◌, ◌≤◌, ◌+◌, ◌⊎◌, ℕ, Bool, true, false, List, [], ◌∷◌, ◌++◌, length, take, drop, get_or}
-use Rattle.std.specs.Prelude.{codes, flat_map, map, nat_lt, Option, None, Some, IfSome, Err, if◌then◌else◌}
+use Rattle.std.specs.Prelude.{codes, flat_map, map, nat_lt, Option, None, Some, IfSome, Result, Ok, Err, IsErrAnd, MatchResult, if◌then◌else◌}
 use mathlib.Core.List.{append_assoc}
 use Rattle.std.proofs.Common.{suc, ◌^◌, refl, ap, sym, ◌∙◌, subst, arith, inl, inr, length-take}
 use Rattle.std.proofs.Math.Seq.{drop-append_seam, take-append_seam, get_or-append_seam}
@@ -503,6 +503,14 @@ module _ {R : Type 0} (left : R → Option (List ℕ)) (gives : R → List ℕ �
   book-billed bill c number rows cut was rows_are cut_is =
       book_text (left first) bill c number rows cut was
       (rows_are ∙ rows-are rates was.lines was.events bill was.bill_is) cut_is was.ends
+
+-- ---- Faults
+
+-- a fault that is handed on is the same fault
+pub fault-kept : {X : Type 0} (P : NotBilled → Type 0) (r : Result X NotBilled) (A : X → Type 0) (fault : NotBilled)
+    → IsErrAnd r (λ y. y ≡ fault) → P fault → MatchResult r A P
+fault-kept P (Ok x) A fault is p = absurd is
+fault-kept P (Err y) A fault is p = subst P (sym is) p
 
 -- ---- The first line
 

@@ -102,6 +102,13 @@ impl<S: Rates> Bill<S> {
         }
     }
 
+    /// The kind of the book.
+    pub fn kind(&self) -> Kind
+        ensures { result ≡ self.now.kind }
+    {
+        self.kind
+    }
+
     /// What each tenant sent, in the order in which their flows were opened.
     pub fn rows(&self, alloc: Global) -> Result<Vec<TenantBill>, AllocError>
         ensures { IfOk result (λ rows. rows.items

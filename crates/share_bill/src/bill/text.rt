@@ -1,7 +1,7 @@
 //! The bill of a whole text.
 ghost use Rattle.std.specs.Prelude.{◌≡◌, ◌+◌, [], ℕ, List, MatchBool, MatchOption, MatchResult};
 ghost use Rattle.share_model.specs.declared.rates.Rate.{Rate};
-ghost use Rattle.share_bill.specs.Texts.{text_of, HasReadAt, IsAt, PassesLine, IsFirstFault, IsTextFault};
+ghost use Rattle.share_bill.specs.Texts.{text_of, cut_of, HasReadAt, IsAt, PassesLine, IsFirstFault, IsTextFault};
 ghost use Rattle.share_bill.specs.Texts.{TakesLines, TakesAll, Bills};
 
 use super::kind::kind_of;
@@ -167,21 +167,30 @@ fn take_lines<S: Rates, I: TellingReader + Drop>(
     Err(wrong(MAX_LIFE + 3, Wrong::Spent))
 }
 
+// The number of the line that would come next, if bytes of it came.
+fn cut_line<I: TellingReader + Drop>(lines: &IncomingLines<I>, next: u64) -> Option<u64>
+    ensures { result ≡ cut_of next lines.now.ahead }
+{
+    if lines.has_more() { Some(next) } else { None }
+}
+
 // The bill of a book whose lines are taken by a run, which stays its caller's.
 fn bill_by<S: Rates, I: TellingReader + Drop>(
     alloc: Global,
-    kind: Kind,
     bill: &mut Bill<S>,
     lines: &mut IncomingLines<I>,
 ) -> Result<BookBill, NotBilled>
-    ensures { (first : I) (rates : List Rate) → bill.old.kind ≡ kind
-        → TakesLines I.left I.gives first rates bill.old lines.old 2
+    ensures { (first : I) (rates : List Rate) → TakesLines I.left I.gives first rates bill.old lines.old 2
         → Bills I.left I.gives first rates result }
 {
     let next = take_lines(alloc, bill, lines)?;
     let rows = bill.rows(alloc)?;
-    let cut = if lines.has_more() { Some(next) } else { None };
-    Ok(BookBill { kind, rows, cut })
+    let cut = cut_line(lines, next);
+    Ok(BookBill {
+        kind: bill.kind(),
+        rows,
+        cut,
+    })
 }
 
 // The bill of a book whose lines stay the caller's.
@@ -197,7 +206,7 @@ fn bill_lines<S: Rates + Drop, I: TellingReader + Drop>(
     let Ok(mut bill) = Bill::new(alloc, kind, shelf) else {
         return Err(NotBilled::NoMemory);
     };
-    let billed = bill_by(alloc, kind, &mut bill, lines);
+    let billed = bill_by(alloc, &mut bill, lines);
     drop(bill);
     billed
 }

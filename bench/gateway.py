@@ -16,7 +16,7 @@ import time
 from bench import PROGRAM, ROUNDS, build_crate, median, run
 
 USED = ("share_base", "share_model", "share_ledger", "share_stride", "share_tariff", "share_flows", "share_frame",
-        "share_core", "share_report", "share_script", "share_journal", "share_ingress", "share_gateway", "share_book")
+        "share_core", "share_report", "share_text", "share_script", "share_journal", "share_ingress", "share_gateway", "share_book")
 SOURCES = ("main", "books", "streams")
 FEW, MANY = 10_000, 210_000
 COUNTED = 20_000

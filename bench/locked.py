@@ -16,7 +16,7 @@ import time
 from bench import ROUNDS, build_crate, build_plain, instructions, median, run
 
 USED = ("share_base", "share_model", "share_ledger", "share_stride", "share_tariff", "share_flows", "share_frame",
-        "share_core", "share_report", "share_script", "share_journal", "share_ingress", "share_locked")
+        "share_core", "share_report", "share_text", "share_script", "share_journal", "share_ingress", "share_locked")
 SOURCES = ("main", "made", "packets", "beside", "idle", "tariffs")
 PACKETS = (10_000, 110_000)
 COUNTED = (1_000, 11_000)

@@ -145,7 +145,7 @@ def refusals(run):
 
 def lines_and_answers(run):
     """The first word of each line and each answer of the sources stands in the page; so do the totals of a report."""
-    reading, replies = source("share_script", "reading.rt"), source("share_script", "replies.rt")
+    reading, replies = source("share_text", "reading.rt"), source("share_text", "replies.rt")
     keywords = sorted(set(re.findall(r'is_word\(keyword, b"(\w+)"\)', reading)))
     lines = re.findall(r"^     (\w+)", section(page(FORMATS), "SCRIPT LINES"), re.MULTILINE)
     expect(set(keywords) <= set(lines) and len(keywords) >= 16, "lines not in the page: %s of %s"

@@ -17,8 +17,8 @@ use Rattle.share_model.specs.link.Arrivals.{arrive_step}
 use Rattle.share_model.specs.link.Turns.{Sending, sending, rest_of}
 use Rattle.share_model.specs.run.Sound.{max_life}
 use Rattle.share_model.specs.text.Lines.{reading, words_of}
-use Rattle.share_script.specs.Lengths.{length_of}
-use Rattle.share_script.specs.declared.lengths.Length.{Length}
+use Rattle.share_text.specs.Lengths.{length_of}
+use Rattle.share_text.specs.declared.lengths.Length.{Length}
 use Rattle.share_bill.specs.declared.bill.kind.Kind.{Kind}
 use Rattle.share_bill.specs.declared.bill.kind.Kind.TheVariants.{Whole, Lengths}
 use Rattle.share_bill.specs.declared.bill.line.Wrong.{Wrong}

@@ -5,7 +5,7 @@ use Rattle.std.proofs.Math.Seq.{take-add}
 use Rattle.std.proofs.lemmas.List.{length-append, length-drop, length-take-le}
 use Rattle.share_model.specs.text.Lines.{hex}
 use Rattle.share_model.proofs.lemmas.text.WordLaws.{length-hex}
-use Rattle.share_script.proofs.HexLemmas.{hex_append}
+use Rattle.share_text.proofs.HexLemmas.{hex_append}
 use Rattle.share_book.specs.Texts.{TextView, text_room, with_bytes}
 
 pub hex-piece : (bytes : List ℕ) (at count : ℕ)

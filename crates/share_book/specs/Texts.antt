@@ -3,7 +3,7 @@ use Rattle.std.specs.Prelude.{◌-◌, ℕ, List, ◌++◌, drop, length, codes}
 use Rattle.share_base.specs.declared.command.Event.{Event}
 use Rattle.share_base.specs.declared.command.Event.TheVariants.{Commanded, Arrived, Written, Faulted}
 use Rattle.share_model.specs.text.Audit.{event_line, written_line}
-use Rattle.share_script.specs.Lengths.{length_line}
+use Rattle.share_text.specs.Lengths.{length_line}
 use Rattle.share_book.specs.declared.book_text.TextKind.{TextKind}
 use Rattle.share_book.specs.declared.book_text.TextKind.TheVariants.{Whole, Lengths}
 

@@ -7,7 +7,7 @@ ghost use Rattle.share_journal.specs.Entries.{events_in};
 use crate::entry::Entry;
 use share_base::Version;
 use share_model::{Fault, Line, TellingWriter};
-use share_script::{write_event, write_line};
+use share_text::{write_event, write_line};
 
 /// Writes the line of the version, and then for each entry the line that makes its event.
 pub fn write_audit<V: TellingWriter>(

@@ -13,7 +13,7 @@ use Rattle.share_model.specs.io.Told.{Told, TapeAnswers}
 use Rattle.share_model.proofs.lemmas.text.EventsLaws.{after-state}
 use Rattle.share_model.specs.text.Talk.{start_of_script, talk, after, lines_of}
 use Rattle.share_model.specs.io.Printing.{AppendsPart}
-use Rattle.share_script.specs.Printing.{out_line}
+use Rattle.share_text.specs.Printing.{out_line}
 use Rattle.share_model.specs.declared.reader.Got.{Got}
 use Rattle.share_model.specs.declared.writer.Answer.{Answer}
 use Rattle.share_script.specs.declared.script.ScriptFault.{ScriptFault}

@@ -4,7 +4,7 @@ use Rattle.std.specs.Io.KnownBytes.{Appends, Consumes}
 use Rattle.share_model.specs.declared.rates.Rate.{Rate}
 use Rattle.share_model.specs.run.Fold.{out}
 use Rattle.share_model.specs.text.Talk.{start_of_script, talk, after, lines_of}
-use Rattle.share_script.specs.Printing.{out_line}
+use Rattle.share_text.specs.Printing.{out_line}
 
 -- the text of a whole run, in which these lines found no memory
 abbrev pub printout : ℕ → List Rate → List Bool → List ℕ → List ℕ

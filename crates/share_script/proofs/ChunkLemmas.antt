@@ -7,7 +7,7 @@ use Rattle.std.proofs.lemmas.List.{take_all, take_more, length-drop, length-take
 use Rattle.std.proofs.lemmas.Bool.Decides.{nat_tests}
 use Rattle.share_model.specs.text.Talk.{is_feed}
 use Rattle.share_script.specs.Script.{NoFeed}
-use Rattle.share_script.proofs.WordLemmas.{passes_before, nowhere}
+use Rattle.share_text.proofs.WordLemmas.{passes_before, nowhere}
 
 pub feed_byte : (b : ℕ) → is_feed b ≡ true → b ≡ 10
 feed_byte b e = grind (arith, nat_tests)

@@ -19,7 +19,7 @@ use Rattle.share_script.specs.declared.lines.Incoming.{Incoming}
 use Rattle.share_script.specs.declared.lines.Incoming.TheVariants.{Line, OverLong, Unfinished}
 use Rattle.share_script.proofs.ChunkLemmas.{feed_byte}
 use Rattle.share_script.proofs.LineLemmas.{SameLines, clean_cut, cut_or_long}
-use Rattle.share_script.proofs.WordLemmas.{passes_before}
+use Rattle.share_text.proofs.WordLemmas.{passes_before}
 
 -- Lines of all that comes
 

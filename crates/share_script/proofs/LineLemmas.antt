@@ -14,7 +14,7 @@ use Rattle.share_model.specs.text.Talk.{after}
 use Rattle.share_model.specs.text.Talk.{is_feed, last_line, without_empty_end, lines_of}
 use Rattle.share_model.proofs.lemmas.text.FeedLaws.{lines-feed}
 use Rattle.share_script.specs.Script.{NoFeed}
-use Rattle.share_script.proofs.ReadingLemmas.{too_long}
+use Rattle.share_text.proofs.ReadingLemmas.{too_long}
 
 -- Lines
 

@@ -1,7 +1,6 @@
 -- What was printed on a writer, and what waits to be printed.
-use Rattle.std.specs.Prelude.{◌≡◌, ℕ, List, [], ◌∷◌, ◌++◌, codes, Option}
+use Rattle.std.specs.Prelude.{◌≡◌, ℕ, List, ◌++◌, Option}
 use Rattle.std.specs.Io.KnownBytes.{Appends}
-use Rattle.share_model.specs.text.Lines.{hex}
 
 -- a text was printed, after what waited before: some of it is out, and the rest waits
 pub record Spooled (before : Option (List ℕ)) (waited : List ℕ) (after : Option (List ℕ)) (waits : List ℕ)
@@ -17,11 +16,3 @@ pub record SpooledPart (before : Option (List ℕ)) (waited : List ℕ) (after :
   pub rest : List ℕ
   pub appends : Appends before after out
   pub same : waited ++ text ≡ out ++ rest
-
--- the line of a link's bytes: their digits, or a hyphen where there are none
-abbrev pub digits_or_hyphen : List ℕ → List ℕ
-digits_or_hyphen [] = codes "-"
-digits_or_hyphen (b ∷ bs) = hex (b ∷ bs)
-
-abbrev pub out_line : List ℕ → List ℕ
-out_line bs = codes "out " ++ (digits_or_hyphen bs ++ codes "\n")

@@ -14,14 +14,13 @@ ghost use Rattle.share_script.specs.Printing.{Spooled, SpooledPart};
 ghost use Rattle.share_script.specs.Script.{is_torn};
 ghost use Rattle.share_script.specs.Session.{answer_text};
 
-use crate::reading::read_line;
-use crate::replies::push_line;
 use crate::script::ScriptFault;
-use crate::spool::{LONGEST, SPOOL, Spool};
+use crate::spool::{SPOOL, Spool};
 use share_base::{Command, Outcome, Refusal, Reply, Turn, Version};
 use share_core::Engine;
 use share_model::{Line, Rates, TellingWriter};
 use share_report::report;
+use share_text::{MAX_ANSWER, push_line, read_line};
 use std::alloc::Global;
 use std::marker::Model;
 
@@ -246,7 +245,7 @@ pub fn print<W, S: Rates, O: TellingWriter>(
     output: &mut O,
     line_answer: &LineAnswer,
 ) -> Result<(), ScriptFault>
-    requires { length spool.old + LONGEST ≤ SPOOL }
+    requires { length spool.old + MAX_ANSWER ≤ SPOOL }
     ensures spooled { MatchResult result
         (λ _. Spooled (bytes_told (O.told output.old)) spool.old (bytes_told (O.told output.new))
         spool.new (answer_text engine.now.live line_answer.now))

@@ -1,7 +1,7 @@
 //! The beginning of a line that a chunk left unfinished.
 ghost use Rattle.std.specs.Prelude.{◌≡◌, ◌↔◌, ◌++◌, [], take, IfOk, IsTrue};
 
-use crate::reading::MAX_LINE;
+use share_text::MAX_LINE;
 use std::alloc::{AllocError, Global};
 use std::marker::Model;
 

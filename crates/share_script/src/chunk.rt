@@ -2,7 +2,6 @@
 ghost use Rattle.std.specs.Prelude.{◌≡◌, ◌≤◌, [], drop, length, IfOk};
 ghost use Rattle.share_script.specs.Lines.{ReadCall};
 
-use crate::reading::zeros;
 use share_model::{Got, TellingReader};
 use std::alloc::{AllocError, Global};
 use std::marker::Model;
@@ -35,7 +34,7 @@ impl Chunk {
         ensures { IfOk result (λ chunk. chunk ≡ []) }
     {
         Ok(Chunk {
-            buffer: zeros(alloc, CHUNK)?,
+            buffer: vec![in alloc; 0u8; CHUNK]?,
             at: 0,
             end: 0,
         })

@@ -1,23 +1,7 @@
-//! What holds of every line that is written, and of the lines of every connection. The functions here do nothing:
-//! their contracts are laws, which are proved with them.
-ghost use Rattle.std.specs.Prelude.{◌≡◌, ◌++◌, ◌∷◌, ℕ, List, Option, true, false, Ok, Err, codes};
-ghost use Rattle.share_base.specs.declared.refusal.Refusal.TheVariants.{Range};
-ghost use Rattle.share_base.specs.declared.version.Version.{Version};
-ghost use Rattle.share_model.specs.declared.line.Line.{Line};
-ghost use Rattle.share_model.specs.text.Lines.{IsLine, is_in_range, reading, spelling_of};
-ghost use Rattle.share_model.specs.text.Talk.{lines_of};
+//! What holds of the lines of every connection. The function here does nothing: its contract is a law, which is proved
+//! with it.
+ghost use Rattle.std.specs.Prelude.{◌≡◌, ◌++◌, ℕ, List, Option};
 ghost use Rattle.share_script.specs.Lines.{Took, incoming_lines};
-
-/// What is written of lines is read as these lines: their bytes fall into the same lines again, one for each, and each
-/// is read as what was written, or refused as `Range` where it is out of range in the version of the link.
-pub fn written_lines_are_read()
-    ensures apart { (l : Line) (rest : List ℕ) → IsLine l
-        → lines_of ((spelling_of l ++ codes "\n") ++ rest) ≡ spelling_of l ∷ lines_of rest }
-    ensures read { (version : Version) (l : Line) → IsLine l → is_in_range version l ≡ true
-        → reading version (spelling_of l) ≡ Ok l }
-    ensures refused { (version : Version) (l : Line) → IsLine l → is_in_range version l ≡ false
-        → reading version (spelling_of l) ≡ Err Range }
-{}
 
 /// Whatever was read of a connection and taken of it so far, and whatever comes behind, the lines of the whole text are
 /// those that were given, and then those of what is ahead.

@@ -5,30 +5,17 @@
 mod answers;
 mod carry;
 mod chunk;
-mod hex;
 mod laws;
-mod lengths;
 mod lines;
-mod payload;
-mod reading;
-mod replies;
 mod script;
-mod spelled;
-mod spelling;
 mod spool;
-mod text;
-mod words;
-mod writing;
 
-pub use hex::{print_bytes, spell};
-pub use laws::{lines_given_are_of_the_text, written_lines_are_read};
-pub use lengths::{Length, read_length};
+pub use laws::lines_given_are_of_the_text;
 pub use lines::{Incoming, IncomingLines};
-pub use reading::read_line;
 pub use script::{ScriptFault, run_script};
 pub use share_model::{Fault, Line, Tape};
-pub use spelled::{
-    MAX_SEND_LINE, MAX_SHORT_LINE, spelled_command, spelled_length, spelled_send, spelled_turn,
+pub use share_text::{
+    Length, MAX_SEND_LINE, MAX_SHORT_LINE, ShortText, print_bytes, read_length, read_line, spell,
+    spelled_command, spelled_length, spelled_send, spelled_turn, write_event, write_line,
+    write_reply, write_turn, written_lines_are_read,
 };
-pub use text::ShortText;
-pub use writing::{write_event, write_line, write_reply, write_turn};

@@ -4,9 +4,9 @@ ghost use Rattle.share_script.specs.Lines.{IsNextLine, IsUnfinished, IsPieceKept
 
 use crate::carry::Carry;
 use crate::chunk::Chunk;
-use crate::reading::MAX_LINE;
 use memchr::memchr;
 use share_model::{Got, TellingReader};
+use share_text::MAX_LINE;
 use std::alloc::{AllocError, Global};
 use std::marker::Model;
 

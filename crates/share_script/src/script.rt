@@ -16,7 +16,6 @@ ghost use Rattle.share_script.specs.Session.{HoldsScript};
 use crate::answers::{Session, answer, print};
 use crate::carry::Carry;
 use crate::chunk::CHUNK;
-use crate::reading::zeros;
 use crate::spool::Spool;
 use memchr::memchr;
 use share_core::Engine;
@@ -137,7 +136,7 @@ fn run_lines<S: Rates + Drop, I: TellingReader, O: TellingWriter>(
     ensures memory { result ≡ Err ScriptFault.NoMemory → FoundNone I.gives (2 ^ 32) input.old input.new
         TapeAnswers session.old.link.writer O.answers output.old output.new }
 {
-    let mut chunk = zeros(alloc, CHUNK)?;
+    let mut chunk = vec![in alloc; 0u8; CHUNK]?;
     let carry = Carry::new(alloc)?;
     let spool = Spool::new(alloc)?;
     let mut pending = Pending { carry, spool };

@@ -4,17 +4,14 @@ ghost use Rattle.share_model.specs.io.Calls.{Offers, OfferRefused};
 ghost use Rattle.share_model.specs.io.Printing.{bytes_told};
 ghost use Rattle.share_script.specs.Printing.{Spooled, SpooledPart};
 
-use crate::text::{MAX_DIGITS, Text};
 use itoa::Buffer;
 use share_model::{Fault, TellingWriter, put};
+use share_text::{MAX_ANSWER, MAX_DIGITS, Text};
 use std::alloc::{AllocError, Global};
 use std::marker::Model;
 
 /// How many bytes wait at most.
 pub(crate) const SPOOL: usize = 65536;
-
-/// How many bytes an answer has at most, with its line feed.
-pub(crate) const LONGEST: usize = 128;
 
 /// Answers that are put together in one buffer and written together. A contract sees them as their bytes.
 #[derive(Drop)]
@@ -79,11 +76,11 @@ impl Spool {
             self.new [])
             (λ _. SpooledPart (bytes_told (O.told output.old)) self.old
             (bytes_told (O.told output.new)) []) }
-        ensures room { OnOk result (length self.new + LONGEST ≤ SPOOL) }
+        ensures room { OnOk result (length self.new + MAX_ANSWER ≤ SPOOL) }
         ensures offers { MatchResult result (λ _. Offers O.answers output.old output.new)
             (λ _. OfferRefused O.answers output.old output.new) }
     {
-        if self.bytes.len() + LONGEST <= SPOOL {
+        if self.bytes.len() + MAX_ANSWER <= SPOOL {
             return Ok(());
         }
         self.put_out(output)

@@ -1,4 +1,4 @@
-use Rattle.share_script.proofs.TextLemmas.{pushed_two_digits}
+use Rattle.share_text.proofs.TextLemmas.{pushed_two_digits}
 use Rattle.share_script.proofs.spool.Spool.push_two_digits.Goals as goal
 
 pub returns-clause-bytes : goal.returns-clause-bytes

@@ -1,6 +1,0 @@
-use Rattle.std.proofs.Common.{length}
-use Rattle.share_script.proofs.HexLemmas.{SpelledUpTo}
-use Rattle.share_script.proofs.hex.spell.Given as goal
-
-abbrev pub invariant-loop-place : goal.invariant-loop-place
-invariant-loop-place l = SpelledUpTo l.bytes l.text (length l.initial.text) l.place

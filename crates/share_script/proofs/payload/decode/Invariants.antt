@@ -1,6 +1,0 @@
-use Rattle.std.proofs.Common.{◌*◌}
-use Rattle.share_script.specs.Digits.{DecodesUpTo}
-use Rattle.share_script.proofs.payload.decode.Given as goal
-
-abbrev pub invariant-loop-block : goal.invariant-loop-block
-invariant-loop-block l = DecodesUpTo l.word l.bytes (16 * l.block) l.greatest

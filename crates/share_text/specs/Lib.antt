@@ -1,0 +1,4 @@
+pub mod Digits
+pub mod Lengths
+pub mod Printing
+pub mod Words

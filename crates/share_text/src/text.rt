@@ -1,0 +1,91 @@
+//! Text that is put together before it is written.
+ghost use Rattle.std.specs.Prelude.{◌≡◌, ◌≤◌, ◌+◌, ◌++◌, ℕ, List, [], length, decimal};
+
+use arrayvec::ArrayVec;
+use itoa::Buffer;
+use std::marker::Model;
+
+/// The room for any line or answer. The longest is the line of a packet, with 18022 bytes and a line feed.
+pub(crate) const ROOM: usize = 18432;
+
+/// How many digits the decimal of a number has at most.
+pub const MAX_DIGITS: usize = 20;
+
+/// Text that is put together in a room of `N` bytes.
+pub trait Text {
+    /// Its bytes.
+    ghost held: { Self → List ℕ };
+
+    /// How many bytes it has room for.
+    ghost room: { ℕ };
+
+    /// Adds a text at the end.
+    fn push_str(&mut self, text: &str)
+        requires { length (held self.old) + length text.now ≤ room }
+        ensures bytes { held self.new ≡ held self.old ++ text.now }
+        ensures long { length (held self.new) ≡ length (held self.old) + length text.now };
+
+    /// Adds the decimal of a number at the end: 20 bytes at most.
+    fn push_number(&mut self, number: u64)
+        requires { length (held self.old) + MAX_DIGITS ≤ room }
+        ensures bytes { held self.new ≡ held self.old ++ decimal number }
+        ensures few { length (held self.new) ≤ length (held self.old) + MAX_DIGITS };
+}
+
+/// A text of at most `N` bytes, which takes no memory. A contract sees it as its bytes.
+#[derive(Drop)]
+pub struct ShortText<const N: usize> {
+    bytes: ArrayVec<u8, N>,
+}
+
+impl<const N: usize> Model for ShortText<N> {
+    ghost use Rattle.std.specs.Prelude.{ℕ, List};
+
+    ghost Value = { List ℕ };
+
+    ghost view = { λ text. text.bytes.items };
+}
+
+impl<const N: usize> ShortText<N> {
+    /// A text of no bytes.
+    pub(crate) fn new() -> ShortText<N>
+        ensures { result ≡ [] }
+    {
+        ShortText {
+            bytes: ArrayVec::new(),
+        }
+    }
+
+    /// Its bytes.
+    pub fn as_bytes(&self) -> &[u8]
+        ensures { result.now ≡ self.now }
+    {
+        self.bytes.as_slice()
+    }
+
+    /// Adds bytes at the end.
+    pub(crate) fn push(&mut self, bytes: &[u8])
+        requires { length self.old + length bytes.now ≤ N }
+        ensures bytes { self.new ≡ self.old ++ bytes.now }
+        ensures long { length self.new ≡ length self.old + length bytes.now }
+    {
+        if self.bytes.try_extend_from_slice(bytes).is_err() {
+            unreachable!();
+        }
+    }
+}
+
+impl<const N: usize> Text for ShortText<N> {
+    ghost held = { λ text. text };
+
+    ghost room = { N };
+
+    fn push_str(&mut self, text: &str) {
+        self.push(text.as_bytes());
+    }
+
+    fn push_number(&mut self, number: u64) {
+        let mut digits = Buffer::new();
+        self.push(digits.format(number).as_bytes());
+    }
+}

@@ -51,15 +51,15 @@ use Rattle.share_bill.proofs.RunLemmas.{bill-more, rows-are}
 
 -- ---- Bytes without a line feed
 
-clean-both : (xs ys : List ℕ) → NoFeed xs → NoFeed ys → NoFeed (xs ++ ys)
+pub clean-both : (xs ys : List ℕ) → NoFeed xs → NoFeed ys → NoFeed (xs ++ ys)
 clean-both xs ys one two = All-append (λ b. is_feed b ≡ false) xs ys one two
 
-clean-rest : (xs ys : List ℕ) → NoFeed (xs ++ ys) → NoFeed ys
+pub clean-rest : (xs ys : List ℕ) → NoFeed (xs ++ ys) → NoFeed ys
 clean-rest xs ys both =
     subst NoFeed (drop-append_seam xs ys) (All-drop (λ b. is_feed b ≡ false) (length xs) (xs ++ ys) both)
 
 -- a line feed is no byte of them
-no_feed_at : (xs : List ℕ) (i : ℕ) → NoFeed xs → i < length xs → get_or xs i 0 ≡ 10 → ⊥
+pub no_feed_at : (xs : List ℕ) (i : ℕ) → NoFeed xs → i < length xs → get_or xs i 0 ≡ 10 → ⊥
 no_feed_at xs i clean inside is =
     let none : is_feed (get_or xs i 0) ≡ false = All-get_or (λ b. is_feed b ≡ false) xs i 0 inside clean in
     let feed : is_feed (get_or xs i 0) ≡ true = ap is_feed is in cc

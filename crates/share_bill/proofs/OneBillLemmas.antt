@@ -96,9 +96,9 @@ text_first kind lines rest =
 
 clean_first : (kind : Kind) → NoFeed (first_line kind)
 clean_first Whole = All-from_recursion (λ b. is_feed b ≡ false) (codes "audit 2")
-    (refl, refl, refl, refl, refl, refl, refl, tt)
+    (refl, (refl, (refl, (refl, (refl, (refl, (refl, tt)))))))
 clean_first Lengths = All-from_recursion (λ b. is_feed b ≡ false) (codes "lengths 2")
-    (refl, refl, refl, refl, refl, refl, refl, refl, refl, tt)
+    (refl, (refl, (refl, (refl, (refl, (refl, (refl, (refl, (refl, tt)))))))))
 
 kind_first : (kind : Kind) → kind_of (first_line kind) ≡ Some kind
 kind_first Whole = refl
@@ -191,8 +191,13 @@ line_few kind l bs e is = event_few kind l bs (book_reading kind bs) e refl is
 
 -- ---- One run
 
-ok_event : (one other : Event) → Ok {Event} {Wrong} one ≡ Ok other → one ≡ other
-ok_event one other same = cc
+made_in : Event → Result Event Wrong → Event
+made_in e (Ok found) = found
+made_in e (Err why) = e
+
+ok_event : (one other : Event) (r : Result Event Wrong) → r ≡ Ok one → r ≡ Ok other → one ≡ other
+unfolding made_in
+ok_event one other r is also = ap (made_in one) (sym is ∙ also)
 
 pub record AreSame (lines others : List (List ℕ)) (events also : List Event) (rest left : List ℕ) : Type 0 where
   pub lines_are : lines ≡ others
@@ -214,7 +219,7 @@ module _ (kind : Kind) (rates : List Rate) where
   same_run s (l ∷ ls) (m ∷ ms) (e ∷ es) (f ∷ fs) rest left clean both end ends are same text =
       let whole = sym (lines_first l ls rest) ∙ (text ∙ lines_first m ms left) in
       let line = same_line l m (flat_map fed ls ++ rest) (flat_map fed ms ++ left) clean.0 both.0 whole in
-      let event = ok_event e f (sym are.0 ∙ (ap (next_event kind s.live) line ∙ same.0)) in
+      let event = ok_event e f (next_event kind s.live l) are.0 (ap (next_event kind s.live) line ∙ same.0) in
       let later = same_run (step rates s e) ls ms es fs rest left clean.1 both.1 end ends are.1
       (subst (λ (g : Event). AreEvents kind rates (step rates s g) ms fs) (sym event) same.1)
       (same_rest l m (flat_map fed ls ++ rest) (flat_map fed ms ++ left) line whole) in
@@ -249,26 +254,33 @@ module _ (rates : List Rate) (bytes : List ℕ) where
       same_rest (first_line kind) (first_line kind) (flat_map fed lines ++ rest) (flat_map fed others ++ left) refl
       (sym (text_first kind lines rest) ∙ (sym text ∙ (also ∙ text_first kind others left)))
 
-  one_bill : (kind : Kind) (rows others : List TenantBill) (cut left : Option ℕ) → IsBook rates bytes kind rows cut
-      → IsBook rates bytes kind others left → (rows ≡ others) × (cut ≡ left)
-  one_bill kind rows others cut left is also =
-      let same = same_run kind rates (empty_state Two) is.book.lines also.book.lines is.book.events also.book.events
-      is.book.rest also.book.rest is.book.clean also.book.clean is.clean also.clean is.book.are also.book.are
-      (lines_same kind is.book.lines also.book.lines is.book.rest also.book.rest is.book.text also.book.text) in (
-        is.rows_are ∙ (ap (rows_of rates) same.events_are ∙ sym also.rows_are),
-        is.cut_is
-            ∙ (ap (λ ls. cut_of (next_number ls) is.book.rest) same.lines_are
-            ∙ (ap (cut_of (next_number also.book.lines)) same.rest_is ∙ sym also.cut_is)),
-      )
+  module _ (kind other : Kind) (rows others : List TenantBill) (cut left : Option ℕ)
+      (is : IsBook rates bytes kind rows cut) (also : IsBook rates bytes other others left) where
+    kinds_are : kind ≡ other
+    kinds_are =
+        kind_same kind other is.book.lines also.book.lines is.book.rest also.book.rest is.book.clean is.book.text
+        also.book.text
 
-  pub one-bill : (kind other : Kind) (rows others : List TenantBill) (cut left : Option ℕ)
-      → IsBook rates bytes kind rows cut → IsBook rates bytes other others left
-      → (kind ≡ other) × (rows ≡ others) × (cut ≡ left)
-  one-bill kind other rows others cut left is also =
-      let same = kind_same kind other is.book.lines also.book.lines is.book.rest also.book.rest is.book.clean
-      is.book.text also.book.text in
-      let bill = one_bill kind rows others cut left is
-      (subst (λ k. IsBook rates bytes k others left) (sym same) also) in (same, bill.0, bill.1)
+    one_run : AreSame is.book.lines also.book.lines is.book.events also.book.events is.book.rest also.book.rest
+    one_run =
+        same_run other rates (empty_state Two) is.book.lines also.book.lines is.book.events also.book.events is.book.rest
+        also.book.rest is.book.clean also.book.clean is.clean also.clean
+        (subst (λ k. AreEvents k rates (empty_state Two) is.book.lines is.book.events) kinds_are is.book.are)
+        also.book.are
+        (lines_same other is.book.lines also.book.lines is.book.rest also.book.rest
+        (is.book.text ∙ ap (λ k. text_of k is.book.lines ++ is.book.rest) kinds_are) also.book.text)
+
+    pub one-bill : (kind ≡ other) × (rows ≡ others) × (cut ≡ left)
+    one-bill = (
+      kinds_are,
+      is.rows_are ∙ (ap (rows_of rates) one_run.events_are ∙ sym also.rows_are),
+      is.cut_is
+          ∙ (ap (λ ls. cut_of (next_number ls) is.book.rest) one_run.lines_are
+          ∙ (ap (cut_of (next_number also.book.lines)) one_run.rest_is ∙ sym also.cut_is)),
+    )
+
+    pub one-run : is.book.events ≡ also.book.events
+    one-run = one_run.events_are
 
 -- ---- No line of a book is wrong
 
@@ -325,7 +337,7 @@ module _ (kind : Kind) (rates : List Rate) (wrong : Wrong) where
   none_wrong s (l ∷ ls) (m ∷ ms) (e ∷ es) (f ∷ fs) left clean both are same text not =
       let whole = sym (lines_first l ls []) ∙ (text ∙ lines_first m ms left) in
       let line = same_line l m (flat_map fed ls ++ []) (flat_map fed ms ++ left) clean.0 both.0 whole in
-      let event = ok_event e f (sym are.0 ∙ (ap (next_event kind s.live) line ∙ same.0)) in
+      let event = ok_event e f (next_event kind s.live l) are.0 (ap (next_event kind s.live) line ∙ same.0) in
       none_wrong (step rates s f) ls ms es fs left clean.1 both.1
       (subst (λ (g : Event). AreEvents kind rates (step rates s g) ls es) event are.1) same.1
       (same_rest l m (flat_map fed ls ++ []) (flat_map fed ms ++ left) line whole) not

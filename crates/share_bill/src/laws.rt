@@ -51,12 +51,16 @@ pub fn bills_are_sums()
         → map (λ t. row_with t (sums_at bill.sent t.flow)) bill.tenants ≡ rows_of rates events }
 {}
 
-/// A text has one bill. If two bills are bills of it, they are of the same kind and have the same rows, and the same
-/// line is cut (`one`). If no line is cut, no line of the text is wrong (`right`).
+/// A text has one bill, and one run. If two bills are bills of it, they are of the same kind and have the same rows, and
+/// the same line is cut (`one`); and they are bills of the same events (`run`). If no line is cut, no line of the text
+/// is wrong (`right`).
 pub fn texts_have_one_bill()
     ensures one { (rates : List Rate) (bytes : List ℕ) (kind other : Kind) (rows others : List TenantBill)
         (cut left : Option ℕ) → IsBook rates bytes kind rows cut → IsBook rates bytes other others left
         → (kind ≡ other) × (rows ≡ others) × (cut ≡ left) }
+    ensures run { (rates : List Rate) (bytes : List ℕ) (kind other : Kind) (rows others : List TenantBill)
+        (cut left : Option ℕ) (is : IsBook rates bytes kind rows cut) (also : IsBook rates bytes other others left)
+        → is.book.events ≡ also.book.events }
     ensures right { (rates : List Rate) (bytes : List ℕ) (kind : Kind) (rows : List TenantBill) (number : ℕ)
         (wrong : Wrong) → IsBook rates bytes kind rows None → IsWrongText rates bytes number wrong → ⊥ }
 {}

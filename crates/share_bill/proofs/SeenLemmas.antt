@@ -431,7 +431,7 @@ totals_with l count = record {
   link = state_by l.broken l.part;
 }
 
-totals-seen : (f : List ℕ → List ℕ) (l : Live) → totals (seen_link f l) ≡ totals l
+pub totals-seen : (f : List ℕ → List ℕ) (l : Live) → totals (seen_link f l) ≡ totals l
 unfolding totals_with
 totals-seen f l = ap (totals_with l) (packets_in-seen f l.buffers)
 

@@ -15,6 +15,7 @@ use Rattle.share_model.specs.declared.reader.Got.{Got}
 use Rattle.share_model.specs.link.Books.{account_in, account_of, is_book_of}
 use Rattle.share_model.specs.link.Live.{Live}
 use Rattle.share_model.specs.link.Tariff.{AreInRange}
+use Rattle.share_model.specs.link.Totals.{totals}
 use Rattle.share_model.specs.lists.Each.{Each}
 use Rattle.share_model.specs.run.Events.{MayFollow, MayRun}
 use Rattle.share_model.specs.run.Fold.{State, empty_state, outcomes, run, state_after, step}
@@ -33,7 +34,7 @@ use Rattle.share_bill.specs.declared.bill.text.BookBill.{BookBill}
 use Rattle.share_bill.specs.declared.bill.text.NotBilled.{NotBilled}
 use Rattle.share_bill.specs.declared.bill.text.NotBilled.TheVariants.{Input, NoMemory, Line as LineFault}
 use Rattle.share_bill.proofs.OneBillLemmas.{one-bill, none-wrong}
-use Rattle.share_bill.proofs.SeenLemmas.{outcomes-seen, step-seen, zeros-keep}
+use Rattle.share_bill.proofs.SeenLemmas.{outcomes-seen, state_after-seen, step-seen, totals-seen, zeros-keep}
 use Rattle.share_bill.proofs.SeenRowsLemmas.{rows-measured}
 use Rattle.share_book.specs.Audited.{Audited, IsRunAndText}
 use Rattle.share_book.specs.BookEvents.{AreBookEvents}
@@ -137,6 +138,19 @@ empty_for : (kind : Kind) → state_for kind (empty_state Two) ≡ empty_state T
 empty_for Whole = refl
 empty_for Lengths = refl
 
+run_for : (kind : Kind) (rates : List Rate) (events : List Event)
+    → run Two rates (events_for kind events) ≡ state_for kind (run Two rates events)
+run_for Whole rates events = ap (run Two rates) (map-id events)
+run_for Lengths rates events = state_after-seen zeros_for zeros-keep rates (empty_state Two) events
+
+books_for : (kind : Kind) (s : State) → (state_for kind s).live.books ≡ s.live.books
+books_for Whole s = refl
+books_for Lengths s = refl
+
+totals_for : (kind : Kind) (s : State) → totals (state_for kind s).live ≡ totals s.live
+totals_for Whole s = refl
+totals_for Lengths s = totals-seen zeros_for s.live
+
 -- ---- A book
 
 rows_for : (kind : Kind) (rates : List Rate) (events : List Event) → rows_of rates (events_for kind events) ≡ rows_of rates events
@@ -183,12 +197,29 @@ module _ (a : Audited) (text : IsRunAndText a) where
     cut_is = refl;
   }
 
-  -- the run of a bill has the replies of the book
-  pub book-replies : (events : List Event) → events ≡ book-billed.book.events
-      → outcomes rates (empty_state Two) events ≡ text.replies
-  unfolding book-billed book-of
-  book-replies events same =
-      ap (outcomes rates (empty_state Two)) same ∙ (replies_for kind rates text.events ∙ text.run.replies_are)
+  -- the run of a bill has the replies of the book, its accounts and its totals
+  module _ (events : List Event) (same : events ≡ book-billed.book.events) where
+    seen_events : events ≡ events_for kind text.events
+    unfolding book-billed book-of
+    seen_events = same
+
+    pub book-replies : outcomes rates (empty_state Two) events ≡ text.replies
+    book-replies =
+        ap (outcomes rates (empty_state Two)) seen_events
+        ∙ (replies_for kind rates text.events ∙ text.run.replies_are)
+
+    seen_run : run Two rates events ≡ state_for kind (run Two rates text.events)
+    seen_run = ap (run Two rates) seen_events ∙ run_for kind rates text.events
+
+    pub book-accounts : (run Two rates events).live.books ≡ a.link.live.books
+    book-accounts =
+        ap (λ (s : State). s.live.books) seen_run
+        ∙ (books_for kind (run Two rates text.events) ∙ ap (λ (l : Live). l.books) text.run.ends.live)
+
+    pub book-totals : totals (run Two rates events).live ≡ totals a.link.live
+    book-totals =
+        ap (λ (s : State). totals s.live) seen_run
+        ∙ (totals_for kind (run Two rates text.events) ∙ ap totals text.run.ends.live)
 
   -- what an open flow owes is its account
   account_due : (o : Option Book) (due : ℕ) → is_some o ≡ true → ((b : Book) → o ≡ Some b → b.account ≡ due)
@@ -196,9 +227,9 @@ module _ (a : Audited) (text : IsRunAndText a) where
   account_due None due there is = cc
   account_due (Some b) due there is = sym (is b refl)
 
-  pub book-accounts : (flow : ℕ) → is_some (find (is_book_of flow) a.link.live.books) ≡ true
+  pub book-amounts : (flow : ℕ) → is_some (find (is_book_of flow) a.link.live.books) ≡ true
       → (sums_of rates (run Two rates text.events) flow).amount ≡ account_of a.link.live.books flow
-  book-accounts flow there =
+  book-amounts flow there =
       account_due (find (is_book_of flow) a.link.live.books) (bill rates (run Two rates text.events) flow) there
       (λ b found.
       run-billed Two a.link.life rates text.events text.run.range text.run.may flow b

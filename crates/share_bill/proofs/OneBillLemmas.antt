@@ -8,7 +8,7 @@ use mathlib.Core.List.{append_assoc}
 use Rattle.std.proofs.Common.{refl, ap, sym, ◌∙◌, subst, arith, inl, inr}
 use Rattle.std.proofs.Math.Seq.{drop-append_seam, get_or-append_seam}
 use Rattle.std.proofs.lemmas.Bool.Decides.{nat_tests}
-use Rattle.std.proofs.lemmas.List.{append-nil, get_or_append_left, length-append, length-drop}
+use Rattle.std.proofs.lemmas.List.{get_or_append_left, length-append, length-drop}
 use Rattle.std.proofs.lemmas.List.Elements.{All-from_recursion}
 use Rattle.std.proofs.lemmas.List.Splits.{slice_split_at, join_with_byte-slice_split}
 use Rattle.std.proofs.lemmas.Option.{same_Some}
@@ -22,7 +22,7 @@ use Rattle.share_model.specs.declared.rates.Rate.{Rate}
 use Rattle.share_model.specs.link.Live.{Live}
 use Rattle.share_model.specs.lists.Each.{Each}
 use Rattle.share_model.specs.run.Fold.{State, empty_state, step, state_after, run}
-use Rattle.share_model.specs.text.Lines.{IsName, IsNumber, name_of, number_of, field, with_rest, words_of}
+use Rattle.share_model.specs.text.Lines.{IsName, IsNumber, name_of, number_of, with_rest, words_of}
 use Rattle.share_model.specs.text.Talk.{is_feed}
 use Rattle.share_model.proofs.lemmas.text.AuditLaws.{line-short}
 use Rattle.share_model.proofs.lemmas.text.LinesLaws.{reading-spelling_of}
@@ -34,13 +34,12 @@ use Rattle.share_script.specs.declared.lengths.Length.{Length}
 use Rattle.share_bill.specs.declared.bill.kind.Kind.{Kind}
 use Rattle.share_bill.specs.declared.bill.kind.Kind.TheVariants.{Whole, Lengths}
 use Rattle.share_bill.specs.declared.bill.line.Wrong.{Wrong}
-use Rattle.share_bill.specs.declared.bill.line.Wrong.TheVariants.{Unread}
 use Rattle.share_bill.specs.declared.bill.running.TenantBill.{TenantBill}
 use Rattle.share_bill.specs.Bills.{AreEvents, rows_of}
 use Rattle.share_bill.specs.BookLines.{first_line, kind_of, after_send, packet_by, measured_by, book_reading}
 use Rattle.share_bill.specs.BookLines.{event_by, next_event}
 use Rattle.share_bill.specs.Texts.{fed, text_of, next_number, cut_of, BeginsAsBook, IsBook, IsWrongText, IsNoFirst}
-use Rattle.share_bill.specs.Texts.{other_first, first_long, no_first, IsLongNext, IsNext, IsWrongNext, IsWrongAfter}
+use Rattle.share_bill.specs.Texts.{other_first, first_long, no_first, IsLongNext, IsNext, IsWrongNext}
 use Rattle.share_bill.proofs.TextLemmas.{no_feed_at}
 
 -- ---- The first line of a text

@@ -11,7 +11,7 @@ use Rattle.share_base.specs.declared.version.Version.{Version}
 use Rattle.share_base.specs.declared.version.Version.TheVariants.{Two}
 use Rattle.share_model.specs.declared.rates.Rate.{Rate}
 use Rattle.share_model.specs.link.Tariff.{rate_of, units_of}
-use Rattle.share_model.specs.run.Fold.{State, Sent, TornFrame, empty_state, step, outcome, run, state_after, sent_frame}
+use Rattle.share_model.specs.run.Fold.{State, Sent, TornFrame, empty_state, step, outcome, run, sent_frame}
 use Rattle.share_model.specs.run.History.{cost, sent_by, sent_cost, torn_cost}
 use Rattle.share_bill.specs.declared.bill.running.TenantBill.{TenantBill}
 use Rattle.share_bill.specs.declared.bill.running.TenantFlow.{TenantFlow}

@@ -1,13 +1,11 @@
 -- The whole text of a book is the book of a bill, whose rows are those of the book's events.
-use Rattle.std.specs.Prelude.{◌≡◌, ◌<◌, ◌≤◌, ℕ, true, List, [], ◌∷◌, ◌++◌, codes, flat_map, length, map, find, is_some}
+use Rattle.std.specs.Prelude.{◌≡◌, ◌<◌, ◌≤◌, ℕ, true, List, [], ◌∷◌, ◌++◌, codes, flat_map, map, find, is_some}
 use Rattle.std.specs.Prelude.{Option, None, Some, IfSome, Result, Ok, Err, MatchResult}
 use Rattle.std.proofs.Common.{refl, ap, sym, ◌∙◌, subst, arith}
-use mathlib.Core.List.{append_assoc}
 use Rattle.std.proofs.lemmas.List.{append-nil, map-id}
 use Rattle.std.proofs.lemmas.List.Elements.{All-from_recursion}
 use Rattle.share_base.specs.declared.command.Event.{Event}
 use Rattle.share_base.specs.declared.command.Event.TheVariants.{Commanded, Arrived, Written, Faulted}
-use Rattle.share_base.specs.declared.command.Outcome.{Outcome}
 use Rattle.share_base.specs.declared.version.Version.TheVariants.{Two}
 use Rattle.share_model.specs.declared.link.Book.{Book}
 use Rattle.share_model.specs.declared.rates.Rate.{Rate}
@@ -17,7 +15,7 @@ use Rattle.share_model.specs.link.Live.{Live}
 use Rattle.share_model.specs.link.Tariff.{AreInRange}
 use Rattle.share_model.specs.link.Totals.{totals}
 use Rattle.share_model.specs.lists.Each.{Each}
-use Rattle.share_model.specs.run.Events.{MayFollow, MayRun}
+use Rattle.share_model.specs.run.Events.{MayFollow}
 use Rattle.share_model.specs.run.Fold.{State, empty_state, outcomes, run, state_after, step}
 use Rattle.share_model.specs.run.History.{bill}
 use Rattle.share_model.specs.run.Sound.{SoundState, max_life}
@@ -26,7 +24,7 @@ use Rattle.share_model.proofs.lemmas.run.BillLaws.{run-billed}
 use Rattle.share_model.proofs.lemmas.run.FoldLaws.{state-empty, state-step, state_after-last}
 use Rattle.share_script.specs.Script.{NoFeed}
 use Rattle.share_bill.specs.Bills.{AreEvents, rows_of, sums_of}
-use Rattle.share_bill.specs.Seen.{seen_event, zeros_for}
+use Rattle.share_bill.specs.Seen.{zeros_for}
 use Rattle.share_bill.specs.Texts.{fed, text_of, BeginsAsBook, Bills, IsBook, IsWrongText}
 use Rattle.share_bill.specs.declared.bill.kind.Kind.{Kind}
 use Rattle.share_bill.specs.declared.bill.kind.Kind.TheVariants.{Whole, Lengths}

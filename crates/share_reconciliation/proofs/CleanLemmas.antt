@@ -1,9 +1,8 @@
 -- The lines of a text have no line feed.
 use Rattle.std.specs.Prelude.{◌≡◌, ℕ, Bool, true, false, List, [], ◌∷◌, ◌++◌, codes, decimal, if◌then◌else◌}
-use Rattle.std.specs.List.{slice_split, onto_first, All, AllByRecursion}
-use Rattle.std.proofs.Common.{refl, ap, sym, ◌∙◌, subst}
+use Rattle.std.specs.List.{slice_split, onto_first, AllByRecursion}
+use Rattle.std.proofs.Common.{refl, subst}
 use Rattle.std.proofs.Math.Seq.{drop-append_seam}
-use Rattle.std.proofs.lemmas.List.{append-nil}
 use Rattle.std.proofs.lemmas.List.Elements.{All-from_recursion, All-append, All-drop}
 use Rattle.share_base.specs.declared.command.Command.TheVariants.{CloseFlow}
 use Rattle.share_model.specs.declared.line.Line.{Line}

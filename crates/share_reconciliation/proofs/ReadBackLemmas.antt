@@ -1,16 +1,16 @@
 -- Each line that a book writes is read as its event, whose payload is seen by its length in a text of lengths.
-use Rattle.std.specs.Prelude.{◌≡◌, ◌<◌, ◌≤◌, ◌==◌, ◌&&◌, ℕ, Bool, true, false, List, [], ◌∷◌, ◌++◌, codes, decimal}
-use Rattle.std.specs.Prelude.{drop, length, nat_le, replicate, take, option_map, Option, None, Some, Result, Ok, Err}
+use Rattle.std.specs.Prelude.{◌≡◌, ◌<◌, ◌≤◌, ◌&&◌, ℕ, Bool, true, false, List, [], ◌∷◌, ◌++◌, codes, decimal}
+use Rattle.std.specs.Prelude.{drop, length, nat_le, replicate, take, option_map, None, Some, Result, Ok, Err}
 use Rattle.std.specs.Prelude.{if◌then◌else◌}
 use Rattle.std.specs.List.{join_with_byte, list_all}
 use Rattle.std.specs.Str.{bytes_eq}
 use Rattle.std.proofs.Common.{refl, ap, sym, ◌∙◌, subst, arith, cond}
-use Rattle.std.proofs.lemmas.Bool.{and_parts, cond-true, cond-false, eq-eqb}
+use Rattle.std.proofs.lemmas.Bool.{cond-false, eq-eqb}
 use Rattle.std.proofs.lemmas.Bool.Decides.{nat_tests}
 use Rattle.std.proofs.lemmas.List.{length-drop, length-replicate}
 use Rattle.std.proofs.lemmas.List.Elements.{All-from_recursion, All-replicate}
 use Rattle.std.proofs.lemmas.List.Splits.{slice_split_at, slice_split_none}
-use Rattle.std.proofs.lemmas.List.Sums.{AllPass-from_list_all, list_all-from_AllPass}
+use Rattle.std.proofs.lemmas.List.Sums.{list_all-from_AllPass}
 use Rattle.share_base.specs.Body.{BodyView, unstamped}
 use Rattle.share_base.specs.Version.{max_payload}
 use Rattle.share_base.specs.declared.command.Command.{Command}
@@ -21,18 +21,16 @@ use Rattle.share_base.specs.declared.command.Event.{Event}
 use Rattle.share_base.specs.declared.command.Event.TheVariants.{Commanded, Arrived, Written, Faulted}
 use Rattle.share_base.specs.declared.command.Reply.{Reply}
 use Rattle.share_base.specs.declared.command.Reply.TheVariants.{Done, Ticket, Flow, Closed, Packet, Refused}
-use Rattle.share_base.specs.declared.refusal.Refusal.{Refusal}
 use Rattle.share_base.specs.declared.refusal.Refusal.TheVariants.{Range}
-use Rattle.share_base.specs.declared.version.Version.{Version}
 use Rattle.share_base.specs.declared.version.Version.TheVariants.{Two}
 use Rattle.share_model.specs.declared.line.Line.{Line}
 use Rattle.share_model.specs.declared.line.Line.TheVariants.{Change, Send, Turn}
 use Rattle.share_model.specs.declared.rates.Rate.{Rate}
 use Rattle.share_model.specs.link.Arrivals.{arrive_step}
-use Rattle.share_model.specs.link.Fields.{IsBody, IsName, IsNumber, is_byte}
+use Rattle.share_model.specs.link.Fields.{IsName, IsNumber, is_byte}
 use Rattle.share_model.specs.link.Live.{Live, life_is_spent}
 use Rattle.share_model.specs.link.Turns.{Sending, frame_of, rest_of, sending}
-use Rattle.share_model.specs.run.Events.{IsWrite, MayCome}
+use Rattle.share_model.specs.run.Events.{MayCome}
 use Rattle.share_model.specs.run.Fold.{State}
 use Rattle.share_model.specs.run.Sound.{Sound, max_life}
 use Rattle.share_model.specs.text.Audit.{event_line}
@@ -43,16 +41,15 @@ use Rattle.share_model.proofs.lemmas.text.LinesLaws.{reading-line, number_of-dec
 use Rattle.share_model.proofs.lemmas.text.WordLaws.{name_of-name, no_space-decimal, no_space-name}
 use Rattle.share_script.specs.Lengths.{length_of, length_words}
 use Rattle.share_script.specs.Script.{NoFeed}
-use Rattle.share_script.specs.declared.lengths.Length.{Length}
 use Rattle.share_bill.specs.BookLines.{after_send, book_reading, event_by, event_of, measured_by, next_event, packet_by}
-use Rattle.share_bill.specs.BookLines.{packet_of, taken_by, unless_spent, written_by}
+use Rattle.share_bill.specs.BookLines.{taken_by, unless_spent, written_by}
 use Rattle.share_bill.specs.Seen.{seen_event, seen_link, seen_state, zeros_for}
 use Rattle.share_bill.specs.declared.bill.kind.Kind.{Kind}
 use Rattle.share_bill.specs.declared.bill.kind.Kind.TheVariants.{Whole, Lengths}
 use Rattle.share_bill.specs.declared.bill.line.Wrong.{Wrong}
 use Rattle.share_bill.specs.declared.bill.line.Wrong.TheVariants.{Spent as SpentLine, Sent as SentLine}
 use Rattle.share_bill.proofs.SeenLemmas.{arrive-seen, frame_length-seen, seen_sending, sending-seen, zeros-keep}
-use Rattle.share_book.specs.BookEvents.{IsBookEvent, IsTaken, IsWholeFrame}
+use Rattle.share_book.specs.BookEvents.{IsBookEvent, IsTaken}
 use Rattle.share_reconciliation.proofs.CleanLemmas.{packet-clean, spelled-clean}
 
 -- ---- How an event is spelled

@@ -16,7 +16,7 @@ pub returns-clause-book : goal.returns-clause-book
 returns-clause-book g c a text = book-billed a text
 
 pub returns-clause-bill : goal.returns-clause-bill
-returns-clause-bill g c first a text result known bills = 
+returns-clause-bill g c first a text result known bills =
     bill-of g.I.TellingReader.left g.I.TellingReader.gives first a text known result bills
 
 pub returns-clause-replies : goal.returns-clause-replies

@@ -18,7 +18,7 @@ arrive_at-requires-clause-body g c =
 pub invariant_of-self : goal.invariant_of-self
 invariant_of-self g c =
     let living = subst (λ (a : Audited). is_spent a.link ≡ false) (sym c.self.view_is) c.requires.living in
-    let free = subst (λ (a : Audited). has_room a.link.live c.args.flow ≡ true) (sym c.self.view_is) 
+    let free = subst (λ (a : Audited). has_room a.link.live c.args.flow ≡ true) (sym c.self.view_is)
     (room-free c.args.self.now.link.live c.args.flow c.args.number c.requires.free) in
     subst
     (λ (t : TextView). IsKept (record { link = c.arrive_at.new.self; kind = c.self.inside.kind; text = t }))

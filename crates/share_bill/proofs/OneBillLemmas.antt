@@ -1,14 +1,13 @@
 -- A text falls into lines in one way, so it has one bill, and no line of a bill is wrong.
-use Rattle.std.specs.Prelude.{◌≡◌, ◌<◌, ◌≤◌, ◌+◌, ◌&&◌, ℕ, Bool, true, false, List, [], ◌∷◌, ◌++◌, flat_map, length}
-use Rattle.std.specs.Prelude.{get_or, nat_le, nat_lt, take, drop, codes, decimal, Option, None, Some, Result, Ok, Err}
+use Rattle.std.specs.Prelude.{◌≡◌, ◌≤◌, ◌+◌, ◌&&◌, ℕ, Bool, true, false, List, [], ◌∷◌, ◌++◌, flat_map, length}
+use Rattle.std.specs.Prelude.{get_or, nat_le, take, drop, codes, decimal, Option, None, Some, Result, Ok, Err}
 use Rattle.std.specs.Prelude.{if◌then◌else◌}
 use Rattle.std.specs.List.{slice_split, join_with_byte}
 use Rattle.std.specs.Str.{bytes_eq}
 use mathlib.Core.List.{append_assoc}
-use Rattle.std.proofs.Common.{refl, ap, sym, ◌∙◌, subst, arith, inl, inr}
+use Rattle.std.proofs.Common.{suc, refl, ap, sym, ◌∙◌, subst, arith, inl, inr}
 use Rattle.std.proofs.Math.Seq.{drop-append_seam, get_or-append_seam}
-use Rattle.std.proofs.lemmas.Bool.Decides.{nat_tests}
-use Rattle.std.proofs.lemmas.List.{get_or_append_left, length-append, length-drop}
+use Rattle.std.proofs.lemmas.List.{length-append, length-drop}
 use Rattle.std.proofs.lemmas.List.Elements.{All-from_recursion}
 use Rattle.std.proofs.lemmas.List.Splits.{slice_split_at, join_with_byte-slice_split}
 use Rattle.std.proofs.lemmas.Option.{same_Some}
@@ -69,14 +68,6 @@ no_line line x rest clean is =
     let n = ap length is ∙ length-append line (10 ∷ x) in
     no_feed_at rest (length line) clean (omega (arith, n))
     (ap (λ bs. get_or bs (length line) 0) is ∙ get_or-append_seam line 10 x 0)
-
--- a long beginning without a line feed has no short line
-no_short : (line x long more : List ℕ) → NoFeed long → length line < length long
-    → line ++ 10 ∷ x ≡ long ++ more → ⊥
-no_short line x long more clean many is =
-    no_feed_at long (length line) clean many
-    (sym (get_or_append_left long more 0 (length line) many)
-    ∙ (ap (λ bs. get_or bs (length line) 0) (sym is) ∙ get_or-append_seam line 10 x 0))
 
 -- lines and what is after them
 fed_first : (line x : List ℕ) → fed line ++ x ≡ line ++ 10 ∷ x
@@ -239,9 +230,9 @@ same_kind one other same =
     same_Some one other (sym (kind_first one) ∙ (ap kind_of same ∙ kind_first other))
 
 module _ (rates : List Rate) (bytes : List ℕ) where
-  kind_same : (kind other : Kind) (lines others : List (List ℕ)) (rest left : List ℕ) → Each NoFeed lines → bytes ≡ text_of kind lines ++ rest
-      → bytes ≡ text_of other others ++ left → kind ≡ other
-  kind_same kind other lines others rest left clean text also =
+  kind_same : (kind other : Kind) (lines others : List (List ℕ)) (rest left : List ℕ)
+      → bytes ≡ text_of kind lines ++ rest → bytes ≡ text_of other others ++ left → kind ≡ other
+  kind_same kind other lines others rest left text also =
       same_kind kind other
       (same_line (first_line kind) (first_line other) (flat_map fed lines ++ rest) (flat_map fed others ++ left)
       (clean_first kind) (clean_first other)
@@ -253,25 +244,33 @@ module _ (rates : List Rate) (bytes : List ℕ) where
       same_rest (first_line kind) (first_line kind) (flat_map fed lines ++ rest) (flat_map fed others ++ left) refl
       (sym (text_first kind lines rest) ∙ (sym text ∙ (also ∙ text_first kind others left)))
 
+  -- two beginnings of one text
+  module _ (kind other : Kind) (is : BeginsAsBook rates bytes kind) (book : BeginsAsBook rates bytes other) where
+    begun_kind : kind ≡ other
+    begun_kind = kind_same kind other is.lines book.lines is.rest book.rest is.text book.text
+
+    begun_are : AreEvents other rates (empty_state Two) is.lines is.events
+    begun_are = subst (λ k. AreEvents k rates (empty_state Two) is.lines is.events) begun_kind is.are
+
+    begun_text : flat_map fed is.lines ++ is.rest ≡ flat_map fed book.lines ++ book.rest
+    begun_text =
+        lines_same other is.lines book.lines is.rest book.rest
+        (is.text ∙ ap (λ k. text_of k is.lines ++ is.rest) begun_kind) book.text
+
+    begun_same : NoFeed is.rest → NoFeed book.rest
+        → AreSame is.lines book.lines is.events book.events is.rest book.rest
+    begun_same end ends =
+        same_run other rates (empty_state Two) is.lines book.lines is.events book.events is.rest book.rest is.clean
+        book.clean end ends begun_are book.are begun_text
+
   module _ (kind other : Kind) (rows others : List TenantBill) (cut left : Option ℕ)
       (is : IsBook rates bytes kind rows cut) (also : IsBook rates bytes other others left) where
-    kinds_are : kind ≡ other
-    kinds_are =
-        kind_same kind other is.book.lines also.book.lines is.book.rest also.book.rest is.book.clean is.book.text
-        also.book.text
-
     one_run : AreSame is.book.lines also.book.lines is.book.events also.book.events is.book.rest also.book.rest
-    one_run =
-        same_run other rates (empty_state Two) is.book.lines also.book.lines is.book.events also.book.events is.book.rest
-        also.book.rest is.book.clean also.book.clean is.clean also.clean
-        (subst (λ k. AreEvents k rates (empty_state Two) is.book.lines is.book.events) kinds_are is.book.are)
-        also.book.are
-        (lines_same other is.book.lines also.book.lines is.book.rest also.book.rest
-        (is.book.text ∙ ap (λ k. text_of k is.book.lines ++ is.book.rest) kinds_are) also.book.text)
+    one_run = begun_same kind other is.book also.book is.clean also.clean
 
     pub one-bill : (kind ≡ other) × (rows ≡ others) × (cut ≡ left)
     one-bill = (
-      kinds_are,
+      begun_kind kind other is.book also.book,
       is.rows_are ∙ (ap (rows_of rates) one_run.events_are ∙ sym also.rows_are),
       is.cut_is
           ∙ (ap (λ ls. cut_of (next_number ls) is.book.rest) one_run.lines_are
@@ -287,63 +286,131 @@ no_error : (e : Event) (wrong : Wrong) (r : Result Event Wrong) → r ≡ Ok e �
 no_error e wrong (Ok found) is not = cc
 no_error e wrong (Err found) is not = cc
 
-nothing_long : IsLongNext [] → ⊥
-nothing_long long =
-    let n = ap length long.is ∙ length-append long.long long.more in
-    let many = long.many in
-    omega (arith, n, many)
+-- a line that comes, and one that is too long
+next_line : (line rest left other : List ℕ) → NoFeed line → left ≡ line ++ 10 ∷ rest → (next : IsNext left other)
+    → line ≡ other
+next_line line rest left other clean text next =
+    same_line line other rest next.more clean next.clean (sym text ∙ (next.is ∙ fed_first other next.more))
 
-nothing_next : (line : List ℕ) → IsNext [] line → ⊥
-nothing_next line next =
-    let n = ap length (next.is ∙ fed_first line next.more) ∙ length-append line (10 ∷ next.more) in
-    omega (arith, n)
+long_line : (line rest left : List ℕ) → NoFeed line → left ≡ line ++ 10 ∷ rest → (long : IsLongNext left)
+    → line ≡ long.long
+long_line line rest left clean text long =
+    same_line line long.long rest long.more clean long.clean (sym text ∙ (long.is ∙ fed_first long.long long.more))
+
+not_long : (line rest left : List ℕ) → NoFeed line → length line ≤ 20480 → left ≡ line ++ 10 ∷ rest → IsLongNext left
+    → ⊥
+not_long line rest left clean few text long =
+    let n = ap length (long_line line rest left clean text long) in
+    let many = long.many in
+    omega (arith, n, few, many)
 
 module _ (kind : Kind) (l : Live) (wrong : Wrong) where
-  -- what comes is not wrong if nothing comes
-  nothing_wrong : IsWrongNext kind l [] wrong → ⊥
-  nothing_wrong not = elim not [
-    | inl long ↦ nothing_long long.0
-    | inr next ↦ nothing_next next.0 next.1
+  -- what comes is not wrong if no line comes
+  end_right : (left : List ℕ) → NoFeed left → IsWrongNext kind l left wrong → ⊥
+  end_right left clean not = elim not [
+    | inl long ↦ no_line long.0.long long.0.more left clean (long.0.is ∙ fed_first long.0.long long.0.more)
+    | inr next ↦ no_line next.0 next.1.more left clean (next.1.is ∙ fed_first next.0 next.1.more)
   ]
 
   -- or if the next event comes
   next_right : (line : List ℕ) (rest left : List ℕ) (e : Event) → NoFeed line → next_event kind l line ≡ Ok e
       → left ≡ line ++ 10 ∷ rest → IsWrongNext kind l left wrong → ⊥
   next_right line rest left e clean is text not = elim not [
-    | inl long ↦
-        let few = line_few kind l line e is in
-        let many = long.0.many in
-        no_short line rest long.0.long long.0.more long.0.clean (omega (arith, few, many)) (sym text ∙ long.0.is)
+    | inl long ↦ not_long line rest left clean (line_few kind l line e is) text long.0
     | inr next ↦
-        let same = same_line line next.0 rest next.1.more clean next.1.clean
-        (sym text ∙ (next.1.is ∙ fed_first next.0 next.1.more)) in
-        no_error e wrong (next_event kind l line) is (ap (next_event kind l) same ∙ next.2)
+        no_error e wrong (next_event kind l line) is
+        (ap (next_event kind l) (next_line line rest left next.0 clean text next.1) ∙ next.2)
   ]
 
 module _ (kind : Kind) (rates : List Rate) (wrong : Wrong) where
-  none_wrong : (s : State) (lines others : List (List ℕ)) (events also : List Event) (left : List ℕ)
-      → Each NoFeed lines → Each NoFeed others → AreEvents kind rates s lines events
-      → AreEvents kind rates s others also → flat_map fed lines ++ [] ≡ flat_map fed others ++ left
+  none_wrong : (s : State) (lines others : List (List ℕ)) (events also : List Event) (rest left : List ℕ)
+      → Each NoFeed lines → Each NoFeed others → NoFeed rest → AreEvents kind rates s lines events
+      → AreEvents kind rates s others also → flat_map fed lines ++ rest ≡ flat_map fed others ++ left
       → IsWrongNext kind (state_after rates s also).live left wrong → ⊥
   unfolding AreEvents state_after
-  none_wrong s [] [] [] [] left clean both are same text not =
-      nothing_wrong kind s.live wrong (subst (λ bs. IsWrongNext kind s.live bs wrong) (sym text) not)
-  none_wrong s [] (m ∷ ms) [] (f ∷ fs) left clean both are same text not =
-      no_line m (flat_map fed ms ++ left) [] (All-from_recursion (λ b. is_feed b ≡ false) [] tt)
-      (text ∙ lines_first m ms left)
-  none_wrong s (l ∷ ls) [] (e ∷ es) [] left clean both are same text not =
-      next_right kind s.live wrong l (flat_map fed ls ++ []) left e clean.0 are.0 (sym text ∙ lines_first l ls []) not
-  none_wrong s (l ∷ ls) (m ∷ ms) (e ∷ es) (f ∷ fs) left clean both are same text not =
-      let whole = sym (lines_first l ls []) ∙ (text ∙ lines_first m ms left) in
-      let line = same_line l m (flat_map fed ls ++ []) (flat_map fed ms ++ left) clean.0 both.0 whole in
+  none_wrong s [] [] [] [] rest left clean both end are same text not =
+      end_right kind s.live wrong rest end (subst (λ bs. IsWrongNext kind s.live bs wrong) (sym text) not)
+  none_wrong s [] (m ∷ ms) [] (f ∷ fs) rest left clean both end are same text not =
+      no_line m (flat_map fed ms ++ left) rest end (text ∙ lines_first m ms left)
+  none_wrong s (l ∷ ls) [] (e ∷ es) [] rest left clean both end are same text not =
+      next_right kind s.live wrong l (flat_map fed ls ++ rest) left e clean.0 are.0 (sym text ∙ lines_first l ls rest) not
+  none_wrong s (l ∷ ls) (m ∷ ms) (e ∷ es) (f ∷ fs) rest left clean both end are same text not =
+      let whole = sym (lines_first l ls rest) ∙ (text ∙ lines_first m ms left) in
+      let line = same_line l m (flat_map fed ls ++ rest) (flat_map fed ms ++ left) clean.0 both.0 whole in
       let event = ok_event e f (next_event kind s.live l) are.0 (ap (next_event kind s.live) line ∙ same.0) in
-      none_wrong (step rates s f) ls ms es fs left clean.1 both.1
+      none_wrong (step rates s f) ls ms es fs rest left clean.1 both.1 end
       (subst (λ (g : Event). AreEvents kind rates (step rates s g) ls es) event are.1) same.1
-      (same_rest l m (flat_map fed ls ++ []) (flat_map fed ms ++ left) line whole) not
-  none_wrong s [] others (e ∷ es) also left clean both are same text not = absurd are
-  none_wrong s (l ∷ ls) others [] also left clean both are same text not = absurd are
-  none_wrong s lines [] events (f ∷ fs) left clean both are same text not = absurd same
-  none_wrong s lines (m ∷ ms) events [] left clean both are same text not = absurd same
+      (same_rest l m (flat_map fed ls ++ rest) (flat_map fed ms ++ left) line whole) not
+  none_wrong s [] others (e ∷ es) also rest left clean both end are same text not = absurd are
+  none_wrong s (l ∷ ls) others [] also rest left clean both end are same text not = absurd are
+  none_wrong s lines [] events (f ∷ fs) rest left clean both end are same text not = absurd same
+  none_wrong s lines (m ∷ ms) events [] rest left clean both end are same text not = absurd same
+
+-- ---- One wrong line
+
+wrong_in : Wrong → Result Event Wrong → Wrong
+wrong_in wrong (Ok e) = wrong
+wrong_in wrong (Err why) = why
+
+error_is : (one other : Wrong) (r : Result Event Wrong) → r ≡ Err one → r ≡ Err other → one ≡ other
+unfolding wrong_in
+error_is one other r is also = ap (wrong_in one) (sym is ∙ also)
+
+pub record AreBothWrong (lines others : List (List ℕ)) (one other : Wrong) : Type 0 where
+  pub number_is : length lines ≡ length others
+  pub wrong_is : one ≡ other
+
+module _ (kind : Kind) (rates : List Rate) (one other : Wrong) where
+  -- what comes is wrong in one way
+  wrong_next : (l : Live) (left : List ℕ) → IsWrongNext kind l left one → IsWrongNext kind l left other → one ≡ other
+  wrong_next l left is also = elim is [
+    | inl long ↦ elim also [
+      | inl too ↦ long.1 ∙ sym too.1
+      | inr next ↦
+          absurd (not_long next.0 next.1.more left next.1.clean next.1.few
+          (next.1.is ∙ fed_first next.0 next.1.more) long.0)
+    ]
+    | inr next ↦ elim also [
+      | inl long ↦
+          absurd (not_long next.0 next.1.more left next.1.clean next.1.few
+          (next.1.is ∙ fed_first next.0 next.1.more) long.0)
+      | inr too ↦
+          error_is one other (next_event kind l next.0) next.2
+          (ap (next_event kind l)
+          (next_line next.0 next.1.more left too.0 next.1.clean (next.1.is ∙ fed_first next.0 next.1.more) too.1)
+          ∙ too.2)
+    ]
+  ]
+
+  same_wrong : (s : State) (lines others : List (List ℕ)) (events also : List Event) (rest left : List ℕ)
+      → Each NoFeed lines → Each NoFeed others → AreEvents kind rates s lines events
+      → AreEvents kind rates s others also → flat_map fed lines ++ rest ≡ flat_map fed others ++ left
+      → IsWrongNext kind (state_after rates s events).live rest one
+      → IsWrongNext kind (state_after rates s also).live left other → AreBothWrong lines others one other
+  unfolding AreEvents state_after
+  same_wrong s [] [] [] [] rest left clean both are same text is not =
+      record {
+        number_is = refl;
+        wrong_is = wrong_next s.live left (subst (λ bs. IsWrongNext kind s.live bs one) text is) not;
+      }
+  same_wrong s [] (m ∷ ms) [] (f ∷ fs) rest left clean both are same text is not =
+      absurd (next_right kind s.live one m (flat_map fed ms ++ left) rest f both.0 same.0 (text ∙ lines_first m ms left) is)
+  same_wrong s (l ∷ ls) [] (e ∷ es) [] rest left clean both are same text is not =
+      absurd
+      (next_right kind s.live other l (flat_map fed ls ++ rest) left e clean.0 are.0 (sym text ∙ lines_first l ls rest) not)
+  same_wrong s (l ∷ ls) (m ∷ ms) (e ∷ es) (f ∷ fs) rest left clean both are same text is not =
+      let whole = sym (lines_first l ls rest) ∙ (text ∙ lines_first m ms left) in
+      let line = same_line l m (flat_map fed ls ++ rest) (flat_map fed ms ++ left) clean.0 both.0 whole in
+      let event = ok_event e f (next_event kind s.live l) are.0 (ap (next_event kind s.live) line ∙ same.0) in
+      let later = same_wrong (step rates s f) ls ms es fs rest left clean.1 both.1
+      (subst (λ (g : Event). AreEvents kind rates (step rates s g) ls es) event are.1) same.1
+      (same_rest l m (flat_map fed ls ++ rest) (flat_map fed ms ++ left) line whole)
+      (subst (λ (g : Event). IsWrongNext kind (state_after rates (step rates s g) es).live rest one) event is) not in
+      record { number_is = ap suc later.number_is; wrong_is = later.wrong_is }
+  same_wrong s [] others (e ∷ es) also rest left clean both are same text is not = absurd are
+  same_wrong s (l ∷ ls) others [] also rest left clean both are same text is not = absurd are
+  same_wrong s lines [] events (f ∷ fs) rest left clean both are same text is not = absurd same
+  same_wrong s lines (m ∷ ms) events [] rest left clean both are same text is not = absurd same
 
 -- the first line is one of a book
 first_right : (kind : Kind) (bytes rest : List ℕ) → bytes ≡ first_line kind ++ 10 ∷ rest → IsNoFirst bytes → ⊥
@@ -353,40 +420,51 @@ first_right kind bytes rest text (other_first line next none) =
     let some : kind_of line ≡ Some kind = ap kind_of (sym same) ∙ kind_first kind in
     let both : None ≡ Some kind = sym none ∙ some in cc
 first_right kind bytes rest text (first_long long) =
-    let few = short_first kind in
-    let many = long.many in
-    no_short (first_line kind) rest long.long long.more long.clean (omega (arith, few, many)) (sym text ∙ long.is)
+    not_long (first_line kind) rest bytes (clean_first kind) (short_first kind) text long
 first_right kind bytes rest text (no_first clean) = no_line (first_line kind) rest bytes clean text
 
--- nothing is cut of a text that ends with a line feed
-uncut : (number : ℕ) (rest : List ℕ) → None ≡ cut_of number rest → rest ≡ []
-uncut number [] is = refl
-uncut number (b ∷ bs) is =
-    let test : nat_lt 0 (length (b ∷ bs)) ≡ true = grind (arith, nat_tests) in
-    let some : None ≡ Some number = is ∙ ap (λ t. if t then Some number else None) test in cc
+module _ (rates : List Rate) (bytes : List ℕ) where
+  -- of a text that begins as a book
+  begun_right : (kind : Kind) (book : BeginsAsBook rates bytes kind) → IsNoFirst bytes → ⊥
+  begun_right kind book not =
+      first_right kind bytes (flat_map fed book.lines ++ book.rest)
+      (book.text ∙ text_first kind book.lines book.rest) not
 
-module _ (rates : List Rate) (bytes : List ℕ) (kind : Kind) (rows : List TenantBill) (number : ℕ) (wrong : Wrong)
-    (is : IsBook rates bytes kind rows None) where
-  whole : is.book.rest ≡ []
-  whole = uncut (next_number is.book.lines) is.book.rest is.cut_is
-
-  after_right : (other : Kind) → kind ≡ other → (book : BeginsAsBook rates bytes other)
-      → IsWrongNext other (run Two rates book.events).live book.rest wrong → ⊥
-  after_right other same book not =
-      let are = subst (λ k. AreEvents k rates (empty_state Two) is.book.lines is.book.events) same is.book.are in
-      let text : bytes ≡ text_of other is.book.lines ++ [] =
-      is.book.text ∙ (ap (λ r. text_of kind is.book.lines ++ r) whole ∙ ap (λ k. text_of k is.book.lines ++ []) same) in
-      none_wrong other rates wrong (empty_state Two) is.book.lines book.lines is.book.events book.events book.rest
-      is.book.clean book.clean are book.are
-      (lines_same rates bytes other is.book.lines book.lines [] book.rest text book.text) not
-
-  pub none-wrong : IsWrongText rates bytes number wrong → ⊥
-  none-wrong not = elim not [
-    | inl first ↦
-        first_right kind bytes (flat_map fed is.book.lines ++ is.book.rest)
-        (is.book.text ∙ text_first kind is.book.lines is.book.rest) first.0
+  pub none-wrong : (kind : Kind) (rows : List TenantBill) (cut : Option ℕ) (number : ℕ) (wrong : Wrong)
+      → IsBook rates bytes kind rows cut → IsWrongText rates bytes number wrong → ⊥
+  none-wrong kind rows cut number wrong is not = elim not [
+    | inl first ↦ begun_right kind is.book first.0
     | inr after ↦
-        after_right after.kind
-        (kind_same rates bytes kind after.kind is.book.lines after.book.lines is.book.rest after.book.rest is.book.clean
-        is.book.text after.book.text) after.book after.next_is
+        none_wrong after.kind rates wrong (empty_state Two) is.book.lines after.book.lines is.book.events
+        after.book.events is.book.rest after.book.rest is.book.clean after.book.clean is.clean
+        (begun_are rates bytes kind after.kind is.book after.book) after.book.are
+        (begun_text rates bytes kind after.kind is.book after.book) after.next_is
+  ]
+
+  both_wrong : (kind other : Kind) (is : BeginsAsBook rates bytes kind) (book : BeginsAsBook rates bytes other)
+      (wrong also : Wrong) → IsWrongNext kind (run Two rates is.events).live is.rest wrong
+      → IsWrongNext other (run Two rates book.events).live book.rest also
+      → AreBothWrong is.lines book.lines wrong also
+  both_wrong kind other is book wrong also first not =
+      same_wrong other rates wrong also (empty_state Two) is.lines book.lines is.events book.events is.rest book.rest
+      is.clean book.clean (begun_are rates bytes kind other is book) book.are
+      (begun_text rates bytes kind other is book)
+      (subst (λ k. IsWrongNext k (run Two rates is.events).live is.rest wrong)
+      (begun_kind rates bytes kind other is book) first) not
+
+  pub one-wrong : (number other : ℕ) (wrong also : Wrong) → IsWrongText rates bytes number wrong
+      → IsWrongText rates bytes other also → (number ≡ other) × (wrong ≡ also)
+  one-wrong number other wrong also is not = elim is [
+    | inl first ↦ elim not [
+      | inl too ↦ (first.1 ∙ sym too.1, first.2 ∙ sym too.2)
+      | inr after ↦ absurd (begun_right after.kind after.book first.0)
+    ]
+    | inr after ↦ elim not [
+      | inl first ↦ absurd (begun_right after.kind after.book first.0)
+      | inr too ↦
+          let both = both_wrong after.kind too.kind after.book too.book wrong also after.next_is too.next_is in (
+            after.number_is ∙ (ap (λ n. n + 2) both.number_is ∙ sym too.number_is),
+            both.wrong_is,
+          )
+    ]
   ]

@@ -1,5 +1,5 @@
 //! What holds of every run. Each function here does nothing. Its contract is a law, and is proved.
-ghost use Rattle.std.specs.Prelude.{◌≡◌, ◌∷◌, ◌++◌, [], ℕ, List, map, Option, None};
+ghost use Rattle.std.specs.Prelude.{◌≡◌, ◌∷◌, ◌++◌, [], ℕ, List, map, Option};
 ghost use Rattle.share_base.specs.declared.command.Event.{Event};
 ghost use Rattle.share_base.specs.declared.version.Version.{Version};
 ghost use Rattle.share_model.specs.declared.rates.Rate.{Rate};
@@ -51,9 +51,9 @@ pub fn bills_are_sums()
         → map (λ t. row_with t (sums_at bill.sent t.flow)) bill.tenants ≡ rows_of rates events }
 {}
 
-/// A text has one bill, and one run. If two bills are bills of it, they are of the same kind and have the same rows, and
-/// the same line is cut (`one`); and they are bills of the same events (`run`). If no line is cut, no line of the text
-/// is wrong (`right`).
+/// A text has one bill, or one wrong line. If two bills are bills of it, they are of the same kind and have the same
+/// rows, and the same line is cut (`one`); and they are bills of the same events (`run`). A text that has a bill has no
+/// wrong line (`right`), and of a text without one one line is the first that is wrong, in one way (`wrong`).
 pub fn texts_have_one_bill()
     ensures one { (rates : List Rate) (bytes : List ℕ) (kind other : Kind) (rows others : List TenantBill)
         (cut left : Option ℕ) → IsBook rates bytes kind rows cut → IsBook rates bytes other others left
@@ -61,6 +61,9 @@ pub fn texts_have_one_bill()
     ensures run { (rates : List Rate) (bytes : List ℕ) (kind other : Kind) (rows others : List TenantBill)
         (cut left : Option ℕ) (is : IsBook rates bytes kind rows cut) (also : IsBook rates bytes other others left)
         → is.book.events ≡ also.book.events }
-    ensures right { (rates : List Rate) (bytes : List ℕ) (kind : Kind) (rows : List TenantBill) (number : ℕ)
-        (wrong : Wrong) → IsBook rates bytes kind rows None → IsWrongText rates bytes number wrong → ⊥ }
+    ensures right { (rates : List Rate) (bytes : List ℕ) (kind : Kind) (rows : List TenantBill) (cut : Option ℕ)
+        (number : ℕ) (wrong : Wrong) → IsBook rates bytes kind rows cut → IsWrongText rates bytes number wrong → ⊥ }
+    ensures wrong { (rates : List Rate) (bytes : List ℕ) (number other : ℕ) (wrong also : Wrong)
+        → IsWrongText rates bytes number wrong → IsWrongText rates bytes other also
+        → (number ≡ other) × (wrong ≡ also) }
 {}

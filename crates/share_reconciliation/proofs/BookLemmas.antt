@@ -250,5 +250,6 @@ module _ {R : Type 0} (left : R → Option (List ℕ)) (gives : R → List ℕ �
   bill-of (Err Input) bills = bills
   bill-of (Err NoMemory) bills = tt
   bill-of (Err (LineFault number wrong)) bills =
-      none-wrong a.link.rates (whole_text a text) (billed_kind a.kind) (rows_of a.link.rates text.events) number wrong
+      none-wrong a.link.rates (whole_text a text) (billed_kind a.kind) (rows_of a.link.rates text.events) None number
+      wrong
       (book-billed a text) (of_text (λ bytes. IsWrongText a.link.rates bytes number wrong) bills)

@@ -1,5 +1,5 @@
-//! What holds of every book and every bill of its text. The function here does nothing: its contract is the law, which
-//! is proved with it.
+//! What holds of every book and every bill of its text. The functions here do nothing: their contracts are laws,
+//! which are proved with them.
 ghost use Rattle.std.specs.Prelude.{◌≡◌, ◌++◌, ℕ, true, List, Option, None, Some, Result, MatchResult, find, is_some};
 ghost use Rattle.share_base.specs.declared.version.Version.TheVariants.{Two};
 ghost use Rattle.share_model.specs.link.Books.{account_of, is_book_of};
@@ -14,7 +14,8 @@ ghost use Rattle.share_bill.specs.declared.bill.text.NotBilled.{NotBilled};
 ghost use Rattle.share_book.specs.Audited.{Audited, IsRunAndText};
 ghost use Rattle.share_reconciliation.specs.Reconciled.{IsBillOfBook, IsUnbilled, billed_kind, whole_text};
 
-use share_model::TellingReader;
+use share_book::Book;
+use share_model::{Rates, TellingReader};
 
 /// The bill of a book's text is the book's. A book is one whose text, after what was drained of it, is what
 /// `share_book::Book::engine` says. With the tariffs of the book, its whole text has a bill, whose rows are those of the
@@ -42,3 +43,17 @@ pub fn bills_match_books<I: TellingReader>()
         → is_some (find (is_book_of flow) a.link.live.books) ≡ true
         → (sums_of a.link.rates (run Two a.link.rates text.events) flow).amount ≡ account_of a.link.live.books flow }
 {}
+
+/// The same of a book as it is. It has a whole text, of which `share_book::Book::text` lends the end; and whatever
+/// `share_bill::bill_text` returns for a reader of this text, with the tariffs of the book, is the book's bill, unless a
+/// read failed or memory was refused.
+pub fn bill_matches_book<S: Rates, I: TellingReader>(book: &Book<S>)
+    ensures { (text : IsRunAndText book.now.audited)
+        × ((first : I) (result : Result BookBill NotBilled)
+        → I.left first ≡ Some (whole_text book.now.audited text)
+        → Bills I.left I.gives first book.now.audited.link.rates result
+        → MatchResult result (λ bill. IsBillOfBook book.now.audited text bill)
+        (λ fault. IsUnbilled I.gives first fault)) }
+{
+    let _ = book.engine();
+}

@@ -3,4 +3,4 @@
 
 mod laws;
 
-pub use laws::bills_match_books;
+pub use laws::{bill_matches_book, bills_match_books};

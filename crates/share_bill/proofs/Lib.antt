@@ -1,8 +1,10 @@
 pub mod LineLemmas
 pub mod MakingLemmas
+pub mod OneBillLemmas
 pub mod RowsLemmas
 pub mod RunLemmas
 pub mod SeenLemmas
+pub mod SeenRowsLemmas
 pub mod SumsLemmas
 pub mod TextLemmas
 pub mod TotalsLemmas

@@ -49,10 +49,10 @@ use Rattle.share_bill.specs.Seen.{KeepsLengths, seen_link, seen_sent, seen_torn,
 use Rattle.share_bill.specs.Seen.{zeros_for, measured}
 
 -- what is left of a link, seen so, and an answer
-abbrev seen_first : {A : Type 0} → (List ℕ → List ℕ) → Live × A → Live × A
+abbrev pub seen_first : {A : Type 0} → (List ℕ → List ℕ) → Live × A → Live × A
 seen_first f d = (seen_link f d.0, d.1)
 
-abbrev seen_sending : (List ℕ → List ℕ) → Sending → Sending
+abbrev pub seen_sending : (List ℕ → List ℕ) → Sending → Sending
 seen_sending f s = record s { head = map_packet f s.head }
 
 module _ (f : List ℕ → List ℕ) where
@@ -211,7 +211,7 @@ module _ (f : List ℕ → List ℕ) where
       ap (arrive_in (seen_link f l) e.number (f body)) (buffer_of-image f l.buffers e.number)
       ∙ arrived_in-seen l e.number body (buffer_of l.buffers e.number)
 
-  arrive-seen : (l : Live) (name : NameBytes) (body : List ℕ)
+  pub arrive-seen : (l : Live) (name : NameBytes) (body : List ℕ)
       → arrive_step (seen_link f l) name (f body) ≡ seen_first f (arrive_step l name body)
   arrive-seen l name body = arrived_by-seen l body (flow_named l.graph name)
 
@@ -241,7 +241,7 @@ module _ (f : List ℕ → List ℕ) where
   sending_by-seen l None = next-seen l (next l.queue.clients)
   sending_by-seen l (Some p) = head_of-seen l p.out p.flow
 
-  sending-seen : (l : Live) → sending (seen_link f l) ≡ option_map (seen_sending f) (sending l)
+  pub sending-seen : (l : Live) → sending (seen_link f l) ≡ option_map (seen_sending f) (sending l)
   unfolding sending
   sending-seen l = sending_by-seen l l.part
 
@@ -404,7 +404,7 @@ module _ (f : List ℕ → List ℕ) (keeps : KeepsLengths f) where
 
 -- ---- Lengths alone
 
-zeros-keep : KeepsLengths zeros_for
+pub zeros-keep : KeepsLengths zeros_for
 zeros-keep payload = length-replicate (length payload) 0
 
 packets_in-seen : (f : List ℕ → List ℕ) (bs : List Buffer) → packets_in (map (map_buffer f) bs) ≡ packets_in bs
@@ -431,7 +431,7 @@ totals_with l count = record {
   link = state_by l.broken l.part;
 }
 
-totals-seen : (f : List ℕ → List ℕ) (l : Live) → totals (seen_link f l) ≡ totals l
+pub totals-seen : (f : List ℕ → List ℕ) (l : Live) → totals (seen_link f l) ≡ totals l
 unfolding totals_with
 totals-seen f l = ap (totals_with l) (packets_in-seen f l.buffers)
 

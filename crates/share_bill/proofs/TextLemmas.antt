@@ -1,5 +1,5 @@
 -- How the text of a book is passed, line by line.
-use Rattle.std.specs.Prelude.{◌≡◌, ◌<◌, ◌≤◌, ◌+◌, ◌⊎◌, ℕ, Bool, true, false, List, [], ◌∷◌, ◌++◌, length, take, get_or}
+use Rattle.std.specs.Prelude.{◌≡◌, ◌<◌, ◌≤◌, ◌+◌, ◌⊎◌, ℕ, Bool, true, false, List, [], ◌∷◌, ◌++◌, length, take, drop, get_or}
 use Rattle.std.specs.Prelude.{codes, flat_map, map, nat_lt, Option, None, Some, IfSome, Result, Ok, Err, IsErrAnd, MatchResult, if◌then◌else◌}
 use mathlib.Core.List.{append_assoc}
 use Rattle.std.proofs.Common.{suc, ◌^◌, refl, ap, sym, ◌∙◌, subst, arith, inl, inr, length-take}
@@ -51,15 +51,15 @@ use Rattle.share_bill.proofs.RunLemmas.{bill-more, rows-are}
 
 -- ---- Bytes without a line feed
 
-clean-both : (xs ys : List ℕ) → NoFeed xs → NoFeed ys → NoFeed (xs ++ ys)
+pub clean-both : (xs ys : List ℕ) → NoFeed xs → NoFeed ys → NoFeed (xs ++ ys)
 clean-both xs ys one two = All-append (λ b. is_feed b ≡ false) xs ys one two
 
-clean-rest : (xs ys : List ℕ) → NoFeed (xs ++ ys) → NoFeed ys
+pub clean-rest : (xs ys : List ℕ) → NoFeed (xs ++ ys) → NoFeed ys
 clean-rest xs ys both =
     subst NoFeed (drop-append_seam xs ys) (All-drop (λ b. is_feed b ≡ false) (length xs) (xs ++ ys) both)
 
 -- a line feed is no byte of them
-no_feed_at : (xs : List ℕ) (i : ℕ) → NoFeed xs → i < length xs → get_or xs i 0 ≡ 10 → ⊥
+pub no_feed_at : (xs : List ℕ) (i : ℕ) → NoFeed xs → i < length xs → get_or xs i 0 ≡ 10 → ⊥
 no_feed_at xs i clean inside is =
     let none : is_feed (get_or xs i 0) ≡ false = All-get_or (λ b. is_feed b ≡ false) xs i 0 inside clean in
     let feed : is_feed (get_or xs i 0) ≡ true = ap is_feed is in cc
@@ -85,17 +85,63 @@ ahead_line ahead kept line rest is first few = elim is [
       absurd (long_line long.front long.rest line rest long.clean long.many few (sym long.kept_is ∙ first.whole))
 ]
 
+feed_first : (b : ℕ) (xs : List ℕ) → NoFeed (b ∷ xs) → b ≡ 10 → ⊥
+feed_first b xs clean is = no_feed_at (b ∷ xs) 0 clean (omega arith) is
+
+first_byte : List ℕ → ℕ
+first_byte [] = 0
+first_byte (b ∷ bs) = b
+
+-- the rest of a line, and what is after it
+record IsRest (xs ys line rest : List ℕ) : Type 0 where
+  piece : List ℕ
+  line_is : line ≡ xs ++ piece
+  ys_is : ys ≡ piece ++ 10 ∷ rest
+
+-- a line of which these bytes are the beginning
+line_rest : (xs ys line rest : List ℕ) → NoFeed xs → xs ++ ys ≡ line ++ 10 ∷ rest → IsRest xs ys line rest
+unfolding first_byte
+line_rest [] ys line rest clean same = record { piece = line; line_is = refl; ys_is = same }
+line_rest (x ∷ xs) ys [] rest clean same = absurd (feed_first x xs clean (ap first_byte same))
+line_rest (x ∷ xs) ys (b ∷ bs) rest clean same =
+    let later = line_rest xs ys bs rest (clean-rest (x ∷ []) xs clean) (ap (drop 1) same) in
+    let head : b ≡ x = sym (ap first_byte same) in
+    record {
+      piece = later.piece;
+      line_is = ap (λ c. c ∷ bs) head ∙ ap (λ cs. x ∷ cs) later.line_is;
+      ys_is = later.ys_is;
+    }
+
+fed_before : (line more : List ℕ) → fed line ++ more ≡ line ++ 10 ∷ more
+fed_before line more = append_assoc line (10 ∷ []) more
+
+long_ahead : (front rest long after : List ℕ) → NoFeed front → 20481 ≤ length front → NoFeed long
+    → take 20481 front ++ rest ≡ long ++ 10 ∷ after → IsLongNext (front ++ rest)
+long_ahead front rest long after clean many none same =
+    let cut = line_rest (take 20481 front) rest long after (All-take (λ b. is_feed b ≡ false) 20481 front clean) same in
+    let piece = clean-rest (take 20481 front) cut.piece (subst NoFeed cut.line_is none) in
+    record {
+      long = front ++ cut.piece;
+      more = after;
+      is = ap (λ bs. front ++ bs) cut.ys_is
+          ∙ (sym (append_assoc front cut.piece (10 ∷ after)) ∙ sym (fed_before (front ++ cut.piece) after));
+      clean = clean-both front cut.piece clean piece;
+      many = let n = length-append front cut.piece in omega (arith, n, many);
+    }
+
 ahead_long : (ahead kept long rest : List ℕ) → IsAhead ahead kept → FirstLine kept long rest → 20480 < length long
     → IsLongNext ahead
 ahead_long ahead kept long rest is first many = elim is [
-  | inl same ↦ record { long = long; more = 10 ∷ rest; is = sym same ∙ first.whole; clean = first.clean; many = many }
-  | inr more ↦ record {
-    long = more.front;
-    more = more.rest;
-    is = more.ahead_is;
-    clean = more.clean;
-    many = let many = more.many in omega (arith, many);
+  | inl same ↦ record {
+    long = long;
+    more = rest;
+    is = sym same ∙ (first.whole ∙ sym (fed_before long rest));
+    clean = first.clean;
+    many = many;
   }
+  | inr more ↦
+      subst IsLongNext (sym more.ahead_is)
+      (long_ahead more.front more.rest long rest more.clean more.many first.clean (sym more.kept_is ∙ first.whole))
 ]
 
 short_or_long : (n : ℕ) → (n ≤ 20481) ⊎ (20481 < n)
@@ -236,7 +282,7 @@ module _ {R : Type 0} (left : R → Option (List ℕ)) (gives : R → List ℕ �
         record {
           long = next.long;
           more = next.more ++ more;
-          is = ap (λ bs. bs ++ more) next.is ∙ append_assoc next.long next.more more;
+          is = ap (λ bs. bs ++ more) next.is ∙ append_assoc (fed next.long) next.more more;
           clean = next.clean;
           many = next.many;
         },
@@ -304,7 +350,7 @@ module _ {R : Type 0} (left : R → Option (List ℕ)) (gives : R → List ℕ �
   module _ (n : ℕ) (old new : Connection R) (at : HasReadAt left gives first n passed old)
       (same : new.reader ≡ old.reader) where
     pub next-line : IsNextLine old.ahead Line new.line new.ahead → PassesLine left gives first passed NextLine new
-    next-line is = (is.0.clean, line-passed old new at.0 same is.0 is.1)
+    next-line is = (is.0.clean, is.1, line-passed old new at.0 same is.0 is.1)
 
     pub next-long : IsNextLine old.ahead OverLong new.line new.ahead
         → PassesLine left gives first passed NextLong new
@@ -386,7 +432,7 @@ module _ {R : Type 0} (left : R → Option (List ℕ)) (gives : R → List ℕ �
     at = subst (λ bs. IsAt left gives first bs after)
         (lines_append old.kind was.lines after.line
         ∙ ap (λ k. text_of k (was.lines ++ after.line ∷ [])) (sym takes.kind))
-        passes.1;
+        passes.2;
   }
 
   begins : (bill : BillView W) (c : Connection R) (number : ℕ)
@@ -411,7 +457,7 @@ module _ {R : Type 0} (left : R → Option (List ℕ)) (gives : R → List ℕ �
   line-wrong bill before after number wrong was passes is =
       let passed = text_of bill.kind was.lines in
       at-text left gives first (passed ++ fed after.line) after
-      (λ bytes. IsWrongText rates bytes number wrong) passes.1
+      (λ bytes. IsWrongText rates bytes number wrong) passes.2
       (λ rest. inr record {
         kind = bill.kind;
         book = begins bill before number was ((passed ++ fed after.line) ++ rest) (fed after.line ++ rest)
@@ -419,7 +465,7 @@ module _ {R : Type 0} (left : R → Option (List ℕ)) (gives : R → List ℕ �
         number_is = was.number_is;
         next_is = inr (
           after.line,
-          record { more = rest; is = refl; clean = passes.0 },
+          record { more = rest; is = refl; clean = passes.0; few = passes.1 },
           subst (λ l. next_event bill.kind l after.line ≡ Err wrong) was.bill_is.live is,
         );
       })
@@ -530,13 +576,17 @@ module _ {R : Type 0} (left : R → Option (List ℕ)) (gives : R → List ℕ �
       → kind_of c.line ≡ Some kind → IsAt left gives first (text_of kind []) c
   first-kind c kind passes is =
       subst (λ bs. IsAt left gives first bs c)
-      (ap fed (kind_line c.line kind is) ∙ sym (append-nil (fed (first_line kind)))) passes.1
+      (ap fed (kind_line c.line kind is) ∙ sym (append-nil (fed (first_line kind)))) passes.2
 
   pub first-other : (c : Connection R) → PassesLine left gives first [] NextLine c → kind_of c.line ≡ None
       → IsFirstFault left gives first (LineFault 1 First)
   first-other c passes is =
-      at-text left gives first (fed c.line) c (λ bytes. IsFirstWrong bytes 1 First) passes.1
-      (λ rest. (other_first c.line record { more = rest; is = refl; clean = passes.0 } is, refl, refl))
+      at-text left gives first (fed c.line) c (λ bytes. IsFirstWrong bytes 1 First) passes.2
+      (λ rest. (
+        other_first c.line record { more = rest; is = refl; clean = passes.0; few = passes.1 } is,
+        refl,
+        refl,
+      ))
 
   long_first : (start : Option (List ℕ)) → IfSome start (λ bytes. (rest : List ℕ) × (bytes ≡ rest) × IsLongNext rest)
       → IfSome start (λ bytes. IsFirstWrong bytes 1 First)

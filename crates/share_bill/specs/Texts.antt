@@ -66,19 +66,20 @@ pub record IsBook (rates : List Rate) (bytes : List ℕ) (kind : Kind) (rows : L
 
 -- Wrong lines
 
--- more than 20480 bytes come without a line feed
+-- a line of more than 20480 bytes comes, with its line feed
 pub record IsLongNext (rest : List ℕ) : Type 0 where
   pub long : List ℕ
   pub more : List ℕ
-  pub is : rest ≡ long ++ more
+  pub is : rest ≡ fed long ++ more
   pub clean : NoFeed long
   pub many : 20480 < length long
 
--- a line comes with its line feed
+-- a line of at most 20480 bytes comes, with its line feed
 pub record IsNext (rest line : List ℕ) : Type 0 where
   pub more : List ℕ
   pub is : rest ≡ fed line ++ more
   pub clean : NoFeed line
+  pub few : length line ≤ 20480
 
 -- no line comes that begins a book
 pub data IsNoFirst (rest : List ℕ) : Type 0 where
@@ -149,7 +150,7 @@ module _ {R : Type 0} (left : R → Option (List ℕ)) (gives : R → List ℕ �
 
   -- the next line came, or is too long, or does not come
   abbrev pub PassesLine : List ℕ → Next → Connection R → Type 0
-  PassesLine passed NextLine c = NoFeed c.line × IsAt (passed ++ fed c.line) c
+  PassesLine passed NextLine c = NoFeed c.line × (length c.line ≤ 20480) × IsAt (passed ++ fed c.line) c
   PassesLine passed NextLong c =
       IfSome (left first) (λ bytes. (rest : List ℕ) × (bytes ≡ passed ++ rest) × IsLongNext rest)
   PassesLine passed NextEnd c = EndsAfter passed c

@@ -8,4 +8,4 @@ pub use bill::{
     Bill, BookBill, Figures, Kind, LineFault, NotBilled, TenantBill, TenantTotal, Wrong, add_rows,
     bill_text,
 };
-pub use laws::{bills_are_sums, lengths_decide};
+pub use laws::{bills_are_sums, lengths_decide, texts_have_one_bill};

@@ -1,5 +1,5 @@
 -- The events of an audited engine stay a run, and its text their lines.
-use Rattle.std.specs.Prelude.{◌≡◌, ℕ, Bool, true, false, List, [], ◌∷◌, ◌++◌, flat_map, take, drop, Option}
+use Rattle.std.specs.Prelude.{◌≡◌, ◌≤◌, ℕ, Bool, true, false, List, [], ◌∷◌, ◌++◌, flat_map, take, drop, Option}
 use Rattle.std.specs.Prelude.{None, MatchBool}
 use Rattle.std.proofs.Common.{refl, ap, sym, ◌∙◌, subst, append_assoc, inl, inr}
 use Rattle.std.proofs.lemmas.List.{append-nil, take-append-drop}
@@ -24,23 +24,36 @@ use Rattle.share_model.specs.link.Fields.{IsName, IsBody, HasCommandFields}
 use Rattle.share_model.specs.link.Live.{Live}
 use Rattle.share_model.specs.link.Tariff.{AreInRange}
 use Rattle.share_model.specs.link.View.{LinkView}
-use Rattle.share_model.specs.run.Sound.{Sound}
+use Rattle.share_model.specs.run.Fold.{State, empty_state, state_after, step}
+use Rattle.share_model.specs.run.Sound.{Sound, max_life}
+use Rattle.share_model.specs.declared.rates.Rate.{Rate}
 use Rattle.share_model.specs.text.Audit.{written_line}
 use Rattle.share_model.proofs.lemmas.link.AnswerLaws.{arrival-answers, command-answers}
 use Rattle.share_model.proofs.lemmas.run.BytesLaws.{KeepsFrames, keeps-arrived, keeps-commanded}
 use Rattle.share_model.proofs.lemmas.run.Laws.{Ran, AskedOutcome, asked_spent, asked_no_memory, asked_made}
 use Rattle.share_model.proofs.lemmas.run.Laws.{arrive-asked, command-asked}
 use Rattle.share_core.specs.Lent.{lent}
+use Rattle.share_core.specs.Room.{has_room}
 use Rattle.share_journal.specs.Records.{IsRunOf}
 use Rattle.share_journal.proofs.Runs.{run_on, run-sound}
 use Rattle.share_book.specs.Texts.{first_line, line_in, TextView, with_bytes, after_drain}
 use Rattle.share_book.specs.Audited.{Audited, IsRunAndText, SendsWhole, after_event, is_no_memory}
+use Rattle.share_book.specs.BookEvents.{AreBookEvents, IsBookEvent}
 use Rattle.share_book.specs.declared.book_text.TextKind.{TextKind}
+use Rattle.share_book.proofs.TakeLemmas.{taken-room}
 use Rattle.share_book.specs.declared.book_text.TextKind.TheVariants.{Whole, Lengths}
 
 -- nothing is told
 abbrev pub nothing_told : {W : Type 0} → W → Option Told
 nothing_told _ = None
+
+-- ---- Events of a book
+
+own-more : (rates : List Rate) (s : State) (events : List Event) (e : Event) → AreBookEvents rates s events
+    → IsBookEvent (state_after rates s events).live e → AreBookEvents rates s (events ++ e ∷ [])
+unfolding AreBookEvents state_after
+own-more rates s [] e were is = (is, tt)
+own-more rates s (f ∷ events) e were is = (were.0, own-more rates (step rates s f) events e were.1 is)
 
 -- ---- One event more
 
@@ -56,10 +69,10 @@ line_last line events e =
 
 module _ {W : Type 0} (old new : Audited) (before after : W) where
   -- the link made an event, and its line was put at the end of the text
-  pub run-more : (e : Event) (o : Outcome) → IsRunAndText old
+  pub run-more : (e : Event) (o : Outcome) → IsRunAndText old → IsBookEvent old.link.live e
       → Ran nothing_told (lent old.link before) (e ∷ []) (o ∷ []) (lent new.link after)
       → new.kind ≡ old.kind → new.text.bytes ≡ old.text.bytes ++ line_in old.kind e → IsRunAndText new
-  run-more e o was ran kind text = record {
+  run-more e o was own ran kind text = record {
     events = was.events ++ e ∷ [];
     replies = was.replies ++ o ∷ [];
     drained = was.drained;
@@ -70,6 +83,11 @@ module _ {W : Type 0} (old new : Audited) (before after : W) where
         (was.replies ++ o ∷ [])) (sym ran.rates)
         (run_on nothing_told Two (lent old.link before) (lent new.link after) was.events (e ∷ []) was.replies (o ∷ [])
         was.run ran));
+    lasts = subst (λ life. life ≤ max_life) (sym ran.life) was.lasts;
+    own =
+        subst (λ rates. AreBookEvents rates (empty_state Two) (was.events ++ e ∷ [])) (sym ran.rates)
+        (own-more old.link.rates (empty_state Two) was.events e was.own
+        (subst (λ (l : Live). IsBookEvent l e) (sym was.run.ends.live) own));
     text =
         ap (λ bytes. was.drained ++ bytes) text
         ∙ text_more was.drained old.text.bytes (first_line old.kind) (line_in old.kind e)
@@ -91,6 +109,8 @@ run-drained old n was = record {
   replies = was.replies;
   drained = was.drained ++ take n old.text.bytes;
   run = was.run;
+  lasts = was.lasts;
+  own = was.own;
   text = text_drained n was.drained old.text.bytes ∙ was.text;
 }
 
@@ -177,13 +197,13 @@ with_link a link e = record { link = link; kind = a.kind; text = with_bytes a.te
 module _ (old : Audited) (link : LinkView (Unit {0})) (reply : Reply) (living : is_spent old.link ≡ false)
     (was : IsKept old) where
   pub arrival-kept : (name payload : List ℕ) → IsName name → IsBody old.link.live.version payload
-      → Steps (λ _ l. arrive_step l name payload) old.link reply link
+      → has_room old.link.live name ≡ true → Steps (λ _ l. arrive_step l name payload) old.link reply link
       → IsKept (with_link old link (Arrived name (unstamped payload)))
-  arrival-kept name payload is_name body did =
+  arrival-kept name payload is_name body free did =
       let sound = run-sound was.0.run in
       let ran = arrival-ran old.link link reply name payload living did was.0.run.range sound is_name body in (
         run-more old (with_link old link (Arrived name (unstamped payload))) tt tt (Arrived name (unstamped payload))
-            (Replied reply) was.0 ran refl refl,
+            (Replied reply) was.0 (taken-room old.link.live name payload free) ran refl refl,
         whole_kept old.link.live (arrive_step old.link.live name payload).0 link.live was.1
             (keeps-arrived sound name payload) (arrival-stepped old.link link reply name payload living did).live,
       )
@@ -193,7 +213,7 @@ module _ (old : Audited) (link : LinkView (Unit {0})) (reply : Reply) (living : 
   command-kept c fields did =
       let sound = run-sound was.0.run in
       let ran = command-ran old.link link reply c living did was.0.run.range sound fields in (
-        run-more old (with_link old link (Commanded c)) tt tt (Commanded c) (Replied reply) was.0 ran refl refl,
+        run-more old (with_link old link (Commanded c)) tt tt (Commanded c) (Replied reply) was.0 tt ran refl refl,
         whole_kept old.link.live (command_step old.link.rates old.link.live c).0 link.live was.1
             (keeps-commanded sound c) (command-stepped old.link link reply c living did).live,
       )

@@ -177,6 +177,12 @@ module _ (old : Audited) (link : LinkView (Unit {0})) (before after : OutboxView
   send-kept = (
     run-more old (with_link old link (Written (length (frame_of s)))) before after (Written (length (frame_of s)))
         (Turned (Wrote s.head.flow s.head.seq (length (frame_of s)) true)) was.0
+        (record {
+          frame = s;
+          sends = is;
+          unbegun = sending-new old.link.live s was.1.unparted is;
+          whole = refl;
+        })
         (sent_ran old.link link before after s turn (run-sound was.0.run) was.1.unparted is room living was.1.unbroken
         did was.0.run.range) refl refl,
     subst SendsWhole (sym sent_all.live)

@@ -1,5 +1,5 @@
 -- An engine whose text grows as its events happen.
-use Rattle.std.specs.Prelude.{◌≡◌, ◌⊎◌, Bool, true, false, List, ◌++◌, flat_map, nat_lt, ℕ, None}
+use Rattle.std.specs.Prelude.{◌≡◌, ◌≤◌, ◌⊎◌, Bool, true, false, List, ◌++◌, flat_map, nat_lt, ℕ, None}
 use Rattle.share_base.specs.declared.command.Command.{Command}
 use Rattle.share_base.specs.declared.command.Event.{Event}
 use Rattle.share_base.specs.declared.command.Event.TheVariants.{Commanded}
@@ -13,7 +13,10 @@ use Rattle.share_model.specs.link.Calls.{FoundNoMemory}
 use Rattle.share_model.specs.link.Live.{Live}
 use Rattle.share_model.specs.link.Step.{live_step}
 use Rattle.share_model.specs.link.View.{LinkView}
+use Rattle.share_model.specs.run.Fold.{empty_state}
+use Rattle.share_model.specs.run.Sound.{max_life}
 use Rattle.share_journal.specs.Records.{IsRunOf}
+use Rattle.share_book.specs.BookEvents.{AreBookEvents}
 use Rattle.share_book.specs.Texts.{first_line, line_in, longest_line, TextView, text_room, with_bytes}
 use Rattle.share_book.specs.declared.book_text.TextKind.{TextKind}
 
@@ -47,13 +50,15 @@ pub record SendsWhole (l : Live) : Type 0 where
   pub unparted : l.part ≡ None
   pub unbroken : l.broken ≡ false
 
--- the text, after what was drained of it, is the first line and the lines of the link's events; and these are a run of
--- the link
+-- the text, after what was drained of it, is the first line and the lines of the link's events; these are a run of the
+-- link, whose life is at most the longest one; and each of them is one that a book makes
 pub record IsRunAndText (a : Audited) : Type 0 where
   pub events : List Event
   pub replies : List Outcome
   pub drained : List ℕ
   pub run : IsRunOf None Two a.link.life a.link.rates a.link.live events replies
+  pub lasts : a.link.life ≤ max_life
+  pub own : AreBookEvents a.link.rates (empty_state Two) events
   pub text : drained ++ a.text.bytes ≡ first_line a.kind ++ flat_map (line_in a.kind) events
 
 -- Commands

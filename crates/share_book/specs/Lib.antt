@@ -1,5 +1,6 @@
 pub mod Audited
 pub mod Book
+pub mod BookEvents
 pub mod BookHistory
 pub mod Carry
 pub mod Changes

@@ -1,9 +1,9 @@
 //! An engine with the text of its events.
-ghost use Rattle.std.specs.Prelude.{◌≡◌, ◌≤◌, false, length, Some};
+ghost use Rattle.std.specs.Prelude.{◌≡◌, ◌≤◌, true, false, length, Some};
 ghost use Rattle.share_base.specs.Body.{unstamped};
 ghost use Rattle.share_base.specs.declared.command.Event.TheVariants.{Arrived};
 ghost use Rattle.share_base.specs.declared.command.Outcome.TheVariants.{Replied};
-ghost use Rattle.share_core.specs.Room.{free_flow};
+ghost use Rattle.share_core.specs.Room.{free_flow, has_room};
 ghost use Rattle.share_model.specs.link.Calls.{is_spent};
 ghost use Rattle.share_model.specs.link.Turns.{sending};
 ghost use Rattle.share_book.specs.Audited.{IsRunAndText, SendsWhole, after_event, outcome_in, lacks_text};
@@ -131,10 +131,12 @@ impl<S: Rates> AuditedEngine<S> {
         self.engine.arrive_at(flow, number, body)
     }
 
-    /// A packet comes for the flow of a name: one event, with its line. The payload is not copied. It takes no memory.
+    /// A packet comes for the flow of a name, whose buffer has room: one event, with its line. The payload is not copied.
+    /// It takes no memory.
     pub fn arrive(&mut self, flow: Name, body: Body) -> Reply
         requires living { is_spent self.old.link ≡ false }
         requires text { lacks_text self.old ≡ false }
+        requires room { has_room self.old.link.live flow ≡ true }
         ensures reply { Replied result ≡ outcome_in self.old (Arrived flow (unstamped body.payload)) }
         ensures after { self.new ≡ after_event self.old (Arrived flow (unstamped body.payload)) }
     {

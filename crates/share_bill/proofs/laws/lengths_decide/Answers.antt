@@ -1,4 +1,5 @@
 use Rattle.share_bill.proofs.SeenLemmas.{replies-same, accounts-same, clients-same, totals-same}
+use Rattle.share_bill.proofs.SeenRowsLemmas.{rows-same}
 use Rattle.share_bill.proofs.laws.lengths_decide.Goals as goal
 
 pub returns-clause-replies : goal.returns-clause-replies
@@ -12,3 +13,6 @@ returns-clause-clients c version rates one other same = clients-same version rat
 
 pub returns-clause-totals : goal.returns-clause-totals
 returns-clause-totals c version rates one other same = totals-same version rates one other same
+
+pub returns-clause-rows : goal.returns-clause-rows
+returns-clause-rows c rates one other same = rows-same rates one other same

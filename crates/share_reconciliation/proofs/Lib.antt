@@ -1,0 +1,3 @@
+pub mod CleanLemmas
+pub mod ReadBackLemmas
+pub mod BookLemmas

@@ -1,0 +1,59 @@
+//! What holds of every book and every bill of its text. The functions here do nothing: their contracts are laws,
+//! which are proved with them.
+ghost use Rattle.std.specs.Prelude.{◌≡◌, ◌++◌, ℕ, true, List, Option, None, Some, Result, MatchResult, find, is_some};
+ghost use Rattle.share_base.specs.declared.version.Version.TheVariants.{Two};
+ghost use Rattle.share_model.specs.link.Books.{account_of, is_book_of};
+ghost use Rattle.share_model.specs.link.Totals.{totals};
+ghost use Rattle.share_model.specs.run.Fold.{empty_state, outcomes, run};
+ghost use Rattle.share_bill.specs.Bills.{rows_of, sums_of};
+ghost use Rattle.share_bill.specs.Texts.{Bills, IsBook};
+ghost use Rattle.share_bill.specs.declared.bill.kind.Kind.{Kind};
+ghost use Rattle.share_bill.specs.declared.bill.running.TenantBill.{TenantBill};
+ghost use Rattle.share_bill.specs.declared.bill.text.BookBill.{BookBill};
+ghost use Rattle.share_bill.specs.declared.bill.text.NotBilled.{NotBilled};
+ghost use Rattle.share_book.specs.Audited.{Audited, IsRunAndText};
+ghost use Rattle.share_reconciliation.specs.Reconciled.{IsBillOfBook, IsUnbilled, billed_kind, whole_text};
+
+use share_book::Book;
+use share_model::{Rates, TellingReader};
+
+/// The bill of a book's text is the book's. A book is one whose text, after what was drained of it, is what
+/// `share_book::Book::engine` says. With the tariffs of the book, its whole text has a bill, whose rows are those of the
+/// book's events, and of which no line is cut (`book`). So whatever `share_bill::bill_text` returns for a reader of this
+/// text, either it is this bill, or a read failed or memory was refused: no line is wrong (`bill`). The run that a bill of
+/// this text makes has the replies of the book's events (`replies`), and comes to the accounts (`accounts`) and the totals
+/// (`totals`) of the book's link. What a flow owes by its row is its account there, while the flow is open (`amounts`).
+/// All this is so of a text of lengths, which has no byte of a payload, and of a whole one.
+pub fn bills_match_books<I: TellingReader>()
+    ensures book { (a : Audited) (text : IsRunAndText a) → IsBook a.link.rates (whole_text a text) (billed_kind a.kind)
+        (rows_of a.link.rates text.events) None }
+    ensures bill { (first : I) (a : Audited) (text : IsRunAndText a) (result : Result BookBill NotBilled)
+        → I.left first ≡ Some (whole_text a text) → Bills I.left I.gives first a.link.rates result
+        → MatchResult result (λ bill. IsBillOfBook a text bill) (λ fault. IsUnbilled I.gives first fault) }
+    ensures replies { (a : Audited) (text : IsRunAndText a) (kind : Kind) (rows : List TenantBill) (cut : Option ℕ)
+        (bill : IsBook a.link.rates (whole_text a text) kind rows cut)
+        → outcomes a.link.rates (empty_state Two) bill.book.events ≡ text.replies }
+    ensures accounts { (a : Audited) (text : IsRunAndText a) (kind : Kind) (rows : List TenantBill) (cut : Option ℕ)
+        (bill : IsBook a.link.rates (whole_text a text) kind rows cut)
+        → (run Two a.link.rates bill.book.events).live.books ≡ a.link.live.books }
+    ensures totals { (a : Audited) (text : IsRunAndText a) (kind : Kind) (rows : List TenantBill) (cut : Option ℕ)
+        (bill : IsBook a.link.rates (whole_text a text) kind rows cut)
+        → totals (run Two a.link.rates bill.book.events).live ≡ totals a.link.live }
+    ensures amounts { (a : Audited) (text : IsRunAndText a) (flow : ℕ)
+        → is_some (find (is_book_of flow) a.link.live.books) ≡ true
+        → (sums_of a.link.rates (run Two a.link.rates text.events) flow).amount ≡ account_of a.link.live.books flow }
+{}
+
+/// The same of a book as it is. It has a whole text, of which `share_book::Book::text` lends the end; and whatever
+/// `share_bill::bill_text` returns for a reader of this text, with the tariffs of the book, is the book's bill, unless a
+/// read failed or memory was refused.
+pub fn bill_matches_book<S: Rates, I: TellingReader>(book: &Book<S>)
+    ensures { (text : IsRunAndText book.now.audited)
+        × ((first : I) (result : Result BookBill NotBilled)
+        → I.left first ≡ Some (whole_text book.now.audited text)
+        → Bills I.left I.gives first book.now.audited.link.rates result
+        → MatchResult result (λ bill. IsBillOfBook book.now.audited text bill)
+        (λ fault. IsUnbilled I.gives first fault)) }
+{
+    let _ = book.engine();
+}

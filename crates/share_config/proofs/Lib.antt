@@ -1,0 +1,4 @@
+pub mod AddressLemmas
+pub mod EndpointLemmas
+pub mod ListLemmas
+pub mod ReadingLemmas

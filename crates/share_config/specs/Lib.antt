@@ -1,0 +1,9 @@
+pub mod Addresses
+pub mod Amounts
+pub mod Endpoints
+pub mod Files
+pub mod Keys
+pub mod Lists
+pub mod Reading
+pub mod Sections
+pub mod Tenants

@@ -1,6 +1,7 @@
 -- The reader of std finds the address that a text spells, and only that.
-use Rattle.std.proofs.Common.{◌≡◌, ℕ, List, [], ◌∷◌, ◌++◌, Option, Some, None, Result, Ok, Err, refl, sym, ap, ◌∙◌, subst, append-nil, absurd, lit≤}
-use Rattle.std.proofs.Common.{length, take, drop, Bool, true, false}
+use Rattle.std.proofs.Common.{◌≡◌, ℕ, List, [], ◌∷◌, ◌++◌, Option, Some, None, Result, Ok, Err, refl, sym, ap, ◌∙◌, subst, append-nil, lit≤}
+use Rattle.std.proofs.Common.{length, take, drop, Bool, true, false, Bor, MatchOption}
+use Rattle.std.specs.Str.Pattern.{FindsTextPrefix, StripsPrefix}
 use Rattle.std.proofs.Math.Seq.{take-append_seam, drop-append_seam}
 use Rattle.std.proofs.lemmas.List.{take-append-drop}
 use Rattle.std.proofs.lemmas.Slice.Eq.{bytes_eq-Decides}
@@ -56,12 +57,20 @@ is_after prefix text rest e =
         (bytes_eq-Decides (take (length prefix) text) prefix).1 front in
     rw same (ap Some back)
 
+-- what `strip_prefix` finds
+pub stripped : (prefix text : List ℕ) (r : Option (Bor (List ℕ)))
+    → MatchOption r (FindsTextPrefix prefix text None) (λ x. StripsPrefix (FindsTextPrefix prefix) text x.now)
+    → MatchOption r (after prefix text ≡ None) (λ rest. after prefix text ≡ Some rest.now)
+stripped prefix text None h = not_after prefix text h
+stripped prefix text (Some x) h = is_after prefix text x.now (h.1.1 ∙ ap (λ t. prefix ++ t) (sym h.2))
+
 -- ---- Socket addresses
 
 v4_of : List ℕ × ℕ → SocketAddrV4
 v4_of p = record { ip = ipv4 p.0; port = p.1 }
 
 v4_sound : (text : List ℕ) (p : List ℕ × ℕ) → whole (read_socket_v4 text) ≡ Some p → IsSocketV4Text text (v4_of p)
+unfolding read_socket_v4 v4_of
 v4_sound text p e =
     at_whole (λ t q. IsSocketV4Text t (v4_of q)) text (read_socket_v4 text)
     (λ q rest r. read_socket_v4_sound text rest (v4_of q) r) p e
@@ -71,6 +80,7 @@ v6_of p = record { ip = ipv6 p.0; port = p.1; flowinfo = p.2; scope_id = p.3 }
 
 v6_sound : (text : List ℕ) (p : List ℕ × ℕ × ℕ × ℕ) → whole (read_socket_v6 text) ≡ Some p
     → IsSocketV6Text text (v6_of p)
+unfolding read_socket_v6 v6_of
 v6_sound text p e =
     at_whole (λ t q. IsSocketV6Text t (v6_of q)) text (read_socket_v6 text)
     (λ q rest r. read_socket_v6_sound text rest (v6_of q) r) p e

@@ -1,7 +1,7 @@
 -- Decimals, and texts of a number and a unit.
-use Rattle.std.proofs.Common.{◌≡◌, ◌<◌, ◌≤◌, ◌^◌, ◌&&◌, ℕ, Bool, true, false, nat_le, nat_lt, List, [], ◌∷◌, length, get_or}
-use Rattle.std.proofs.Common.{Option, None, Some, Result, Ok, Err, refl, sym, ap, ◌∙◌, arith, absurd, cond}
-use Rattle.std.specs.Int.{IsInRange}
+use Rattle.std.proofs.Common.{◌≡◌, ◌<◌, ◌≤◌, ◌^◌, ℕ, true, nat_le, List, [], ◌∷◌, length}
+use Rattle.std.proofs.Common.{None, Some, Result, Ok, Err, refl, sym, ap, ◌∙◌, arith, lit<, Bor}
+use Rattle.std.proofs.lemmas.Str.Pattern.{IsSplitOnceResult, split_once_first}
 use Rattle.std.specs.List.{list_all, position_or_len, before_first, after_first}
 use Rattle.std.specs.Result.{result_ok}
 use Rattle.std.specs.Str.Parse.{digits_value, ParsesUnsigned}
@@ -42,13 +42,13 @@ number_above text is many = rw (is, le-ltb (digits_value 10 text) (2 ^ 64) many)
 -- the parser of std reads a decimal as its number
 pub parsed : {E : Type 0} (text : List ℕ) (r : Result ℕ E) → is_decimal text ≡ true → ParsesUnsigned 64 10 text r
     → result_ok r ≡ number_of text
-parsed text (Ok n) is h =
+parsed {E} text (Ok n) is h =
     let both = and_parts (begins_well text) (list_all is_digit text) is in
-    let read = parse_digits own 64 text (Ok n) h both.1 in
+    let read = parse_digits own {E = E} 64 text (Ok n) h both.1 in
     ap Some read.1 ∙ sym (number_below text is read.0.1)
-parsed text (Err e) is h =
+parsed {E} text (Err e) is h =
     let both = and_parts (begins_well text) (list_all is_digit text) is in
-    let read = parse_digits own 64 text (Err e) h both.1 in
+    let read = parse_digits own {E = E} 64 text (Err e) h both.1 in
     let many : 2 ^ 64 ≤ digits_value 10 text =
         not_below (digits_value 10 text) (λ few. read (some_byte text both.0, few)) in
     sym (number_above text is many)
@@ -58,23 +58,26 @@ parsed text (Err e) is h =
 
 -- ---- A number and a unit
 
-pub no_space : (text : List ℕ) → position_or_len is_space text ≡ length text → with_unit text ≡ None
-no_space text none = rw (eq-eqb (position_or_len is_space text) (length text) none)
+pub no_space : (text : List ℕ) → IsSplitOnceResult 32 text None → with_unit text ≡ None
+no_space text h =
+    rw (eq-eqb (position_or_len is_space text) (length text) (split_once_first 32 text None h (lit< tt)))
 
 with_space : (text : List ℕ) → position_or_len is_space text < length text
     → with_unit text ≡ (number_of (before_first is_space text) >>= λ n. Some (n, after_first is_space text))
 with_space text some =
     rw (ne_eqb (position_or_len is_space text) (length text) (λ e. absurd (omega arith)))
 
-pub no_number : (text digits unit : List ℕ) → position_or_len is_space text < length text
-    → digits ≡ before_first is_space text → number_of digits ≡ None → with_unit text ≡ None
-no_number text digits unit some is none =
-    let none_before : number_of (before_first is_space text) ≡ None = ap number_of (sym is) ∙ none in
-    with_space text some ∙ rw none_before
+pub no_number : (text : List ℕ) (parts : Bor (List ℕ) × Bor (List ℕ)) → IsSplitOnceResult 32 text (Some parts)
+    → number_of parts.0.now ≡ None → with_unit text ≡ None
+no_number text parts h none =
+    let split = split_once_first 32 text (Some parts) h (lit< tt) in
+    let none_before : number_of (before_first is_space text) ≡ None = ap number_of (sym split.1) ∙ none in
+    with_space text split.0 ∙ rw none_before
 
-pub number_and_unit : (text digits unit : List ℕ) (n : ℕ) → position_or_len is_space text < length text
-    → digits ≡ before_first is_space text → unit ≡ after_first is_space text → number_of digits ≡ Some n
-    → with_unit text ≡ Some (n, unit)
-number_and_unit text digits unit n some front back is =
-    let number_before : number_of (before_first is_space text) ≡ Some n = ap number_of (sym front) ∙ is in
-    with_space text some ∙ rw number_before (ap (λ u. Some (n, u)) (sym back))
+pub number_and_unit : (text : List ℕ) (parts : Bor (List ℕ) × Bor (List ℕ)) (n : ℕ)
+    → IsSplitOnceResult 32 text (Some parts) → number_of parts.0.now ≡ Some n
+    → with_unit text ≡ Some (n, parts.1.now)
+number_and_unit text parts n h is =
+    let split = split_once_first 32 text (Some parts) h (lit< tt) in
+    let number_before : number_of (before_first is_space text) ≡ Some n = ap number_of (sym split.1) ∙ is in
+    with_space text split.0 ∙ rw number_before (ap (λ u. Some (n, u)) (sym split.2))

@@ -40,9 +40,13 @@ pub fn read_mode(text: &str) -> Option<u32>
 fn with_unit(text: &str) -> Option<(u64, &str)>
     ensures { MatchOption result (with_unit text.now ≡ None) (λ p. with_unit text.now ≡ Some (p.0, p.1.now)) }
 {
-    let (digits, unit) = text.split_once(' ')?;
-    let number = read_number(digits)?;
-    Some((number, unit))
+    match text.split_once(' ') {
+        None => None,
+        Some((digits, unit)) => match read_number(digits) {
+            None => None,
+            Some(number) => Some((number, unit)),
+        },
+    }
 }
 
 /// The number of a decimal: digits, the first of which is not zero. `None` if it is not below 2^64.

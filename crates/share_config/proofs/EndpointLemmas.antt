@@ -1,6 +1,6 @@
 -- Addresses are gathered port by port and compared one by one.
-use Rattle.std.proofs.Common.{◌≡◌, ℕ, ◌+◌, ◌<◌, ◌≤◌, List, [], ◌∷◌, ◌++◌, length, take, drop, get_or, Result, Ok, Err, refl, ap, ◌∙◌, sym}
-use Rattle.std.proofs.Common.{append_assoc, append-nil, Bool, true, false, arith}
+use Rattle.std.proofs.Common.{◌≡◌, ℕ, ◌+◌, ◌<◌, ◌≤◌, List, [], ◌∷◌, ◌++◌, length, take, drop, get_or, Ok, ap, ◌∙◌, sym}
+use Rattle.std.proofs.Common.{append_assoc, append-nil, true, false}
 use Rattle.std.proofs.lemmas.List.{drop_more, drop_all, take_all, take_more}
 use Rattle.std.specs.List.{list_any}
 use Rattle.share_settings.specs.Ports.{PortsView}
@@ -11,7 +11,7 @@ use Rattle.share_config.specs.declared.key.Place.{Place}
 use Rattle.share_config.specs.declared.key.Place.TheVariants as place
 use Rattle.share_config.specs.declared.fault.Reason.TheVariants as reason
 use Rattle.share_config.specs.Endpoints.{endpoint, ports_from, tenants_from, is_same_endpoint, once_after, once}
-use Rattle.share_config.specs.Reading.{Said, wrong}
+use Rattle.share_config.specs.Reading.{wrong}
 
 -- ---- Ports
 
@@ -22,12 +22,15 @@ pub one_more_port : (before list : List Endpoint) (p : Place) (ports : List Port
     → HasPorts before list p ports i → i < length ports
     → HasPorts before (list ++ endpoint p key.Port (i + 1) (get_or ports i port) ∷ []) p ports (i + 1)
 one_more_port before list p ports i port h inside =
+    let here : ports_from p (i + 1) (drop i ports)
+        ≡ endpoint p key.Port (i + 1) (get_or ports i port) ∷ ports_from p (i + 1 + 1) (drop (i + 1) ports) =
+        ap (ports_from p (i + 1)) (drop_more ports i port inside) in
     append_assoc list (endpoint p key.Port (i + 1) (get_or ports i port) ∷ []) (ports_from p (i + 1 + 1) (drop (i + 1) ports))
-    ∙ rw (← drop_more ports i port inside) h
+    ∙ ap (λ es. list ++ es) (sym here) ∙ h
 
 pub all_ports : (before list : List Endpoint) (p : Place) (ports : List Port) (i : ℕ)
     → HasPorts before list p ports i → length ports ≤ i → list ≡ before ++ ports_from p 1 ports
-all_ports before list p ports i h whole = sym (rw (drop_all i ports whole, append-nil) at h)
+all_ports before list p ports i h whole = rw (drop_all i ports whole, append-nil) at h
 
 -- ---- Tenants
 
@@ -38,12 +41,15 @@ pub one_more_tenant : (before list : List Endpoint) (ts : List PortsView) (i : �
     → HasTenants before list ts i → i < length ts
     → HasTenants before (list ++ ports_from (place.Tenant (i + 1)) 1 (get_or ts i t).ports) ts (i + 1)
 one_more_tenant before list ts i t h inside =
+    let here : tenants_from (i + 1) (drop i ts)
+        ≡ ports_from (place.Tenant (i + 1)) 1 (get_or ts i t).ports ++ tenants_from (i + 1 + 1) (drop (i + 1) ts) =
+        ap (tenants_from (i + 1)) (drop_more ts i t inside) in
     append_assoc list (ports_from (place.Tenant (i + 1)) 1 (get_or ts i t).ports) (tenants_from (i + 1 + 1) (drop (i + 1) ts))
-    ∙ rw (← drop_more ts i t inside) h
+    ∙ ap (λ es. list ++ es) (sym here) ∙ h
 
 pub all_tenants : (before list : List Endpoint) (ts : List PortsView) (i : ℕ)
     → HasTenants before list ts i → length ts ≤ i → list ≡ before ++ tenants_from 1 ts
-all_tenants before list ts i h whole = sym (rw (drop_all i ts whole, append-nil) at h)
+all_tenants before list ts i h whole = rw (drop_all i ts whole, append-nil) at h
 
 -- ---- Each once
 

@@ -1,4 +1,5 @@
-pub mod AddressLemmas
 pub mod EndpointLemmas
+pub mod KeyLemmas
 pub mod ListLemmas
-pub mod ReadingLemmas
+pub mod TariffLemmas
+pub mod TextLemmas

@@ -1,5 +1,5 @@
 -- The addresses that a file gives, and the first that it gives twice.
-use Rattle.std.specs.Prelude.{ℕ, ◌+◌, Bool, List, [], ◌∷◌, ◌++◌, Option, None, Some, Result, Ok, Err, if◌then◌else◌}
+use Rattle.std.specs.Prelude.{ℕ, ◌+◌, Bool, List, [], ◌∷◌, ◌++◌, Option, None, Some, Ok, if◌then◌else◌}
 use Rattle.std.specs.List.{list_any}
 use Rattle.share_settings.specs.Ports.{PortsView}
 use Rattle.share_settings.specs.Same.{same_port, peer_port, listener_port}
@@ -12,7 +12,6 @@ use Rattle.share_config.specs.declared.key.Key.{Key}
 use Rattle.share_config.specs.declared.key.Key.TheVariants as key
 use Rattle.share_config.specs.declared.key.Place.{Place}
 use Rattle.share_config.specs.declared.key.Place.TheVariants as place
-use Rattle.share_config.specs.declared.fault.Reason.{Reason}
 use Rattle.share_config.specs.declared.fault.Reason.TheVariants as reason
 use Rattle.share_config.specs.Reading.{Said, wrong}
 

@@ -1,20 +1,15 @@
 -- A whole file.
-use Rattle.std.specs.Prelude.{◌≡◌, ◌≤◌, ℕ, List, [], Option, None, Some, Result, Ok, Err, option_map}
+use Rattle.std.specs.Prelude.{◌≡◌, ◌≤◌, ℕ, List, [], Option, None, Some, Ok, Err}
 use Rattle.toml.specs.Data.{Data, Members}
-use Rattle.toml.specs.Parse.{parse_document}
 use Rattle.share_gateway.specs.Plan.{CurrencyView, TenantView, PlanView, plan_fault}
 use Rattle.share_gateway.specs.declared.plan.PlanFault.{PlanFault}
 use Rattle.share_settings.specs.declared.section.Uplink.{Uplink}
-use Rattle.share_settings.specs.declared.section.Books.{Books}
-use Rattle.share_settings.specs.declared.section.Control.{Control}
 use Rattle.share_settings.specs.declared.section.Downlink.{Downlink}
-use Rattle.share_settings.specs.Ports.{PortsView}
 use Rattle.share_settings.specs.Settings.{SettingsView}
 use Rattle.share_config.specs.declared.key.Key.{Key}
 use Rattle.share_config.specs.declared.key.Key.TheVariants as key
 use Rattle.share_config.specs.declared.key.Place.{Place}
 use Rattle.share_config.specs.declared.key.Place.TheVariants as place
-use Rattle.share_config.specs.declared.fault.Reason.{Reason}
 use Rattle.share_config.specs.declared.fault.Reason.TheVariants as reason
 use Rattle.share_config.specs.declared.fault.ConfigFault.{ConfigFault}
 use Rattle.share_config.specs.declared.fault.ConfigFault.TheVariants.{NoMemory, NotToml, Unknown, Wrong, NoPlan}

@@ -1,5 +1,3 @@
-pub mod Addresses
-pub mod Amounts
 pub mod Endpoints
 pub mod Files
 pub mod Keys

@@ -1,12 +1,11 @@
 -- The lists of a file: tariffs, currencies, tenants and their ports.
-use Rattle.std.specs.Prelude.{ℕ, ◌+◌, List, [], ◌∷◌, nat_lt, Option, None, Some, Result, Ok, Err, if◌then◌else◌}
+use Rattle.std.specs.Prelude.{ℕ, ◌+◌, List, [], ◌∷◌, nat_lt, Ok, if◌then◌else◌}
 use Rattle.toml.specs.Data.{Data, Items, no_items, item, Members}
 use Rattle.share_model.specs.declared.rates.Rate.{Rate}
 use Rattle.share_config.specs.declared.key.Key.{Key}
 use Rattle.share_config.specs.declared.key.Key.TheVariants as key
 use Rattle.share_config.specs.declared.key.Place.{Place}
 use Rattle.share_config.specs.declared.key.Place.TheVariants as place
-use Rattle.share_config.specs.declared.fault.Reason.{Reason}
 use Rattle.share_config.specs.declared.fault.Reason.TheVariants as reason
 use Rattle.share_config.specs.Reading.{Said, ◌>>=◌, wrong, number_in, array_in, table_in, needed, optional, known, each}
 

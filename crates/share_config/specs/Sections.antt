@@ -1,11 +1,9 @@
 -- The sections of a file that are not lists.
-use Rattle.std.specs.Prelude.{ℕ, List, Bool, true, false, codes, Option, None, Some, Result, Ok, Err, if◌then◌else◌}
+use Rattle.std.specs.Prelude.{ℕ, List, codes, Option, None, Some, Ok, if◌then◌else◌}
 use Rattle.std.specs.Str.{bytes_eq}
-use Rattle.std.specs.declared.net.ip_addr.IpAddr.{IpAddr}
 use Rattle.toml.specs.Data.{Data, Members}
 use Rattle.share_settings.specs.declared.port.Peer.{Peer}
 use Rattle.share_settings.specs.declared.port.Peer.TheVariants as peer
-use Rattle.share_settings.specs.declared.port.Listener.{Listener}
 use Rattle.share_settings.specs.declared.section.Uplink.{Uplink}
 use Rattle.share_settings.specs.declared.section.BookText.{BookText}
 use Rattle.share_settings.specs.declared.section.BookText.TheVariants.{Lengths, Whole}
@@ -19,8 +17,8 @@ use Rattle.share_config.specs.declared.key.Place.TheVariants as place
 use Rattle.share_config.specs.declared.fault.Reason.{Reason}
 use Rattle.share_config.specs.declared.fault.Reason.TheVariants as reason
 use Rattle.share_spellings.specs.Amounts.{rate_of, period_of, mode_of}
-use Rattle.share_spellings.specs.Addresses.{host_of, peer_of, listener_of, path_of, mapped}
-use Rattle.share_config.specs.Reading.{Said, ◌>>=◌, wrong, found, text_in, number_in, table_in, needed, optional, known}
+use Rattle.share_spellings.specs.Addresses.{host_of, peer_of, listener_of, path_of}
+use Rattle.share_config.specs.Reading.{Said, ◌>>=◌, wrong, found, text_in, number_in, needed, optional, known}
 
 -- a text that says a value
 abbrev pub value_in : {A : Type 0} → (List ℕ → Option A) → Reason → Place → Key → Data → Said A

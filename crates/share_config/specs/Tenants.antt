@@ -1,5 +1,5 @@
 -- The currencies and the tenants of a file.
-use Rattle.std.specs.Prelude.{ℕ, List, [], ◌∷◌, Bool, false, codes, nat_le, Option, None, Some, Result, Ok, Err, if◌then◌else◌}
+use Rattle.std.specs.Prelude.{ℕ, List, [], false, codes, nat_le, Option, None, Some, Ok, if◌then◌else◌}
 use Rattle.toml.specs.Data.{Data, Members}
 use Rattle.share_base.specs.Name.{is_name}
 use Rattle.share_gateway.specs.declared.plan.Grant.{Grant}
@@ -10,7 +10,6 @@ use Rattle.share_config.specs.declared.key.Key.{Key}
 use Rattle.share_config.specs.declared.key.Key.TheVariants as key
 use Rattle.share_config.specs.declared.key.Place.{Place}
 use Rattle.share_config.specs.declared.key.Place.TheVariants as place
-use Rattle.share_config.specs.declared.fault.Reason.{Reason}
 use Rattle.share_config.specs.declared.fault.Reason.TheVariants as reason
 use Rattle.share_spellings.specs.Addresses.{port_of}
 use Rattle.share_config.specs.Reading.{Said, ◌>>=◌, wrong, found, text_in, number_in, boolean_in, array_in, table_in}

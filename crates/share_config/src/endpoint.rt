@@ -120,11 +120,12 @@ fn push_tenants(
     ensures fault { IfErr result (λ e. e ≡ NoMemory) }
 {
     for index in 0..tenants.len() {
+        let tenant = &tenants[index];
         push_ports(
             alloc,
             list,
             Place::Tenant(index + 1),
-            tenants[index].ports.as_slice(),
+            tenant.ports.as_slice(),
         )?;
     }
     Ok(())

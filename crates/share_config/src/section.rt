@@ -50,10 +50,13 @@ pub(crate) fn uplink(alloc: Global, table: &Table) -> Result<Uplink, ConfigFault
 
 // The peer at a key.
 fn peer(table: &Table, place: Place, key: Key) -> Result<Peer, ConfigFault>
-    ensures { result ≡ needed (value_in peer_of reason.Peer) place key (table_view table.now) }
+    ensures ok { IfOk result (λ to. needed (value_in peer_of reason.Peer) place key (table_view table.now) ≡ Ok to) }
+    ensures fault { IfErr result (λ e. needed (value_in peer_of reason.Peer) place key (table_view table.now) ≡ Err e) }
 {
-    let text = needed_text(table, place, key)?;
-    found(read_peer(text), place, key, Reason::Peer)
+    match needed_text(table, place, key) {
+        Err(fault) => Err(fault),
+        Ok(text) => found(read_peer(text), place, key, Reason::Peer),
+    }
 }
 
 // The rate that the table of an uplink gives.

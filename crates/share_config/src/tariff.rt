@@ -18,7 +18,7 @@ const MAX_TARIFFS: usize = 8;
 impl Entry for Rate {
     ghost use Rattle.share_config.specs.Lists.{tariff_of};
 
-    ghost said = { λ _ number data. tariff_of number data };
+    ghost said = { λ _ number value. tariff_of number value };
 
     fn read(
         alloc: Global,

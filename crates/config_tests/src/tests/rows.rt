@@ -513,7 +513,7 @@ pub(super) const SHAPES: [Row; 33] = [
     Row {
         old: "[[tenant]]\nname = \"acme\"",
         new: "[tenant]\nname = \"acme\"",
-        line: Some(38),
+        line: Some(35),
         fault: "",
     },
     Row {

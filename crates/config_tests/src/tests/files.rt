@@ -93,7 +93,8 @@ fn has_books(rt: &impl Abort, settings: &Settings) {
     holds(rt, "control", is_control);
 }
 
-fn has_grant(rt: &impl Abort, what: &'static str, grant: Grant, amount: u64, of: &str) {
+fn has_grant(rt: &impl Abort, what: &'static str, grant: Option<&Grant>, amount: u64, of: &str) {
+    let grant = grant.expect(rt, what);
     same(rt, what, grant.amount, amount);
     same(rt, what, grant.denomination, name(rt, of));
 }
@@ -101,14 +102,15 @@ fn has_grant(rt: &impl Abort, what: &'static str, grant: Grant, amount: u64, of:
 // The tariff and the currency are those of the example.
 fn has_money(rt: &impl Abort, settings: &Settings) {
     same(rt, "tariffs", settings.tariffs.len(), 1);
-    let tariff = settings.tariffs[0];
+    let tariff = settings.tariffs.first().expect(rt, "a tariff");
     let numbers = (tariff.cell, tariff.overhead, tariff.price);
     same(rt, "tariff", numbers, (48, 16, 2));
     let currencies = settings.plan.currencies();
     same(rt, "currencies", currencies.len(), 1);
-    same(rt, "currency", currencies[0].name, name(rt, "gold"));
-    same(rt, "backing", currencies[0].grants.len(), 1);
-    has_grant(rt, "backing", currencies[0].grants[0], 300, "base");
+    let currency = currencies.first().expect(rt, "a currency");
+    same(rt, "currency", currency.name, name(rt, "gold"));
+    same(rt, "backing", currency.grants.len(), 1);
+    has_grant(rt, "backing", currency.grants.first(), 300, "base");
 }
 
 fn has_numbers(rt: &impl Abort, tenant: &Tenant, flow: u32) {
@@ -122,11 +124,12 @@ fn has_numbers(rt: &impl Abort, tenant: &Tenant, flow: u32) {
 fn has_tenant(rt: &impl Abort, settings: &Settings) {
     let tenants = settings.plan.tenants();
     same(rt, "tenants", tenants.len(), 1);
-    same(rt, "tenant", tenants[0].name, name(rt, "acme"));
-    has_numbers(rt, &tenants[0], 1);
-    same(rt, "grants", tenants[0].grants.len(), 2);
-    has_grant(rt, "first grant", tenants[0].grants[0], 200, "gold");
-    has_grant(rt, "second grant", tenants[0].grants[1], 50, "base");
+    let tenant = tenants.first().expect(rt, "a tenant");
+    same(rt, "tenant", tenant.name, name(rt, "acme"));
+    has_numbers(rt, tenant, 1);
+    same(rt, "grants", tenant.grants.len(), 2);
+    has_grant(rt, "first grant", tenant.grants.first(), 200, "gold");
+    has_grant(rt, "second grant", tenant.grants.get(1), 50, "base");
 }
 
 // Whether a port is the one of this place in the example.
@@ -143,8 +146,9 @@ fn is_port(port: &Port, index: usize) -> bool {
 // The ports of the tenant are those of the example.
 fn has_ports(rt: &impl Abort, settings: &Settings) {
     same(rt, "tenants with ports", settings.ports.len(), 1);
-    same(rt, "mode of ports", settings.ports[0].mode, 0o600);
-    let ports = settings.ports[0].ports.as_slice();
+    let tenant = settings.ports.first().expect(rt, "ports of a tenant");
+    same(rt, "mode of ports", tenant.mode, 0o600);
+    let ports = tenant.ports.as_slice();
     same(rt, "ports", ports.len(), 4);
     for index in 0..ports.len() {
         holds(rt, index, is_port(&ports[index], index));
@@ -176,16 +180,19 @@ fn has_default_sections(rt: &impl Abort, settings: &Settings) {
 fn what_a_file_leaves_out_has_its_default(rt: HostRuntime) {
     let settings = read_settings(rt.alloc(), SMALL).expect(&rt, "the smallest file");
     has_default_sections(&rt, &settings);
-    let tenant = &settings.plan.tenants()[1];
+    let tenant = settings.plan.tenants().get(1).expect(&rt, "a tenant");
     has_numbers(&rt, tenant, 2);
     same(&rt, "grants", tenant.grants.len(), 0);
-    same(&rt, "ports", settings.ports[1].ports.len(), 0);
-    same(&rt, "mode of ports", settings.ports[1].mode, 0o600);
+    let ports = settings.ports.get(1).expect(&rt, "ports of a tenant");
+    same(&rt, "ports", ports.ports.len(), 0);
+    same(&rt, "mode of ports", ports.mode, 0o600);
 }
 
 #[test]
 fn a_file_in_which_nothing_is_wrong_is_read(rt: HostRuntime) {
     let settings = read_settings(rt.alloc(), FILE).expect(&rt, "the file that the rows change");
-    same(&rt, "flow", settings.plan.tenants()[1].flow, 4);
-    same(&rt, "mode of ports", settings.ports[0].mode, 0o640);
+    let tenant = settings.plan.tenants().get(1).expect(&rt, "a tenant");
+    same(&rt, "flow", tenant.flow, 4);
+    let ports = settings.ports.first().expect(&rt, "ports of a tenant");
+    same(&rt, "mode of ports", ports.mode, 0o640);
 }

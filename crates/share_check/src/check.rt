@@ -39,8 +39,8 @@ impl fmt::Display for Unsound {
     }
 }
 
-/// Opens the plan on an engine with the tariffs and the life that the settings give, and drops the engine. Otherwise the
-/// first fault, in this order: the tariffs, the events, memory or the first entry that is refused.
+/// Opens the plan on an engine with the tariffs and the life that the settings give, and drops the engine. Otherwise
+/// the first fault, in this order: the tariffs, the events, memory or the first entry that is refused.
 pub fn check_plan(alloc: Global, settings: &Settings) -> Result<(), Unsound>
     ensures ok { OnOk result (first_refused settings.now.tariffs settings.now.plan ≡ None) }
     ensures not { IfErr result (IsUnsound settings.now.tariffs settings.now.plan settings.now.books.events) }

@@ -1,5 +1,6 @@
 -- Addresses are gathered port by port and compared one by one.
-use Rattle.std.proofs.Common.{◌≡◌, ℕ, ◌+◌, ◌<◌, ◌≤◌, List, [], ◌∷◌, ◌++◌, length, take, drop, get_or, Ok, ap, ◌∙◌, sym}
+use Rattle.std.proofs.Common.{◌≡◌, ℕ, ◌+◌, ◌<◌, ◌≤◌, List, [], ◌∷◌, ◌++◌, length, take, drop, get_or, Ok, ap, ◌∙◌}
+use Rattle.std.proofs.Common.{sym}
 use Rattle.std.proofs.Common.{append_assoc, append-nil, true, false}
 use Rattle.std.proofs.lemmas.List.{drop_more, drop_all, take_all, take_more}
 use Rattle.std.specs.List.{list_any}
@@ -23,9 +24,10 @@ pub one_more_port : (before list : List Endpoint) (p : Place) (ports : List Port
     → HasPorts before (list ++ endpoint p key.Port (i + 1) (get_or ports i port) ∷ []) p ports (i + 1)
 one_more_port before list p ports i port h inside =
     let here : ports_from p (i + 1) (drop i ports)
-        ≡ endpoint p key.Port (i + 1) (get_or ports i port) ∷ ports_from p (i + 1 + 1) (drop (i + 1) ports) =
-        ap (ports_from p (i + 1)) (drop_more ports i port inside) in
-    append_assoc list (endpoint p key.Port (i + 1) (get_or ports i port) ∷ []) (ports_from p (i + 1 + 1) (drop (i + 1) ports))
+    ≡ endpoint p key.Port (i + 1) (get_or ports i port) ∷ ports_from p (i + 1 + 1) (drop (i + 1) ports) =
+    ap (ports_from p (i + 1)) (drop_more ports i port inside) in
+    append_assoc list (endpoint p key.Port (i + 1) (get_or ports i port) ∷ [])
+    (ports_from p (i + 1 + 1) (drop (i + 1) ports))
     ∙ ap (λ es. list ++ es) (sym here) ∙ h
 
 pub all_ports : (before list : List Endpoint) (p : Place) (ports : List Port) (i : ℕ)
@@ -42,9 +44,10 @@ pub one_more_tenant : (before list : List Endpoint) (ts : List PortsView) (i : �
     → HasTenants before (list ++ ports_from (place.Tenant (i + 1)) 1 (get_or ts i t).ports) ts (i + 1)
 one_more_tenant before list ts i t h inside =
     let here : tenants_from (i + 1) (drop i ts)
-        ≡ ports_from (place.Tenant (i + 1)) 1 (get_or ts i t).ports ++ tenants_from (i + 1 + 1) (drop (i + 1) ts) =
-        ap (tenants_from (i + 1)) (drop_more ts i t inside) in
-    append_assoc list (ports_from (place.Tenant (i + 1)) 1 (get_or ts i t).ports) (tenants_from (i + 1 + 1) (drop (i + 1) ts))
+    ≡ ports_from (place.Tenant (i + 1)) 1 (get_or ts i t).ports ++ tenants_from (i + 1 + 1) (drop (i + 1) ts) =
+    ap (tenants_from (i + 1)) (drop_more ts i t inside) in
+    append_assoc list (ports_from (place.Tenant (i + 1)) 1 (get_or ts i t).ports)
+    (tenants_from (i + 1 + 1) (drop (i + 1) ts))
     ∙ ap (λ es. list ++ es) (sym here) ∙ h
 
 pub all_tenants : (before list : List Endpoint) (ts : List PortsView) (i : ℕ)

@@ -1,5 +1,6 @@
 -- The keys of a table.
-use Rattle.std.proofs.Common.{◌≡◌, ℕ, Bool, true, false, not, List, [], ◌∷◌, Option, Some, None, option_map, String, Global, string_bytes, refl, find, Bor, ap, ◌∙◌}
+use Rattle.std.proofs.Common.{◌≡◌, ℕ, Bool, true, false, not, List, [], ◌∷◌, Option, Some, None, option_map, String}
+use Rattle.std.proofs.Common.{Global, string_bytes, refl, find, Bor, ap, ◌∙◌}
 use Rattle.std.proofs.Common.{length}
 use Rattle.std.specs.Map.{keys_of}
 use Rattle.std.specs.Map.Iter.{TakesFirst, deref}

@@ -1,5 +1,6 @@
 -- A list is read item by item.
-use Rattle.std.proofs.Common.{◌≡◌, ℕ, ◌+◌, ◌<◌, List, [], ◌∷◌, ◌++◌, length, drop, get_or, Ok, Err, refl, ap, ◌∙◌, sym, append_assoc}
+use Rattle.std.proofs.Common.{◌≡◌, ℕ, ◌+◌, ◌<◌, List, [], ◌∷◌, ◌++◌, length, drop, get_or, Ok, Err, refl, ap, ◌∙◌}
+use Rattle.std.proofs.Common.{sym, append_assoc}
 use Rattle.toml.specs.Data.{Data}
 use Rattle.toml.specs.View.{view, items_view}
 use Rattle.toml.specs.declared.value.Value.{Value}
@@ -32,7 +33,9 @@ pub one_more : {A : Type 0} (read : ℕ → Data → Said A) (vs : List Value) (
     → IsReadTo read vs i front → i < length vs → read (i + 1) (view (get_or vs i v)) ≡ Ok a
     → IsReadTo read vs (i + 1) (front ++ a ∷ [])
 one_more read vs i front v a h inside said =
-    h ∙ rw (items_view-drop vs i v inside, said) (next_front front a (each read (i + 1 + 1) (items_view (drop (i + 1) vs))))
+    h
+    ∙ rw (items_view-drop vs i v inside, said)
+    (next_front front a (each read (i + 1 + 1) (items_view (drop (i + 1) vs))))
 
 pub stopped : {A : Type 0} (read : ℕ → Data → Said A) (vs : List Value) (i : ℕ) (front : List A) (v : Value)
     (e : ConfigFault) → IsReadTo read vs i front → i < length vs → read (i + 1) (view (get_or vs i v)) ≡ Err e

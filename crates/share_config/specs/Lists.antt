@@ -7,7 +7,8 @@ use Rattle.share_config.specs.declared.key.Key.TheVariants as key
 use Rattle.share_config.specs.declared.key.Place.{Place}
 use Rattle.share_config.specs.declared.key.Place.TheVariants as place
 use Rattle.share_config.specs.declared.fault.Reason.TheVariants as reason
-use Rattle.share_config.specs.Reading.{Said, ◌>>=◌, wrong, number_in, array_in, table_in, needed, optional, known, each}
+use Rattle.share_config.specs.Reading.{Said, ◌>>=◌, wrong, number_in, array_in, table_in, needed, optional, known}
+use Rattle.share_config.specs.Reading.{each}
 
 -- ---- Tariffs
 
@@ -35,7 +36,9 @@ count (item d ds) = count ds + 1
 abbrev pub some_tariffs : Items → Said (List Rate)
 some_tariffs no_items = Ok default_tariffs
 some_tariffs (item d ds) =
-    if nat_lt 8 (count (item d ds)) then wrong place.File key.Tariff (reason.TooMany 8) else each tariff_of 1 (item d ds)
+    if nat_lt 8 (count (item d ds))
+    then wrong place.File key.Tariff (reason.TooMany 8)
+    else each tariff_of 1 (item d ds)
 
 abbrev pub tariffs_in : Place → Key → Data → Said (List Rate)
 tariffs_in p k d = array_in p k d >>= some_tariffs

@@ -1,7 +1,8 @@
 -- Values of a table, by their keys, and what is wrong with them.
 use Rattle.std.specs.Prelude.{ℕ, ◌&&◌, ◌+◌, pos, negsuc, Bool, not, List, [], ◌∷◌, nat_le, Option, None, Some}
 use Rattle.std.specs.Prelude.{Result, Ok, Err, if◌then◌else◌, find}
-use Rattle.toml.specs.Data.{Data, string, integer, boolean, array, table, Items, no_items, item, Members, no_members, member, get_member}
+use Rattle.toml.specs.Data.{Data, string, integer, boolean, array, table, Items, no_items, item, Members, no_members}
+use Rattle.toml.specs.Data.{member, get_member}
 use Rattle.share_config.specs.Keys.{spelling, is_known}
 use Rattle.share_config.specs.declared.key.Key.{Key}
 use Rattle.share_config.specs.declared.key.Place.{Place}

@@ -31,7 +31,7 @@ pub(crate) fn check_addresses(
 ) -> Result<(), ConfigFault>
     ensures ok { OnOk result
         (once (endpoints_of uplink control.now downlink tenants.now)
-            ≡ Ok (endpoints_of uplink control.now downlink tenants.now)) }
+        ≡ Ok (endpoints_of uplink control.now downlink tenants.now)) }
     ensures fault { IfErr result (λ e. ¬ (e ≡ NoMemory)
         → once (endpoints_of uplink control.now downlink tenants.now) ≡ Err e) }
 {

@@ -58,10 +58,16 @@ pub enum ConfigFault {
     NoMemory,
     /// The text is not TOML. The line is counted from 1.
     #[error("{reason}")]
-    NotToml { line: usize, reason: Text },
+    NotToml {
+        line: usize,
+        reason: Text,
+    },
     /// A table has a key that it may not have.
     #[error("{place}: {key}: unknown key")]
-    Unknown { place: Place, key: Text },
+    Unknown {
+        place: Place,
+        key: Text,
+    },
     #[error("{place}: {key}: {reason}")]
     Wrong {
         place: Place,

@@ -6,7 +6,8 @@ ghost use Rattle.toml.specs.Errors.{IsMemory};
 ghost use Rattle.share_config.specs.Reading.{needed, optional};
 ghost use Rattle.share_config.specs.Sections.{uplink_of, books_of, control_of, downlink_of};
 ghost use Rattle.share_config.specs.Tenants.{currency_of, tenant_of, ports_of};
-ghost use Rattle.share_config.specs.Files.{some_table, table_at, list_in, reached, plan_of, settings_of, IsFault, IsNotToml};
+ghost use Rattle.share_config.specs.Files.{some_table, table_at, list_in, reached, plan_of, settings_of, IsFault};
+ghost use Rattle.share_config.specs.Files.{IsNotToml};
 ghost use Rattle.share_config.specs.declared.key.Key.TheVariants as key;
 ghost use Rattle.share_config.specs.declared.key.Place.TheVariants as place;
 ghost use Rattle.share_config.specs.declared.fault.ConfigFault.TheVariants.{NoMemory};
@@ -23,8 +24,9 @@ use share_settings::{Books, Control, Downlink, Settings, TenantPorts, Text, Upli
 use std::alloc::Global;
 use toml::Table;
 
-/// The settings that a file's text says. Its fault is the first in this order: the text is not TOML; the file has a table
-/// that it may not have; then each table, its unknown keys first; then the plan; then an address that is given twice.
+/// The settings that a file's text says. Its fault is the first in this order: the text is not TOML; the file has a
+/// table that it may not have; then each table, its unknown keys first; then the plan; then an address that is given
+/// before.
 pub fn read_settings(alloc: Global, text: &str) -> Result<Settings, ConfigFault>
     ensures ok { IfOk result (λ s. option_map settings_of (parse_document text.now) ≡ Some (Ok s)) }
     ensures fault { IfErr result (λ e. ¬ (e ≡ NoMemory) → IsFault (parse_document text.now) e) }
@@ -123,11 +125,7 @@ fn books_at(alloc: Global, table: &Table) -> Result<Books, ConfigFault>
         → needed (table_at books_of) place.File key.Books (table_view table.now) ≡ Err e) }
 {
     match at(table, Key::Books) {
-        None => Err(ConfigFault::wrong(
-            Place::File,
-            Key::Books,
-            Reason::Missing,
-        )),
+        None => Err(ConfigFault::wrong(Place::File, Key::Books, Reason::Missing)),
         Some(value) => books(alloc, table_in(value, Place::File, Key::Books)?),
     }
 }
@@ -139,11 +137,7 @@ fn control_at(alloc: Global, table: &Table) -> Result<Control, ConfigFault>
         → needed (table_at control_of) place.File key.Control (table_view table.now) ≡ Err e) }
 {
     match at(table, Key::Control) {
-        None => Err(ConfigFault::wrong(
-            Place::File,
-            Key::Control,
-            Reason::Missing,
-        )),
+        None => Err(ConfigFault::wrong(Place::File, Key::Control, Reason::Missing)),
         Some(value) => control(alloc, table_in(value, Place::File, Key::Control)?),
     }
 }
@@ -157,11 +151,7 @@ fn list_at<T: Entry>(alloc: Global, table: &Table, key: Key) -> Result<Vec<T>, C
 {
     match at(table, key) {
         None => Ok(Vec::new(alloc)),
-        Some(value) => read_all::<T>(
-            alloc,
-            Place::File,
-            array_in(value, Place::File, key)?,
-        ),
+        Some(value) => read_all::<T>(alloc, Place::File, array_in(value, Place::File, key)?),
     }
 }
 
@@ -173,11 +163,7 @@ fn reached(
     ensures { result ≡ reached uplink downlink }
 {
     match (uplink, downlink) {
-        (None, None) => Err(ConfigFault::wrong(
-            Place::File,
-            Key::Downlink,
-            Reason::NoDownlink,
-        )),
+        (None, None) => Err(ConfigFault::wrong(Place::File, Key::Downlink, Reason::NoDownlink)),
         _ => Ok(downlink),
     }
 }

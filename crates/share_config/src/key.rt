@@ -157,7 +157,10 @@ impl fmt::Display for Place {
                 f,
                 "ticket {ticket} of currency {currency}"
             ),
-            Place::TenantTicket { tenant, ticket } => write!(f, "ticket {ticket} of tenant {tenant}"),
+            Place::TenantTicket { tenant, ticket } => write!(
+                f,
+                "ticket {ticket} of tenant {tenant}"
+            ),
         }
     }
 }

@@ -3,7 +3,8 @@ ghost use Rattle.std.specs.Prelude.{◌≡◌, IfOk, IfErr, Ok, Err, None, Some,
 ghost use Rattle.toml.specs.View.{view, table_view, items_view};
 ghost use Rattle.toml.specs.Data.{get_member};
 ghost use Rattle.share_config.specs.Keys.{spelling};
-ghost use Rattle.share_config.specs.Reading.{found, text_in, number_in, boolean_in, array_in, table_in, needed, optional};
+ghost use Rattle.share_config.specs.Reading.{found, text_in, number_in, boolean_in, array_in, table_in, needed};
+ghost use Rattle.share_config.specs.Reading.{optional};
 ghost use Rattle.share_config.specs.Reading.{unknown, known};
 ghost use Rattle.share_config.specs.declared.fault.ConfigFault.TheVariants.{NoMemory};
 
@@ -47,11 +48,7 @@ pub(crate) fn at<'a>(table: &'a Table, key: Key) -> Option<&'a Value>
 }
 
 /// The text that a value is.
-pub(crate) fn text_in<'a>(
-    value: &'a Value,
-    place: Place,
-    key: Key,
-) -> Result<&'a str, ConfigFault>
+pub(crate) fn text_in<'a>(value: &'a Value, place: Place, key: Key) -> Result<&'a str, ConfigFault>
     ensures ok { IfOk result (λ text. text_in place key (view value.entry.now) ≡ Ok text.now) }
     ensures fault { IfErr result (λ e. text_in place key (view value.entry.now) ≡ Err e) }
 {

@@ -1,7 +1,8 @@
 //! The sections of a file that are not lists.
 ghost use Rattle.std.specs.Prelude.{◌≡◌, IfOk, IfErr, Ok, Err, None, Some};
 ghost use Rattle.toml.specs.View.{table_view};
-ghost use Rattle.share_config.specs.Sections.{uplink_of, books_of, control_of, downlink_of, book_text_of, mode_at, paced};
+ghost use Rattle.share_config.specs.Sections.{uplink_of, books_of, control_of, downlink_of, book_text_of, mode_at};
+ghost use Rattle.share_config.specs.Sections.{paced};
 ghost use Rattle.share_config.specs.Sections.{value_in, some_in};
 ghost use Rattle.share_config.specs.Reading.{needed, optional};
 ghost use Rattle.share_spellings.specs.Amounts.{rate_of, period_of, mode_of};
@@ -76,11 +77,7 @@ fn paced(to: Peer, rate: Option<u64>) -> Result<Option<u64>, ConfigFault>
     ensures { result ≡ paced to rate }
 {
     match (to, rate) {
-        (Peer::Udp(_), None) => Err(ConfigFault::wrong(
-            Place::Uplink,
-            Key::Rate,
-            Reason::NoRate,
-        )),
+        (Peer::Udp(_), None) => Err(ConfigFault::wrong(Place::Uplink, Key::Rate, Reason::NoRate)),
         _ => Ok(rate),
     }
 }
@@ -161,12 +158,7 @@ fn period(table: &Table) -> Result<Option<u64>, ConfigFault>
         return Ok(None);
     };
     let text = text_in(value, Place::Books, Key::Period)?;
-    let period = found(
-        read_period(text),
-        Place::Books,
-        Key::Period,
-        Reason::Period,
-    )?;
+    let period = found(read_period(text), Place::Books, Key::Period, Reason::Period)?;
     Ok(Some(period))
 }
 
@@ -190,12 +182,7 @@ fn control_listener(alloc: Global, table: &Table) -> Result<Listener, ConfigFaul
     let text = needed_text(table, Place::Control, Key::Listen)?;
     match read_listener(alloc, text) {
         Err(_) => Err(ConfigFault::NoMemory),
-        Ok(listener) => found(
-            listener,
-            Place::Control,
-            Key::Listen,
-            Reason::Listener,
-        ),
+        Ok(listener) => found(listener, Place::Control, Key::Listen, Reason::Listener),
     }
 }
 

@@ -73,7 +73,12 @@ fn default_tariffs(alloc: Global) -> Result<Vec<Rate>, ConfigFault>
     ensures ok { IfOk result (λ rates. rates.items ≡ default_tariffs) }
     ensures fault { IfErr result (λ e. e ≡ NoMemory) }
 {
-    let rates = [rate(1, 0, 1), rate(48, 16, 2), rate(1024, 0, 1), rate(2048, 1024, 3)];
+    let rates = [
+        rate(1, 0, 1),
+        rate(48, 16, 2),
+        rate(1024, 0, 1),
+        rate(2048, 1024, 3),
+    ];
     match Vec::from_slice(alloc, &rates) {
         Err(_) => Err(ConfigFault::NoMemory),
         Ok(rates) => Ok(rates),

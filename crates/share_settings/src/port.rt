@@ -1,6 +1,7 @@
 //! Where packets, frames and control lines come in and go out.
 ghost use Rattle.std.specs.Prelude.{◌≡◌, IfOk};
-ghost use Rattle.share_settings.specs.Same.{same_address, same_v4, same_v6, same_text, same_port, peer_port, listener_port};
+ghost use Rattle.share_settings.specs.Same.{same_address, same_v4, same_v6, same_text, same_port, peer_port};
+ghost use Rattle.share_settings.specs.Same.{listener_port};
 
 use crate::text::Text;
 use std::alloc::{AllocError, Global};

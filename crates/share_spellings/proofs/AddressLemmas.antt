@@ -1,5 +1,6 @@
 -- The reader of std finds the address that a text spells, and only that.
-use Rattle.std.proofs.Common.{◌≡◌, ℕ, List, [], ◌∷◌, ◌++◌, Option, Some, None, Result, Ok, Err, refl, sym, ap, ◌∙◌, subst, append-nil, lit≤}
+use Rattle.std.proofs.Common.{◌≡◌, ℕ, List, [], ◌∷◌, ◌++◌, Option, Some, None, Result, Ok, Err, refl, sym, ap, ◌∙◌}
+use Rattle.std.proofs.Common.{subst, append-nil, lit≤}
 use Rattle.std.proofs.Common.{length, take, drop, Bool, true, false, Bor, MatchOption}
 use Rattle.std.specs.Str.Pattern.{FindsTextPrefix, StripsPrefix}
 use Rattle.std.proofs.Math.Seq.{take-append_seam, drop-append_seam}
@@ -13,9 +14,11 @@ use Rattle.std.specs.declared.net.socket_addr.SocketAddr.{SocketAddr}
 use Rattle.std.specs.declared.net.socket_addr.SocketAddr.TheVariants as socket
 use Rattle.std.specs.declared.net.socket_addr.SocketAddrV4.{SocketAddrV4}
 use Rattle.std.specs.declared.net.socket_addr.SocketAddrV6.{SocketAddrV6}
-use Rattle.std.specs.Net.Grammar.{Parses, IsDotted, IsColonHex, IsIpText, IsSocketText, IsSocketV4Text, IsSocketV6Text}
+use Rattle.std.specs.Net.Grammar.{Parses, IsDotted, IsColonHex, IsIpText, IsSocketText, IsSocketV4Text}
+use Rattle.std.specs.Net.Grammar.{IsSocketV6Text}
 use Rattle.std.specs.Net.Reader.{read_socket_v4, read_socket_v6, read_ipv4, read_ipv6}
-use Rattle.std.proofs.NetLemmas.Sockets.{read_socket_v4_complete, read_socket_v4_sound, read_socket_v6_complete, read_socket_v6_sound, IsSocketV4Text-not_v6}
+use Rattle.std.proofs.NetLemmas.Sockets.{read_socket_v4_complete, read_socket_v4_sound, read_socket_v6_complete}
+use Rattle.std.proofs.NetLemmas.Sockets.{read_socket_v6_sound, IsSocketV4Text-not_v6}
 use Rattle.std.proofs.NetLemmas.Ipv4.{read_ipv4_complete, read_ipv4_sound}
 use Rattle.std.proofs.NetLemmas.Ipv6.{read_ipv6_complete, read_ipv6_sound, EndsGroups-nil, IsDotted-not_colon_hex}
 use Rattle.share_spellings.specs.Addresses.{whole, or_else, mapped, ipv4, ipv6, socket_v4, socket_v6, socket_of}
@@ -54,7 +57,7 @@ is_after prefix text rest e =
     let front : take (length prefix) text ≡ prefix = ap (take (length prefix)) e ∙ take-append_seam prefix rest in
     let back : drop (length prefix) text ≡ rest = ap (drop (length prefix)) e ∙ drop-append_seam prefix rest in
     let same : bytes_eq (take (length prefix) text) prefix ≡ true =
-        (bytes_eq-Decides (take (length prefix) text) prefix).1 front in
+    (bytes_eq-Decides (take (length prefix) text) prefix).1 front in
     rw same (ap Some back)
 
 -- what `strip_prefix` finds

@@ -21,7 +21,8 @@ tells_digits = record {
       let ends = and_parts (nat_le 48 d) (nat_le d 57) both.0 in
       ((leb-true 48 d ends.0, leb-true d 57 ends.1), both.1);
   more = λ d ds within all.
-      let here : is_digit d ≡ true = and_from (nat_le 48 d) (nat_le d 57) (le-leb 48 d within.0) (le-leb d 57 within.1) in
+      let here : is_digit d ≡ true =
+      and_from (nat_le 48 d) (nat_le d 57) (le-leb 48 d within.0) (le-leb d 57 within.1) in
       and_from (is_digit d) (list_all is_digit ds) here all;
 }
 
@@ -50,7 +51,7 @@ parsed {E} text (Err e) is h =
     let both = and_parts (begins_well text) (list_all is_digit text) is in
     let read = parse_digits own {E = E} 64 text (Err e) h both.1 in
     let many : 2 ^ 64 ≤ digits_value 10 text =
-        not_below (digits_value 10 text) (λ few. read (some_byte text both.0, few)) in
+    not_below (digits_value 10 text) (λ few. read (some_byte text both.0, few)) in
     sym (number_above text is many)
   where
     not_below : (n : ℕ) → ¬ (n < 2 ^ 64) → 2 ^ 64 ≤ n

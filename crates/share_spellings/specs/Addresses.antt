@@ -1,5 +1,6 @@
 -- Addresses, as a file spells them.
-use Rattle.std.specs.Prelude.{ℕ, ◌==◌, ◌&&◌, ◌||◌, Bool, not, List, [], ◌∷◌, length, take, drop, codes, nat_le, nat_lt}
+use Rattle.std.specs.Prelude.{ℕ, ◌==◌, ◌&&◌, ◌||◌, Bool, not, List, [], ◌∷◌, length, take, drop, codes, nat_le}
+use Rattle.std.specs.Prelude.{nat_lt}
 use Rattle.std.specs.Prelude.{Option, None, Some, if◌then◌else◌}
 use Rattle.std.specs.List.{list_all}
 use Rattle.std.specs.Str.{bytes_eq}
@@ -48,7 +49,8 @@ socket_v6 parts =
 
 -- the socket address that a text spells
 abbrev pub socket_of : List ℕ → Option SocketAddr
-socket_of text = or_else (mapped socket_v4 (whole (read_socket_v4 text))) (mapped socket_v6 (whole (read_socket_v6 text)))
+socket_of text =
+    or_else (mapped socket_v4 (whole (read_socket_v4 text))) (mapped socket_v6 (whole (read_socket_v6 text)))
 
 abbrev pub host_v4 : List ℕ → IpAddr
 host_v4 octets = host.V4 (ipv4 octets)

@@ -1,5 +1,6 @@
 -- Rates, times and modes, as a file spells them: a number, a space and a unit, or octal digits.
-use Rattle.std.specs.Prelude.{◌+◌, ◌-◌, ◌*◌, ◌/◌, ◌^◌, ◌&&◌, ◌||◌, ◌==◌, ℕ, Bool, false, not, List, [], ◌∷◌, length, slice_index}
+use Rattle.std.specs.Prelude.{◌+◌, ◌-◌, ◌*◌, ◌/◌, ◌^◌, ◌&&◌, ◌||◌, ◌==◌, ℕ, Bool, false, not, List, [], ◌∷◌, length}
+use Rattle.std.specs.Prelude.{slice_index}
 use Rattle.std.specs.Prelude.{codes, nat_le, nat_lt, Option, None, Some, if◌then◌else◌}
 use Rattle.std.specs.List.{list_all, position_or_len, before_first, after_first}
 use Rattle.std.specs.Str.{bytes_eq}
@@ -34,8 +35,8 @@ is_space b = b == 32
 abbrev pub with_unit : List ℕ → Option (ℕ × List ℕ)
 with_unit text =
     if position_or_len is_space text == length text then None else do
-    number ← number_of (before_first is_space text)
-    Some (number, after_first is_space text)
+      number ← number_of (before_first is_space text)
+      Some (number, after_first is_space text)
 
 -- the value of a word in a table
 abbrev pub value_in : List (List ℕ × ℕ) → List ℕ → Option ℕ
@@ -84,7 +85,7 @@ octal digit = if nat_le 48 digit && nat_le digit 55 then Some (digit - 48) else 
 abbrev pub mode_of : List ℕ → Option ℕ
 mode_of text =
     if not (length text == 4) || not (slice_index text 0 == 48) then None else do
-    a ← octal (slice_index text 1)
-    b ← octal (slice_index text 2)
-    c ← octal (slice_index text 3)
-    Some (64 * a + 8 * b + c)
+      a ← octal (slice_index text 1)
+      b ← octal (slice_index text 2)
+      c ← octal (slice_index text 3)
+      Some (64 * a + 8 * b + c)

@@ -1,6 +1,7 @@
 //! Addresses, ports and paths.
 ghost use Rattle.std.specs.Prelude.{◌≡◌, IfOk, IfErr, OnErr, Ok, None, Some, MatchOption, codes};
-ghost use Rattle.share_spellings.specs.Addresses.{address_of, socket_of, host_of, peer_of, listener_of, port_of, path_of};
+ghost use Rattle.share_spellings.specs.Addresses.{address_of, socket_of, host_of, peer_of, listener_of, port_of};
+ghost use Rattle.share_spellings.specs.Addresses.{path_of};
 ghost use Rattle.share_spellings.specs.Addresses.{descriptor_of, plain_port_of, is_path, is_no_zero, after};
 ghost use Rattle.std.specs.List.{list_all};
 
@@ -23,7 +24,11 @@ pub fn read_address(text: &str) -> Option<SocketAddr>
     ensures { result ≡ address_of text.now }
 {
     let address = socket(text)?;
-    if address.port() == 0 { None } else { Some(address) }
+    if address.port() == 0 {
+        None
+    } else {
+        Some(address)
+    }
 }
 
 fn socket(text: &str) -> Option<SocketAddr>
@@ -132,7 +137,8 @@ fn read_descriptor(text: &str) -> Option<u32>
 
 // What follows a prefix. `None` if the text does not begin with it.
 fn after<'a>(text: &'a str, prefix: &str) -> Option<&'a str>
-    ensures { MatchOption result (after prefix.now text.entry.now ≡ None) (λ rest. after prefix.now text.entry.now ≡ Some rest.now) }
+    ensures { MatchOption result (after prefix.now text.entry.now ≡ None)
+        (λ rest. after prefix.now text.entry.now ≡ Some rest.now) }
 {
     text.strip_prefix(prefix)
 }

@@ -168,7 +168,13 @@ fn the_example_is_read(rt: HostRuntime) {
 // The sections of the smallest file have the defaults.
 fn has_default_sections(rt: &impl Abort, settings: &Settings) {
     holds(rt, "uplink", settings.uplink.is_none());
-    holds(rt, "from", settings.downlink.is_some_and(|downlink| downlink.from.is_none()));
+    holds(
+        rt,
+        "from",
+        settings
+            .downlink
+            .is_some_and(|downlink| downlink.from.is_none()),
+    );
     same(rt, "text", settings.books.text, BookText::Lengths);
     same(rt, "events", settings.books.events, 16_777_216);
     same(rt, "period", settings.books.period, None);

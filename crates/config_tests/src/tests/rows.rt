@@ -415,7 +415,8 @@ pub(super) const SHAPES: [Row; 33] = [
         fault: "the file: uplink: not a table",
     },
     Row {
-        old: "[books]\nfolder = \"/var/lib/stridelink/uplink\"\ntext = \"lengths\"\nevents = 16777216\nperiod = \"1 h\"\n",
+        old: "[books]\nfolder = \"/var/lib/stridelink/uplink\"\n\
+            text = \"lengths\"\nevents = 16777216\nperiod = \"1 h\"\n",
         new: "",
         line: None,
         fault: "the file: books: missing",
@@ -518,7 +519,15 @@ pub(super) const SHAPES: [Row; 33] = [
     },
     Row {
         old: "price = 2\n",
-        new: "price = 2\n\n[[tariff]]\ncell = 1\noverhead = 0\nprice = 1\n\n[[tariff]]\ncell = 1\noverhead = 0\nprice = 1\n\n[[tariff]]\ncell = 1\noverhead = 0\nprice = 1\n\n[[tariff]]\ncell = 1\noverhead = 0\nprice = 1\n\n[[tariff]]\ncell = 1\noverhead = 0\nprice = 1\n\n[[tariff]]\ncell = 1\noverhead = 0\nprice = 1\n\n[[tariff]]\ncell = 1\noverhead = 0\nprice = 1\n\n[[tariff]]\ncell = 1\noverhead = 0\nprice = 1\n",
+        new: "price = 2\n\n\
+            [[tariff]]\ncell = 1\noverhead = 0\nprice = 1\n\n\
+            [[tariff]]\ncell = 1\noverhead = 0\nprice = 1\n\n\
+            [[tariff]]\ncell = 1\noverhead = 0\nprice = 1\n\n\
+            [[tariff]]\ncell = 1\noverhead = 0\nprice = 1\n\n\
+            [[tariff]]\ncell = 1\noverhead = 0\nprice = 1\n\n\
+            [[tariff]]\ncell = 1\noverhead = 0\nprice = 1\n\n\
+            [[tariff]]\ncell = 1\noverhead = 0\nprice = 1\n\n\
+            [[tariff]]\ncell = 1\noverhead = 0\nprice = 1\n",
         line: None,
         fault: "the file: tariff: more than 8 tables",
     },

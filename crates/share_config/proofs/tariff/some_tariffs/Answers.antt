@@ -15,12 +15,12 @@ pub returns-clause-ok : goal.returns-clause-ok
 returns-clause-ok c =
     let some : (length c.args.values.now == 0) ≡ false = sym c.if-is_empty.ensures in
     let is : some_tariffs (items_view c.args.values.now) ≡ each tariff_of 1 (items_view c.args.values.now) =
-        few c.args.values.now some c.if-values-gt-MAX_TARIFFS.false in
+    few c.args.values.now some c.if-values-gt-MAX_TARIFFS.false in
     subst (λ said. IfOk c.read_all.result (λ rates. said ≡ Ok rates.items)) (sym is) c.read_all.ensures.ok
 
 pub returns-clause-fault : goal.returns-clause-fault
 returns-clause-fault c =
     let some : (length c.args.values.now == 0) ≡ false = sym c.if-is_empty.ensures in
     let is : some_tariffs (items_view c.args.values.now) ≡ each tariff_of 1 (items_view c.args.values.now) =
-        few c.args.values.now some c.if-values-gt-MAX_TARIFFS.false in
+    few c.args.values.now some c.if-values-gt-MAX_TARIFFS.false in
     subst (λ said. IfErr c.read_all.result (λ e. ¬ (e ≡ NoMemory) → said ≡ Err e)) (sym is) c.read_all.ensures.fault

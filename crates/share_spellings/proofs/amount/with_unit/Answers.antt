@@ -7,7 +7,8 @@ returns-in-None c = no_space c.args.text.now c.in-None.ensures.cases
 
 pub returns-in-None-read_number : goal.returns-in-None-read_number
 returns-in-None-read_number c =
-    no_number c.args.text.now (c.in-Some.digits, c.in-Some.unit) c.in-Some.ensures.cases (sym c.in-None-read_number.ensures)
+    no_number c.args.text.now (c.in-Some.digits, c.in-Some.unit) c.in-Some.ensures.cases
+    (sym c.in-None-read_number.ensures)
 
 pub returns-in-Some-read_number : goal.returns-in-Some-read_number
 returns-in-Some-read_number c =

@@ -1,0 +1,204 @@
+//! Files: the example, the smallest one, and what is wrong with changed ones.
+
+use super::assertions::{holds, same};
+use super::rows::{EXAMPLE, FILE, Row, SHAPES, SMALL, TWICE, VALUES};
+use share_base::Name;
+use share_config::{ConfigFault, read_settings};
+use share_gateway::{Grant, Tenant};
+use share_settings::{BookText, Listener, Peer, Port, Settings};
+use std::alloc::{AllocError, Global};
+use std::net::SocketAddr;
+use std::process::Abort;
+
+// The file with one text changed.
+fn changed(alloc: Global, row: Row) -> Result<String, AllocError> {
+    let (before, after) = match FILE.split_once(row.old) {
+        None => (FILE, ""),
+        Some((before, after)) => (before, after),
+    };
+    let mut text = String::from_str(alloc, before)?;
+    text.push_str(row.new)?;
+    text.push_str(after)?;
+    Ok(text)
+}
+
+// The fault of the changed file is the row's.
+fn has_fault(rt: &impl Abort, alloc: Global, row: Row, fault: &ConfigFault) {
+    same(rt, row, fault.line(), row.line);
+    let said = format!(in alloc; "{fault}").expect(rt, "memory");
+    let is_said = row.fault.is_empty() || said.as_str() == row.fault;
+    assert!(rt; is_said, "{row:?}: {said}");
+}
+
+fn is_refused(rt: &impl Abort, alloc: Global, row: Row) {
+    holds(rt, row, FILE.contains(row.old));
+    let text = changed(alloc, row).expect(rt, "memory");
+    match read_settings(alloc, text.as_str()) {
+        Err(fault) => has_fault(rt, alloc, row, &fault),
+        Ok(_) => holds(rt, row, false),
+    }
+}
+
+fn are_refused(rt: &impl Abort, alloc: Global, rows: &[Row]) {
+    for row in rows {
+        is_refused(rt, alloc, *row);
+    }
+}
+
+#[test]
+fn wrong_files_are_refused(rt: HostRuntime) {
+    are_refused(&rt, rt.alloc(), VALUES.as_slice());
+    are_refused(&rt, rt.alloc(), SHAPES.as_slice());
+    are_refused(&rt, rt.alloc(), TWICE.as_slice());
+}
+
+fn name(rt: &impl Abort, text: &str) -> Name {
+    Name::read(text.as_bytes()).expect(rt, "a name")
+}
+
+fn is_address(address: SocketAddr, text: &str) -> bool {
+    text.parse().ok() == Some(address)
+}
+
+fn is_peer(peer: Peer, text: &str) -> bool {
+    match peer {
+        Peer::Tcp(address) => is_address(address, text),
+        Peer::Udp(_) => false,
+    }
+}
+
+// The uplink and the downlink are those of the example.
+fn has_links(rt: &impl Abort, settings: &Settings) {
+    let uplink = settings.uplink.expect(rt, "an uplink");
+    holds(rt, "connect", is_peer(uplink.to, "192.0.2.7:7003"));
+    same(rt, "rate", uplink.rate, Some(2_500_000));
+    same(rt, "buffer", uplink.buffer, 262144);
+    let downlink = settings.downlink.expect(rt, "a downlink");
+    holds(rt, "listen", is_peer(downlink.listen, "192.0.2.1:7003"));
+    holds(rt, "from", downlink.from.is_none());
+}
+
+// The books and the control listener are those of the example.
+fn has_books(rt: &impl Abort, settings: &Settings) {
+    let folder = settings.books.folder.as_str();
+    holds(rt, "folder", folder == "/var/lib/stridelink/uplink");
+    same(rt, "text", settings.books.text, BookText::Lengths);
+    same(rt, "events", settings.books.events, 16_777_216);
+    same(rt, "period", settings.books.period, Some(3600));
+    same(rt, "mode", settings.control.mode, 0o600);
+    let is_control = match &settings.control.listen {
+        Listener::Unix(path) => path.as_str() == "/run/stridelink/uplink",
+        Listener::Tcp(_) => false,
+    };
+    holds(rt, "control", is_control);
+}
+
+fn has_grant(rt: &impl Abort, what: &'static str, grant: Option<&Grant>, amount: u64, of: &str) {
+    let grant = grant.expect(rt, what);
+    same(rt, what, grant.amount, amount);
+    same(rt, what, grant.denomination, name(rt, of));
+}
+
+// The tariff and the currency are those of the example.
+fn has_money(rt: &impl Abort, settings: &Settings) {
+    same(rt, "tariffs", settings.tariffs.len(), 1);
+    let tariff = settings.tariffs.first().expect(rt, "a tariff");
+    let numbers = (tariff.cell, tariff.overhead, tariff.price);
+    same(rt, "tariff", numbers, (48, 16, 2));
+    let currencies = settings.plan.currencies();
+    same(rt, "currencies", currencies.len(), 1);
+    let currency = currencies.first().expect(rt, "a currency");
+    same(rt, "currency", currency.name, name(rt, "gold"));
+    same(rt, "backing", currency.grants.len(), 1);
+    has_grant(rt, "backing", currency.grants.first(), 300, "base");
+}
+
+fn has_numbers(rt: &impl Abort, tenant: &Tenant, flow: u32) {
+    same(rt, "flow", tenant.flow, flow);
+    same(rt, "packets", tenant.limit, 256);
+    same(rt, "tariff of the tenant", tenant.tariff, 1);
+    same(rt, "held", tenant.held, false);
+}
+
+// The tenant is that of the example.
+fn has_tenant(rt: &impl Abort, settings: &Settings) {
+    let tenants = settings.plan.tenants();
+    same(rt, "tenants", tenants.len(), 1);
+    let tenant = tenants.first().expect(rt, "a tenant");
+    same(rt, "tenant", tenant.name, name(rt, "acme"));
+    has_numbers(rt, tenant, 1);
+    same(rt, "grants", tenant.grants.len(), 2);
+    has_grant(rt, "first grant", tenant.grants.first(), 200, "gold");
+    has_grant(rt, "second grant", tenant.grants.get(1), 50, "base");
+}
+
+// Whether a port is the one of this place in the example.
+fn is_port(port: &Port, index: usize) -> bool {
+    match (index, port) {
+        (0, Port::Tcp(address)) => is_address(*address, "127.0.0.1:7101"),
+        (1, Port::Unix(path)) => path.as_str() == "/run/stridelink/acme",
+        (2, Port::Udp(address)) => is_address(*address, "127.0.0.1:7201"),
+        (3, Port::Descriptor(number)) => *number == 3,
+        _ => false,
+    }
+}
+
+// The ports of the tenant are those of the example.
+fn has_ports(rt: &impl Abort, settings: &Settings) {
+    same(rt, "tenants with ports", settings.ports.len(), 1);
+    let tenant = settings.ports.first().expect(rt, "ports of a tenant");
+    same(rt, "mode of ports", tenant.mode, 0o600);
+    let ports = tenant.ports.as_slice();
+    same(rt, "ports", ports.len(), 4);
+    for index in 0..ports.len() {
+        holds(rt, index, is_port(&ports[index], index));
+    }
+}
+
+#[test]
+fn the_example_is_read(rt: HostRuntime) {
+    let settings = read_settings(rt.alloc(), EXAMPLE).expect(&rt, "the example");
+    has_links(&rt, &settings);
+    has_books(&rt, &settings);
+    has_money(&rt, &settings);
+    has_tenant(&rt, &settings);
+    has_ports(&rt, &settings);
+}
+
+// The sections of the smallest file have the defaults.
+fn has_default_sections(rt: &impl Abort, settings: &Settings) {
+    holds(rt, "uplink", settings.uplink.is_none());
+    holds(
+        rt,
+        "from",
+        settings
+            .downlink
+            .is_some_and(|downlink| downlink.from.is_none()),
+    );
+    same(rt, "text", settings.books.text, BookText::Lengths);
+    same(rt, "events", settings.books.events, 16_777_216);
+    same(rt, "period", settings.books.period, None);
+    same(rt, "mode", settings.control.mode, 0o600);
+    same(rt, "tariffs", settings.tariffs.len(), 4);
+}
+
+#[test]
+fn what_a_file_leaves_out_has_its_default(rt: HostRuntime) {
+    let settings = read_settings(rt.alloc(), SMALL).expect(&rt, "the smallest file");
+    has_default_sections(&rt, &settings);
+    let tenant = settings.plan.tenants().get(1).expect(&rt, "a tenant");
+    has_numbers(&rt, tenant, 2);
+    same(&rt, "grants", tenant.grants.len(), 0);
+    let ports = settings.ports.get(1).expect(&rt, "ports of a tenant");
+    same(&rt, "ports", ports.ports.len(), 0);
+    same(&rt, "mode of ports", ports.mode, 0o600);
+}
+
+#[test]
+fn a_file_in_which_nothing_is_wrong_is_read(rt: HostRuntime) {
+    let settings = read_settings(rt.alloc(), FILE).expect(&rt, "the file that the rows change");
+    let tenant = settings.plan.tenants().get(1).expect(&rt, "a tenant");
+    same(&rt, "flow", tenant.flow, 4);
+    let ports = settings.ports.first().expect(&rt, "ports of a tenant");
+    same(&rt, "mode of ports", ports.mode, 0o640);
+}

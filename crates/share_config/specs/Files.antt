@@ -1,0 +1,88 @@
+-- A whole file.
+use Rattle.std.specs.Prelude.{◌≡◌, ◌≤◌, ℕ, List, [], Option, None, Some, Ok, Err}
+use Rattle.toml.specs.Data.{Data, Members}
+use Rattle.share_gateway.specs.Plan.{CurrencyView, TenantView, PlanView, plan_fault}
+use Rattle.share_gateway.specs.declared.plan.PlanFault.{PlanFault}
+use Rattle.share_settings.specs.declared.section.Uplink.{Uplink}
+use Rattle.share_settings.specs.declared.section.Downlink.{Downlink}
+use Rattle.share_settings.specs.Settings.{SettingsView}
+use Rattle.share_config.specs.declared.key.Key.{Key}
+use Rattle.share_config.specs.declared.key.Key.TheVariants as key
+use Rattle.share_config.specs.declared.key.Place.{Place}
+use Rattle.share_config.specs.declared.key.Place.TheVariants as place
+use Rattle.share_config.specs.declared.fault.Reason.TheVariants as reason
+use Rattle.share_config.specs.declared.fault.ConfigFault.{ConfigFault}
+use Rattle.share_config.specs.declared.fault.ConfigFault.TheVariants.{NoMemory, NotToml, Unknown, Wrong, NoPlan}
+use Rattle.share_config.specs.Reading.{Said, ◌>>=◌, wrong, array_in, table_in, needed, optional, known, each}
+use Rattle.share_config.specs.Sections.{uplink_of, books_of, control_of, downlink_of}
+use Rattle.share_config.specs.Lists.{tariffs_of}
+use Rattle.share_config.specs.Tenants.{currency_of, tenant_of, ports_of}
+use Rattle.share_config.specs.Endpoints.{endpoints_of, once}
+
+-- a table that a file may have
+abbrev pub some_table : {A : Type 0} → (Members → Said A) → Place → Key → Data → Said (Option A)
+some_table read p k d = do
+  ms ← table_in p k d
+  a ← read ms
+  Ok (Some a)
+
+-- a table that a file needs
+abbrev pub table_at : {A : Type 0} → (Members → Said A) → Place → Key → Data → Said A
+table_at read p k d = table_in p k d >>= read
+
+-- the tables of a list
+abbrev pub list_in : {A : Type 0} → (Place → ℕ → Data → Said A) → Place → Key → Data → Said (List A)
+list_in read p k d = array_in p k d >>= each (read p) 1
+
+-- a file without an uplink needs a downlink
+abbrev pub reached : Option Uplink → Option Downlink → Said (Option Downlink)
+reached None None = wrong place.File key.Downlink reason.NoDownlink
+reached uplink downlink = Ok downlink
+
+abbrev pub plan_by : PlanView → Option PlanFault → Said PlanView
+plan_by p None = Ok p
+plan_by p (Some why) = Err (NoPlan why)
+
+abbrev pub plan_of : List CurrencyView → List TenantView → Said PlanView
+plan_of currencies tenants =
+    let p : PlanView = record { currencies = currencies; tenants = tenants } in plan_by p (plan_fault p)
+
+-- what a document says
+abbrev pub settings_of : Members → Said SettingsView
+settings_of all = do
+  ms ← known place.File all
+  uplink ← optional (some_table uplink_of) None place.File key.Uplink ms
+  books ← needed (table_at books_of) place.File key.Books ms
+  control ← needed (table_at control_of) place.File key.Control ms
+  given ← optional (some_table downlink_of) None place.File key.Downlink ms
+  downlink ← reached uplink given
+  tariffs ← tariffs_of ms
+  currencies ← optional (list_in currency_of) [] place.File key.Currency ms
+  tenants ← optional (list_in tenant_of) [] place.File key.Tenant ms
+  plan ← plan_of currencies tenants
+  ports ← optional (list_in ports_of) [] place.File key.Tenant ms
+  addresses ← once (endpoints_of uplink control downlink ports)
+  Ok (record {
+    uplink = uplink;
+    books = books;
+    control = control;
+    downlink = downlink;
+    tariffs = tariffs;
+    plan = plan;
+    ports = ports;
+  })
+
+-- ---- Texts
+
+-- the fault says that the text is not TOML
+abbrev pub IsNotToml : ConfigFault → Type 0
+IsNotToml (NotToml line why) = 1 ≤ line
+IsNotToml NoMemory = ⊥
+IsNotToml (Unknown p k) = ⊥
+IsNotToml (Wrong p k r) = ⊥
+IsNotToml (NoPlan why) = ⊥
+
+-- a document has this fault; or the text is no document
+abbrev pub IsFault : Option Members → ConfigFault → Type 0
+IsFault (Some ms) e = settings_of ms ≡ Err e
+IsFault None e = IsNotToml e

@@ -1,0 +1,7 @@
+pub mod Endpoints
+pub mod Files
+pub mod Keys
+pub mod Lists
+pub mod Reading
+pub mod Sections
+pub mod Tenants

@@ -1,0 +1,87 @@
+-- The sections of a file that are not lists.
+use Rattle.std.specs.Prelude.{ℕ, List, codes, Option, None, Some, Ok, if◌then◌else◌}
+use Rattle.std.specs.Str.{bytes_eq}
+use Rattle.toml.specs.Data.{Data, Members}
+use Rattle.share_settings.specs.declared.port.Peer.{Peer}
+use Rattle.share_settings.specs.declared.port.Peer.TheVariants as peer
+use Rattle.share_settings.specs.declared.section.Uplink.{Uplink}
+use Rattle.share_settings.specs.declared.section.BookText.{BookText}
+use Rattle.share_settings.specs.declared.section.BookText.TheVariants.{Lengths, Whole}
+use Rattle.share_settings.specs.declared.section.Books.{Books}
+use Rattle.share_settings.specs.declared.section.Control.{Control}
+use Rattle.share_settings.specs.declared.section.Downlink.{Downlink}
+use Rattle.share_config.specs.declared.key.Key.{Key}
+use Rattle.share_config.specs.declared.key.Key.TheVariants as key
+use Rattle.share_config.specs.declared.key.Place.{Place}
+use Rattle.share_config.specs.declared.key.Place.TheVariants as place
+use Rattle.share_config.specs.declared.fault.Reason.{Reason}
+use Rattle.share_config.specs.declared.fault.Reason.TheVariants as reason
+use Rattle.share_spellings.specs.Amounts.{rate_of, period_of, mode_of}
+use Rattle.share_spellings.specs.Addresses.{host_of, peer_of, listener_of, path_of}
+use Rattle.share_config.specs.Reading.{Said, ◌>>=◌, wrong, found, text_in, number_in, needed, optional, known}
+
+-- a text that says a value
+abbrev pub value_in : {A : Type 0} → (List ℕ → Option A) → Reason → Place → Key → Data → Said A
+value_in read r p k d = text_in p k d >>= λ text. found p k r (read text)
+
+-- the same of a value that a table may have
+abbrev pub some_in : {A : Type 0} → (List ℕ → Option A) → Reason → Place → Key → Data → Said (Option A)
+some_in read r p k d = value_in read r p k d >>= λ a. Ok (Some a)
+
+-- ---- The uplink
+
+-- datagrams need a rate
+abbrev pub paced : Peer → Option ℕ → Said (Option ℕ)
+paced (peer.Udp address) None = wrong place.Uplink key.Rate reason.NoRate
+paced to rate = Ok rate
+
+abbrev pub uplink_of : Members → Said Uplink
+uplink_of all = do
+  ms ← known place.Uplink all
+  to ← needed (value_in peer_of reason.Peer) place.Uplink key.Connect ms
+  given ← optional (some_in rate_of reason.Rate) None place.Uplink key.Rate ms
+  rate ← paced to given
+  buffer ← optional (number_in 16384 16777216) 262144 place.Uplink key.Buffer ms
+  Ok (record { to = to; rate = rate; buffer = buffer })
+
+-- ---- Books
+
+abbrev pub book_text_of : List ℕ → Option BookText
+book_text_of text =
+    if bytes_eq text (codes "lengths") then Some Lengths
+    else if bytes_eq text (codes "whole") then Some Whole
+    else None
+
+abbrev pub books_of : Members → Said Books
+books_of all = do
+  ms ← known place.Books all
+  folder ← needed (value_in (path_of 4095) reason.Folder) place.Books key.Folder ms
+  text ← optional (value_in book_text_of reason.BookText) Lengths place.Books key.Text ms
+  events ← optional (number_in 131072 16777216) 16777216 place.Books key.Events ms
+  period ← optional (some_in period_of reason.Period) None place.Books key.Period ms
+  Ok (record { folder = folder; text = text; events = events; period = period })
+
+-- ---- Control
+
+-- 0600
+abbrev pub default_mode : ℕ
+default_mode = 384
+
+abbrev pub mode_at : Place → Members → Said ℕ
+mode_at p ms = optional (value_in mode_of reason.Mode) default_mode p key.Mode ms
+
+abbrev pub control_of : Members → Said Control
+control_of all = do
+  ms ← known place.Control all
+  listen ← needed (value_in listener_of reason.Listener) place.Control key.Listen ms
+  mode ← mode_at place.Control ms
+  Ok (record { listen = listen; mode = mode })
+
+-- ---- The downlink
+
+abbrev pub downlink_of : Members → Said Downlink
+downlink_of all = do
+  ms ← known place.Downlink all
+  listen ← needed (value_in peer_of reason.Peer) place.Downlink key.Listen ms
+  from ← optional (some_in host_of reason.Host) None place.Downlink key.From ms
+  Ok (record { listen = listen; from = from })

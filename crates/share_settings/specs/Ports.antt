@@ -1,0 +1,8 @@
+-- What a contract sees of a tenant's ports.
+use Rattle.std.specs.Prelude.{ℕ, List}
+use Rattle.share_settings.specs.declared.port.Port.{Port}
+
+-- the ports in their order, and the mode of the Unix sockets among them
+pub record PortsView : Type 0 where
+  pub ports : List Port
+  pub mode : ℕ

@@ -1,0 +1,18 @@
+-- What a contract sees of the settings of a gateway.
+use Rattle.std.specs.Prelude.{List, Option}
+use Rattle.share_model.specs.declared.rates.Rate.{Rate}
+use Rattle.share_gateway.specs.Plan.{PlanView}
+use Rattle.share_settings.specs.declared.section.Uplink.{Uplink}
+use Rattle.share_settings.specs.declared.section.Books.{Books}
+use Rattle.share_settings.specs.declared.section.Control.{Control}
+use Rattle.share_settings.specs.declared.section.Downlink.{Downlink}
+use Rattle.share_settings.specs.Ports.{PortsView}
+
+pub record SettingsView : Type 0 where
+  pub uplink : Option Uplink
+  pub books : Books
+  pub control : Control
+  pub downlink : Option Downlink
+  pub tariffs : List Rate
+  pub plan : PlanView
+  pub ports : List PortsView

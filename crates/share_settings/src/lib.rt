@@ -1,0 +1,12 @@
+//! What a gateway is set to do: its uplink, books, control, ports, downlink, tariffs and plan. No file is read here.
+#![tactic(auto)]
+
+mod port;
+mod section;
+mod settings;
+mod text;
+
+pub use port::{Listener, Peer, Port, TenantPorts};
+pub use section::{BookText, Books, Control, Downlink, Uplink};
+pub use settings::Settings;
+pub use text::Text;

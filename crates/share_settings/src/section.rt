@@ -1,0 +1,50 @@
+//! The sections of the settings that are not lists.
+use crate::port::{Listener, Peer};
+use crate::text::Text;
+use std::net::IpAddr;
+
+/// Where frames go to.
+#[derive(Clone, Copy, Debug)]
+pub struct Uplink {
+    pub to: Peer,
+    /// Bytes of frames a second, if they are limited.
+    pub rate: Option<u64>,
+    /// Bytes of the socket's send buffer.
+    pub buffer: u64,
+}
+
+/// What stands in the text of a book.
+#[derive(Clone, Copy, Debug, PartialEq, Eq)]
+pub enum BookText {
+    /// The lengths of payloads.
+    Lengths,
+    /// Whole payloads.
+    Whole,
+}
+
+/// Where the books go to.
+#[derive(Debug, Drop)]
+pub struct Books {
+    pub folder: Text,
+    pub text: BookText,
+    /// The most events of a book.
+    pub events: u64,
+    /// The seconds after which a book is closed, if time closes it.
+    pub period: Option<u64>,
+}
+
+/// Where control lines come in.
+#[derive(Debug, Drop)]
+pub struct Control {
+    pub listen: Listener,
+    /// The mode of a Unix socket.
+    pub mode: u32,
+}
+
+/// Where the frames of another gateway come in.
+#[derive(Clone, Copy, Debug)]
+pub struct Downlink {
+    pub listen: Peer,
+    /// The address from which alone connections are taken, if they are limited.
+    pub from: Option<IpAddr>,
+}

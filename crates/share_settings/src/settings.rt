@@ -1,0 +1,34 @@
+//! All settings of a gateway.
+use crate::port::TenantPorts;
+use crate::section::{Books, Control, Downlink, Uplink};
+use share_gateway::Plan;
+use share_model::Rate;
+use std::marker::Model;
+
+/// The settings of a gateway. The ports are those of the plan's tenants, in their order.
+#[derive(Drop)]
+pub struct Settings {
+    pub uplink: Option<Uplink>,
+    pub books: Books,
+    pub control: Control,
+    pub downlink: Option<Downlink>,
+    pub tariffs: Vec<Rate>,
+    pub plan: Plan,
+    pub ports: Vec<TenantPorts>,
+}
+
+impl Model for Settings {
+    ghost use Rattle.share_settings.specs.Settings.{SettingsView};
+
+    ghost Value = { SettingsView };
+
+    ghost view = { λ s. record {
+      uplink = s.uplink;
+      books = s.books;
+      control = s.control;
+      downlink = s.downlink;
+      tariffs = s.tariffs.items;
+      plan = s.plan;
+      ports = s.ports.items;
+    } };
+}

@@ -1,0 +1,10 @@
+//! How the file of a gateway spells rates, times, modes, paths and addresses.
+#![tactic(auto)]
+
+mod address;
+mod amount;
+
+pub use address::{
+    MAX_PATH, read_address, read_host, read_listener, read_path, read_peer, read_port,
+};
+pub use amount::{read_mode, read_period, read_rate};

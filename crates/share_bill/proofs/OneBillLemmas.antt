@@ -333,7 +333,8 @@ module _ (kind : Kind) (rates : List Rate) (wrong : Wrong) where
   none_wrong s [] (m ∷ ms) [] (f ∷ fs) rest left clean both end are same text not =
       no_line m (flat_map fed ms ++ left) rest end (text ∙ lines_first m ms left)
   none_wrong s (l ∷ ls) [] (e ∷ es) [] rest left clean both end are same text not =
-      next_right kind s.live wrong l (flat_map fed ls ++ rest) left e clean.0 are.0 (sym text ∙ lines_first l ls rest) not
+      next_right kind s.live wrong l (flat_map fed ls ++ rest) left e clean.0 are.0 (sym text ∙ lines_first l ls rest)
+      not
   none_wrong s (l ∷ ls) (m ∷ ms) (e ∷ es) (f ∷ fs) rest left clean both end are same text not =
       let whole = sym (lines_first l ls rest) ∙ (text ∙ lines_first m ms left) in
       let line = same_line l m (flat_map fed ls ++ rest) (flat_map fed ms ++ left) clean.0 both.0 whole in
@@ -394,10 +395,12 @@ module _ (kind : Kind) (rates : List Rate) (one other : Wrong) where
         wrong_is = wrong_next s.live left (subst (λ bs. IsWrongNext kind s.live bs one) text is) not;
       }
   same_wrong s [] (m ∷ ms) [] (f ∷ fs) rest left clean both are same text is not =
-      absurd (next_right kind s.live one m (flat_map fed ms ++ left) rest f both.0 same.0 (text ∙ lines_first m ms left) is)
+      absurd
+      (next_right kind s.live one m (flat_map fed ms ++ left) rest f both.0 same.0 (text ∙ lines_first m ms left) is)
   same_wrong s (l ∷ ls) [] (e ∷ es) [] rest left clean both are same text is not =
       absurd
-      (next_right kind s.live other l (flat_map fed ls ++ rest) left e clean.0 are.0 (sym text ∙ lines_first l ls rest) not)
+      (next_right kind s.live other l (flat_map fed ls ++ rest) left e clean.0 are.0 (sym text ∙ lines_first l ls rest)
+      not)
   same_wrong s (l ∷ ls) (m ∷ ms) (e ∷ es) (f ∷ fs) rest left clean both are same text is not =
       let whole = sym (lines_first l ls rest) ∙ (text ∙ lines_first m ms left) in
       let line = same_line l m (flat_map fed ls ++ rest) (flat_map fed ms ++ left) clean.0 both.0 whole in

@@ -78,7 +78,8 @@ module _ (f : List ℕ → List ℕ) (keeps : KeepsLengths f) where
         (λ (d : Sent). units_of (rate_of rates d.tariff) (length (sent_frame version d)))
         (λ d. ap (units_of (rate_of rates d.tariff)) (sent_frame-seen version d)) ds
 
-    costs-seen : sum_by (sent_cost version rates) (map (seen_sent f) ds) + torn_cost rates p (option_map (seen_torn f) torn)
+    costs-seen : sum_by (sent_cost version rates) (map (seen_sent f) ds)
+        + torn_cost rates p (option_map (seen_torn f) torn)
         ≡ sum_by (sent_cost version rates) ds + torn_cost rates p torn
     costs-seen =
         ap (λ n. n + torn_cost rates p (option_map (seen_torn f) torn))

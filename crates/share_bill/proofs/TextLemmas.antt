@@ -1,6 +1,6 @@
 -- How the text of a book is passed, line by line.
-use Rattle.std.specs.Prelude.{◌≡◌, ◌<◌, ◌≤◌, ◌+◌, ◌⊎◌, ℕ, Bool, true, false, List, [], ◌∷◌, ◌++◌, length, take, drop, get_or}
-use Rattle.std.specs.Prelude.{codes, flat_map, map, nat_lt, Option, None, Some, IfSome, Result, Ok, Err, IsErrAnd, MatchResult, if◌then◌else◌}
+use Rattle.std.specs.Prelude.{◌≡◌, ◌<◌, ◌≤◌, ◌+◌, ◌⊎◌, ℕ, Bool, true, false, List, [], ◌∷◌, ◌++◌, length, take, drop}
+use Rattle.std.specs.Prelude.{get_or, codes, flat_map, map, nat_lt, Option, None, Some, IfSome, Result, Ok, Err, IsErrAnd, MatchResult, if◌then◌else◌}
 use mathlib.Core.List.{append_assoc}
 use Rattle.std.proofs.Common.{suc, ◌^◌, refl, ap, sym, ◌∙◌, subst, arith, inl, inr, length-take}
 use Rattle.std.proofs.Math.Seq.{drop-append_seam, get_or-append_seam}

@@ -131,8 +131,8 @@ impl<S: Rates> AuditedEngine<S> {
         self.engine.arrive_at(flow, number, body)
     }
 
-    /// A packet comes for the flow of a name, whose buffer has room: one event, with its line. The payload is not copied.
-    /// It takes no memory.
+    /// A packet comes for the flow of a name, whose buffer has room: one event, with its line. The payload is not
+    /// copied. It takes no memory.
     pub fn arrive(&mut self, flow: Name, body: Body) -> Reply
         requires living { is_spent self.old.link ≡ false }
         requires text { lacks_text self.old ≡ false }

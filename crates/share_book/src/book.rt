@@ -86,8 +86,8 @@ impl<S: Rates> Book<S> {
     }
 
     /// The engine. Its events are a run, and the text, after what was drained of it, is the first line and the lines of
-    /// these events. Each of them is a command, a packet that is taken, or a frame that is written as a whole. No frame is
-    /// in part, and the link is not broken.
+    /// these events. Each of them is a command, a packet that is taken, or a frame that is written as a whole. No frame
+    /// is in part, and the link is not broken.
     pub fn engine(&self) -> &Engine<(), S>
         ensures link { result.now ≡ self.now.audited.link }
         ensures run { IsRunAndText self.now.audited }

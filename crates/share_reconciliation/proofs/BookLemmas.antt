@@ -67,7 +67,8 @@ lines_fed kind (e ∷ es) =
     ∙ ap (λ rest. fed (line_for (billed_kind kind) e) ++ rest) (lines_fed kind es)
 
 text_fed : (kind : TextKind) (events : List Event)
-    → first_of_text kind ++ flat_map (line_in kind) events ≡ text_of (billed_kind kind) (lines_for (billed_kind kind) events)
+    → first_of_text kind ++ flat_map (line_in kind) events
+    ≡ text_of (billed_kind kind) (lines_for (billed_kind kind) events)
 text_fed WholeText events = ap (λ rest. codes "audit 2\n" ++ rest) (lines_fed WholeText events)
 text_fed LengthsText events = ap (λ rest. codes "lengths 2\n" ++ rest) (lines_fed LengthsText events)
 
@@ -128,7 +129,8 @@ module _ (kind : Kind) (life : ℕ) (rates : List Rate) (range : AreInRange rate
         clean = (line-clean s.live sound.live version kind e may.1, later.clean);
       }
     where
-      below_for : (k : Kind) (t : State) → t.live.counts.events < max_life → (state_for k t).live.counts.events < max_life
+      below_for : (k : Kind) (t : State) → t.live.counts.events < max_life
+          → (state_for k t).live.counts.events < max_life
       below_for Whole t below = below
       below_for Lengths t below = below
 
@@ -151,7 +153,8 @@ totals_for Lengths s = totals-seen zeros_for s.live
 
 -- ---- A book
 
-rows_for : (kind : Kind) (rates : List Rate) (events : List Event) → rows_of rates (events_for kind events) ≡ rows_of rates events
+rows_for : (kind : Kind) (rates : List Rate) (events : List Event)
+    → rows_of rates (events_for kind events) ≡ rows_of rates events
 rows_for Whole rates events = ap (rows_of rates) (map-id events)
 rows_for Lengths rates events = rows-measured rates events
 

@@ -129,10 +129,12 @@ command_word (Amend ticket amount) = refl
 after_word : (rest : List ℕ) → after_send (codes "send " ++ rest) ≡ Some rest
 after_word rest =
     let long : nat_le 5 (length (codes "send " ++ rest)) ≡ true = grind (arith, nat_tests) in
-    ap (λ b. if b && bytes_eq (take 5 (codes "send " ++ rest)) (codes "send ") then Some (drop 5 (codes "send " ++ rest)) else None)
-    long
+    ap
+    (λ b. if b && bytes_eq (take 5 (codes "send " ++ rest)) (codes "send ") then Some (drop 5 (codes "send " ++ rest))
+    else None) long
 
-two_words : (name : List ℕ) (n : ℕ) → IsName name → IsNumber n → words_of (name ++ 32 ∷ decimal n) ≡ name ∷ decimal n ∷ []
+two_words : (name : List ℕ) (n : ℕ) → IsName name → IsNumber n
+    → words_of (name ++ 32 ∷ decimal n) ≡ name ∷ decimal n ∷ []
 two_words name n is_name is_number =
     slice_split_at is_space name 32 (decimal n) (All-from_recursion _ name (no_space-name name is_name)) refl
     ∙ ap (λ ws. name ∷ ws)

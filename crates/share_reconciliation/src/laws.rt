@@ -18,12 +18,13 @@ use share_book::Book;
 use share_model::{Rates, TellingReader};
 
 /// The bill of a book's text is the book's. A book is one whose text, after what was drained of it, is what
-/// `share_book::Book::engine` says. With the tariffs of the book, its whole text has a bill, whose rows are those of the
-/// book's events, and of which no line is cut (`book`). So whatever `share_bill::bill_text` returns for a reader of this
-/// text, either it is this bill, or a read failed or memory was refused: no line is wrong (`bill`). The run that a bill of
-/// this text makes has the replies of the book's events (`replies`), and comes to the accounts (`accounts`) and the totals
-/// (`totals`) of the book's link. What a flow owes by its row is its account there, while the flow is open (`amounts`).
-/// All this is so of a text of lengths, which has no byte of a payload, and of a whole one.
+/// `share_book::Book::engine` says. With the tariffs of the book, its whole text has a bill, whose rows are those of
+/// the book's events, and of which no line is cut (`book`). So whatever `share_bill::bill_text` returns for a reader
+/// of this text, either it is this bill, or a read failed or memory was refused: no line is wrong (`bill`). The run
+/// that a bill of this text makes has the replies of the book's events (`replies`), and comes to the accounts
+/// (`accounts`) and the totals (`totals`) of the book's link. What a flow owes by its row is its account there, while
+/// the flow is open (`amounts`). All this is so of a text of lengths, which has no byte of a payload, and of a whole
+/// one.
 pub fn bills_match_books<I: TellingReader>()
     ensures book { (a : Audited) (text : IsRunAndText a) → IsBook a.link.rates (whole_text a text) (billed_kind a.kind)
         (rows_of a.link.rates text.events) None }
@@ -45,8 +46,8 @@ pub fn bills_match_books<I: TellingReader>()
 {}
 
 /// The same of a book as it is. It has a whole text, of which `share_book::Book::text` lends the end; and whatever
-/// `share_bill::bill_text` returns for a reader of this text, with the tariffs of the book, is the book's bill, unless a
-/// read failed or memory was refused.
+/// `share_bill::bill_text` returns for a reader of this text, with the tariffs of the book, is the book's bill,
+/// unless a read failed or memory was refused.
 pub fn bill_matches_book<S: Rates, I: TellingReader>(book: &Book<S>)
     ensures { (text : IsRunAndText book.now.audited)
         × ((first : I) (result : Result BookBill NotBilled)

@@ -3,8 +3,13 @@ ghost use Rattle.std.specs.Prelude.{◌≡◌, ◌≤◌, ◌↔◌, ◌∷◌, 
 ghost use Rattle.std.specs.List.{list_all};
 ghost use Rattle.share_catalog.specs.Reads.{Reads};
 ghost use Rattle.share_catalog.specs.Texts.{is_hex_digit, is_digest, digest_text, IsDigest};
+ghost use Rattle.hex.specs.Hex.{encode_lower};
 
+use hex::encode_to_slice;
 use std::marker::Model;
+
+/// How many bytes a digest has.
+const BYTES: usize = 32;
 
 /// How many digits a digest has.
 const DIGITS: usize = 64;
@@ -39,6 +44,17 @@ impl Digest {
         let mut digits = [b'0'; DIGITS];
         digits.copy_from_slice(word);
         Some(Digest { digits })
+    }
+
+    /// The digest with these bytes, each as two digits, the high one first.
+    pub fn of_bytes(bytes: [u8; BYTES]) -> Digest
+        ensures { result ≡ encode_lower bytes }
+    {
+        let mut digits = [b'0'; DIGITS];
+        if encode_to_slice(bytes.as_slice(), digits.as_mut_slice()).is_err() {
+            unreachable!();
+        }
+        Digest { digits }
     }
 
     /// Its digits.

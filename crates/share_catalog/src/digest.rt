@@ -50,11 +50,9 @@ impl Digest {
     pub fn of_bytes(bytes: [u8; BYTES]) -> Digest
         ensures { result ≡ encode_lower bytes }
     {
-        let mut digits = [b'0'; DIGITS];
-        if encode_to_slice(bytes.as_slice(), digits.as_mut_slice()).is_err() {
-            unreachable!();
+        Digest {
+            digits: digits_of(bytes.as_slice()),
         }
-        Digest { digits }
     }
 
     /// Its digits.
@@ -77,4 +75,17 @@ fn is_hex_digit(byte: u8) -> bool
     ensures { result ≡ is_hex_digit byte }
 {
     (b'0' <= byte && byte <= b'9') || (b'a' <= byte && byte <= b'f')
+}
+
+// The digits of 32 bytes.
+fn digits_of(bytes: &[u8]) -> [u8; DIGITS]
+    requires { length bytes.now ≡ BYTES }
+    ensures digits { result ≡ encode_lower bytes.now }
+    ensures digest { IsDigest (encode_lower bytes.now) }
+{
+    let mut digits = [b'0'; DIGITS];
+    if encode_to_slice(bytes, digits.as_mut_slice()).is_err() {
+        unreachable!();
+    }
+    digits
 }

@@ -1,6 +1,6 @@
 //! What a book comes to.
 
-use share_catalog::{Closing, Row};
+use share_catalog::Row;
 
 /// What is written of a book at its end.
 #[derive(Drop)]
@@ -9,11 +9,4 @@ pub struct BookEnd {
     pub row: Row,
     /// Its report. A book whose text is no run has none.
     pub report: Vec<u8>,
-}
-
-impl BookEnd {
-    // Whether its text is a run.
-    pub(crate) fn is_run(&self) -> bool {
-        self.row.why != Closing::Bad
-    }
 }

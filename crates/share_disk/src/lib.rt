@@ -4,14 +4,15 @@
 
 mod begin;
 mod book_end;
+mod book_files;
 mod books_csv;
+mod close;
 mod examine;
 mod files;
 mod folder;
 mod measure;
 mod open_text;
 mod recover;
-mod settle;
 mod time;
 mod totals;
 

@@ -1,11 +1,15 @@
 //! What a start does with the books that it finds.
+ghost use Rattle.std.specs.Prelude.{◌≡◌};
+ghost use Rattle.share_disk.specs.Texts.{is_complete};
 
+use crate::book_end::BookEnd;
+use crate::book_files::{OneBook, TextRead};
 use crate::books_csv::{BooksCsv, NotRead, cut_row};
+use crate::close::{read_of, settle_files};
 use crate::examine::{Examined, NoRun, examine};
 use crate::folder::Folder;
-use crate::settle::{TextRead, read_of};
 use share_archive::{BookState, BookText, RowState, next_step};
-use share_catalog::{next_number, read_file_name};
+use share_catalog::{FileKind, next_number, read_file_name};
 use std::alloc::{AllocError, Global};
 use std::fs::{File, Files};
 use std::io::ErrorKind;
@@ -148,32 +152,67 @@ impl Folder {
         number: u64,
         row: RowState,
     ) -> io::Result<Option<Recovery>> {
-        let state = self.state_of(rt, alloc, number, TextRead::Run, row)?;
+        let mut files = OneBook {
+            rt,
+            alloc,
+            folder: self,
+            number,
+            read: TextRead::Run,
+            end: None,
+        };
+        let state = files.state_with(row)?;
         if next_step(state).is_none() {
             return Ok(None);
         }
-        if is_complete(state) {
-            self.settle(rt, alloc, number, TextRead::Run, None)?;
-            return Ok(None);
-        }
-        let Some(kind) = self.text_kind(rt, alloc, number)? else {
-            return Ok(None);
-        };
-        match examine(rt, alloc, self, number, kind)? {
-            Examined::Headless => {
-                self.settle(rt, alloc, number, TextRead::Headless, None)?;
-                Ok(Some(Recovery::Removed))
-            }
-            Examined::Text { end, fault } => {
-                self.settle(rt, alloc, number, read_of(&end), Some(&end))?;
-                Ok(Some(recovery_of(state.text, fault)))
+        match files.text_kind()? {
+            Some(kind) if !is_complete(state) => recover_text(&files, kind, state.text),
+            _ => {
+                settle_files(&mut files)?;
+                Ok(None)
             }
         }
     }
 }
 
+// Recovers a book by its text, in the file of this kind.
+fn recover_text<R: Files<File = File>>(
+    files: &OneBook<'_, R>,
+    kind: FileKind,
+    text: BookText,
+) -> io::Result<Option<Recovery>> {
+    match examine(files.rt, files.alloc, files.folder, files.number, kind)? {
+        Examined::Headless => {
+            settle_with(files, TextRead::Headless, None)?;
+            Ok(Some(Recovery::Removed))
+        }
+        Examined::Text { end, fault } => {
+            settle_with(files, read_of(end.row.why), Some(&end))?;
+            Ok(Some(recovery_of(text, fault)))
+        }
+    }
+}
+
+// Makes the steps of a book of whose text this is known.
+fn settle_with<R: Files<File = File>>(
+    files: &OneBook<'_, R>,
+    read: TextRead,
+    end: Option<&BookEnd>,
+) -> io::Result<()> {
+    let mut known = OneBook {
+        rt: files.rt,
+        alloc: files.alloc,
+        folder: files.folder,
+        number: files.number,
+        read,
+        end,
+    };
+    settle_files(&mut known)
+}
+
 // Whether a book has all that is written of its text.
-fn is_complete(state: BookState) -> bool {
+fn is_complete(state: BookState) -> bool
+    ensures { result ≡ is_complete state }
+{
     let has_row = state.row == RowState::Whole;
     match state.text {
         BookText::Absent => true,

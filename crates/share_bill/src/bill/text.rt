@@ -1,8 +1,10 @@
 //! The bill of a whole text.
-ghost use Rattle.std.specs.Prelude.{◌≡◌, ◌+◌, [], ℕ, List, MatchBool, MatchOption, MatchResult};
+ghost use Rattle.std.specs.Prelude.{◌≡◌, ◌+◌, [], ℕ, List, MatchBool, MatchOption, MatchResult, IfSome};
+ghost use Rattle.std.specs.Prelude.{IfOk, IfErr};
 ghost use Rattle.share_model.specs.declared.rates.Rate.{Rate};
 ghost use Rattle.share_bill.specs.Texts.{text_of, cut_of, HasReadAt, IsAt, PassesLine, IsFirstFault, IsTextFault};
-ghost use Rattle.share_bill.specs.Texts.{TakesLines, TakesAll, Bills};
+ghost use Rattle.share_bill.specs.Texts.{TakesLines, TakesAll, Bills, IsBook, IsRunText};
+ghost use Rattle.share_bill.specs.declared.bill.text.NotBilled.TheVariants.{NoMemory};
 
 use super::kind::kind_of;
 use super::{Bill, Kind, LineFault, TenantBill, Wrong};
@@ -30,9 +32,7 @@ pub struct BookBill {
 #[derive(Drop)]
 pub struct TextRun<S: Rates> {
     pub bill: Bill<S>,
-    /// The number of the line that would come next, counted from 1.
-    pub next: u64,
-    /// That number, if bytes of such a line came: they are left out.
+    /// The number of the last line, counted from 1, if it has no line feed: it is left out.
     pub cut: Option<u64>,
 }
 
@@ -190,8 +190,9 @@ fn run_lines<S: Rates + Drop, I: TellingReader + Drop>(
     shelf: S,
     lines: &mut IncomingLines<I>,
 ) -> Result<TextRun<S>, NotBilled>
-    ensures { (first : I) → IsAt I.left I.gives first [] lines.old
-        → IsRunOf I.left I.gives first (S.rates shelf) result }
+    ensures { (first : I) → IsAt I.left I.gives first [] lines.old → MatchResult result
+        (λ run. IfSome (I.left first) (λ bytes. IsRunText (S.rates shelf) bytes run.bill run.cut))
+        (λ fault. IsTextFault I.left I.gives first (S.rates shelf) fault) }
 {
     let kind = first_line(lines)?;
     let Ok(mut bill) = Bill::new(alloc, kind, shelf) else {
@@ -200,7 +201,7 @@ fn run_lines<S: Rates + Drop, I: TellingReader + Drop>(
     match take_lines(alloc, &mut bill, lines) {
         Ok(next) => {
             let cut = cut_line(lines, next);
-            Ok(TextRun { bill, next, cut })
+            Ok(TextRun { bill, cut })
         }
         Err(fault) => {
             drop(bill);
@@ -217,7 +218,9 @@ pub fn run_text<S: Rates + Drop, I: TellingReader + Drop>(
     shelf: S,
     text: I,
 ) -> Result<TextRun<S>, NotBilled>
-    ensures { IsRunOf I.left I.gives text (S.rates shelf) result }
+    ensures { MatchResult result
+        (λ run. IfSome (I.left text) (λ bytes. IsRunText (S.rates shelf) bytes run.bill run.cut))
+        (λ fault. IsTextFault I.left I.gives text (S.rates shelf) fault) }
 {
     let mut lines = IncomingLines::new(alloc, text)?;
     let run = run_lines(alloc, shelf, &mut lines);
@@ -227,7 +230,9 @@ pub fn run_text<S: Rates + Drop, I: TellingReader + Drop>(
 
 // The bill of a run.
 fn bill_of<S: Rates>(alloc: Global, run: &TextRun<S>) -> Result<BookBill, NotBilled>
-    ensures { OnOk result (IfOk result (λ bill. IsBillOfRun run.now.bill run.now.cut bill)) }
+    ensures book { IfOk result (λ bill. (rates : List Rate) (bytes : List ℕ)
+        → IsRunText rates bytes run.now.bill run.now.cut → IsBook rates bytes bill.kind bill.rows.items bill.cut) }
+    ensures lacks { IfErr result (λ fault. fault ≡ NoMemory) }
 {
     let rows = run.bill.rows(alloc)?;
     Ok(BookBill {

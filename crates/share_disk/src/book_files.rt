@@ -37,14 +37,19 @@ pub(crate) struct OneBook<'a, R> {
 
 impl<'a, R> Drop for OneBook<'a, R> {
     fn drop(self) {
-        let OneBook { .. } = self;
+        let OneBook {
+            rt: _,
+            alloc: _,
+            folder: _,
+            number: _,
+            read: _,
+            end: _,
+        } = self;
     }
 }
 
 impl<'a, R: Files<File = File>> BookFiles for OneBook<'a, R> {
-    ghost use Rattle.std.specs.Prelude.{None, tt};
-
-    type Fault = io::Error;
+    ghost use Rattle.std.specs.Prelude.{None};
 
     ghost known = { λ _. None };
 

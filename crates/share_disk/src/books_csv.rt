@@ -4,10 +4,10 @@ use crate::files::read_if_there;
 use crate::folder::Folder;
 use memchr::memchr;
 use share_catalog::{Row, header_line, read_row, row_line, whole_lines};
-use std::alloc::{AllocError, Global};
+use std::alloc::Global;
 use std::fs::{File, Files, OpenOptions};
 use std::io;
-use std::io::{ErrorKind, Write};
+use std::io::Write;
 
 /// The name of the file of the rows.
 const NAME: &str = "books.csv";
@@ -19,12 +19,6 @@ pub(crate) enum NotRead {
     NoMemory,
     /// The line of this number, counted from 1, is neither the names of the columns nor a row.
     Line(u64),
-}
-
-impl From<AllocError> for NotRead {
-    fn from(_refused: AllocError) -> NotRead {
-        NotRead::NoMemory
-    }
 }
 
 /// What `books.csv` has.
@@ -68,12 +62,14 @@ impl BooksCsv {
             return Err(NotRead::Line(1));
         }
         for line in 2..u64::MAX {
-            let Some(row) = rows.next() else {
-                return Ok(numbers);
-            };
-            match row {
-                Some(row) => numbers.push(row.book)?,
-                None => return Err(NotRead::Line(line)),
+            match rows.next() {
+                None => return Ok(numbers),
+                Some(None) => return Err(NotRead::Line(line)),
+                Some(Some(row)) => {
+                    if numbers.push(row.book).is_err() {
+                        return Err(NotRead::NoMemory);
+                    }
+                }
             }
         }
         Ok(numbers)
@@ -95,6 +91,7 @@ impl BooksCsv {
 }
 
 // The lines of a text that are not passed.
+#[derive(Clone, Copy)]
 struct Rows<'a> {
     left: &'a [u8],
 }

@@ -137,7 +137,12 @@ impl Folder {
             };
             match self.recover_book(rt, alloc, number, row) {
                 Ok(None) => (),
-                Ok(Some(recovery)) => books.push(RecoveredBook { number, recovery })?,
+                Ok(Some(recovery)) => {
+                    let book = RecoveredBook { number, recovery };
+                    if let Err(refused) = books.push(book) {
+                        return Err(NotRecovered::from(AllocError::from(refused)));
+                    }
+                }
                 Err(fault) => return Err(NotRecovered::Book { number, fault }),
             }
         }

@@ -25,17 +25,17 @@ pub(crate) enum TextRead {
 }
 
 /// The files of a book in a folder.
-pub(crate) struct OneBook<'a, R> {
-    pub(crate) rt: &'a R,
+pub(crate) struct OneBook<'r, 'f, 'e, R> {
+    pub(crate) rt: &'r R,
     pub(crate) alloc: Global,
-    pub(crate) folder: &'a Folder,
+    pub(crate) folder: &'f Folder,
     pub(crate) number: u64,
     pub(crate) read: TextRead,
     /// What is written of the book, if that is known.
-    pub(crate) end: Option<&'a BookEnd>,
+    pub(crate) end: Option<&'e BookEnd>,
 }
 
-impl<'a, R> Drop for OneBook<'a, R> {
+impl<'r, 'f, 'e, R> Drop for OneBook<'r, 'f, 'e, R> {
     fn drop(self) {
         let OneBook {
             rt: _,
@@ -48,7 +48,7 @@ impl<'a, R> Drop for OneBook<'a, R> {
     }
 }
 
-impl<'a, R: Files<File = File>> BookFiles for OneBook<'a, R> {
+impl<'r, 'f, 'e, R: Files<File = File>> BookFiles for OneBook<'r, 'f, 'e, R> {
     ghost use Rattle.std.specs.Prelude.{None};
 
     ghost known = { λ _. None };
@@ -73,7 +73,7 @@ impl<'a, R: Files<File = File>> BookFiles for OneBook<'a, R> {
     }
 }
 
-impl<'a, R: Files<File = File>> OneBook<'a, R> {
+impl<'r, 'f, 'e, R: Files<File = File>> OneBook<'r, 'f, 'e, R> {
     // Whether the book has a file of this kind.
     fn has(&self, kind: FileKind) -> io::Result<bool> {
         self.folder.has(self.rt, self.alloc, self.number, kind)
@@ -118,7 +118,7 @@ impl<'a, R: Files<File = File>> OneBook<'a, R> {
     }
 
     // What is written of the book.
-    fn end(&self) -> io::Result<&'a BookEnd> {
+    fn end(&self) -> io::Result<&'e BookEnd> {
         match self.end {
             Some(end) => Ok(end),
             None => Err(io::Error::from(ErrorKind::InvalidData)),

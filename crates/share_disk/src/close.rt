@@ -38,7 +38,9 @@ impl Folder {
 }
 
 /// Makes the steps that a book needs.
-pub(crate) fn settle_files<R: Files<File = File>>(files: &mut OneBook<'_, R>) -> io::Result<()> {
+pub(crate) fn settle_files<R: Files<File = File>>(
+    files: &mut OneBook<'_, '_, '_, R>,
+) -> io::Result<()> {
     match settle(files) {
         Ok(()) => Ok(()),
         Err(Unsettled::Failed(fault)) => Err(fault),

@@ -1,4 +1,5 @@
 //! How much of a text is whole, and the digest of a text.
+ghost use Rattle.std.specs.Prelude.{◌≤◌, IfOk};
 
 use sha2::{Digest as Hasher, Sha256};
 use share_catalog::{Digest, whole_lines};
@@ -45,7 +46,9 @@ pub(crate) fn digest_of(file: &mut File) -> io::Result<Digest> {
 }
 
 // Reads the next bytes, again if a signal interrupts the call.
-fn read_piece(file: &mut File, piece: &mut [u8; PIECE]) -> io::Result<usize> {
+fn read_piece(file: &mut File, piece: &mut [u8; PIECE]) -> io::Result<usize>
+    ensures { IfOk result (λ count. count ≤ PIECE) }
+{
     for _ in 0..u64::MAX {
         match file.read(piece.as_mut_slice()) {
             Ok(count) => return Ok(count),

@@ -181,7 +181,7 @@ impl Folder {
 
 // Recovers a book by its text, in the file of this kind.
 fn recover_text<R: Files<File = File>>(
-    files: &OneBook<'_, R>,
+    files: &OneBook<'_, '_, '_, R>,
     kind: FileKind,
     text: BookText,
 ) -> io::Result<Option<Recovery>> {
@@ -199,7 +199,7 @@ fn recover_text<R: Files<File = File>>(
 
 // Makes the steps of a book of whose text this is known.
 fn settle_with<R: Files<File = File>>(
-    files: &OneBook<'_, R>,
+    files: &OneBook<'_, '_, '_, R>,
     read: TextRead,
     end: Option<&BookEnd>,
 ) -> io::Result<()> {

@@ -1,4 +1,6 @@
 //! How a book begins.
+ghost use Rattle.std.specs.Prelude.{◌≡◌, [], IfOk};
+ghost use Rattle.share_disk.specs.OpenText.{HasText};
 
 use crate::files::{make_new, write_new};
 use crate::folder::Folder;
@@ -17,7 +19,10 @@ impl Folder {
         alloc: Global,
         number: u64,
         tariffs: &Tariffs,
-    ) -> io::Result<OpenText> {
+    ) -> io::Result<OpenText>
+        ensures number { IfOk result (λ text. text.number ≡ number) }
+        ensures bytes { IfOk result (λ text. HasText text []) }
+    {
         let tariffs_path = self.path_of(alloc, number, FileKind::Tariffs)?;
         let text_path = self.path_of(alloc, number, FileKind::Open)?;
         let line = tariffs_line(tariffs);

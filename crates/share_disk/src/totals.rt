@@ -1,4 +1,6 @@
 //! The totals of a book's engine, as its row has them.
+ghost use Rattle.std.specs.Prelude.{◌≡◌};
+ghost use Rattle.share_model.specs.link.Totals.{totals};
 
 use share_catalog::Totals;
 use share_core::{Engine, MAX_FLOWS};
@@ -6,7 +8,12 @@ use share_model::Rates;
 
 /// What the events of a book come to: the frames that were written whole, their bytes, the clock, and the sum of the
 /// accounts.
-pub fn book_totals<W, S: Rates>(engine: &Engine<W, S>) -> Totals {
+pub fn book_totals<W, S: Rates>(engine: &Engine<W, S>) -> Totals
+    ensures events { result.events ≡ engine.now.live.counts.events }
+    ensures packets { result.packets ≡ (totals engine.now.live).written }
+    ensures bytes { result.bytes ≡ (totals engine.now.live).bytes }
+    ensures units { result.units ≡ (totals engine.now.live).clock }
+{
     let totals = engine.totals();
     Totals {
         events: engine.events(),

@@ -4,6 +4,8 @@
 
 mod laws;
 mod plan;
+mod settling;
 
 pub use laws::{books_come_to_rest, killed_books_come_to_the_same};
 pub use plan::{BookState, BookText, RowState, Step, next_step};
+pub use settling::{BookFiles, Unsettled, settle};

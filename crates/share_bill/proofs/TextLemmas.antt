@@ -1,6 +1,7 @@
 -- How the text of a book is passed, line by line.
 use Rattle.std.specs.Prelude.{◌≡◌, ◌<◌, ◌≤◌, ◌+◌, ◌⊎◌, ℕ, Bool, true, false, List, [], ◌∷◌, ◌++◌, length, take, drop}
-use Rattle.std.specs.Prelude.{get_or, codes, flat_map, map, nat_lt, Option, None, Some, IfSome, Result, Ok, Err, IsErrAnd, MatchResult, if◌then◌else◌}
+use Rattle.std.specs.Prelude.{get_or, codes, flat_map, map, nat_lt, Option, None, Some, IfSome, IfOk, IfErr, Result, Ok}
+use Rattle.std.specs.Prelude.{Err, IsErrAnd, MatchResult, if◌then◌else◌}
 use mathlib.Core.List.{append_assoc}
 use Rattle.std.proofs.Common.{suc, ◌^◌, refl, ap, sym, ◌∙◌, subst, arith, inl, inr, length-take}
 use Rattle.std.proofs.Math.Seq.{drop-append_seam, get_or-append_seam}
@@ -34,6 +35,7 @@ use Rattle.share_bill.specs.declared.bill.line.Wrong.{Wrong}
 use Rattle.share_bill.specs.declared.bill.line.Wrong.TheVariants.{First, Long}
 use Rattle.share_bill.specs.declared.bill.running.TenantBill.{TenantBill}
 use Rattle.share_bill.specs.declared.bill.running.TenantFlow.{TenantFlow}
+use Rattle.share_bill.specs.declared.bill.text.BookBill.{BookBill}
 use Rattle.share_bill.specs.declared.bill.text.Next.TheVariants.{Line as NextLine, Long as NextLong, End as NextEnd}
 use Rattle.share_bill.specs.declared.bill.text.NotBilled.{NotBilled}
 use Rattle.share_bill.specs.declared.bill.text.NotBilled.TheVariants.{Input, NoMemory, Line as LineFault}
@@ -42,11 +44,11 @@ use Rattle.share_bill.specs.BookLines.{first_line, kind_of, next_event}
 use Rattle.share_bill.specs.Makings.{BillView, IsBookLink, TakesLine}
 use Rattle.share_bill.specs.Runs.{IsBillOf}
 use Rattle.share_bill.specs.Sums.{sums_at}
-use Rattle.share_bill.specs.Texts.{fed, text_of, next_number, cut_of, BeginsAsBook, IsBook, IsWrongText}
+use Rattle.share_bill.specs.Texts.{fed, text_of, next_number, cut_of, BeginsAsBook, IsBook, IsRunText, IsWrongText}
 use Rattle.share_bill.specs.Texts.{IsFirstWrong, IsNoFirst, other_first, first_long, no_first}
 use Rattle.share_bill.specs.Texts.{IsLongNext, IsAhead, IsAt, HasReadAt, EndsAfter, InputFails}
 use Rattle.share_bill.specs.Texts.{PassesLine, TakesLines, TakesAll, IsFirstFault, IsTextFault}
-use Rattle.share_bill.specs.Texts.{read_failed}
+use Rattle.share_bill.specs.Texts.{read_failed, Bills}
 use Rattle.share_bill.proofs.RunLemmas.{bill-more, rows-are}
 
 -- ---- Bytes without a line feed
@@ -513,38 +515,66 @@ module _ {R : Type 0} (left : R → Option (List ℕ)) (gives : R → List ℕ �
     at = at;
   }
 
-  book_text : (start : Option (List ℕ)) (bill : BillView W) (c : Connection R) (number : ℕ)
-      (rows : List TenantBill) (cut : Option ℕ) (was : TakesAll left gives first rates bill c number)
-      → rows ≡ rows_of rates was.events → cut ≡ cut_of number c.ahead
+  run_text_of : (start : Option (List ℕ)) (bill : BillView W) (c : Connection R) (number : ℕ) (cut : Option ℕ)
+      (was : TakesAll left gives first rates bill c number) → cut ≡ cut_of number c.ahead
       → IfSome start (λ bytes. (rest : List ℕ) × (bytes ≡ text_of bill.kind was.lines ++ rest) × NoFeed rest
       × (nat_lt 0 (length c.ahead) ≡ nat_lt 0 (length rest)))
-      → IfSome start (λ bytes. IsBook rates bytes bill.kind rows cut)
-  book_text None bill c number rows cut was rows_are cut_is ends = tt
-  book_text (Some bytes) bill c number rows cut was rows_are cut_is ends = record {
-    book = record {
-      lines = was.lines;
-      events = was.events;
-      rest = ends.0;
-      text = ends.1;
-      clean = was.clean;
-      are = was.bill_is.are;
-      may = was.bill_is.may;
-    };
-    clean = ends.2;
-    rows_are = rows_are;
+      → IfSome start (λ bytes. IsRunText rates bytes bill cut)
+  run_text_of None bill c number cut was cut_is ends = tt
+  run_text_of (Some bytes) bill c number cut was cut_is ends = record {
+    lines = was.lines;
+    events = was.events;
+    rest = ends.0;
+    bill_is = was.bill_is;
+    text = ends.1;
+    clean = was.clean;
+    clean_rest = ends.2;
     cut_is = cut_is
         ∙ (ap (λ n. cut_of n c.ahead) was.number_is
         ∙ ap (λ (b : Bool). if b then Some (next_number was.lines) else None) ends.3);
   }
 
-  pub book-billed : (bill : BillView W) (c : Connection R) (number : ℕ) (rows : List TenantBill) (cut : Option ℕ)
-      (was : TakesAll left gives first rates bill c number)
-      → rows ≡ map (λ (t : TenantFlow). row_with t (sums_at bill.sent t.flow)) bill.tenants
-      → cut ≡ cut_of number c.ahead
-      → IfSome (left first) (λ bytes. IsBook rates bytes bill.kind rows cut)
-  book-billed bill c number rows cut was rows_are cut_is =
-      book_text (left first) bill c number rows cut was
-      (rows_are ∙ rows-are rates was.lines was.events bill was.bill_is) cut_is was.ends
+  pub text-run : (bill : BillView W) (c : Connection R) (number : ℕ) (cut : Option ℕ)
+      → TakesAll left gives first rates bill c number → cut ≡ cut_of number c.ahead
+      → IfSome (left first) (λ bytes. IsRunText rates bytes bill cut)
+  text-run bill c number cut was cut_is = run_text_of (left first) bill c number cut was cut_is was.ends
+
+-- the bill of a run's text
+pub book-billed : {W : Type 0} (rates : List Rate) (bytes : List ℕ) (bill : BillView W) (rows : List TenantBill)
+    (cut : Option ℕ) → IsRunText rates bytes bill cut
+    → rows ≡ map (λ (t : TenantFlow). row_with t (sums_at bill.sent t.flow)) bill.tenants
+    → IsBook rates bytes bill.kind rows cut
+book-billed rates bytes bill rows cut run rows_are = record {
+  book = record {
+    lines = run.lines;
+    events = run.events;
+    rest = run.rest;
+    text = run.text;
+    clean = run.clean;
+    are = run.bill_is.are;
+    may = run.bill_is.may;
+  };
+  clean = run.clean_rest;
+  rows_are = rows_are ∙ rows-are rates run.lines run.events bill run.bill_is;
+  cut_is = run.cut_is;
+}
+
+pub if_book : (start : Option (List ℕ)) (P Q : List ℕ → Type 0) → ((bytes : List ℕ) → P bytes → Q bytes)
+    → IfSome start P → IfSome start Q
+if_book None P Q leads p = tt
+if_book (Some bytes) P Q leads p = leads bytes p
+
+-- the bill of a run's text, or memory that was refused
+pub bills-of-run : {R W : Type 0} (left : R → Option (List ℕ)) (gives : R → List ℕ → Got → R → Type 0) (first : R)
+    (rates : List Rate) (bill : BillView W) (cut : Option ℕ) (r : Result BookBill NotBilled)
+    → IfSome (left first) (λ bytes. IsRunText rates bytes bill cut)
+    → IfOk r (λ b. (rs : List Rate) (bytes : List ℕ) → IsRunText rs bytes bill cut
+    → IsBook rs bytes b.kind b.rows.items b.cut)
+    → IfErr r (λ fault. fault ≡ NoMemory) → Bills left gives first rates r
+bills-of-run left gives first rates bill cut (Ok b) run book lacks =
+    if_book (left first) _ _ (λ bytes one. book rates bytes one) run
+bills-of-run left gives first rates bill cut (Err fault) run book lacks =
+    subst (IsTextFault left gives first rates) (sym lacks) tt
 
 -- ---- Faults
 

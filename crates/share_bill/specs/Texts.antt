@@ -64,6 +64,17 @@ pub record IsBook (rates : List Rate) (bytes : List ℕ) (kind : Kind) (rows : L
   pub rows_are : rows ≡ rows_of rates book.events
   pub cut_is : cut ≡ cut_of (next_number book.lines) book.rest
 
+-- it is a book, whose rest has no line feed and is left out; the bill is that of its run
+pub record IsRunText {W : Type 0} (rates : List Rate) (bytes : List ℕ) (bill : BillView W) (cut : Option ℕ) : Type 0 where
+  pub lines : List (List ℕ)
+  pub events : List Event
+  pub rest : List ℕ
+  pub bill_is : IsBillOf rates lines events bill
+  pub text : bytes ≡ text_of bill.kind lines ++ rest
+  pub clean : Each NoFeed lines
+  pub clean_rest : NoFeed rest
+  pub cut_is : cut ≡ cut_of (next_number lines) rest
+
 -- Wrong lines
 
 -- a line of more than 20480 bytes comes, with its line feed

@@ -10,8 +10,9 @@ mod sums;
 mod text;
 mod total;
 
+pub use discard::Discard;
 pub use kind::Kind;
 pub use line::{LineFault, Wrong};
 pub use running::{Bill, TenantBill};
-pub use text::{BookBill, NotBilled, bill_text};
+pub use text::{BookBill, NotBilled, TextRun, bill_text, run_text};
 pub use total::{Figures, TenantTotal, add_rows};

@@ -1,3 +1,4 @@
+pub mod DigestLemmas
 pub mod BilledLemmas
 pub mod NameLemmas
 pub mod NumberLemmas

@@ -3,8 +3,13 @@ ghost use Rattle.std.specs.Prelude.{◌≡◌, ◌≤◌, ◌↔◌, ◌∷◌, 
 ghost use Rattle.std.specs.List.{list_all};
 ghost use Rattle.share_catalog.specs.Reads.{Reads};
 ghost use Rattle.share_catalog.specs.Texts.{is_hex_digit, is_digest, digest_text, IsDigest};
+ghost use Rattle.hex.specs.Hex.{encode_lower};
 
+use hex::encode_to_slice;
 use std::marker::Model;
+
+/// How many bytes a digest has.
+const BYTES: usize = 32;
 
 /// How many digits a digest has.
 const DIGITS: usize = 64;
@@ -41,6 +46,15 @@ impl Digest {
         Some(Digest { digits })
     }
 
+    /// The digest with these bytes, each as two digits, the high one first.
+    pub fn of_bytes(bytes: [u8; BYTES]) -> Digest
+        ensures { result ≡ encode_lower bytes }
+    {
+        Digest {
+            digits: digits_of(bytes.as_slice()),
+        }
+    }
+
     /// Its digits.
     pub fn as_bytes(&self) -> &[u8]
         ensures bytes { result.now ≡ self.now }
@@ -61,4 +75,17 @@ fn is_hex_digit(byte: u8) -> bool
     ensures { result ≡ is_hex_digit byte }
 {
     (b'0' <= byte && byte <= b'9') || (b'a' <= byte && byte <= b'f')
+}
+
+// The digits of 32 bytes.
+fn digits_of(bytes: &[u8]) -> [u8; DIGITS]
+    requires { length bytes.now ≡ BYTES }
+    ensures digits { result ≡ encode_lower bytes.now }
+    ensures digest { IsDigest (encode_lower bytes.now) }
+{
+    let mut digits = [b'0'; DIGITS];
+    if encode_to_slice(bytes, digits.as_mut_slice()).is_err() {
+        unreachable!();
+    }
+    digits
 }

@@ -5,7 +5,7 @@ use share_model::{Answer, TellingWriter};
 
 /// A writer that accepts each piece whole and keeps none of it.
 #[derive(Clone, Copy, Debug, Drop)]
-pub(crate) struct Discard;
+pub struct Discard;
 
 impl TellingWriter for Discard {
     ghost use Rattle.std.specs.Prelude.{◌≡◌, None, length};

@@ -102,6 +102,14 @@ impl<S: Rates> Bill<S> {
         }
     }
 
+    /// The engine of the run.
+    pub fn engine(&self) -> &Engine<Discard, S>
+        ensures link { result.now ≡ self.now.link }
+        ensures book { IsBookLink self.now.link }
+    {
+        &self.engine
+    }
+
     /// The kind of the book.
     pub fn kind(&self) -> Kind
         ensures { result ≡ self.now.kind }

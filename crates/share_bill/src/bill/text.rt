@@ -1,8 +1,10 @@
 //! The bill of a whole text.
-ghost use Rattle.std.specs.Prelude.{◌≡◌, ◌+◌, [], ℕ, List, MatchBool, MatchOption, MatchResult};
+ghost use Rattle.std.specs.Prelude.{◌≡◌, ◌+◌, [], ℕ, List, MatchBool, MatchOption, MatchResult, IfSome};
+ghost use Rattle.std.specs.Prelude.{IfOk, IfErr};
 ghost use Rattle.share_model.specs.declared.rates.Rate.{Rate};
 ghost use Rattle.share_bill.specs.Texts.{text_of, cut_of, HasReadAt, IsAt, PassesLine, IsFirstFault, IsTextFault};
-ghost use Rattle.share_bill.specs.Texts.{TakesLines, TakesAll, Bills};
+ghost use Rattle.share_bill.specs.Texts.{TakesLines, TakesAll, Bills, IsBook, IsRunText};
+ghost use Rattle.share_bill.specs.declared.bill.text.NotBilled.TheVariants.{NoMemory};
 
 use super::kind::kind_of;
 use super::{Bill, Kind, LineFault, TenantBill, Wrong};
@@ -22,6 +24,14 @@ pub struct BookBill {
     pub kind: Kind,
     /// What each tenant sent, in the order in which their flows were opened.
     pub rows: Vec<TenantBill>,
+    /// The number of the last line, counted from 1, if it has no line feed: it is left out.
+    pub cut: Option<u64>,
+}
+
+/// The run of a book's text.
+#[derive(Drop)]
+pub struct TextRun<S: Rates> {
+    pub bill: Bill<S>,
     /// The number of the last line, counted from 1, if it has no line feed: it is left out.
     pub cut: Option<u64>,
 }
@@ -174,41 +184,62 @@ fn cut_line<I: TellingReader + Drop>(lines: &IncomingLines<I>, next: u64) -> Opt
     if lines.has_more() { Some(next) } else { None }
 }
 
-// The bill of a book whose lines are taken by a run, which stays its caller's.
-fn bill_by<S: Rates, I: TellingReader + Drop>(
-    alloc: Global,
-    bill: &mut Bill<S>,
-    lines: &mut IncomingLines<I>,
-) -> Result<BookBill, NotBilled>
-    ensures { (first : I) (rates : List Rate) → TakesLines I.left I.gives first rates bill.old lines.old 2
-        → Bills I.left I.gives first rates result }
-{
-    let next = take_lines(alloc, bill, lines)?;
-    let rows = bill.rows(alloc)?;
-    let cut = cut_line(lines, next);
-    Ok(BookBill {
-        kind: bill.kind(),
-        rows,
-        cut,
-    })
-}
-
-// The bill of a book whose lines stay the caller's.
-fn bill_lines<S: Rates + Drop, I: TellingReader + Drop>(
+// The run of a book whose lines stay the caller's.
+fn run_lines<S: Rates + Drop, I: TellingReader + Drop>(
     alloc: Global,
     shelf: S,
     lines: &mut IncomingLines<I>,
-) -> Result<BookBill, NotBilled>
-    ensures { (first : I) → IsAt I.left I.gives first [] lines.old
-        → Bills I.left I.gives first (S.rates shelf) result }
+) -> Result<TextRun<S>, NotBilled>
+    ensures { (first : I) → IsAt I.left I.gives first [] lines.old → MatchResult result
+        (λ run. IfSome (I.left first) (λ bytes. IsRunText (S.rates shelf) bytes run.bill run.cut))
+        (λ fault. IsTextFault I.left I.gives first (S.rates shelf) fault) }
 {
     let kind = first_line(lines)?;
     let Ok(mut bill) = Bill::new(alloc, kind, shelf) else {
         return Err(NotBilled::NoMemory);
     };
-    let billed = bill_by(alloc, &mut bill, lines);
-    drop(bill);
-    billed
+    match take_lines(alloc, &mut bill, lines) {
+        Ok(next) => {
+            let cut = cut_line(lines, next);
+            Ok(TextRun { bill, cut })
+        }
+        Err(fault) => {
+            drop(bill);
+            Err(fault)
+        }
+    }
+}
+
+/// Runs the text of a book, line by line, on a new engine. The lines of the text are those of a run of the engine, and
+/// bytes after the last line feed are left out. Otherwise the first line that is no such line is named, with what is
+/// wrong with it.
+pub fn run_text<S: Rates + Drop, I: TellingReader + Drop>(
+    alloc: Global,
+    shelf: S,
+    text: I,
+) -> Result<TextRun<S>, NotBilled>
+    ensures { MatchResult result
+        (λ run. IfSome (I.left text) (λ bytes. IsRunText (S.rates shelf) bytes run.bill run.cut))
+        (λ fault. IsTextFault I.left I.gives text (S.rates shelf) fault) }
+{
+    let mut lines = IncomingLines::new(alloc, text)?;
+    let run = run_lines(alloc, shelf, &mut lines);
+    drop(lines);
+    run
+}
+
+// The bill of a run.
+fn bill_of<S: Rates>(alloc: Global, run: &TextRun<S>) -> Result<BookBill, NotBilled>
+    ensures book { IfOk result (λ bill. (rates : List Rate) (bytes : List ℕ)
+        → IsRunText rates bytes run.now.bill run.now.cut → IsBook rates bytes bill.kind bill.rows.items bill.cut) }
+    ensures lacks { IfErr result (λ fault. fault ≡ NoMemory) }
+{
+    let rows = run.bill.rows(alloc)?;
+    Ok(BookBill {
+        kind: run.bill.kind(),
+        rows,
+        cut: run.cut,
+    })
 }
 
 /// The bill of a book, by its text, read line by line. The lines of the text are those of a run of the engine, the rows
@@ -221,8 +252,8 @@ pub fn bill_text<S: Rates + Drop, I: TellingReader + Drop>(
 ) -> Result<BookBill, NotBilled>
     ensures { Bills I.left I.gives text (S.rates shelf) result }
 {
-    let mut lines = IncomingLines::new(alloc, text)?;
-    let billed = bill_lines(alloc, shelf, &mut lines);
-    drop(lines);
+    let run = run_text(alloc, shelf, text)?;
+    let billed = bill_of(alloc, &run);
+    drop(run);
     billed
 }

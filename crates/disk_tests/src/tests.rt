@@ -1,0 +1,5 @@
+//! Tests of share_disk.
+
+mod books;
+mod folders;
+mod recoveries;

@@ -1,0 +1,3 @@
+pub mod OpenText
+pub mod Paths
+pub mod Texts

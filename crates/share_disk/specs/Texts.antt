@@ -1,0 +1,67 @@
+-- What the files of a book say of its text.
+use Rattle.std.specs.Prelude.{Bool, true, false, ◌&&◌, Option, None, Some}
+use Rattle.share_archive.specs.declared.plan.BookState.{BookState}
+use Rattle.share_archive.specs.declared.plan.BookText.{BookText}
+use Rattle.share_archive.specs.declared.plan.BookText.TheVariants.{Absent, Headless, Open, Closed, Bad}
+use Rattle.share_archive.specs.declared.plan.RowState.{RowState}
+use Rattle.share_archive.specs.declared.plan.RowState.TheVariants.{Missing, Cut, Whole}
+use Rattle.share_catalog.specs.declared.kinds.TextKind.{TextKind}
+use Rattle.share_catalog.specs.declared.kinds.TextKind.TheVariants.{Whole as WholeText, Lengths as LengthsText}
+use Rattle.share_catalog.specs.declared.kinds.Closing.{Closing}
+use Rattle.share_catalog.specs.declared.kinds.Closing.TheVariants.{Spent, Period, Reload, Rotate, End, Cut as CutBook, Bad as BadBook}
+use Rattle.share_catalog.specs.declared.names.FileKind.{FileKind}
+use Rattle.share_catalog.specs.declared.names.FileKind.TheVariants.{Open as OpenFile, Audit, Lengths, Bad as BadFile, Report, Part, Tariffs}
+use Rattle.share_disk.specs.declared.book_files.TextRead.{TextRead}
+use Rattle.share_disk.specs.declared.book_files.TextRead.TheVariants.{Headless as ReadHeadless, NoRun, Run}
+
+abbrev pub is_run : TextRead → Bool
+is_run ReadHeadless = false
+is_run NoRun = false
+is_run Run = true
+
+abbrev pub open_text : TextRead → BookText
+open_text ReadHeadless = Headless
+open_text NoRun = Open false
+open_text Run = Open true
+
+-- the text of a book whose text has a file of this kind
+abbrev pub text_state : Option FileKind → TextRead → BookText
+text_state None read = Absent
+text_state (Some OpenFile) read = open_text read
+text_state (Some Audit) read = Closed (is_run read)
+text_state (Some Lengths) read = Closed (is_run read)
+text_state (Some BadFile) read = Bad
+text_state (Some Report) read = Absent
+text_state (Some Part) read = Absent
+text_state (Some Tariffs) read = Absent
+
+-- the kind of the file of a closed book's text
+abbrev pub closed_kind : TextKind → FileKind
+closed_kind WholeText = Audit
+closed_kind LengthsText = Lengths
+
+-- what is known of the text of a book that was closed for this reason
+abbrev pub read_of : Closing → TextRead
+read_of Spent = Run
+read_of Period = Run
+read_of Reload = Run
+read_of Rotate = Run
+read_of End = Run
+read_of CutBook = Run
+read_of BadBook = NoRun
+
+abbrev pub has_row : RowState → Bool
+has_row Missing = false
+has_row Cut = false
+has_row Whole = true
+
+-- a book has all that is written of its text
+abbrev pub is_complete : BookState → Bool
+is_complete s = by_text s.text
+  where
+    by_text : BookText → Bool
+    by_text Absent = true
+    by_text Headless = false
+    by_text (Open r) = false
+    by_text (Closed r) = has_row s.row && s.report
+    by_text Bad = has_row s.row

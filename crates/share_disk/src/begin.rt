@@ -1,0 +1,47 @@
+//! How a book begins.
+ghost use Rattle.std.specs.Prelude.{◌≡◌, [], IfOk};
+ghost use Rattle.share_disk.specs.OpenText.{HasText};
+
+use crate::files::{make_new, write_new};
+use crate::folder::Folder;
+use crate::open_text::OpenText;
+use share_catalog::{FileKind, Tariffs, tariffs_line};
+use std::alloc::Global;
+use std::fs::{File, Files};
+use std::{fs, io};
+
+impl Folder {
+    /// Begins a book: its tariffs are durable before its open text is made. If that fails, what it made is removed, and
+    /// it may be called again.
+    pub fn begin<R: Files<File = File>>(
+        &self,
+        rt: &R,
+        alloc: Global,
+        number: u64,
+        tariffs: &Tariffs,
+    ) -> io::Result<OpenText>
+        ensures number { IfOk result (λ text. text.number ≡ number) }
+        ensures bytes { IfOk result (λ text. HasText text []) }
+    {
+        let tariffs_path = self.path_of(alloc, number, FileKind::Tariffs)?;
+        let text_path = self.path_of(alloc, number, FileKind::Open)?;
+        let line = tariffs_line(tariffs);
+        write_new(rt, tariffs_path.as_str(), line.as_bytes())?;
+        match self.begin_text(rt, text_path.as_str()) {
+            Ok(file) => Ok(OpenText::over(file, number)),
+            Err(fault) => {
+                let _ = fs::remove_file(rt, text_path.as_str());
+                let _ = fs::remove_file(rt, tariffs_path.as_str());
+                Err(fault)
+            }
+        }
+    }
+
+    // Makes the file of an open text, and makes its name durable.
+    fn begin_text<R: Files<File = File>>(&self, rt: &R, path: &str) -> io::Result<File> {
+        self.sync()?;
+        let file = make_new(rt, path)?;
+        self.sync()?;
+        Ok(file)
+    }
+}

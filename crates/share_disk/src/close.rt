@@ -1,0 +1,60 @@
+//! How a book is closed.
+ghost use Rattle.std.specs.Prelude.{◌≡◌};
+ghost use Rattle.share_disk.specs.Texts.{read_of};
+
+use crate::book_end::BookEnd;
+use crate::book_files::{OneBook, TextRead};
+use crate::folder::Folder;
+use crate::open_text::OpenText;
+use share_archive::{Unsettled, settle};
+use share_catalog::Closing;
+use std::alloc::Global;
+use std::fs::{File, Files};
+use std::io;
+use std::io::ErrorKind;
+
+impl Folder {
+    /// Closes a book: its text is made durable and takes the name of a closed book, its report and its row are written,
+    /// and the file of its tariffs is removed, each durable before the next. If that fails, it may be called again, and
+    /// goes on where it failed.
+    pub fn close<R: Files<File = File>>(
+        &self,
+        rt: &R,
+        alloc: Global,
+        text: &OpenText,
+        end: &BookEnd,
+    ) -> io::Result<()> {
+        text.sync()?;
+        let mut files = OneBook {
+            rt,
+            alloc,
+            folder: self,
+            number: text.number(),
+            read: read_of(end.row.why),
+            end: Some(end),
+        };
+        settle_files(&mut files)
+    }
+}
+
+/// Makes the steps that a book needs.
+pub(crate) fn settle_files<R: Files<File = File>>(
+    files: &mut OneBook<'_, '_, '_, R>,
+) -> io::Result<()> {
+    match settle(files) {
+        Ok(()) => Ok(()),
+        Err(Unsettled::Failed(fault)) => Err(fault),
+        Err(Unsettled::Changed) => Err(io::Error::from(ErrorKind::ResourceBusy)),
+    }
+}
+
+/// What is known of the text of a book that was closed for this reason.
+pub(crate) fn read_of(why: Closing) -> TextRead
+    ensures { result ≡ read_of why }
+{
+    if why == Closing::Bad {
+        TextRead::NoRun
+    } else {
+        TextRead::Run
+    }
+}

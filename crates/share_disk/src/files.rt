@@ -1,0 +1,54 @@
+//! Calls on files of the folder.
+
+use std::alloc::Global;
+use std::fs::{File, Files, OpenOptions};
+use std::io::{ErrorKind, Read, Write};
+use std::{fs, io};
+
+/// Whether something has this path.
+pub(crate) fn is_there<R: Files>(rt: &R, path: &str) -> io::Result<bool> {
+    match fs::symlink_metadata(rt, path) {
+        Ok(_) => Ok(true),
+        Err(fault) if fault.kind() == ErrorKind::NotFound => Ok(false),
+        Err(fault) => Err(fault),
+    }
+}
+
+/// Makes a new file. It is an error if something has its path already.
+pub(crate) fn make_new<R: Files<File = File>>(rt: &R, path: &str) -> io::Result<File> {
+    OpenOptions::new()
+        .write(true)
+        .create_new(true)
+        .open(rt, path)
+}
+
+/// Makes a new file with these bytes, and makes the bytes durable.
+pub(crate) fn write_new<R: Files<File = File>>(rt: &R, path: &str, bytes: &[u8]) -> io::Result<()> {
+    let mut file = make_new(rt, path)?;
+    file.write_all(bytes)?;
+    file.sync_all()
+}
+
+/// Renames a file. It is an error if something has the new path already: the lock of the folder keeps others away.
+pub(crate) fn rename_new<R: Files>(rt: &R, from: &str, to: &str) -> io::Result<()> {
+    if is_there(rt, to)? {
+        return Err(io::Error::from(ErrorKind::AlreadyExists));
+    }
+    fs::rename(rt, from, to)
+}
+
+/// The bytes of a file. `None` if there is no file.
+pub(crate) fn read_if_there<R: Files<File = File>>(
+    rt: &R,
+    alloc: Global,
+    path: &str,
+) -> io::Result<Option<Vec<u8>>> {
+    let mut file = match fs::open(rt, path) {
+        Ok(file) => file,
+        Err(fault) if fault.kind() == ErrorKind::NotFound => return Ok(None),
+        Err(fault) => return Err(fault),
+    };
+    let mut bytes = Vec::new(alloc);
+    file.read_to_end(&mut bytes)?;
+    Ok(Some(bytes))
+}

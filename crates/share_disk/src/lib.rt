@@ -1,0 +1,25 @@
+//! A folder of books on disk. share_catalog says which names and bytes its files have, and share_archive in which order a
+//! book is closed and recovered. This crate makes the calls.
+#![tactic(auto)]
+
+mod begin;
+mod book_end;
+mod book_files;
+mod books_csv;
+mod close;
+mod examine;
+mod files;
+mod folder;
+mod measure;
+mod open_text;
+mod recover;
+mod time;
+mod totals;
+
+pub use book_end::BookEnd;
+pub use examine::NoRun;
+pub use folder::{Folder, NotOpened};
+pub use open_text::OpenText;
+pub use recover::{NotRecovered, Recovered, RecoveredBook, Recovery};
+pub use time::time_of;
+pub use totals::book_totals;

@@ -77,18 +77,18 @@ impl ControlConnection {
             || self.has_ended && self.front == Front::Nothing && self.replies.ready().is_empty()
     }
 
-    /// The line at the front. It stays there until it is passed. What came is read as far as that takes.
+    /// The line at the front. It stays there until it is passed. Nothing is read if a line is there, or too many bytes of
+    /// replies wait.
     pub fn front(&mut self) -> Front {
-        if self.front != Front::Nothing || self.replies.is_full() {
-            return self.front;
+        if self.replies.is_full() {
+            return Front::Nothing;
         }
         for _ in 0..CALLS {
-            self.front = self.next();
-            if self.front != Front::Nothing || !self.read() {
+            if self.front != Front::Nothing || !self.advance() {
                 return self.front;
             }
         }
-        Front::Nothing
+        self.front
     }
 
     /// The line at the front.
@@ -96,31 +96,37 @@ impl ControlConnection {
         self.lines.line()
     }
 
-    // Takes the next line that came.
-    fn next(&mut self) -> Front {
-        match self.lines.next() {
-            Incoming::Line => Front::Line,
-            Incoming::OverLong => Front::OverLong,
-            Incoming::Unfinished => Front::Nothing,
-        }
+    /// Whether more lines, or more of one, may be at hand, or replies may go out.
+    pub fn is_busy(&self) -> bool {
+        let reads = self.is_readable && !self.has_ended && !self.replies.is_full();
+        let sends = self.is_writable && !self.replies.ready().is_empty();
+        !self.is_broken && (sends || reads && self.front == Front::Nothing)
     }
 
-    // Reads once, if some may be there. Returns whether some came.
-    fn read(&mut self) -> bool {
-        if !self.is_readable || self.has_ended {
-            return false;
-        }
-        match self.lines.read() {
-            Got::Bytes(_) => true,
-            Got::Interrupted => {
-                self.is_readable = false;
-                false
-            }
-            Got::End | Got::Failed => {
-                self.has_ended = true;
-                false
+    // Takes the next line that came, or reads once if there is none. Returns false if nothing more is at hand.
+    fn advance(&mut self) -> bool {
+        match self.lines.next() {
+            Incoming::Line => self.front = Front::Line,
+            Incoming::OverLong => self.front = Front::OverLong,
+            Incoming::Unfinished => {
+                if !self.is_readable || self.has_ended {
+                    return false;
+                }
+                let got = self.lines.read();
+                return self.note_read(got);
             }
         }
+        true
+    }
+
+    // Notes what came of a read. Returns whether bytes came.
+    fn note_read(&mut self, got: Got) -> bool {
+        match got {
+            Got::Bytes(_) => return true,
+            Got::Interrupted => self.is_readable = false,
+            Got::End | Got::Failed => self.has_ended = true,
+        }
+        false
     }
 
     /// Passes the line at the front, with this reply. Without memory for the reply the connection is closed.

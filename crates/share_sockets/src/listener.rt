@@ -3,9 +3,10 @@
 use crate::stream::Stream;
 use mio::net::{TcpListener, UnixListener, UnixStream};
 use mio::{Interest, Registry, Token};
-use std::fs::{Files, Permissions, PermissionsExt};
+use std::fs::{Files, Permissions};
 use std::io::ErrorKind;
 use std::net::{Net, SocketAddr};
+use std::os::unix::fs::PermissionsExt;
 use std::{fs, io};
 
 /// A listener whose calls do not wait.

@@ -96,7 +96,7 @@ impl Door {
         if !self.is_ready {
             return Filled::Emptied;
         }
-        let mut idle = 0;
+        let mut idle: usize = 0;
         for _ in 0..PACKETS {
             if !has_room(book, self.tenant) {
                 return Filled::Full;
@@ -104,7 +104,7 @@ impl Door {
             if self.serve_next(alloc, book) {
                 idle = 0;
             } else {
-                idle += 1;
+                idle = idle.saturating_add(1);
             }
             if idle > self.senders.capacity() {
                 self.is_ready = false;

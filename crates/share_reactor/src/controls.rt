@@ -2,7 +2,7 @@
 
 use crate::sources::{Source, Sources};
 use mio::{Interest, Registry, Token};
-use share_lines::{ControlConnection, Front};
+use share_controls::{ControlConnection, Front};
 use share_sockets::{Listener, Stream};
 use slab::Slab;
 use std::alloc::Global;

@@ -41,8 +41,9 @@ impl Doorways {
 
     /// Adds the door of a tenant, whose flow comes after those of the others. Returns its index.
     pub fn add_door(&mut self, door: Door) -> Result<usize, AllocError> {
+        let index = self.doors.len();
         self.doors.push(door)?;
-        Ok(self.doors.len() - 1)
+        Ok(index)
     }
 
     /// Adds a port of the tenant with this door.

@@ -8,7 +8,7 @@ use crate::sources::{Source, Sources};
 use mio::event::Event;
 use mio::{Events, Poll, Token};
 use share_base::{Refusal, Reply};
-use share_lines::Front;
+use share_controls::Front;
 use share_orders::{Duty, Obeyed, book_text, fault_text, reply_text};
 use share_settings::Settings;
 use share_uplink::{Uplink, Work};

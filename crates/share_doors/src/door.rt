@@ -1,5 +1,6 @@
 //! The connections of one tenant, which are served in turn.
 ghost use Rattle.std.specs.Prelude.{◌≡◌, ◌+◌, ◌<◌, ◌≤◌};
+ghost use Rattle.share_doors.specs.Takes.{TakesOnly};
 
 use crate::sender::{Came, Sender};
 use share_base::{FlowNo, Name};
@@ -7,6 +8,7 @@ use share_book::Book;
 use share_model::Rates;
 use slab::Slab;
 use std::alloc::Global;
+use std::marker::Model;
 
 /// How many packets are taken in one call.
 const PACKETS: u32 = 256;
@@ -25,7 +27,7 @@ pub enum Filled {
     More,
 }
 
-/// The door of a tenant: its connections.
+/// The door of a tenant: its connections. A contract sees the tenant and its flow.
 #[derive(Drop)]
 pub struct Door {
     tenant: Name,
@@ -39,6 +41,14 @@ pub struct Door {
     has_over: bool,
 }
 
+impl Model for Door {
+    ghost use Rattle.share_doors.specs.Door.{DoorView};
+
+    ghost Value = { DoorView };
+
+    ghost view = { λ d. record { tenant = d.tenant; flow = d.flow } };
+}
+
 // Whether a packet of the tenant would be taken.
 fn has_room<S: Rates>(book: &Book<S>, tenant: Name) -> bool {
     !book.engine().spent() && !book.lacks_text() && book.room(tenant)
@@ -46,7 +56,9 @@ fn has_room<S: Rates>(book: &Book<S>, tenant: Name) -> bool {
 
 impl Door {
     /// The door of a tenant that has this flow, with no connections.
-    pub fn new(alloc: Global, tenant: Name, flow: FlowNo) -> Door {
+    pub fn new(alloc: Global, tenant: Name, flow: FlowNo) -> Door
+        ensures { result ≡ record { tenant = tenant; flow = flow } }
+    {
         Door {
             tenant,
             flow,
@@ -58,12 +70,16 @@ impl Door {
     }
 
     /// The tenant whose door it is.
-    pub fn tenant(&self) -> Name {
+    pub fn tenant(&self) -> Name
+        ensures { result ≡ self.now.tenant }
+    {
         self.tenant
     }
 
     /// The flow of the tenant.
-    pub fn flow(&self) -> FlowNo {
+    pub fn flow(&self) -> FlowNo
+        ensures { result ≡ self.now.flow }
+    {
         self.flow
     }
 
@@ -73,7 +89,9 @@ impl Door {
     }
 
     /// Adds a connection, and returns its key, or `None` without memory for it, and then it is closed.
-    pub fn add(&mut self, sender: Sender) -> Option<usize> {
+    pub fn add(&mut self, sender: Sender) -> Option<usize>
+        ensures { self.new ≡ self.old }
+    {
         match self.senders.insert(sender) {
             Err(_) => None,
             Ok(key) => {
@@ -84,7 +102,9 @@ impl Door {
     }
 
     /// The socket of a connection was reported ready.
-    pub fn note(&mut self, key: usize) {
+    pub fn note(&mut self, key: usize)
+        ensures { self.new ≡ self.old }
+    {
         if let Some(sender) = self.senders.get_mut(key) {
             sender.note();
             self.is_ready = true;
@@ -92,12 +112,16 @@ impl Door {
     }
 
     /// Takes packets, one of each connection in turn, as far as the book has room.
-    pub fn fill<S: Rates>(&mut self, alloc: Global, book: &mut Book<S>) -> Filled {
+    pub fn fill<S: Rates>(&mut self, alloc: Global, book: &mut Book<S>) -> Filled
+        ensures same { self.new ≡ self.old }
+        ensures book { TakesOnly self.old.tenant book.old.audited book.new.audited }
+        ensures plan { book.new.plan ≡ book.old.plan }
+    {
         if !self.is_ready {
             return Filled::Emptied;
         }
         let mut idle: usize = 0;
-        for _ in 0..PACKETS {
+        'packets: for _ in 0..PACKETS {
             if !has_room(book, self.tenant) {
                 return Filled::Full;
             }
@@ -115,7 +139,11 @@ impl Door {
     }
 
     // Asks the next connection for a packet. Returns false if it has none.
-    fn serve_next<S: Rates>(&mut self, alloc: Global, book: &mut Book<S>) -> bool {
+    fn serve_next<S: Rates>(&mut self, alloc: Global, book: &mut Book<S>) -> bool
+        ensures same { self.new ≡ self.old }
+        ensures book { TakesOnly self.old.tenant book.old.audited book.new.audited }
+        ensures plan { book.new.plan ≡ book.old.plan }
+    {
         let key = self.next;
         self.next = following(key, self.senders.capacity());
         let Some(sender) = self.senders.get_mut(key) else {
@@ -136,7 +164,9 @@ impl Door {
     }
 
     /// Closes a connection that is over, and returns its token. `None` if no connection is over.
-    pub fn close_over(&mut self) -> Option<usize> {
+    pub fn close_over(&mut self) -> Option<usize>
+        ensures { self.new ≡ self.old }
+    {
         if !self.has_over {
             return None;
         }

@@ -1,4 +1,6 @@
 //! One connection on which packets of a tenant come in.
+ghost use Rattle.std.specs.Prelude.{◌≡◌};
+ghost use Rattle.share_doors.specs.Takes.{GivesOne};
 
 use share_base::Name;
 use share_book::{Book, Taken};
@@ -77,8 +79,11 @@ impl Sender {
     }
 
     /// Puts its next packet into the book, which has room for it.
-    pub fn give<S: Rates>(&mut self, alloc: Global, tenant: Name, book: &mut Book<S>) -> Came {
-        for _ in 0..PIECES {
+    pub fn give<S: Rates>(&mut self, alloc: Global, tenant: Name, book: &mut Book<S>) -> Came
+        ensures book { GivesOne tenant book.old.audited result book.new.audited }
+        ensures plan { book.new.plan ≡ book.old.plan }
+    {
+        'pieces: for _ in 0..PIECES {
             match self.records.next() {
                 Cut::Item => return self.put(alloc, tenant, book),
                 Cut::Bad => return Came::Over,
@@ -94,7 +99,10 @@ impl Sender {
     }
 
     // Puts the packet that was cut last into the book.
-    fn put<S: Rates>(&mut self, alloc: Global, tenant: Name, book: &mut Book<S>) -> Came {
+    fn put<S: Rates>(&mut self, alloc: Global, tenant: Name, book: &mut Book<S>) -> Came
+        ensures book { GivesOne tenant book.old.audited result book.new.audited }
+        ensures plan { book.new.plan ≡ book.old.plan }
+    {
         match book.take(alloc, tenant, self.records.payload()) {
             Taken::Packet { .. } => Came::Packet,
             _ => Came::Over,

@@ -1,4 +1,5 @@
 //! What goes over the stream of an uplink.
+ghost use Rattle.share_uplink.specs.Passing.{WireTakes};
 
 use share_sockets::{Progress, Stream};
 use share_transit::Transit;
@@ -22,8 +23,10 @@ pub(crate) fn drain(stream: &Stream) -> Progress {
 }
 
 /// Gives the stream the bytes that may go on the wire. Returns `Again` if none is left, or more may go at once.
-pub(crate) fn send(stream: &Stream, transit: &mut Transit) -> Progress {
-    for _ in 0..CALLS {
+pub(crate) fn send(stream: &Stream, transit: &mut Transit) -> Progress
+    ensures { WireTakes transit.old transit.new }
+{
+    'calls: for _ in 0..CALLS {
         if transit.ready().is_empty() {
             return Progress::Again;
         }

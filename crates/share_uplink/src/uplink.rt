@@ -1,4 +1,5 @@
 //! The states of an uplink.
+ghost use Rattle.share_uplink.specs.Passing.{UplinkWorks};
 
 use crate::passing::{drain, send};
 use mio::{Interest, Registry, Token};
@@ -133,7 +134,9 @@ impl Uplink {
     }
 
     /// Does what its socket is ready for. On a new connection the outbox begins again.
-    pub fn work(&mut self, transit: &mut Transit, now: Instant) -> Work {
+    pub fn work(&mut self, transit: &mut Transit, now: Instant) -> Work
+        ensures { UplinkWorks transit.old result transit.new }
+    {
         match &self.state {
             State::Away(_) => Work::Rests,
             State::Dialling(..) => self.finish_dial(transit, now),
@@ -142,7 +145,9 @@ impl Uplink {
     }
 
     // Looks how a dial went, if that is known.
-    fn finish_dial(&mut self, transit: &mut Transit, now: Instant) -> Work {
+    fn finish_dial(&mut self, transit: &mut Transit, now: Instant) -> Work
+        ensures { UplinkWorks transit.old result transit.new }
+    {
         if !self.is_writable {
             return Work::Rests;
         }
@@ -160,7 +165,9 @@ impl Uplink {
     }
 
     // Throws away what came, and sends what may go.
-    fn pass(&mut self, transit: &mut Transit, now: Instant) -> Work {
+    fn pass(&mut self, transit: &mut Transit, now: Instant) -> Work
+        ensures { UplinkWorks transit.old result transit.new }
+    {
         let State::Up(stream, _) = &self.state else {
             return Work::Rests;
         };

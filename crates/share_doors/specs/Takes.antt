@@ -1,5 +1,5 @@
 -- What the connections of a tenant do to a book.
-use Rattle.std.specs.Prelude.{◌≡◌, ◌×◌, ℕ, List}
+use Rattle.std.specs.Prelude.{◌≡◌, ℕ, List}
 use Rattle.share_model.specs.funding.Graph.{NameBytes}
 use Rattle.share_book.specs.Audited.{Audited}
 use Rattle.share_book.specs.Book.{TakesPacket}

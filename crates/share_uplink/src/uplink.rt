@@ -171,16 +171,8 @@ impl Uplink {
         let State::Up(stream, _) = &self.state else {
             return Work::Rests;
         };
-        let reading = if self.is_readable {
-            drain(stream)
-        } else {
-            Progress::Waits
-        };
-        let writing = if self.is_writable {
-            send(stream, transit)
-        } else {
-            Progress::Waits
-        };
+        let reading = drain(stream, self.is_readable);
+        let writing = send(stream, self.is_writable, transit);
         self.is_readable = reading != Progress::Waits;
         self.is_writable = writing != Progress::Waits;
         if reading == Progress::Over || writing == Progress::Over {

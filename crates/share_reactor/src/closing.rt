@@ -24,7 +24,8 @@ fn waiting(closed: &Closed) -> u64 {
     let tenants = closed.plan().tenants();
     let mut packets: u64 = 0;
     for index in 0..tenants.len() {
-        let count = closed.waiting(FlowNo(tenants[index].flow));
+        let tenant = &tenants[index];
+        let count = closed.waiting(FlowNo(tenant.flow));
         packets = packets.saturating_add(u64::from(count));
     }
     packets

@@ -77,8 +77,8 @@ impl ControlConnection {
             || self.has_ended && self.front == Front::Nothing && self.replies.ready().is_empty()
     }
 
-    /// The line at the front. It stays there until it is passed. Nothing is read if a line is there, or too many bytes of
-    /// replies wait.
+    /// The line at the front. It stays there until it is passed. Nothing is read if a line is there, or too many bytes
+    /// of replies wait.
     pub fn front(&mut self) -> Front {
         if self.replies.is_full() {
             return Front::Nothing;

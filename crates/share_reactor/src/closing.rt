@@ -2,7 +2,8 @@
 
 use crate::books::{Books, LONGEST_FRAME, Life, Why, open_book};
 use share_base::FlowNo;
-use share_book::{Carried, Closed};
+use share_book::{Carried, Closed, NewBook};
+use share_tariff::PlainShelf;
 use std::fs::Files;
 use std::io::Write;
 use std::time::Instant;
@@ -29,6 +30,36 @@ fn waiting(closed: &Closed) -> u64 {
         packets = packets.saturating_add(u64::from(count));
     }
     packets
+}
+
+// Closes an open book, whose packets the next one is to take over.
+fn replaced(life: Life, next: NewBook<PlainShelf>) -> Life {
+    match life {
+        Life::Open(book) => Life::Carrying(next, book.close()),
+        other => {
+            drop(next);
+            other
+        }
+    }
+}
+
+// Carries packets over. Returns true if none is left to be carried.
+fn has_carried(life: &mut Life) -> bool {
+    match life {
+        Life::Carrying(book, closed) => book.carry(closed) != Carried::More,
+        _ => true,
+    }
+}
+
+// Begins the book that took packets over. Those that found no room are dropped.
+fn begun(life: Life) -> Life {
+    match life {
+        Life::Carrying(book, closed) => {
+            drop(closed);
+            Life::Open(book.begin())
+        }
+        other => other,
+    }
 }
 
 impl<F: Write + Drop> Books<F> {
@@ -82,32 +113,41 @@ impl<F: Write + Drop> Books<F> {
         }
     }
 
+    // A book over the plan of the open one, if one is open.
+    fn next_book(&self) -> io::Result<Option<NewBook<PlainShelf>>> {
+        match &self.life {
+            Life::Open(book) => {
+                let rates = self.rates.as_slice();
+                let next = open_book(self.alloc, rates, book.plan(), self.events)?;
+                Ok(Some(next))
+            }
+            _ => Ok(None),
+        }
+    }
+
     // Opens the next book over the plan of the open one, and closes that.
     fn replace_book<R: Files<File = F>>(&mut self, files: &R) -> io::Result<()> {
-        let Life::Open(book) = &self.life else {
+        let Some(next) = self.next_book()? else {
             return Ok(());
         };
-        let next = open_book(self.alloc, self.rates.as_slice(), book.plan(), self.events)?;
-        self.disk.next(files, self.alloc)?;
-        if let Life::Open(book) = mem::replace(&mut self.life, Life::Over) {
-            self.life = Life::Carrying(next, book.close());
+        let made = self.disk.next(files, self.alloc);
+        if made.is_err() {
+            drop(next);
+            return made;
         }
+        let life = mem::replace(&mut self.life, Life::Over);
+        self.life = replaced(life, next);
         self.closing = None;
         Ok(())
     }
 
     // Carries packets over. When all are, the book begins.
     fn carry(&mut self) -> bool {
-        let Life::Carrying(book, closed) = &mut self.life else {
-            return false;
-        };
-        if book.carry(closed) == Carried::More {
+        if !has_carried(&mut self.life) {
             return true;
         }
-        if let Life::Carrying(book, closed) = mem::replace(&mut self.life, Life::Over) {
-            drop(closed);
-            self.life = Life::Open(book.begin());
-        }
+        let life = mem::replace(&mut self.life, Life::Over);
+        self.life = begun(life);
         true
     }
 

@@ -13,10 +13,7 @@ pub enum Source {
     /// The listener of a port.
     Port(usize),
     /// A connection that came by a port, by its key among those of its tenant.
-    Sender {
-        port: usize,
-        key: usize,
-    },
+    Sender { port: usize, key: usize },
     /// A control connection, by its key.
     Control(usize),
 }

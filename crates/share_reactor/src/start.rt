@@ -5,7 +5,7 @@ use crate::controls::Controls;
 use crate::doorways::Doorways;
 use crate::reactor::Reactor;
 use crate::sources::{Source, Sources};
-use mio::{Poll, Registry};
+use mio::{Poll, Registry, Token};
 use share_base::FlowNo;
 use share_doors::Door;
 use share_settings::{Control, Listener as Place, Peer, Port, Settings, TenantPorts};
@@ -49,7 +49,7 @@ fn bind_port<R: Files + Net>(rt: &R, port: &Port, mode: u32) -> io::Result<Liste
 }
 
 // Adds a source and returns its token, or says that memory is out.
-fn token_of(sources: &mut Sources, source: Source) -> io::Result<mio::Token> {
+fn token_of(sources: &mut Sources, source: Source) -> io::Result<Token> {
     match sources.add(source) {
         Some(token) => Ok(token),
         None => Err(Error::from(ErrorKind::OutOfMemory)),
@@ -74,25 +74,67 @@ fn add_ports<R: Files + Net>(
     Ok(())
 }
 
-// Listens at the ports of all tenants.
-fn open_doorways<R: Files + Net>(
+// Adds the door of a tenant, and listens at its ports.
+fn open_door<R: Files + Net>(
+    rt: &R,
+    alloc: Global,
+    registry: &Registry,
+    sources: &mut Sources,
+    doorways: &mut Doorways,
+    settings: &Settings,
+    index: usize,
+) -> io::Result<()> {
+    let Some(tenant) = settings.plan.tenants().get(index) else {
+        return Ok(());
+    };
+    let Some(ports) = settings.ports.get(index) else {
+        return Ok(());
+    };
+    let door = doorways.add_door(Door::new(alloc, tenant.name, FlowNo(tenant.flow)))?;
+    add_ports(rt, registry, sources, doorways, door, ports)
+}
+
+// Adds the doors of all tenants, and listens at their ports.
+fn open_doors<R: Files + Net>(
+    rt: &R,
+    alloc: Global,
+    registry: &Registry,
+    sources: &mut Sources,
+    doorways: &mut Doorways,
+    settings: &Settings,
+) -> io::Result<()> {
+    for index in 0..settings.plan.tenants().len() {
+        open_door(rt, alloc, registry, sources, doorways, settings, index)?;
+    }
+    Ok(())
+}
+
+// Listens for control connections.
+fn open_controls<R: Files + Net>(
     rt: &R,
     alloc: Global,
     registry: &Registry,
     sources: &mut Sources,
     settings: &Settings,
-) -> io::Result<Doorways> {
-    let mut doorways = Doorways::new(alloc);
-    let tenants = settings.plan.tenants();
-    for index in 0..tenants.len() {
-        let tenant = &tenants[index];
-        let door = Door::new(alloc, tenant.name, FlowNo(tenant.flow));
-        let door = doorways.add_door(door)?;
-        if let Some(ports) = settings.ports.get(index) {
-            add_ports(rt, registry, sources, &mut doorways, door, ports)?;
-        }
+) -> io::Result<Controls> {
+    let token = token_of(sources, Source::ControlListener)?;
+    let mut listener = bind_control(rt, &settings.control)?;
+    listener.register(registry, token)?;
+    Ok(Controls::new(alloc, listener))
+}
+
+// The uplink, and the token of its socket.
+fn open_uplink(
+    settings: &Settings,
+    sources: &mut Sources,
+    now: Instant,
+) -> io::Result<(Uplink, Token)> {
+    if settings.downlink.is_some() {
+        return Err(unsupported());
     }
-    Ok(doorways)
+    let address = uplink_address(settings)?;
+    let token = token_of(sources, Source::Uplink)?;
+    Ok((Uplink::new(address, now), token))
 }
 
 impl<F: Write + Drop> Reactor<F> {
@@ -103,19 +145,14 @@ impl<F: Write + Drop> Reactor<F> {
         alloc: Global,
         settings: &Settings,
     ) -> io::Result<Reactor<F>> {
-        if settings.downlink.is_some() {
-            return Err(unsupported());
-        }
         let now = Instant::now(rt)?;
-        let uplink = Uplink::new(uplink_address(settings)?, now);
-        let poll = Poll::new(rt)?;
         let mut sources = Sources::new(alloc);
-        let uplink_token = token_of(&mut sources, Source::Uplink)?;
-        let token = token_of(&mut sources, Source::ControlListener)?;
-        let mut listener = bind_control(rt, &settings.control)?;
-        listener.register(poll.registry(), token)?;
-        let controls = Controls::new(alloc, listener);
-        let doorways = open_doorways(rt, alloc, poll.registry(), &mut sources, settings)?;
+        let mut doorways = Doorways::new(alloc);
+        let (uplink, uplink_token) = open_uplink(settings, &mut sources, now)?;
+        let poll = Poll::new(rt)?;
+        let registry = poll.registry();
+        open_doors(rt, alloc, registry, &mut sources, &mut doorways, settings)?;
+        let controls = open_controls(rt, alloc, registry, &mut sources, settings)?;
         let books = Books::open(rt, alloc, settings, now)?;
         Ok(Reactor {
             alloc,

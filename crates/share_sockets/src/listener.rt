@@ -22,7 +22,8 @@ impl Listener {
         Ok(Listener::Tcp(TcpListener::bind(net, address)?))
     }
 
-    /// Listens at the path of a Unix socket, whose file gets this mode. A file on which nobody listens is removed first.
+    /// Listens at the path of a Unix socket, whose file gets this mode. A file on which nobody listens is removed
+    /// first.
     pub fn bind_path<R: Files + Net>(rt: &R, path: &str, mode: u32) -> io::Result<Listener> {
         if is_abandoned(rt, path) {
             fs::remove_file(rt, path)?;

@@ -25,8 +25,8 @@ pub(crate) fn drain(stream: &Stream, is_readable: bool) -> Progress {
     Progress::Again
 }
 
-/// Gives the stream, if it may take some, the bytes that may go on the wire. Returns `Again` if none is left, or more may
-/// go at once.
+/// Gives the stream, if it may take some, the bytes that may go on the wire. Returns `Again` if none is left, or more
+/// may go at once.
 pub(crate) fn send(stream: &Stream, is_writable: bool, transit: &mut Transit) -> Progress
     ensures { WireTakes transit.old transit.new }
 {

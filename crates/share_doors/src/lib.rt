@@ -1,0 +1,8 @@
+//! The doors of tenants: the connections on which each tenant's packets come in.
+#![tactic(auto)]
+
+mod door;
+mod sender;
+
+pub use door::{Door, Filled, MAX_SENDERS};
+pub use sender::{Came, Sender};

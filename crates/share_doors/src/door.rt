@@ -199,5 +199,9 @@ fn following(key: usize, count: usize) -> usize
     ensures next { key + 1 < count → result ≡ key + 1 }
     ensures first { count ≤ key + 1 → result ≡ 0 }
 {
-    if count > 1 && key < count - 1 { key + 1 } else { 0 }
+    if count > 1 && key < count - 1 {
+        key + 1
+    } else {
+        0
+    }
 }

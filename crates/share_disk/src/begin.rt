@@ -30,18 +30,22 @@ impl Folder {
         match self.begin_text(rt, text_path.as_str()) {
             Ok(file) => Ok(OpenText::over(file, number)),
             Err(fault) => {
-                let _ = fs::remove_file(rt, text_path.as_str());
                 let _ = fs::remove_file(rt, tariffs_path.as_str());
                 Err(fault)
             }
         }
     }
 
-    // Makes the file of an open text, and makes its name durable.
+    // Makes the file of an open text, and makes its name durable. If that fails, the file that it made is removed.
     fn begin_text<R: Files<File = File>>(&self, rt: &R, path: &str) -> io::Result<File> {
         self.sync()?;
         let file = make_new(rt, path)?;
-        self.sync()?;
-        Ok(file)
+        match self.sync() {
+            Ok(()) => Ok(file),
+            Err(fault) => {
+                let _ = fs::remove_file(rt, path);
+                Err(fault)
+            }
+        }
     }
 }

@@ -22,9 +22,19 @@ pub(crate) fn make_new<R: Files<File = File>>(rt: &R, path: &str) -> io::Result<
         .open(rt, path)
 }
 
-/// Makes a new file with these bytes, and makes the bytes durable.
+/// Makes a new file with these bytes, and makes the bytes durable. If that fails, the file that it made is removed.
 pub(crate) fn write_new<R: Files<File = File>>(rt: &R, path: &str, bytes: &[u8]) -> io::Result<()> {
-    let mut file = make_new(rt, path)?;
+    let file = make_new(rt, path)?;
+    let written = write_durably(file, bytes);
+    if written.is_err() {
+        let _ = fs::remove_file(rt, path);
+    }
+    written
+}
+
+// Writes bytes to a file, and makes them durable.
+fn write_durably(file: File, bytes: &[u8]) -> io::Result<()> {
+    let mut file = file;
     file.write_all(bytes)?;
     file.sync_all()
 }

@@ -1,21 +1,23 @@
 //! The open book, with its text on the way to the disk and its frames on the way to the wire.
 
-use crate::disk::Disk;
+use crate::disk::{Disk, Place};
 use crate::doorways::Doorways;
 use share_base::{FlowNo, Refusal};
 use share_book::{Book, Closed, NewBook, TextKind, Turned};
+use share_catalog::Closing;
+use share_disk::Folder;
 use share_gateway::Plan;
 use share_model::Rate;
 use share_orders::{Obeyed, obey_line, report_text};
-use share_settings::Settings;
+use share_settings::{BookText, Settings};
 use share_tariff::PlainShelf;
 use share_timing::Allowance;
 use share_transit::Transit;
 use std::alloc::{AllocError, Global};
-use std::fs::Files;
+use std::fs::{File, Files};
 use std::io;
-use std::io::{Error, ErrorKind, Write};
-use std::time::{Duration, Instant};
+use std::io::{Error, ErrorKind};
+use std::time::{Clock, Duration, Instant};
 
 /// How many turns are made in a round.
 const TURNS: u32 = 64;
@@ -25,6 +27,9 @@ const PAGES: u32 = 16;
 
 /// After how many seconds the disk is tried again.
 const RETRY_SECONDS: u64 = 1;
+
+/// After how many seconds written text is made durable.
+const SYNC_SECONDS: u64 = 1;
 
 /// The longest frame.
 pub(crate) const LONGEST_FRAME: u32 = 9017;
@@ -37,15 +42,6 @@ pub(crate) enum Life {
     Carrying(NewBook<PlainShelf>, Closed),
     /// The last book was closed.
     Over,
-}
-
-/// Why the open book is being closed.
-#[derive(Clone, Copy, Debug, PartialEq, Eq)]
-pub(crate) enum Why {
-    /// Another one follows.
-    Next,
-    /// It is the last one.
-    Last,
 }
 
 /// What came of turns.
@@ -61,17 +57,20 @@ pub(crate) enum Made {
 
 /// The books of a gateway.
 #[derive(Drop)]
-pub(crate) struct Books<F> {
+pub(crate) struct Books {
     pub(crate) alloc: Global,
     pub(crate) rates: Vec<Rate>,
     pub(crate) events: u64,
+    pub(crate) kind: BookText,
     pub(crate) life: Life,
     pub(crate) transit: Transit,
-    pub(crate) disk: Disk<F>,
+    pub(crate) disk: Disk,
     // Why the open book is being closed, if it is.
-    pub(crate) closing: Option<Why>,
+    pub(crate) closing: Option<Closing>,
     // When the disk is tried again, if it failed.
     pub(crate) retry: Option<Instant>,
+    // When the text is made durable, if some of it is not.
+    pub(crate) sync_at: Option<Instant>,
     // The rate of the uplink, if it has one, and until when its time was counted.
     allowance: Option<Allowance>,
     counted: Instant,
@@ -95,11 +94,19 @@ pub(crate) fn open_book(
     rates: &[Rate],
     plan: &Plan,
     events: u64,
+    kind: BookText,
 ) -> io::Result<NewBook<PlainShelf>> {
     let shelf = shelf_of(alloc, rates)?;
-    match Book::open(alloc, plan, shelf, events, TextKind::Lengths) {
+    match Book::open(alloc, plan, shelf, events, text_kind(kind)) {
         Ok(book) => Ok(book),
         Err(_) => Err(Error::from(ErrorKind::InvalidInput)),
+    }
+}
+
+fn text_kind(kind: BookText) -> TextKind {
+    match kind {
+        BookText::Lengths => TextKind::Lengths,
+        BookText::Whole => TextKind::Whole,
     }
 }
 
@@ -118,28 +125,32 @@ fn transit(alloc: Global) -> io::Result<Transit> {
     }
 }
 
-impl<F: Write + Drop> Books<F> {
-    /// Opens the first book.
-    pub(crate) fn open<R: Files<File = F>>(
-        files: &R,
+impl Books {
+    /// Opens the first book, whose files have this place.
+    pub(crate) fn open<R: Files<File = File> + Clock>(
+        rt: &R,
         alloc: Global,
         settings: &Settings,
+        place: Place,
         now: Instant,
-    ) -> io::Result<Books<F>> {
+    ) -> io::Result<Books> {
         let events = settings.books.events;
+        let kind = settings.books.text;
         let rates = settings.tariffs.clone()?;
-        let book = open_book(alloc, rates.as_slice(), &settings.plan, events)?;
+        let book = open_book(alloc, rates.as_slice(), &settings.plan, events, kind)?;
         let transit = transit(alloc)?;
-        let disk = Disk::begin(files, alloc, settings.books.folder.as_str(), 1)?;
+        let disk = Disk::begin(rt, alloc, place, kind, rates.as_slice())?;
         Ok(Books {
             alloc,
             rates,
             events,
+            kind,
             life: Life::Open(book.begin()),
             transit,
             disk,
             closing: None,
             retry: None,
+            sync_at: None,
             allowance: allowance_of(settings),
             counted: now,
         })
@@ -232,11 +243,36 @@ impl<F: Write + Drop> Books<F> {
             }
         }
         self.transit.written(self.disk.written());
+        if self.sync_at.is_none() && self.disk.has_unsynced() {
+            self.sync_at = now.checked_add(Duration::from_secs(SYNC_SECONDS));
+        }
+    }
+
+    /// Makes the text durable if it is time to.
+    pub(crate) fn sync_text(&mut self, now: Instant) {
+        let Some(at) = self.sync_at else {
+            return;
+        };
+        if self.retry.is_some() || !at.saturating_duration_since(now).is_zero() {
+            return;
+        }
+        match self.disk.sync() {
+            Ok(()) => self.sync_at = None,
+            Err(_) => self.fail(now),
+        }
     }
 
     /// The disk has failed, and is tried again later.
     pub(crate) fn fail(&mut self, now: Instant) {
         self.retry = now.checked_add(Duration::from_secs(RETRY_SECONDS));
+    }
+
+    /// When the disk has something to do, if no text comes before.
+    pub(crate) fn due(&self) -> Option<Instant> {
+        match self.retry {
+            Some(at) => Some(at),
+            None => self.sync_at,
+        }
     }
 
     // Writes what is left of a page, or the next page. Returns false if the disk failed.

@@ -1,12 +1,12 @@
 //! How a book is closed, and the next one begins.
 
-use crate::books::{Books, LONGEST_FRAME, Life, Why, open_book};
+use crate::books::{Books, LONGEST_FRAME, Life, open_book};
 use share_base::FlowNo;
 use share_book::{Carried, Closed, NewBook};
+use share_catalog::Closing;
 use share_tariff::PlainShelf;
-use std::fs::Files;
-use std::io::Write;
-use std::time::Instant;
+use std::fs::{File, Files};
+use std::time::{Clock, Instant};
 use std::{io, mem};
 
 /// What was left when a gateway ended.
@@ -62,10 +62,10 @@ fn begun(life: Life) -> Life {
     }
 }
 
-impl<F: Write + Drop> Books<F> {
+impl Books {
     /// Begins to close the open book.
-    pub(crate) fn close(&mut self, why: Why) {
-        if self.closing != Some(Why::Last) {
+    pub(crate) fn close(&mut self, why: Closing) {
+        if self.closing != Some(Closing::End) {
             self.closing = Some(why);
         }
     }
@@ -74,37 +74,42 @@ impl<F: Write + Drop> Books<F> {
     pub(crate) fn close_spent(&mut self) {
         if let Life::Open(book) = &self.life {
             if book.engine().spent() && self.closing.is_none() {
-                self.closing = Some(Why::Next);
+                self.closing = Some(Closing::Spent);
             }
         }
     }
 
     /// Goes on with the close of a book, as far as its text is written. Returns true if more can be done at once.
-    pub(crate) fn go_on<R: Files<File = F>>(&mut self, files: &R, now: Instant) -> bool {
+    pub(crate) fn go_on<R: Files<File = File> + Clock>(&mut self, rt: &R, now: Instant) -> bool {
         if self.retry.is_some() {
             return false;
         }
         match &self.life {
-            Life::Open(_) => self.close_open(files, now),
+            Life::Open(_) => self.close_open(rt, now),
             Life::Carrying(..) => self.carry(),
             Life::Over => false,
         }
     }
 
     // Goes on with the close of the open book, if it is being closed.
-    fn close_open<R: Files<File = F>>(&mut self, files: &R, now: Instant) -> bool {
-        if self.closing.is_none() {
+    fn close_open<R: Files<File = File> + Clock>(&mut self, rt: &R, now: Instant) -> bool {
+        let Some(why) = self.closing else {
             return false;
-        }
+        };
         if self.has_text() || !self.disk.is_idle() {
             return true;
         }
-        self.closing == Some(Why::Next) && self.open_next(files, now)
+        why != Closing::End && self.open_next(rt, why, now)
     }
 
     // Opens the next book. After a fault it is tried again later. Returns whether it was opened.
-    fn open_next<R: Files<File = F>>(&mut self, files: &R, now: Instant) -> bool {
-        match self.replace_book(files) {
+    fn open_next<R: Files<File = File> + Clock>(
+        &mut self,
+        rt: &R,
+        why: Closing,
+        now: Instant,
+    ) -> bool {
+        match self.replace_book(rt, why) {
             Ok(()) => true,
             Err(_) => {
                 self.fail(now);
@@ -118,7 +123,7 @@ impl<F: Write + Drop> Books<F> {
         match &self.life {
             Life::Open(book) => {
                 let rates = self.rates.as_slice();
-                let next = open_book(self.alloc, rates, book.plan(), self.events)?;
+                let next = open_book(self.alloc, rates, book.plan(), self.events, self.kind)?;
                 Ok(Some(next))
             }
             _ => Ok(None),
@@ -126,11 +131,15 @@ impl<F: Write + Drop> Books<F> {
     }
 
     // Opens the next book over the plan of the open one, and closes that.
-    fn replace_book<R: Files<File = F>>(&mut self, files: &R) -> io::Result<()> {
+    fn replace_book<R: Files<File = File> + Clock>(
+        &mut self,
+        rt: &R,
+        why: Closing,
+    ) -> io::Result<()> {
         let Some(next) = self.next_book()? else {
             return Ok(());
         };
-        let made = self.disk.next(files, self.alloc);
+        let made = self.replace_files(rt, why);
         if made.is_err() {
             drop(next);
             return made;
@@ -139,6 +148,31 @@ impl<F: Write + Drop> Books<F> {
         self.life = replaced(life, next);
         self.closing = None;
         Ok(())
+    }
+
+    // Closes the files of the open book, and makes those of the next one.
+    fn replace_files<R: Files<File = File> + Clock>(
+        &mut self,
+        rt: &R,
+        why: Closing,
+    ) -> io::Result<()> {
+        self.close_files(rt, why)?;
+        self.disk.next(rt, self.alloc, self.rates.as_slice())
+    }
+
+    // Closes the files of the open book.
+    fn close_files<R: Files<File = File> + Clock>(
+        &mut self,
+        rt: &R,
+        why: Closing,
+    ) -> io::Result<()> {
+        match &self.life {
+            Life::Open(book) => {
+                let rates = self.rates.as_slice();
+                self.disk.close(rt, self.alloc, book, rates, why)
+            }
+            _ => Ok(()),
+        }
     }
 
     // Carries packets over. When all are, the book begins.
@@ -152,14 +186,14 @@ impl<F: Write + Drop> Books<F> {
     }
 
     /// Closes the last book if all its text is written, and returns what was left. `None` if that is to be tried again.
-    pub(crate) fn finish<R: Files<File = F>>(&mut self, files: &R, now: Instant) -> Option<Left> {
+    pub(crate) fn finish<R: Files<File = File> + Clock>(&mut self, rt: &R, now: Instant) -> Option<Left> {
         if self.retry.is_some() || self.has_text() || !self.disk.is_idle() {
             return None;
         }
         if !matches!(self.life, Life::Open(_)) {
             return None;
         }
-        if self.disk.close(files, self.alloc).is_err() {
+        if self.close_files(rt, Closing::End).is_err() {
             self.fail(now);
             return None;
         }

@@ -1,89 +1,129 @@
-//! The file of the open book. It is written in the thread of the reactor.
+//! The open book on disk. It is written in the thread of the reactor.
 
+use share_book::Book;
+use share_catalog::{BookTariff, Closing, Row, Tariffs, TextKind, Time};
+use share_disk::{BookEnd, Folder, OpenText, book_totals, time_of};
+use share_model::Rate;
+use share_orders::report_text;
+use share_settings::BookText;
+use share_tariff::PlainShelf;
 use share_transit::Page;
 use std::alloc::Global;
 use std::fs::{File, Files};
-use std::io::{Error, ErrorKind, Write};
-use std::{fs, io};
+use std::io;
+use std::io::{Error, ErrorKind};
+use std::time::{Clock, SystemTime};
 
 /// How many write calls are made for one page at most.
 const CALLS: u32 = 1024;
 
-/// How a file of a book is called.
-#[derive(Clone, Copy, Debug, PartialEq, Eq)]
-enum Ending {
-    Open,
-    Closed,
+/// The place of a book that is to be begun: its folder, and its number there.
+#[derive(Drop)]
+pub struct Place {
+    pub folder: Folder,
+    pub number: u64,
 }
 
-/// The file of the open book, and the text on its way there. Bytes are counted over all books.
+/// The folder of the books, and the text of the open one on its way there. Bytes are counted over all books.
 #[derive(Drop)]
-pub struct Disk<F> {
-    folder: String,
-    file: F,
-    number: u64,
-    // Whether the file has its last name, and the next one is not made.
+pub struct Disk {
+    folder: Folder,
+    text: OpenText,
+    kind: BookText,
+    opened: Time,
+    // Whether the book is closed, and the next one is not begun.
     is_closed: bool,
     page: Page,
     // How many bytes of the page are written.
     done: usize,
     written: u64,
+    // How many bytes were written when the text was made durable.
+    synced: u64,
 }
 
-fn path_of(alloc: Global, folder: &str, number: u64, ending: Ending) -> io::Result<String> {
-    let path = match ending {
-        Ending::Open => format!(in alloc; "{folder}/{number:06}.open")?,
-        Ending::Closed => format!(in alloc; "{folder}/{number:06}.lengths")?,
-    };
-    Ok(path)
+// The second in which this is called.
+fn time_now(clock: &impl Clock) -> io::Result<Time> {
+    match time_of(SystemTime::now(clock)?) {
+        Some(time) => Ok(time),
+        None => Err(Error::from(ErrorKind::InvalidData)),
+    }
 }
 
-fn create<R: Files>(files: &R, alloc: Global, folder: &str, number: u64) -> io::Result<R::File> {
-    let path = path_of(alloc, folder, number, Ending::Open)?;
-    let file = File::create_new(files, path.as_str());
-    drop(path);
-    file
+fn row_kind(kind: BookText) -> TextKind {
+    match kind {
+        BookText::Lengths => TextKind::Lengths,
+        BookText::Whole => TextKind::Whole,
+    }
 }
 
-fn close_name<R: Files>(files: &R, alloc: Global, folder: &str, number: u64) -> io::Result<()> {
-    let from = path_of(alloc, folder, number, Ending::Open)?;
-    let to = path_of(alloc, folder, number, Ending::Closed)?;
-    let renamed = fs::rename(files, from.as_str(), to.as_str());
-    drop(from);
-    drop(to);
-    renamed
+// Tariffs, as the files of a book have them.
+fn tariffs_of(rates: &[Rate]) -> io::Result<Tariffs> {
+    let mut tariffs = Tariffs::none();
+    for index in 0..rates.len() {
+        let Rate {
+            cell,
+            overhead,
+            price,
+        } = rates[index];
+        let tariff = BookTariff {
+            cell,
+            overhead,
+            price,
+        };
+        if !tariffs.add(tariff) {
+            return Err(Error::from(ErrorKind::InvalidInput));
+        }
+    }
+    Ok(tariffs)
 }
 
-impl<F: Write + Drop> Disk<F> {
-    /// Makes the file of the first book.
-    pub fn begin<R: Files<File = F>>(
-        files: &R,
+impl Disk {
+    /// Begins the first book.
+    pub fn begin<R: Files<File = File> + Clock>(
+        rt: &R,
         alloc: Global,
-        folder: &str,
-        number: u64,
-    ) -> io::Result<Disk<F>> {
+        place: Place,
+        kind: BookText,
+        rates: &[Rate],
+    ) -> io::Result<Disk> {
+        let Place { folder, number } = place;
         let page = Page::new(alloc)?;
-        let copy = String::from_str(alloc, folder)?;
-        let file = create(files, alloc, folder, number)?;
+        let opened = time_now(rt)?;
+        let tariffs = tariffs_of(rates)?;
+        let text = folder.begin(rt, alloc, number, &tariffs)?;
         Ok(Disk {
-            folder: copy,
-            file,
-            number,
+            folder,
+            text,
+            kind,
+            opened,
             is_closed: false,
             page,
             done: 0,
             written: 0,
+            synced: 0,
         })
     }
 
     /// The number of the open book.
     pub fn number(&self) -> u64 {
-        self.number
+        self.text.number()
     }
 
     /// How many bytes of all that were handed over are written.
     pub fn written(&self) -> u64 {
         self.written
+    }
+
+    /// Whether some of what is written is not durable.
+    pub fn has_unsynced(&self) -> bool {
+        self.synced < self.written
+    }
+
+    /// Makes durable what is written.
+    pub fn sync(&mut self) -> io::Result<()> {
+        self.text.sync()?;
+        self.synced = self.written;
+        Ok(())
     }
 
     /// Whether all of the page is written.
@@ -116,7 +156,7 @@ impl<F: Write + Drop> Disk<F> {
         let Some(rest) = self.page.as_slice().get(self.done..) else {
             return Ok(());
         };
-        let count = self.file.write(rest)?;
+        let count = self.text.append(rest)?;
         if count == 0 {
             return Err(Error::from(ErrorKind::WriteZero));
         }
@@ -125,22 +165,67 @@ impl<F: Write + Drop> Disk<F> {
         Ok(())
     }
 
-    /// Closes the file of the open book, and makes that of the next one. After a fault it is called again.
-    pub fn next<R: Files<File = F>>(&mut self, files: &R, alloc: Global) -> io::Result<()> {
-        self.close(files, alloc)?;
-        let number = self.number.saturating_add(1);
-        self.file = create(files, alloc, self.folder.as_str(), number)?;
-        self.number = number;
+    /// Begins the next book, after the open one was closed. After a fault it is called again.
+    pub fn next<R: Files<File = File> + Clock>(
+        &mut self,
+        rt: &R,
+        alloc: Global,
+        rates: &[Rate],
+    ) -> io::Result<()> {
+        let Some(number) = self.number().checked_add(1) else {
+            return Err(Error::from(ErrorKind::InvalidInput));
+        };
+        let opened = time_now(rt)?;
+        let tariffs = tariffs_of(rates)?;
+        self.text = self.folder.begin(rt, alloc, number, &tariffs)?;
+        self.opened = opened;
         self.is_closed = false;
         Ok(())
     }
 
-    /// Closes the file of the open book.
-    pub fn close<R: Files<File = F>>(&mut self, files: &R, alloc: Global) -> io::Result<()> {
-        if !self.is_closed {
-            close_name(files, alloc, self.folder.as_str(), self.number)?;
-            self.is_closed = true;
+    /// Closes the open book, whose text is written: its report and its row are those of its engine. After a fault it is
+    /// called again.
+    pub fn close<R: Files<File = File> + Clock>(
+        &mut self,
+        rt: &R,
+        alloc: Global,
+        book: &Book<PlainShelf>,
+        rates: &[Rate],
+        why: Closing,
+    ) -> io::Result<()> {
+        if self.is_closed {
+            return Ok(());
         }
+        let end = self.end_of(rt, alloc, book, rates, why)?;
+        self.folder.close(rt, alloc, &self.text, &end)?;
+        self.is_closed = true;
+        self.synced = self.written;
         Ok(())
+    }
+
+    // What is written of a book at its end.
+    fn end_of<R: Clock>(
+        &self,
+        rt: &R,
+        alloc: Global,
+        book: &Book<PlainShelf>,
+        rates: &[Rate],
+        why: Closing,
+    ) -> io::Result<BookEnd> {
+        let report = match report_text(alloc, book) {
+            Ok(report) => report,
+            Err(_) => return Err(Error::from(ErrorKind::OutOfMemory)),
+        };
+        let row = Row {
+            book: self.text.number(),
+            kind: row_kind(self.kind),
+            opened: self.opened,
+            closed: time_now(rt)?,
+            why,
+            tariffs: tariffs_of(rates)?,
+            totals: book_totals(book.engine()),
+            sha256: self.text.digest()?,
+        };
+        Ok(BookEnd { row, report })
     }
 }

@@ -11,4 +11,5 @@ mod sources;
 mod start;
 
 pub use closing::Left;
+pub use disk::Place;
 pub use reactor::{Reactor, run};

@@ -1,21 +1,22 @@
 //! The loop of a gateway.
 
-use crate::books::{Books, Made, Why};
+use crate::books::{Books, Made};
 use crate::closing::Left;
 use crate::controls::Controls;
+use crate::disk::Place;
 use crate::doorways::Doorways;
 use crate::sources::{Source, Sources};
 use mio::event::Event;
 use mio::{Events, Poll, Token};
 use share_base::{Refusal, Reply};
+use share_catalog::Closing;
 use share_controls::Front;
 use share_orders::{Duty, Obeyed, book_text, fault_text, reply_text};
 use share_settings::Settings;
 use share_uplink::{Uplink, Work};
 use std::alloc::Global;
-use std::fs::Files;
+use std::fs::{File, Files};
 use std::io;
-use std::io::Write;
 use std::net::Net;
 use std::sync::Wait;
 use std::time::{Clock, Duration, Instant};
@@ -31,7 +32,7 @@ const GRACE_SECONDS: u64 = 10;
 
 /// A gateway that runs.
 #[derive(Drop)]
-pub struct Reactor<F> {
+pub struct Reactor {
     pub(crate) alloc: Global,
     pub(crate) poll: Poll,
     pub(crate) sources: Sources,
@@ -39,18 +40,19 @@ pub struct Reactor<F> {
     pub(crate) controls: Controls,
     pub(crate) uplink: Uplink,
     pub(crate) uplink_token: Token,
-    pub(crate) books: Books<F>,
+    pub(crate) books: Books,
     // When the end began, if it has.
     pub(crate) ending: Option<Instant>,
 }
 
-/// Runs a gateway until its end was asked for and is over. Returns what was left.
-pub fn run<R: Files + Net + Clock + Wait>(
+/// Runs a gateway whose first book has this place, until its end was asked for and is over. Returns what was left.
+pub fn run<R: Files<File = File> + Net + Clock + Wait>(
     rt: &R,
     alloc: Global,
     settings: &Settings,
+    place: Place,
 ) -> io::Result<Left> {
-    let mut reactor = Reactor::start(rt, alloc, settings)?;
+    let mut reactor = Reactor::start(rt, alloc, settings, place)?;
     reactor.run(rt)
 }
 
@@ -62,9 +64,9 @@ fn shorter(pause: Option<Duration>, other: Duration) -> Option<Duration> {
     }
 }
 
-impl<F: Write + Drop> Reactor<F> {
+impl Reactor {
     /// Runs until the end was asked for and is over. Returns what was left.
-    pub fn run<R: Files<File = F> + Net + Clock + Wait>(&mut self, rt: &R) -> io::Result<Left> {
+    pub fn run<R: Files<File = File> + Net + Clock + Wait>(&mut self, rt: &R) -> io::Result<Left> {
         let mut events = Events::with_capacity(self.alloc, EVENTS)?;
         let mut pause = Some(Duration::from_millis(0));
         for _ in rt.forever() {
@@ -104,7 +106,7 @@ impl<F: Write + Drop> Reactor<F> {
     }
 
     // Does what is at hand.
-    fn round<R: Files<File = F> + Net>(&mut self, rt: &R, now: Instant) -> Made {
+    fn round<R: Files<File = File> + Net + Clock>(&mut self, rt: &R, now: Instant) -> Made {
         self.books.credit(now);
         let mut is_busy = self.accept();
         is_busy |= self.fill();
@@ -112,6 +114,7 @@ impl<F: Write + Drop> Reactor<F> {
         let made = self.books.make_turns(&mut self.doorways);
         self.doorways.close_over(&mut self.sources);
         self.books.write_text(now);
+        self.books.sync_text(now);
         is_busy |= self.send(rt, now);
         is_busy |= self.obey(now);
         self.books.close_spent();
@@ -206,7 +209,7 @@ impl<F: Write + Drop> Reactor<F> {
                 Ok(fault_text(self.alloc, "not supported")?)
             }
             Obeyed::Asks(Duty::Rotate) => {
-                self.books.close(Why::Next);
+                self.books.close(Closing::Rotate);
                 let number = self.books.disk.number().saturating_add(1);
                 Ok(book_text(self.alloc, number)?)
             }
@@ -224,7 +227,7 @@ impl<F: Write + Drop> Reactor<F> {
     }
 
     // Ends the gateway, if it is time to. Returns what was left.
-    fn end<R: Files<File = F>>(&mut self, files: &R, now: Instant) -> Option<Left> {
+    fn end<R: Files<File = File> + Clock>(&mut self, rt: &R, now: Instant) -> Option<Left> {
         let since = self.ending?;
         let is_late = self.grace_left(since, now).is_zero();
         if self.books.sends() && !is_late {
@@ -233,8 +236,8 @@ impl<F: Write + Drop> Reactor<F> {
         if self.books.retry.is_some() && is_late {
             return Some(self.books.leave(false));
         }
-        self.books.close(Why::Last);
-        self.books.finish(files, now)
+        self.books.close(Closing::End);
+        self.books.finish(rt, now)
     }
 
     fn grace_left(&self, since: Instant, now: Instant) -> Duration {
@@ -249,7 +252,7 @@ impl<F: Write + Drop> Reactor<F> {
             Made::Paced => pause = shorter(pause, Duration::from_millis(1)),
             Made::All => (),
         }
-        if let Some(at) = self.books.retry {
+        if let Some(at) = self.books.due() {
             pause = shorter(pause, at.saturating_duration_since(now));
         }
         if let Some(since) = self.ending {

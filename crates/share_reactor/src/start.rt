@@ -2,6 +2,7 @@
 
 use crate::books::Books;
 use crate::controls::Controls;
+use crate::disk::Place as BookPlace;
 use crate::doorways::Doorways;
 use crate::reactor::Reactor;
 use crate::sources::{Source, Sources};
@@ -12,9 +13,9 @@ use share_settings::{Control, Listener as Place, Peer, Port, Settings, TenantPor
 use share_sockets::Listener;
 use share_uplink::Uplink;
 use std::alloc::Global;
-use std::fs::Files;
+use std::fs::{File, Files};
 use std::io;
-use std::io::{Error, ErrorKind, Write};
+use std::io::{Error, ErrorKind};
 use std::net::{Net, SocketAddr};
 use std::time::{Clock, Instant};
 
@@ -137,14 +138,15 @@ fn open_uplink(
     Ok((Uplink::new(address, now), token))
 }
 
-impl<F: Write + Drop> Reactor<F> {
-    /// Opens the first book, and listens at all ports and for control connections. A datagram socket, a descriptor and a
+impl Reactor {
+    /// Opens the first book, whose files have this place, and listens at all ports and for control connections. A datagram socket, a descriptor and a
     /// downlink are not supported.
-    pub fn start<R: Files<File = F> + Net + Clock>(
+    pub fn start<R: Files<File = File> + Net + Clock>(
         rt: &R,
         alloc: Global,
         settings: &Settings,
-    ) -> io::Result<Reactor<F>> {
+        place: BookPlace,
+    ) -> io::Result<Reactor> {
         let now = Instant::now(rt)?;
         let mut sources = Sources::new(alloc);
         let mut doorways = Doorways::new(alloc);
@@ -153,7 +155,7 @@ impl<F: Write + Drop> Reactor<F> {
         let registry = poll.registry();
         open_doors(rt, alloc, registry, &mut sources, &mut doorways, settings)?;
         let controls = open_controls(rt, alloc, registry, &mut sources, settings)?;
-        let books = Books::open(rt, alloc, settings, now)?;
+        let books = Books::open(rt, alloc, settings, place, now)?;
         Ok(Reactor {
             alloc,
             poll,

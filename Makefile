@@ -28,6 +28,7 @@ examples/serve.py
 examples/hostile.py
 examples/bill.py
 examples/fuzz.py
+GATEWAY=crates/gateway/out/gateway STRIDELINK=bin/stridelink examples/gateway.py
 endef
 
 help:

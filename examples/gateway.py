@@ -3,9 +3,11 @@
 
 The environment names two programs: GATEWAY, the gateway, and STRIDELINK, which prints the bill of its books. What is
 wanted comes from the rules of a gateway. Each step ends after PATIENCE seconds (20), and the gateway is killed with its
-group at the end. Arguments name the cases to play; without any, all are played.
+group at the end. Arguments name the cases to play; without any, all are played. Each is played TIMES times (1).
 """
 import contextlib
+import csv
+import hashlib
 import os
 import signal
 import socket
@@ -20,6 +22,13 @@ sys.dont_write_bytecode = True
 
 LOOPBACK = "127.0.0.1"
 PATIENCE = int(os.environ.get("PATIENCE", "20"))
+TIMES = int(os.environ.get("TIMES", "1"))
+# How many bytes of frames are scheduled and not sent at most.
+OUTBOX = 65536
+# The names of the columns of books.csv.
+COLUMNS = "book,kind,opened,closed,why,tariffs,events,packets,bytes,units,amount,sha256"
+# The tariffs of a file that has none, as a row has them.
+TARIFFS = "1/0/1 48/16/2 1024/0/1 2048/1024/3"
 # How many bytes the header of a frame of version 2 has.
 HEADER = 17
 # How long shares are measured, and how far they may be from the tickets.
@@ -154,16 +163,26 @@ class Control:
 class Gateway:
     """A gateway with a tenant for each entry of the tickets, whose flows are numbered from 1."""
 
-    def __init__(self, folder, uplink, tickets):
-        self.folder = folder
+    def __init__(self, folder, uplink, tickets, books=""):
+        self.folder = os.path.join(folder, "books")
+        os.makedirs(self.folder, exist_ok=True)
+        self.errors = os.path.join(folder, "errors")
+        self.file = os.path.join(folder, "gateway.toml")
         self.control_port = free_port()
         self.ports = {name: free_port() for name in tickets}
-        self.words = [f"{LOOPBACK}:{uplink}", f"{LOOPBACK}:{self.control_port}", folder]
-        self.words += [f"{name}={LOOPBACK}:{self.ports[name]}={count}" for name, count in tickets.items()]
+        lines = ["[uplink]", f'connect = "{LOOPBACK}:{uplink}"']
+        lines += ["[control]", f'listen = "{LOOPBACK}:{self.control_port}"']
+        lines += ["[books]", f'folder = "{self.folder}"', books]
+        for name, count in tickets.items():
+            lines += ["[[tenant]]", f'name = "{name}"', f'port = ["{LOOPBACK}:{self.ports[name]}"]']
+            lines += [f"tickets = [ {{ amount = {count} }} ]"]
+        with open(self.file, "w", encoding="utf-8") as file:
+            file.write("\n".join(lines) + "\n")
 
     def __enter__(self):
         program = os.environ["GATEWAY"]
-        self.process = subprocess.Popen([program] + self.words, start_new_session=True)
+        with open(self.errors, "wb") as errors:
+            self.process = subprocess.Popen([program, self.file], start_new_session=True, stderr=errors)
         wait_for("control", lambda: listens(self.control_port))
         self.control = Control(self.control_port)
         return self
@@ -189,20 +208,64 @@ class Gateway:
             while True:
                 s.sendall(piece)
 
+    def kill(self):
+        self.process.kill()
+        self.process.wait(PATIENCE)
+
     def end(self, status=0):
         self.control.expect("end", "ok")
         want("status", self.process.wait(PATIENCE), status)
+        self.check_books()
+
+    def told(self):
+        """The lines of standard error, without their times."""
+        with open(self.errors, encoding="utf-8") as errors:
+            return [line.rstrip("\n").split(" ", 1)[-1] for line in errors]
 
     def books(self):
-        return sorted(name for name in os.listdir(self.folder) if name.endswith(".lengths"))
+        return sorted(name for name in os.listdir(self.folder) if name.endswith((".lengths", ".audit")))
 
-    def bill(self):
-        """Packets and bytes of each tenant, from its books."""
+    def bill(self, names=None):
+        """Packets, bytes, units and amount of each tenant, from its books."""
         words = [os.environ["STRIDELINK"], "bill", "--csv"]
-        words += [os.path.join(self.folder, name) for name in self.books()]
+        words += [os.path.join(self.folder, name) for name in names or self.books()]
         text = subprocess.run(words, check=True, capture_output=True, text=True, timeout=PATIENCE).stdout
-        rows = [line.split(",") for line in text.splitlines()[1:]]
-        return {row[0]: (int(row[1]), int(row[2])) for row in rows}
+        return {row[0]: tuple(map(int, row[1:])) for row in csv.reader(text.splitlines()[1:])}
+
+    def counted(self):
+        """Packets and bytes of each tenant, from its books."""
+        return {name: row[:2] for name, row in self.bill().items()}
+
+    def rows(self):
+        with open(os.path.join(self.folder, "books.csv"), encoding="utf-8") as file:
+            lines = file.read().split("\n")
+        want("the columns", lines[0], COLUMNS)
+        want("the end of books.csv", lines[-1], "")
+        return [dict(zip(COLUMNS.split(","), line.split(","))) for line in lines[1:-1]]
+
+    def check_books(self):
+        """Each book is closed, and its row says what its text comes to."""
+        rows = self.rows()
+        names = self.books()
+        want("the numbers of the books", [int(row["book"]) for row in rows], list(range(1, len(names) + 1)))
+        files = sorted(names + [name.split(".")[0] + ".report" for name in names] + ["books.csv"])
+        want("the files of the folder", sorted(os.listdir(self.folder)), files)
+        for row, name in zip(rows, names):
+            self.check_book(row, name)
+
+    def check_book(self, row, name):
+        with open(os.path.join(self.folder, name), "rb") as text:
+            want(f"the digest of {name}", row["sha256"], hashlib.sha256(text.read()).hexdigest())
+        want(f"the kind of {name}", row["kind"], "lengths" if name.endswith(".lengths") else "whole")
+        want(f"the tariffs of {name}", row["tariffs"], TARIFFS)
+        want(f"the times of {name}", row["opened"] <= row["closed"], True)
+        bill = self.bill([name]).values()
+        for column, place in [("packets", 0), ("bytes", 1), ("units", 2), ("amount", 3)]:
+            want(f"{column} of {name}", int(row[column]), sum(tenant[place] for tenant in bill))
+        with open(os.path.join(self.folder, name.split(".")[0] + ".report"), encoding="utf-8") as report:
+            lines = dict(line.split(None, 1) for line in report.read().splitlines() if line != "end")
+        want(f"the report of {name}", (lines["written"], lines["bytes"], lines["clock"]),
+             (row["packets"], row["bytes"], row["units"]))
 
 
 def start(function, *arguments):
@@ -232,6 +295,7 @@ def orders(folder):
             gateway.control.expect(line, wanted)
         gateway.end()
         want("books", gateway.books(), ["000001.lengths", "000002.lengths", "000003.lengths"])
+        want("why", [row["why"] for row in gateway.rows()], ["rotate", "rotate", "end"])
 
 
 def rotations(folder):
@@ -253,7 +317,7 @@ def rotations(folder):
         want("the far end's fault", far.fault, None)
         want("books", len(gateway.books()), 11)
         counted = {name: (far.counts[flow], far.bytes[flow]) for flow, name in enumerate(names, 1)}
-        want("the bill", gateway.bill(), counted)
+        want("the bill", gateway.counted(), counted)
 
 
 def shares(folder):
@@ -335,16 +399,125 @@ def nonsense(folder):
         gateway.end()
 
 
-CASES = [orders, rotations, far_end_away, far_end_asleep, nonsense, shares]
+def whole(folder):
+    """Books of whole texts."""
+    far = FarEnd()
+    with Gateway(folder, far.port, {"a": 1}, 'text = "whole"') as gateway:
+        gateway.send("a", range(100))
+        wait_for("packets", lambda: far.counts.get(1) == 100)
+        gateway.control.expect("rotate", "book 2")
+        gateway.end()
+        want("books", gateway.books(), ["000001.audit", "000002.audit"])
+        want("the bill", gateway.counted(), {"a": (100, far.bytes[1])})
+
+
+def killed(folder):
+    """A kill in mid-flow leaves books that the next start closes. They bill what the far end got, and at most an outbox
+    more."""
+    tickets = {"a": 300, "b": 100}
+    far = FarEnd(keeps=False)
+    with Gateway(folder, far.port, tickets) as gateway:
+        for name in tickets:
+            start(gateway.flood, name, 700)
+        wait_for("floods", lambda: len(far.counts) == len(tickets))
+        for book in (2, 3):
+            gateway.control.expect("rotate", f"book {book}")
+            time.sleep(0.2)
+        gateway.kill()
+    wait_until_still(far)
+    with Gateway(folder, far.port, tickets) as gateway:
+        want("what is told", gateway.told(), ["recovered - book 3: cut, and closed"])
+        want("why", [row["why"] for row in gateway.rows()], ["rotate", "rotate", "cut"])
+        billed = sum(row[1] for row in gateway.bill().values())
+        counted = sum(far.bytes.values())
+        if not 0 <= billed - counted <= OUTBOX:
+            raise Wrong(f"{billed} bytes are billed, and {counted} came")
+        gateway.send("a", range(100))
+        wait_for("packets of the next book", lambda: sum(far.bytes.values()) == counted + 100 * (HEADER + 100))
+        gateway.end()
+        want("why", [row["why"] for row in gateway.rows()], ["rotate", "rotate", "cut", "end"])
+        after = sum(row[1] for row in gateway.bill().values())
+        want("the bill of the next book", after - billed, 100 * (HEADER + 100))
+
+
+def wait_until_still(far):
+    """Waits until nothing more comes to the far end."""
+    before = -1
+    while before != sum(far.bytes.values()):
+        before = sum(far.bytes.values())
+        time.sleep(0.3)
+    return before
+
+
+def second(folder):
+    """A second gateway on the folder of books is refused, and harms nothing."""
+    far = FarEnd()
+    with Gateway(folder, far.port, {"a": 1}) as gateway:
+        other = Gateway(tempfile.mkdtemp(dir=folder), far.port, {"a": 1})
+        with open(other.file, encoding="utf-8") as file:
+            text = file.read().replace(other.folder, gateway.folder)
+        with open(other.file, "w", encoding="utf-8") as file:
+            file.write(text)
+        refusal = f"{gateway.folder}: another gateway has this folder\n"
+        want("a second gateway", run_gateway([other.file]), (1, "", refusal))
+        gateway.send("a", range(10))
+        wait_for("packets", lambda: far.counts.get(1) == 10)
+        gateway.end()
+
+
+def run_gateway(words):
+    """Runs a gateway that ends at once, and returns its status and what it prints."""
+    ran = subprocess.run([os.environ["GATEWAY"]] + words, capture_output=True, text=True, timeout=PATIENCE)
+    return ran.returncode, ran.stdout, ran.stderr
+
+
+# What is changed in a good file, and the fault that it has then, after the name of the file.
+FAULTS = [
+    ("[books]", "[books", ":5: "),
+    ('connect = "', 'connect = "udp:', ": [uplink]: rate: missing"),
+    ('connect = "', 'rate = "1 MB/s"\nconnect = "udp:', ": [uplink]: connect: udp: is not supported"),
+    ("[uplink]", "[uplink]\nbuffer = 65536", ": [uplink]: buffer: not supported"),
+    ("[books]", '[books]\nperiod = "1 h"', ": [books]: period: not supported"),
+    ("[books]", '[downlink]\nlisten = "127.0.0.1:1"\n[books]', ": [downlink]: not supported"),
+    ('port = ["', 'port = ["fd:3", "', ": tenant 1: port: port 1: udp:, udp-to: and fd: are not supported"),
+    ('port = ["', 'port = ["unix:/nowhere", "udp:', ": tenant 1: port: port 2: udp:, udp-to: and fd: are not"),
+    ('name = "a"', 'name = "a"\ntariff = 5', ": tenant 1: no 8 NoTariff"),
+    ('name = "a"', 'name = "a"\nplace = 5', ": tenant 1: place: unknown key"),
+]
+
+
+def checks(folder):
+    """A file is checked, and each fault is printed and no gateway runs."""
+    gateway = Gateway(folder, 1, {"a": 1})
+    file = gateway.file
+    want("a check", run_gateway([file, "--check"]), (0, f"{file}: ok\n", ""))
+    want("a check", run_gateway(["--check", file]), (0, f"{file}: ok\n", ""))
+    for words in ([], ["--check"], [file, "--grace"], [file, "--check", "x"]):
+        want(f"words {words}", run_gateway(words)[0], 2)
+    with open(file, encoding="utf-8") as source:
+        good = source.read()
+    for old, new, fault in FAULTS:
+        with open(file, "w", encoding="utf-8") as target:
+            target.write(good.replace(old, new, 1))
+        for words in ([file], [file, "--check"]):
+            status, out, errors = run_gateway(words)
+            want(f"the status at {new}", (status, out), (1, ""))
+            if not errors.startswith(file + fault) or errors.count("\n") != 1:
+                raise Wrong(f"{new}: {errors}, wanted {fault}")
+    want("files of the folder", os.listdir(gateway.folder), [])
+
+
+CASES = [checks, orders, rotations, far_end_away, far_end_asleep, nonsense, whole, second, killed, shares]
 
 
 def play(case):
-    with tempfile.TemporaryDirectory() as folder:
-        try:
-            case(folder)
-        except Wrong as fault:
-            print(f"gateway.py: {case.__name__}: {fault}")
-            return False
+    for _ in range(TIMES):
+        with tempfile.TemporaryDirectory() as folder:
+            try:
+                case(folder)
+            except Wrong as fault:
+                print(f"gateway.py: {case.__name__}: {fault}")
+                return False
     print(f"gateway.py: {case.__name__}: ok")
     return True
 

@@ -27,8 +27,12 @@ impl Display for BookLine {
             Recovery::Closed => f.write_str("cut, and closed"),
             Recovery::Completed => f.write_str("its report and its row were written"),
             Recovery::Removed => f.write_str("removed, since it had no whole line"),
-            Recovery::SetAside(NoRun::SetAside) => f.write_str("its row was written, and it is set aside"),
-            Recovery::SetAside(NoRun::NoTariffs) => f.write_str("set aside, since it has no tariffs"),
+            Recovery::SetAside(NoRun::SetAside) => f.write_str(
+                "its row was written, and it is set aside",
+            ),
+            Recovery::SetAside(NoRun::NoTariffs) => f.write_str(
+                "set aside, since it has no tariffs",
+            ),
             Recovery::SetAside(NoRun::Line { number, wrong }) => {
                 write!(f, "set aside, since line {number} is no run's: {wrong}")
             }

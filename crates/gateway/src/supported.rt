@@ -1,6 +1,10 @@
 //! Settings that a gateway does not have yet. They are refused, and not ignored.
+ghost use Rattle.std.specs.Prelude.{◌≡◌};
+ghost use Rattle.std.specs.List.{position};
+ghost use Rattle.gateway.specs.Supported.{sends_datagrams, has_buffer, is_unsupported_port, has_unsupported_port};
+ghost use Rattle.gateway.specs.Supported.{ports_fault, first_unsupported};
 
-use share_settings::{Peer, Port, Settings, TenantPorts};
+use share_settings::{Peer, Port, Settings, TenantPorts, Uplink};
 use thiserror::Error;
 
 /// The bytes of the uplink's send buffer that a file without `buffer` has.
@@ -17,19 +21,20 @@ pub(crate) enum Unsupported {
     Period,
     #[error("[downlink]: not supported")]
     Downlink,
-    #[error("tenant {tenant}: port: port {port}: udp:, udp-to: and fd: are not supported")]
-    Port { tenant: usize, port: usize },
+    /// A port of the tenant of this number.
+    #[error("tenant {0}: port: udp:, udp-to: and fd: are not supported")]
+    Ports(u64),
 }
 
-/// The first setting that is not supported, in this order: those of the uplink, the books, the downlink and the tenants.
-pub(crate) fn first_unsupported(settings: &Settings) -> Option<Unsupported> {
-    if let Some(uplink) = settings.uplink {
-        if matches!(uplink.to, Peer::Udp(_)) {
-            return Some(Unsupported::Datagrams);
-        }
-        if uplink.buffer != BUFFER {
-            return Some(Unsupported::Buffer);
-        }
+/// The first setting that is not supported, in this order: those of the uplink, the books, the downlink, the tenants.
+pub(crate) fn first_unsupported(settings: &Settings) -> Option<Unsupported>
+    ensures { result ≡ first_unsupported settings.now }
+{
+    if sends_datagrams(settings.uplink) {
+        return Some(Unsupported::Datagrams);
+    }
+    if has_buffer(settings.uplink) {
+        return Some(Unsupported::Buffer);
     }
     if settings.books.period.is_some() {
         return Some(Unsupported::Period);
@@ -37,31 +42,60 @@ pub(crate) fn first_unsupported(settings: &Settings) -> Option<Unsupported> {
     if settings.downlink.is_some() {
         return Some(Unsupported::Downlink);
     }
-    first_port(settings.ports.as_slice())
+    ports_fault(settings.ports.as_slice())
 }
 
-// The first port that is not supported.
-fn first_port(tenants: &[TenantPorts]) -> Option<Unsupported> {
-    for index in 0..tenants.len() {
-        if let Some(port) = first_of(tenants[index].ports.as_slice()) {
-            return Some(Unsupported::Port {
-                tenant: index.saturating_add(1),
-                port,
-            });
-        }
+fn sends_datagrams(uplink: Option<Uplink>) -> bool
+    ensures { result ≡ sends_datagrams uplink }
+{
+    match uplink {
+        None => false,
+        Some(uplink) => match uplink.to {
+            Peer::Tcp(_) => false,
+            Peer::Udp(_) => true,
+        },
     }
-    None
 }
 
-// The number of the first of these ports that is not supported, counted from 1.
-fn first_of(ports: &[Port]) -> Option<usize> {
-    for index in 0..ports.len() {
-        match &ports[index] {
-            Port::Tcp(_) | Port::Unix(_) => (),
-            Port::Udp(_) | Port::UdpTo(_) | Port::Descriptor(_) => {
-                return Some(index.saturating_add(1));
-            }
-        }
+// Whether the send buffer is other than that of a file that does not give it.
+fn has_buffer(uplink: Option<Uplink>) -> bool
+    ensures { result ≡ has_buffer uplink }
+{
+    match uplink {
+        None => false,
+        Some(uplink) => uplink.buffer != BUFFER,
     }
-    None
+}
+
+// The first tenant with a port that is not supported.
+fn ports_fault(tenants: &[TenantPorts]) -> Option<Unsupported>
+    ensures { result ≡ ports_fault tenants.now }
+{
+    match first_tenant(tenants) {
+        None => None,
+        Some(index) => Some(Unsupported::Ports(index as u64 + 1)),
+    }
+}
+
+fn first_tenant(tenants: &[TenantPorts]) -> Option<usize>
+    ensures { result ≡ position has_unsupported_port tenants.now }
+{
+    tenants
+        .iter()
+        .position(|tenant| has_unsupported_port(tenant))
+}
+
+fn has_unsupported_port(tenant: &TenantPorts) -> bool
+    ensures { result ≡ has_unsupported_port tenant.now }
+{
+    tenant.ports.iter().any(|port| is_unsupported_port(port))
+}
+
+fn is_unsupported_port(port: &Port) -> bool
+    ensures { result ≡ is_unsupported_port port.now }
+{
+    match port {
+        Port::Tcp(_) | Port::Unix(_) => false,
+        Port::Udp(_) | Port::UdpTo(_) | Port::Descriptor(_) => true,
+    }
 }

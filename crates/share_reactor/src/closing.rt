@@ -186,7 +186,11 @@ impl Books {
     }
 
     /// Closes the last book if all its text is written, and returns what was left. `None` if that is to be tried again.
-    pub(crate) fn finish<R: Files<File = File> + Clock>(&mut self, rt: &R, now: Instant) -> Option<Left> {
+    pub(crate) fn finish<R: Files<File = File> + Clock>(
+        &mut self,
+        rt: &R,
+        now: Instant,
+    ) -> Option<Left> {
         if self.retry.is_some() || self.has_text() || !self.disk.is_idle() {
             return None;
         }

@@ -92,9 +92,7 @@ impl Reactor {
     fn note(&mut self, event: &Event) {
         match self.sources.get(event.token()) {
             None => (),
-            Some(Source::Uplink) => self
-                .uplink
-                .note(event.is_readable(), event.is_writable()),
+            Some(Source::Uplink) => self.uplink.note(event.is_readable(), event.is_writable()),
             Some(Source::ControlListener) => self.controls.note_listener(),
             Some(Source::Port(port)) => self.doorways.note_port(port),
             Some(Source::Sender { port, key }) => self.doorways.note_sender(port, key),

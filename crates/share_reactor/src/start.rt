@@ -139,8 +139,8 @@ fn open_uplink(
 }
 
 impl Reactor {
-    /// Opens the first book, whose files have this place, and listens at all ports and for control connections. A datagram socket, a descriptor and a
-    /// downlink are not supported.
+    /// Listens at all ports and for control connections, and opens the first book, whose files have this place. A
+    /// datagram socket, a descriptor and a downlink are not supported.
     pub fn start<R: Files<File = File> + Net + Clock>(
         rt: &R,
         alloc: Global,

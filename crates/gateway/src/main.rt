@@ -11,7 +11,7 @@ mod words;
 use crate::faults::{NotServed, Refused};
 use crate::file::read_file;
 use crate::recovery::open_books;
-use crate::words::{Asked, asked};
+use crate::words::{Asked, read_words};
 use share_reactor::{Left, run};
 use share_settings::Settings;
 use std::alloc::Global;
@@ -103,7 +103,7 @@ fn main(rt: HostRuntime) -> ExitCode {
     let Ok(words) = words_of(&rt) else {
         return ExitCode::FAILURE;
     };
-    let Some(Asked { path, is_check }) = asked(words.as_slice()) else {
+    let Some(Asked { path, is_check }) = read_words(words.as_slice()) else {
         let _ = eprintln!(rt; "{USAGE}");
         return ExitCode::from(2);
     };

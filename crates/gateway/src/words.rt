@@ -14,7 +14,7 @@ pub(crate) struct Asked<'a> {
 
 /// What the words ask for, the first of which is the name of the program. `None` if they are others than
 /// `FILE [--check]`.
-pub(crate) fn asked(words: &[String]) -> Option<Asked<'_>> {
+pub(crate) fn read_words(words: &[String]) -> Option<Asked<'_>> {
     match words {
         [_, path] => file_word(path.as_str(), false),
         [_, path, check] if check.as_str() == CHECK => file_word(path.as_str(), true),

@@ -478,7 +478,7 @@ FAULTS = [
     ('connect = "', 'rate = "1 MB/s"\nconnect = "udp:', ": [uplink]: connect: udp: is not supported"),
     ("[uplink]", "[uplink]\nbuffer = 65536", ": [uplink]: buffer: not supported"),
     ("[books]", '[books]\nperiod = "1 h"', ": [books]: period: not supported"),
-    ("[books]", '[downlink]\nlisten = "127.0.0.1:1"\n[books]', ": [downlink]: not supported"),
+    ("[books]", '[downlink]\nlisten = "127.0.0.1:2"\n[books]', ": [downlink]: not supported"),
     ('port = ["', 'port = ["fd:3", "', ": tenant 1: port: udp:, udp-to: and fd: are not supported"),
     ('port = ["', 'port = ["unix:/nowhere", "udp:', ": tenant 1: port: udp:, udp-to: and fd: are not supported"),
     ('name = "a"', 'name = "a"\ntariff = 5', ": tenant 1: no 8 NoTariff"),

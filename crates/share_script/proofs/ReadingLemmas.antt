@@ -16,7 +16,7 @@ use Rattle.share_base.specs.Version.{max_payload}
 use Rattle.share_base.specs.declared.refusal.Refusal.{Refusal}
 use Rattle.share_base.specs.declared.refusal.Refusal.TheVariants.{NoMemory, Syntax, Range}
 use Rattle.share_model.specs.declared.line.Line.{Line}
-use Rattle.share_model.specs.declared.line.Line.TheVariants.{Send}
+use Rattle.share_model.specs.declared.line.Line.TheVariants.{Send, Turn}
 use Rattle.share_model.specs.text.Lines.{is_pairs, from_pairs, name_of, payload_of, field, words_of, send_of, line_by}
 use Rattle.share_model.specs.text.Lines.{is_space, number_of, turn_of}
 use Rattle.share_model.specs.text.Lines.{line_of, line_or_refusal, reading, ReadsLine, IsReading, IsUnread}
@@ -203,3 +203,20 @@ reads-refused version bs (Err e) (inr none) =
     let q : NoMemory ≡ e = cc in
     let P : Refusal → Type 0 = λ x. IsUnread version bs x in
     subst P q (none.1.0, reading-spelling_of version bs none.1.0 none.1.1, none.1.2)
+
+-- A turn
+
+turn_of-last : (ws : List (List ℕ)) (most : ℕ) → last number_of ws ≡ Some most → turn_of ws ≡ Some (Turn most)
+turn_of-last [] most e = let q : None ≡ Some most = e in cc
+turn_of-last (w ∷ []) most e = rw e refl
+turn_of-last (w ∷ v ∷ ws) most e = let q : None ≡ Some most = e in cc
+
+-- the words of a turn in range were read
+pub turn_read : (version : Version) (bs : List ℕ) (ws : List (List ℕ)) (most : ℕ) → length bs ≤ 20480
+    → words_of bs ≡ codes "turn" ∷ ws → last number_of ws ≡ Some most → 1 ≤ most → most ≤ 65535
+    → ReadsLine version bs (Ok (Turn most))
+turn_read version bs ws most short begins is some few =
+    let lower : nat_le 1 most ≡ true = grind (arith, nat_tests) in
+    let upper : nat_le most 65535 ≡ true = grind (arith, nat_tests) in
+    let line : line_by (codes "turn") ws ≡ Some (Turn most) = line_by-turn ws ∙ turn_of-last ws most is in
+    reads version bs (codes "turn") ws _ short begins (inl (rw (line, lower, upper) refl))

@@ -14,7 +14,7 @@ ghost use Rattle.share_script.specs.Printing.{Spooled, SpooledPart};
 ghost use Rattle.share_script.specs.Script.{is_torn};
 ghost use Rattle.share_script.specs.Session.{answer_text};
 
-use crate::reading::read_line;
+use crate::reading::{read_line, turn_in};
 use crate::replies::push_line;
 use crate::script::ScriptFault;
 use crate::spool::{LONGEST, SPOOL, Spool};
@@ -104,7 +104,29 @@ pub fn answer<W: TellingWriter + Drop, S: Rates + Drop>(
 {
     let first = session.first;
     session.first = false;
-    answer_bytes(session.alloc, &mut session.engine, first, bytes)
+    answer_in_place(session.alloc, &mut session.engine, first, bytes)
+}
+
+// Answers a turn where its number was read: no line is made of it and copied.
+#[inline(always)]
+fn answer_in_place<W: TellingWriter + Drop, S: Rates + Drop>(
+    alloc: Global,
+    engine: &mut Engine<W, S>,
+    first: bool,
+    bytes: &[u8],
+) -> Result<LineAnswer, ScriptFault>
+    requires whole { TakesAll W.answers }
+    requires fresh { first ≡ true → engine.old.live.counts.events ≡ 0 }
+    ensures says { IfOk result (λ line_answer. AnswersBytes W.told engine.old first bytes.now
+        (answer_text engine.new.live line_answer) engine.new) }
+    ensures called { OnOk result (Called W.answers engine.old.writer engine.new.writer) }
+    ensures fault { IfErr result (λ fault. (fault ≡ ScriptFault.NoMemory)
+        × CallFailed W.answers engine.old.writer engine.new.writer) }
+{
+    if let Some(most) = turn_in(bytes) {
+        return answer_line(engine, Line::Turn(most), first);
+    }
+    answer_bytes(alloc, engine, first, bytes)
 }
 
 #[inline(always)]

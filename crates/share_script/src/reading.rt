@@ -1,12 +1,12 @@
 //! Lines of a script, read from their bytes.
 ghost use Rattle.std.specs.Prelude.{◌≡◌, ◌≤◌, ◌*◌, ◌∷◌, ◌&&◌, ℕ, List, codes, length, nat_le, option_map, IfOk, IfErr};
-ghost use Rattle.std.specs.Prelude.{IfSome, if◌then◌else◌};
+ghost use Rattle.std.specs.Prelude.{IfSome, if◌then◌else◌, Ok};
 ghost use Rattle.share_base.specs.declared.refusal.Refusal.TheVariants.{Syntax};
 ghost use Rattle.share_base.specs.declared.version.Version.{Version};
 ghost use Rattle.share_base.specs.declared.command.Command.{Command};
 ghost use Rattle.share_base.specs.declared.command.Command.TheVariants.{MakeCurrency, RemoveCurrency, RemoveTicket};
 ghost use Rattle.share_base.specs.declared.command.Command.TheVariants.{Unfund, CloseFlow, Hold, Resume};
-ghost use Rattle.share_model.specs.declared.line.Line.TheVariants.{Change};
+ghost use Rattle.share_model.specs.declared.line.Line.TheVariants.{Change, Turn as TurnLine};
 ghost use Rattle.share_model.specs.text.Lines.{ReadsLine, IsReading, IsUnread, is_in_range, is_pairs, payload_of};
 ghost use Rattle.share_model.specs.text.Lines.{named_of, numbered_of, mktkt_of, amend_of, fund_of, funding_of, open_of};
 ghost use Rattle.share_model.specs.text.Lines.{send_of, turn_of, torn_of, report_of, version_of, audit_of};
@@ -34,6 +34,24 @@ pub fn read_line(alloc: Global, version: Version, bytes: &[u8]) -> Result<Line, 
     ensures refused { IfErr result (λ refusal. IsUnread version bytes.now refusal) }
 {
     read_bytes(alloc, version, bytes)
+}
+
+/// How many bytes a turn offers, if these bytes spell a turn that is in range. `None` says nothing: `read_line` reads
+/// the line then. A number is handed on in a register, a `Line` of 96 bytes is copied.
+#[inline(always)]
+pub(crate) fn turn_in(bytes: &[u8]) -> Option<u64>
+    ensures reads { IfSome result (λ most. (version : Version) → ReadsLine version bytes.now (Ok (TurnLine most))) }
+    ensures spelled { IfSome result (λ most. (version : Version) → IsReading version bytes.now (TurnLine most)) }
+{
+    if bytes.len() > MAX_LINE {
+        return None;
+    }
+    let most = Words::of(after_turn(bytes)?).last_number()?;
+    if 1 <= most && most <= 65535 {
+        Some(most)
+    } else {
+        None
+    }
 }
 
 fn read_bytes(alloc: Global, version: Version, bytes: &[u8]) -> Result<Line, Refusal>

@@ -10,7 +10,7 @@ mod tariffs;
 mod texts;
 
 pub use bills::bill_given;
-pub use scripts::run_on_standard;
+pub use scripts::run_given;
 pub use services::{Unserved, prepared, result_of_run, tell_served};
 pub use streams::StandIns;
 pub use tariffs::PlainTariffs;

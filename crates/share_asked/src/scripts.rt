@@ -1,9 +1,9 @@
 //! Runs of scripts over the program's tariffs, and their exit statuses.
-ghost use Rattle.std.specs.Prelude.{◌≡◌, None, IfOk, false};
+ghost use Rattle.std.specs.Prelude.{◌≡◌, None, IfOk, IsNone, IsSome, false};
 ghost use Rattle.std.specs.Io.Buffered.{reader_inner};
 ghost use Rattle.share_core.specs.Life.{life_refusal};
 ghost use Rattle.share_asked.specs.Rates.{program_rates};
-ghost use Rattle.share_asked.specs.Statuses.{EndsStrictly, IsAsAsked, RanStrictly, RanWhole};
+ghost use Rattle.share_asked.specs.Statuses.{EndsStrictly, IsAsAsked, OfSomeScript, RanStrictly, RanWhole};
 
 // The shelf of the program: tariffs 1 to 4. Their boxes are made in the body that uses it, which returns an error if
 // memory is refused.
@@ -18,6 +18,7 @@ use share_runs::{LineReader, StrictWriter, run, run_strictly};
 use share_script::ScriptFault;
 use share_words::Orders;
 use std::alloc::Global;
+use std::fs::{File, Files};
 use std::io;
 use std::io::{BufReader, Eprint, Print, Printer, Read};
 use std::process::ExitCode;
@@ -120,8 +121,8 @@ fn run_on_tariffs<'a, P: Print + Eprint, S: Rates + Drop, R: Read + Drop>(
     }
 }
 
-/// Runs a script over the program's shelf, which is made here.
-pub fn run_on_standard<'a, P: Print + Eprint, R: Read + Drop>(
+// Runs a script over the program's shelf, which is made here.
+fn run_on_standard<'a, P: Print + Eprint, R: Read + Drop>(
     rt: &'a P,
     alloc: Global,
     orders: Orders<'_>,
@@ -138,4 +139,59 @@ pub fn run_on_standard<'a, P: Print + Eprint, R: Read + Drop>(
 {
     let shelf = program_shelf!(alloc);
     run_on_tariffs(rt, alloc, shelf, orders, script)
+}
+
+// Runs the script of this file.
+fn run_file<'a, P: Print + Eprint + Files>(
+    rt: &'a P,
+    alloc: Global,
+    orders: Orders<'_>,
+    path: &str,
+) -> Result<ExitCode, ScriptFault>
+    requires { life_refusal orders.life ≡ None }
+    ensures { IfOk result (λ status. OfSomeScript (λ script. IsAsAsked orders.entry.is_strict
+        (RanStrictly ⟦<LineReader<PlainReader<BufReader<P::File>>> as TellingReader>⟧.gives
+        (λ lines. reader_inner lines.input.0)
+        ⟦<StrictWriter<PatientWriter<PlainWriter<Printer<'a, P>>>> as TellingWriter>⟧.answers
+        (λ w. w.is_refused) script status)
+        (RanWhole ⟦<PlainReader<P::File> as TellingReader>⟧.gives (λ plain. plain.0)
+        ⟦<PatientWriter<PlainWriter<Printer<'a, P>>> as TellingWriter>⟧.answers script status))) }
+{
+    let Ok(file) = File::open(rt, path) else {
+        return Err(ScriptFault::Input);
+    };
+    run_on_standard(rt, alloc, orders, file)
+}
+
+/// Runs the script that is asked for: that of the file which the words name, and `input` if they name none.
+pub fn run_given<'a, P: Print + Eprint + Files, R: Read + Drop>(
+    rt: &'a P,
+    alloc: Global,
+    orders: Orders<'_>,
+    input: R,
+) -> Result<ExitCode, ScriptFault>
+    requires { life_refusal orders.life ≡ None }
+    ensures input { IsNone orders.entry.file → IfOk result (λ status. IsAsAsked orders.entry.is_strict
+        (RanStrictly ⟦<LineReader<PlainReader<BufReader<R>>> as TellingReader>⟧.gives
+        (λ lines. reader_inner lines.input.0)
+        ⟦<StrictWriter<PatientWriter<PlainWriter<Printer<'a, P>>>> as TellingWriter>⟧.answers
+        (λ w. w.is_refused) input status)
+        (RanWhole ⟦<PlainReader<R> as TellingReader>⟧.gives (λ plain. plain.0)
+        ⟦<PatientWriter<PlainWriter<Printer<'a, P>>> as TellingWriter>⟧.answers input status)) }
+    ensures file { IsSome orders.entry.file → IfOk result (λ status. OfSomeScript (λ script. IsAsAsked
+        orders.entry.is_strict
+        (RanStrictly ⟦<LineReader<PlainReader<BufReader<P::File>>> as TellingReader>⟧.gives
+        (λ lines. reader_inner lines.input.0)
+        ⟦<StrictWriter<PatientWriter<PlainWriter<Printer<'a, P>>>> as TellingWriter>⟧.answers
+        (λ w. w.is_refused) script status)
+        (RanWhole ⟦<PlainReader<P::File> as TellingReader>⟧.gives (λ plain. plain.0)
+        ⟦<PatientWriter<PlainWriter<Printer<'a, P>>> as TellingWriter>⟧.answers script status))) }
+{
+    match orders.file {
+        None => run_on_standard(rt, alloc, orders, input),
+        Some(path) => {
+            drop(input);
+            run_file(rt, alloc, orders, path)
+        }
+    }
 }

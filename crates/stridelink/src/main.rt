@@ -1,11 +1,8 @@
 //! A link that shares its bandwidth among packet flows by tickets, driven by a script of lines or by sockets.
 #![tactic(auto)]
 
-ghost use Rattle.std.specs.Prelude.{◌≡◌, None, IfOk, IfErr, IsNone, IsSome};
-ghost use Rattle.std.specs.Io.Buffered.{reader_inner};
+ghost use Rattle.std.specs.Prelude.{◌≡◌, IfErr};
 ghost use Rattle.std.specs.Process.{exit_status};
-ghost use Rattle.share_asked.specs.Statuses.{IsAsAsked, OfSomeScript, RanStrictly, RanWhole};
-ghost use Rattle.share_core.specs.Life.{life_refusal};
 ghost use Rattle.share_script.specs.declared.script.ScriptFault.TheVariants.{NoMemory};
 ghost use Rattle.share_words.specs.Orders.{CanBeServed};
 ghost use Rattle.stridelink.specs.Serves.{HasServed, IsStatusOfService};
@@ -13,15 +10,14 @@ ghost use Rattle.stridelink.specs.Serves.{HasServed, IsStatusOfService};
 mod serving;
 
 use crate::serving::serve;
-use share_asked::{PlainTariffs, StandIns, bill_given, run_on_standard, show, tell_served};
-use share_model::{PatientWriter, PlainReader, PlainWriter, TellingReader, TellingWriter};
-use share_runs::{LineReader, StrictWriter};
+use share_asked::{PlainTariffs, StandIns, bill_given, run_given, show, tell_served};
+use share_model::{PatientWriter, PlainWriter, TellingWriter};
 use share_script::ScriptFault;
 use share_server::{AuditFile, Keep};
 use share_words::{Asked, Orders, ServeOrders, parse};
 use std::alloc::Global;
-use std::fs::{File, Files};
-use std::io::{BufReader, Eprint, IsTerminal, Print, Printer, Read, StdinLock};
+use std::fs::Files;
+use std::io::{Eprint, IsTerminal, Print, Printer, Read};
 use std::net::{Net, TcpListener, TcpStream};
 use std::process::ExitCode;
 use std::sync::Wait;
@@ -33,67 +29,10 @@ use std::{env, io};
 const AT_TERMINAL: &str =
     "stridelink: reads the lines of a script; 'stridelink run --help' tells them";
 
-// Runs the script that standard input brings.
-fn run_input<'a>(rt: &'a HostRuntime, orders: Orders<'_>) -> Result<ExitCode, ScriptFault>
-    requires { life_refusal orders.life ≡ None }
-    ensures { IfOk result (λ status. OfSomeScript (λ script. IsAsAsked orders.entry.is_strict
-        (RanStrictly ⟦<LineReader<PlainReader<BufReader<StdinLock<'a>>>> as TellingReader>⟧.gives
-        (λ lines. reader_inner lines.input.0)
-        ⟦<StrictWriter<PatientWriter<PlainWriter<Printer<'a, HostRuntime>>>> as TellingWriter>⟧.answers
-        (λ w. w.is_refused) script status)
-        (RanWhole ⟦<PlainReader<StdinLock<'a>> as TellingReader>⟧.gives (λ plain. plain.0)
-        ⟦<PatientWriter<PlainWriter<Printer<'a, HostRuntime>>> as TellingWriter>⟧.answers script status))) }
-{
-    if rt.stdin().is_terminal() {
+// Tells a terminal what it is asked for, if the lines of a script come from there.
+fn tell_terminal(rt: &HostRuntime, orders: &Orders<'_>) {
+    if orders.file.is_none() && rt.stdin().is_terminal() {
         let _ = eprintln!(rt; "{AT_TERMINAL}");
-    }
-    run_on_standard(rt, rt.alloc(), orders, rt.reader())
-}
-
-// Runs the script of this file.
-fn run_file<'a>(
-    rt: &'a HostRuntime,
-    orders: Orders<'_>,
-    path: &str,
-) -> Result<ExitCode, ScriptFault>
-    requires { life_refusal orders.life ≡ None }
-    ensures { IfOk result (λ status. OfSomeScript (λ script. IsAsAsked orders.entry.is_strict
-        (RanStrictly ⟦<LineReader<PlainReader<BufReader<File>>> as TellingReader>⟧.gives
-        (λ lines. reader_inner lines.input.0)
-        ⟦<StrictWriter<PatientWriter<PlainWriter<Printer<'a, HostRuntime>>>> as TellingWriter>⟧.answers
-        (λ w. w.is_refused) script status)
-        (RanWhole ⟦<PlainReader<File> as TellingReader>⟧.gives (λ plain. plain.0)
-        ⟦<PatientWriter<PlainWriter<Printer<'a, HostRuntime>>> as TellingWriter>⟧.answers script status))) }
-{
-    let Ok(file) = File::open(rt, path) else {
-        return Err(ScriptFault::Input);
-    };
-    run_on_standard(rt, rt.alloc(), orders, file)
-}
-
-// Runs the script that is asked for.
-fn run_given<'a>(rt: &'a HostRuntime, orders: Orders<'_>) -> Result<ExitCode, ScriptFault>
-    requires { life_refusal orders.life ≡ None }
-    ensures input { IsNone orders.entry.file
-        → IfOk result (λ status. OfSomeScript (λ script. IsAsAsked orders.entry.is_strict
-        (RanStrictly ⟦<LineReader<PlainReader<BufReader<StdinLock<'a>>>> as TellingReader>⟧.gives
-        (λ lines. reader_inner lines.input.0)
-        ⟦<StrictWriter<PatientWriter<PlainWriter<Printer<'a, HostRuntime>>>> as TellingWriter>⟧.answers
-        (λ w. w.is_refused) script status)
-        (RanWhole ⟦<PlainReader<StdinLock<'a>> as TellingReader>⟧.gives (λ plain. plain.0)
-        ⟦<PatientWriter<PlainWriter<Printer<'a, HostRuntime>>> as TellingWriter>⟧.answers script status))) }
-    ensures file { IsSome orders.entry.file
-        → IfOk result (λ status. OfSomeScript (λ script. IsAsAsked orders.entry.is_strict
-        (RanStrictly ⟦<LineReader<PlainReader<BufReader<File>>> as TellingReader>⟧.gives
-        (λ lines. reader_inner lines.input.0)
-        ⟦<StrictWriter<PatientWriter<PlainWriter<Printer<'a, HostRuntime>>>> as TellingWriter>⟧.answers
-        (λ w. w.is_refused) script status)
-        (RanWhole ⟦<PlainReader<File> as TellingReader>⟧.gives (λ plain. plain.0)
-        ⟦<PatientWriter<PlainWriter<Printer<'a, HostRuntime>>> as TellingWriter>⟧.answers script status))) }
-{
-    match orders.file {
-        None => run_input(rt, orders),
-        Some(path) => run_file(rt, orders, path),
     }
 }
 
@@ -143,7 +82,10 @@ fn main(rt: HostRuntime) -> ExitCode {
     };
     let obeyed = match parse(rt.alloc(), words.as_ref().map(|words| words.as_slice())) {
         Ok(Asked::Text(text)) => show(&rt, &text),
-        Ok(Asked::Run(orders)) => run_given(&rt, orders),
+        Ok(Asked::Run(orders)) => {
+            tell_terminal(&rt, &orders);
+            run_given(&rt, rt.alloc(), orders, rt.reader())
+        }
         Ok(Asked::Serve(orders)) => Ok(serve_given(&rt, rt.alloc(), orders, rt.reader())),
         Ok(Asked::Bill(orders)) => bill_given(&rt, rt.alloc(), orders),
         Err(_) => Err(ScriptFault::NoMemory),

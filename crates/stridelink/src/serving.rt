@@ -5,8 +5,9 @@ ghost use Rattle.share_words.specs.Orders.{CanBeServed};
 ghost use Rattle.stridelink.specs.Serves.{HasServed};
 
 use share_asked::{Unserved, prepared, result_of_run};
+use share_journal::Journal;
 use share_model::{PatientWriter, PlainWriter, Rates, TellingWriter};
-use share_server::{AuditFile, Keep, Plan, serve_on};
+use share_server::{AuditFile, Keep, Plan, Sockets, serve_on};
 use share_words::ServeOrders;
 use std::alloc::Global;
 use std::fs::Files;
@@ -45,12 +46,46 @@ where
             return Err(fault);
         }
     };
+    let mut output = PatientWriter(PlainWriter(io::writer(rt)));
+    serve_link(
+        rt,
+        alloc,
+        shelf,
+        journal,
+        sockets,
+        orders,
+        input,
+        audit,
+        &mut output,
+    )
+}
+
+// Serves a link whose journal and sockets are prepared.
+fn serve_link<'a, R, S, I, K, O>(
+    rt: &R,
+    alloc: Global,
+    shelf: S,
+    journal: Journal,
+    sockets: Sockets,
+    orders: ServeOrders<'a>,
+    input: I,
+    keep: K,
+    output: &mut O,
+) -> Result<(), Unserved<'a>>
+where
+    R: Threads + Wait + Clock + Eprint + Copy + Send + Sync + 'static,
+    S: Rates + Send + Drop,
+    I: Read + Send + Drop + 'static,
+    K: Keep + Drop,
+    O: TellingWriter,
+    requires { CanBeServed orders.life orders.workers orders.clerks }
+    ensures { OnOk result (HasServed K.kept O.told O.answers) }
+{
     let plan = Plan {
         workers: orders.workers as usize,
         clerks: orders.clerks as usize,
         is_verbose: orders.is_verbose,
     };
-    let mut output = PatientWriter(PlainWriter(io::writer(rt)));
     let until = if orders.is_until_eof {
         Some(input)
     } else {
@@ -58,15 +93,7 @@ where
         None
     };
     let served = serve_on(
-        rt,
-        alloc,
-        shelf,
-        journal,
-        sockets,
-        plan,
-        until,
-        audit,
-        &mut output,
+        rt, alloc, shelf, journal, sockets, plan, until, keep, output,
     );
     result_of_run(served, orders.audit)
 }

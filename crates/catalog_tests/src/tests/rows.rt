@@ -1,4 +1,4 @@
-//! share_catalog: rows that are read and written, and texts that are none.
+//! share_catalog: rows that are read and written, and texts that are no rows.
 
 use crate::tests::assertions::{holds, same};
 use share_catalog::{
@@ -14,13 +14,17 @@ const HEADER: &str =
 
 /// A book of one hour under two tariffs, one whose text is no run, and one with the greatest numbers.
 const HOUR: &str =
-    "1,lengths,2026-01-31T22:59:59Z,2026-01-31T23:59:59Z,period,48/16/2 1/0/1,12,3,54,64,90,e3b0c44298fc1c149afbf4c8996fb92427ae41e4649b934ca495991b7852b855";
+    "1,lengths,2026-01-31T22:59:59Z,2026-01-31T23:59:59Z,period,48/16/2 1/0/1,12,3,54,64,90,\
+     e3b0c44298fc1c149afbf4c8996fb92427ae41e4649b934ca495991b7852b855";
 
-const NO_RUN: &str =
-    "2,whole,2026-02-01T00:00:00Z,2026-02-01T00:00:00Z,bad,,0,0,0,0,0,ba7816bf8f01cfea414140de5dae2223b00361a396177a9cb410ff61f20015ad";
+const NO_RUN: &str = "2,whole,2026-02-01T00:00:00Z,2026-02-01T00:00:00Z,bad,,0,0,0,0,0,\
+     ba7816bf8f01cfea414140de5dae2223b00361a396177a9cb410ff61f20015ad";
 
-const GREATEST: &str =
-    "18446744073709551615,whole,0000-01-01T00:00:00Z,9999-12-31T23:59:59Z,spent,2048/1024/65535 2048/1024/65535 2048/1024/65535 2048/1024/65535 2048/1024/65535 2048/1024/65535 2048/1024/65535 2048/1024/65535,18446744073709551615,18446744073709551615,18446744073709551615,18446744073709551615,18446744073709551615,ffffffffffffffffffffffffffffffffffffffffffffffffffffffffffffffff";
+const GREATEST: &str = "18446744073709551615,whole,0000-01-01T00:00:00Z,9999-12-31T23:59:59Z,spent,\
+     2048/1024/65535 2048/1024/65535 2048/1024/65535 2048/1024/65535 \
+     2048/1024/65535 2048/1024/65535 2048/1024/65535 2048/1024/65535,\
+     18446744073709551615,18446744073709551615,18446744073709551615,18446744073709551615,18446744073709551615,\
+     ffffffffffffffffffffffffffffffffffffffffffffffffffffffffffffffff";
 
 const ROWS: [&str; 3] = [HOUR, NO_RUN, GREATEST];
 
@@ -40,7 +44,7 @@ const COLUMNS: [&str; 12] = [
     "e3b0c44298fc1c149afbf4c8996fb92427ae41e4649b934ca495991b7852b855",
 ];
 
-/// What stands in a column instead, and the column that is named.
+/// A text in place of a column, and the column that the fault names.
 const WRONG: [(usize, &str, Column); 22] = [
     (0, "01", Column::Book),
     (0, "", Column::Book),

@@ -21,7 +21,7 @@ const OPEN: BookState = BookState {
 
 const CLOSED: BookText = BookText::Closed { is_run: true };
 
-/// What a folder has of a book, and the step that is next.
+/// The files of a book in its folder, and the step that is next.
 const STEPS: [(BookState, Option<Step>); 14] = [
     (OPEN, Some(CloseText)),
     (

@@ -602,7 +602,7 @@ name = "acme"
 name = "bond"
 "#;
 
-/// What follows a file's sections, and why its plan cannot be opened.
+/// The end of a file, and why its plan cannot be opened.
 #[derive(Clone, Copy, Debug)]
 pub(super) struct Plan {
     pub text: &'static str,

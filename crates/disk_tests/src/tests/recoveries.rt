@@ -25,7 +25,7 @@ const CLOSED: [Named; 3] = [
     ("books.csv", CSV),
 ];
 
-/// What a kill before and after each step of a close leaves, and texts that cannot be closed.
+/// Folders that a kill before and after each step of a close leaves, and texts that cannot be closed.
 const CASES: [Case; 12] = [
     Case {
         name: "nothing",

@@ -95,7 +95,7 @@ def numbers(run):
 
 def faults(run):
     """Each fault text of the sources stands among the diagnostics; what is named in it is ADDR or FILE."""
-    texts = [text for path in (("share_server", "faults.rt"), ("stridelink", "serving.rt"),
+    texts = [text for path in (("share_served", "faults.rt"), ("share_asked", "services.rt"),
                                ("share_script", "script.rt"))
              for text in re.findall(r'#\[error\("(.*?)"\)\]', source(*path)) if text != "{0}"]
     names = [text.replace("{0}", "FILE" if "audit" in text else "ADDR") for text in texts]
@@ -105,7 +105,7 @@ def faults(run):
 def told(run):
     """Each line of --verbose stands in the page, with capital letters for what is put in, and each word for an end."""
     texts = set()
-    for path in (("share_server", "setup.rt"), ("share_server", "threads.rt"), ("share_server", "shutdown.rt"),
+    for path in (("share_served", "setup.rt"), ("share_server", "threads.rt"), ("share_served", "shutdown.rt"),
                  ("share_connections", "connections.rt")):
         text = source(*path)
         texts |= set(re.findall(r'format_args!\("(.*?)"\)', text)) | set(re.findall(r'tell\(rt, "(.*?)"\)', text))
@@ -117,7 +117,7 @@ def told(run):
         for word in (("control", "ingress") if "{word}" in text else ("",)):
             lines.add(re.sub(r"\{(.*?)\}", lambda put: letters[put.group(1)], text.replace("{word}", word)))
     expect_all(sorted(lines), 9, page(COMMANDS), "what --verbose tells")
-    ends = re.findall(r'=> "([A-Z][A-Za-z]+)"', source("share_server", "ingress.rt"))
+    ends = re.findall(r'=> "([A-Z][A-Za-z]+)"', source("share_served", "ingress.rt"))
     how = re.search(r"enum How \{(.*?)\}", source("share_control", "attending.rt"), re.DOTALL).group(1)
     expect_all(ends + re.findall(r"^    ([A-Z]\w+),", how, re.MULTILINE), 12, page(COMMANDS), "how connections end")
 

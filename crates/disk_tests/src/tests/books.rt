@@ -57,7 +57,8 @@ end
 /// `books.csv` with its row, as the next start writes it after a kill.
 pub(super) const CSV: &str =
     "book,kind,opened,closed,why,tariffs,events,packets,bytes,units,amount,sha256
-1,lengths,2026-01-31T23:59:59Z,2026-01-31T23:59:59Z,cut,1/0/1 48/16/2,13,1,18,18,18,60d14de99524e374a5dc44361c89d40f864ebd63756e05254cbf2360ef2759b0
+1,lengths,2026-01-31T23:59:59Z,2026-01-31T23:59:59Z,cut,1/0/1 48/16/2,13,1,18,18,18,\
+     60d14de99524e374a5dc44361c89d40f864ebd63756e05254cbf2360ef2759b0
 ";
 
 /// `books.csv` with a part of its row.
@@ -73,5 +74,6 @@ turn 18
 /// `books.csv` with the row of that text.
 pub(super) const BAD_CSV: &str =
     "book,kind,opened,closed,why,tariffs,events,packets,bytes,units,amount,sha256
-1,lengths,2026-01-31T23:59:59Z,2026-01-31T23:59:59Z,bad,1/0/1 48/16/2,0,0,0,0,0,a3cd398161580d9e146a304b505c7432bd8767a19c605e0720484403db27426c
+1,lengths,2026-01-31T23:59:59Z,2026-01-31T23:59:59Z,bad,1/0/1 48/16/2,0,0,0,0,0,\
+     a3cd398161580d9e146a304b505c7432bd8767a19c605e0720484403db27426c
 ";

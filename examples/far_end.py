@@ -2,8 +2,9 @@
 """The far end of an uplink: accepts one connection, and counts the units of each flow whose frames arrive.
 
 It prints the address that it listens on. Then it prints a line of JSON every twentieth of a second, and one at the end:
-the seconds since the first byte, and for each flow its number and its units so far. With --rate it reads that many bytes
-a second. It ends with the connection. Bytes that are no frame of version 2 end it with status 1.
+the seconds since the first byte, for each flow its number and its units so far, and of the longest pause between two
+reads since the line before the time by the system's clock and the seconds. With --rate it reads that many bytes a
+second. It ends with the connection. Bytes that are no frame of version 2 end it with status 1.
 """
 import argparse
 import json
@@ -84,18 +85,23 @@ class Allowance:
 def count_all(connection, rate):
     """Reads to the end, and prints the counts."""
     counts, allowance = Counts(), Allowance(rate) if rate else None
-    start = last = None
+    start = last = read = None
+    pause = (0.0, 0.0)
     while True:
         data = connection.recv(allowance.take() if allowance else MOST)
-        instant = time.perf_counter()
+        instant = time.monotonic()
         start = start or instant
+        if read and instant - read > pause[1]:
+            pause = (read, instant - read)
+        read = instant
         if data:
             counts.feed(data)
             if allowance:
                 allowance.used(len(data))
         if not data or instant - (last or start) >= INTERVAL:
             last = instant
-            print(json.dumps([instant - start, counts.units]), flush=True)
+            print(json.dumps([instant - start, counts.units, pause]), flush=True)
+            pause = (0.0, 0.0)
         if not data:
             return
 

@@ -85,20 +85,27 @@ def started(words, prefix=()):
 
 
 class FarEnd:
-    """The far end. Each sample is the seconds since the first byte, and the units by flow."""
+    """The far end. Each sample is the seconds since the first byte, and the units by flow. A pause is its time and its
+    seconds."""
 
     def __init__(self, rate=0, listen="127.0.0.1:0", prefix=()):
         words = [os.path.join(EXAMPLES, "far_end.py"), "--listen", listen, "--rate", str(rate)]
         self.program = started(words, prefix)
         self.address = self.program.first
         self.samples = []
+        self.pauses = []
         self.thread = threading.Thread(target=self.read, daemon=True)
         self.thread.start()
 
     def read(self):
         for line in self.program.process.stdout:
-            seconds, units = json.loads(line)
+            seconds, units, pause = json.loads(line)
             self.samples.append((seconds, {int(flow): count for flow, count in units.items()}))
+            self.pauses.append(pause)
+
+    def longest_pause(self, start, end):
+        """The longest pause that began between two times of the system's clock, in seconds."""
+        return max((seconds for began, seconds in list(self.pauses) if start <= began <= end), default=0.0)
 
     def seconds(self):
         """How many seconds it has counted."""

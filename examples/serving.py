@@ -640,13 +640,13 @@ def limit_time():
         signal.signal(number, ended)
 
 
-def holds(case, limit, end):
+def holds(case, limit, end, run_kind=Run):
     """Tries a case, which has a limit of seconds and what is left until the end of all; whether it holds. Tells why
-    not."""
+    not. The case gets a run of this kind."""
     start = time.monotonic()
     signal.alarm(max(1, min(limit, int(end - start))))
     try:
-        with Run() as run:
+        with run_kind() as run:
             case(run)
     except Exception as fault:
         trace = traceback.extract_tb(fault.__traceback__)
@@ -661,7 +661,7 @@ def holds(case, limit, end):
     return True
 
 
-def try_cases(cases, limit, limit_of_all):
+def try_cases(cases, limit, limit_of_all, run_kind=Run):
     """Tries those cases that the words name, or all, within a limit of seconds for each and one for all of them, and
     ends the program with the status."""
     names = {case.__name__: case for case in cases}
@@ -669,5 +669,6 @@ def try_cases(cases, limit, limit_of_all):
         sys.exit("the cases are " + " ".join(names))
     limit_time()
     end = time.monotonic() + limit_of_all
-    failed = [case for case in cases if case.__name__ in (sys.argv[1:] or names) and not holds(case, limit, end)]
+    wanted = sys.argv[1:] or names
+    failed = [case for case in cases if case.__name__ in wanted and not holds(case, limit, end, run_kind)]
     sys.exit(1 if failed else 0)

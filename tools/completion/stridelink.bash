@@ -4,7 +4,7 @@ _stridelink() {
     local word=${COMP_WORDS[COMP_CWORD]} before=${COMP_WORDS[COMP_CWORD - 1]} wanted= option
     COMPREPLY=()
     if ((COMP_CWORD == 1)); then
-        mapfile -t COMPREPLY < <(compgen -W "run serve bill help --help --version" -- "$word")
+        mapfile -t COMPREPLY < <(compgen -W "run serve bill gateway ask help --help --version" -- "$word")
         return
     fi
     case ${COMP_WORDS[1]} in
@@ -13,6 +13,11 @@ _stridelink() {
             wanted="--ingress --control --uplink --audit --workers --life --clerks --until-eof --verbose --help"
             ;;
         bill) wanted="--csv --json --help" ;;
+        gateway) wanted="--check --grace --until-eof --quiet --help" ;;
+        ask)
+            wanted="report status hold resume amend rotate reload end --help"
+            ((COMP_CWORD > 2)) || wanted="unix: --help"
+            ;;
         help) wanted="run serve bill" ;;
     esac
     # In --audit=FILE the sign is a word of its own.
@@ -21,15 +26,23 @@ _stridelink() {
     elif [[ $before == = ]]; then
         before=${COMP_WORDS[COMP_CWORD - 2]}
     fi
+    # In unix:PATH the colon is a word of its own.
+    if [[ ${COMP_WORDS[1]} == ask && $word == : ]]; then
+        before=$word word=
+    fi
     case $before in
+        :)
+            [[ ${COMP_WORDS[1]} != ask || ${COMP_WORDS[2]} != unix ]] || compopt -o default
+            return
+            ;;
         --audit)
             compopt -o default
             return
             ;;
         --workers | --clerks) wanted="1 2 3 4 5 6 7 8" ;;
-        --ingress | --control | --uplink | --life | :) return ;;
+        --ingress | --control | --uplink | --life | --grace) return ;;
         *)
-            if [[ ${COMP_WORDS[1]} =~ ^(run|bill)$ && $word != -* ]]; then
+            if [[ ${COMP_WORDS[1]} =~ ^(run|bill|gateway)$ && $word != -* ]]; then
                 compopt -o default
                 return
             fi
@@ -40,6 +53,7 @@ _stridelink() {
             ;;
     esac
     mapfile -t COMPREPLY < <(compgen -W "$wanted" -- "$word")
+    [[ ${COMPREPLY-} != unix: ]] || compopt -o nospace
 }
 
 complete -F _stridelink stridelink

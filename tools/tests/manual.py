@@ -1,12 +1,12 @@
 #!/usr/bin/env python3
-"""Tries the manual pages: mandoc finds nothing to say, what the sources of the program have stands in the pages, and so
-do the lines, answers and texts that the program tells; and their examples are answered as they show. The page of the
-tools has their options."""
+"""Tries the manual pages: mandoc finds nothing to say, what the sources of the programs have stands in the pages, and so
+do the lines, answers and texts that the programs print; and their examples are answered as they show. The page of the
+tools has their options, and the page of a gateway's file has its keys."""
 import os
 import re
 import subprocess
 
-from trying import LIMIT, TOP, expect, expect_equal, expect_works, try_cases, write
+from trying import GATEWAY, LIMIT, TOP, expect, expect_equal, expect_works, try_cases, write
 
 from serving import PROGRAM
 
@@ -14,6 +14,12 @@ FOLDER = os.path.join(TOP, "docs", "man")
 COMMANDS = "stridelink.1"
 FORMATS = "stridelink.5"
 TOOL_PAGE = "stridelink-tools.1"
+GATEWAY_PAGE = "stridelink-gateway.1"
+FILE_PAGE = "stridelink-gateway.5"
+PAGES = (COMMANDS, FORMATS, TOOL_PAGE, GATEWAY_PAGE, FILE_PAGE)
+
+# What stands in the page for a place in the text of a fault.
+PLACES = {"number": "N", "0": "LINE", "fault": "REASON", "reason": "REASON", "port": "PORT", "address": "ADDRESS"}
 
 
 def page(name):
@@ -30,6 +36,19 @@ def words_of(text):
 def section(text, title):
     """The part of a page under this title."""
     return re.search(r"^%s$(.*?)(?=^[A-Z]|\Z)" % title, text, re.MULTILINE | re.DOTALL).group(1)
+
+
+def subsection(text, title):
+    """The part of a section under this title."""
+    return re.search(r"^   %s$(.*?)(?=^ {0,3}\S|\Z)" % re.escape(title), text, re.MULTILINE | re.DOTALL).group(1)
+
+
+def paragraph(text, tag):
+    """The paragraph of a list under this tag."""
+    found = re.search(r"^     (?:[\w -]+, )?%s(?= |,|$)(.*?)(?=^ {0,5}\S|\Z)" % re.escape(tag), text,
+                      re.MULTILINE | re.DOTALL)
+    expect(found, "no paragraph of %s" % tag)
+    return found.group(1)
 
 
 def source(crate, *path):
@@ -49,7 +68,7 @@ def expect_all(wanted, least, text, what):
 
 def lint(run):
     """mandoc has nothing to say about the pages."""
-    done = subprocess.run(["mandoc", "-T", "lint", COMMANDS, FORMATS, TOOL_PAGE], cwd=FOLDER, stdout=subprocess.PIPE,
+    done = subprocess.run(["mandoc", "-T", "lint", *PAGES], cwd=FOLDER, stdout=subprocess.PIPE,
                           stderr=subprocess.STDOUT, timeout=LIMIT, check=False)
     expect_equal((done.returncode, done.stdout.decode()), (0, ""), "what mandoc says")
 
@@ -67,6 +86,26 @@ def options(run):
     paragraphs = re.findall(r"^     (?:-\w, )?(--.*)$", section(page(COMMANDS), "DESCRIPTION"), re.MULTILINE)
     missing = {*wanted, "--help", "--version"} - set(paragraphs)
     expect(not missing, "options without a paragraph: %s" % missing)
+
+
+def gateway_options(run):
+    """Each option of a gateway stands in the synopsis and has a paragraph, and so have the arguments and the words of
+    its program. The numbers of the grace are those of the sources."""
+    words = source("share_gateway_words", "gateway_words.rt")
+    flags = re.findall(r'\.long\("([a-z-]+)"\)\s*(?:\.value_name\("([A-Z]+)"\))?', words)
+    others = re.findall(r'\bflag\(\s*alloc,\s*"([a-z-]+)"()', words)
+    wanted = [("--%s %s" % option).strip() for option in flags + others]
+    text = page(GATEWAY_PAGE)
+    expect_all(wanted, 4, section(text, "SYNOPSIS"), "options in the synopsis")
+    expect_all(("-h", "--help", "FILE", "ADDRESS LINE ...", "gateway", "ask"), 6, section(text, "SYNOPSIS"),
+               "words in the synopsis")
+    for option in (*wanted, "--help"):
+        paragraph(section(text, "DESCRIPTION"), option)
+    most = re.search(r"MAX_GRACE: u64 = (\d+);", words).group(1)
+    grace = re.search(r"GRACE: u64 = (\d+);", words.replace("MAX_GRACE", "")).group(1)
+    default = re.search(r'default_value\("(\d+)"\)', words).group(1)
+    expect_equal(grace, default, "the grace")
+    expect_all(("0 to %s, and %s without the option" % (most, grace),), 1, text, "numbers of the grace")
 
 
 def tool_options(run):
@@ -100,6 +139,82 @@ def faults(run):
              for text in re.findall(r'#\[error\("(.*?)"\)\]', source(*path)) if text != "{0}"]
     names = [text.replace("{0}", "FILE" if "audit" in text else "ADDR") for text in texts]
     expect_all(sorted(set(names)), 14, section(page(COMMANDS), "DIAGNOSTICS"), "faults")
+
+
+def fault_texts(text):
+    """The texts of faults in a source, with the names that the page has in their places."""
+    found = re.findall(r'#\[error\("(.*?)"\)\]', text) + re.findall(r'write!\(\s*f,\s*"(\w.*?)"', text)
+    found += re.findall(r'&str = "(cannot .*?)"', text) + re.findall(r'write_str\("(.*?) ?"\)', text)
+    return {re.sub(r"\{(\w+)\}", lambda put: PLACES.get(put.group(1), put.group(0)), each) for each in found}
+
+
+def gateway_faults(run):
+    """Each fault text of a gateway's program stands among the diagnostics."""
+    texts = set()
+    for path in (("gateway", "faults.rt"), ("gateway", "asking.rt"), ("gateway", "texts.rt"),
+                 ("share_asking", "talk.rt"), ("share_reactor", "faults.rt")):
+        texts |= fault_texts(source(*path))
+    wanted = [text for text in texts if "{" not in text and text != "LINE" and not re.match(r"(unix|udp|fd)", text)]
+    expect_all(sorted(wanted), 10, section(page(GATEWAY_PAGE), "DIAGNOSTICS"), "faults of a gateway")
+
+
+def gateway_lines(run):
+    """Each control line and each kind of message has a paragraph, and each member of the status stands in the page."""
+    text = page(GATEWAY_PAGE)
+    orders = re.findall(r'keyword == b"(\w+)"', source("share_orders", "orders.rt"))
+    expect(len(orders) == 8, "control lines in the sources: %s" % orders)
+    for order in orders:
+        paragraph(subsection(text, "Control lines"), order)
+    kinds = re.findall(r'Kind::\w+ => "(\w+)"', source("share_messages", "kind.rt"))
+    expect(len(kinds) >= 17, "kinds of messages in the sources: %s" % kinds)
+    for kind in kinds:
+        paragraph(subsection(text, "Messages"), "`%s'" % kind)
+    shown = set(re.findall(r"^     `(\w+)'(?: |$)", subsection(text, "Messages"), re.MULTILINE))
+    expect_equal(sorted(shown), sorted(kinds), "kinds of messages")
+
+
+def table_of_settings():
+    """The rows of the table of settings in docs/CONFIGURATION.md: table, key and value."""
+    with open(os.path.join(TOP, "docs", "CONFIGURATION.md"), encoding="utf-8") as file:
+        rows = re.findall(r"^\| (.*?) ?\| `(\w+)` \| (.*) \|$", file.read(), re.MULTILINE)
+    table, found = "", []
+    for name, key, value in rows:
+        table = name.strip("`[]") or table
+        found.append((table, key, value))
+    return found
+
+
+def settings(run):
+    """Each key of the sources has a paragraph in the part of its table, with the numbers and the words that the table of
+    settings has."""
+    text = page(FILE_PAGE)
+    keys = source("share_config", "key.rt")
+    spelled = dict(re.findall(r'Key::(\w+) => "(\w+)"', keys))
+    tables = re.findall(r"Place::(\w+)[^\n]*? => &\[(.*?)\]", keys, re.DOTALL)
+    known = {(place, spelled[key]) for place, names in tables for key in re.findall(r"Key::(\w+)", names)
+             if place != "File"}
+    titles = {"Uplink": "uplink", "Books": "books", "Control": "control", "Downlink": "downlink", "Tariff": "tariff",
+              "Currency": "currency", "Tenant": "tenant", "CurrencyTicket": "Tickets", "TenantTicket": "Tickets"}
+    for place, key in sorted(known):
+        paragraph(subsection(text, titles[place]), key)
+    rows = table_of_settings()
+    wanted = {(titles[place], key) for place, key in known}
+    expect_equal(sorted({("Tickets" if table == "a ticket" else table, key) for table, key, _ in rows}), sorted(wanted),
+                 "the keys of docs/CONFIGURATION.md")
+    for table, key, value in rows:
+        part = paragraph(subsection(text, "Tickets" if table == "a ticket" else table), key)
+        words = set(re.findall(r"\d+", value.replace("(10)", ""))) | set(re.findall(r"`([a-z0-9]+)`", value))
+        missing = [word for word in words if not re.search(r"(?<!\w)%s(?!\w)" % word, part)]
+        expect(not missing, "%s of %s in the page has no %s" % (key, table, missing))
+
+
+def example_file(run):
+    """The example of a gateway's file has no fault, as the program says."""
+    text = section(page(FILE_PAGE), "EXAMPLES")
+    path = write(run.folder(), "gateway.toml", re.sub(r"^ +", "", text, flags=re.MULTILINE))
+    done = subprocess.run([GATEWAY, "gateway", "--check", path], stdout=subprocess.PIPE, stderr=subprocess.STDOUT,
+                          timeout=LIMIT, check=False)
+    expect_equal((done.returncode, done.stdout.decode()), (0, path + ": ok\n"), "the example of stridelink-gateway(5)")
 
 
 def told(run):
@@ -189,4 +304,5 @@ def answered(run, script):
     return subprocess.run([PROGRAM, "run", path], stdout=subprocess.PIPE, timeout=LIMIT, check=True).stdout.decode()
 
 
-try_cases(lint, options, tool_options, numbers, faults, told, statuses, refusals, lines_and_answers, examples)
+try_cases(lint, options, gateway_options, tool_options, numbers, faults, gateway_faults, gateway_lines, settings,
+          example_file, told, statuses, refusals, lines_and_answers, examples)

@@ -1,6 +1,6 @@
 #!/usr/bin/env python3
 """Tries the Debian package: that the same tree builds the same bytes, that lintian has no error, and, where dpkg has
-installed it in a root of its own, that the program, the pages, the tools, the completions, the dissector and the unit
+installed it in a root of its own, that the programs, the pages, the tools, the completions, the dissector and the unit
 work from where they lie there. That takes the rights of root."""
 import atexit
 import filecmp
@@ -16,7 +16,7 @@ import sys
 import tempfile
 import time
 
-from trying import LIMIT, TOOLS, TOP, audit, expect, expect_equal, expect_works, try_cases, write
+from trying import GATEWAY, LIMIT, TOOLS, TOP, audit, expect, expect_equal, expect_works, try_cases, write
 
 from serving import PATIENCE, PROGRAM, Failure, frame
 
@@ -71,9 +71,9 @@ class Root:
         return done.stdout.decode()
 
 
-def build(folder, program=PROGRAM):
+def build(folder, link=PROGRAM, gateway=GATEWAY):
     """Builds the package: the status, and what is told of faults."""
-    done = subprocess.run([os.path.join(TOOLS, "package"), program, folder], stdout=subprocess.DEVNULL,
+    done = subprocess.run([os.path.join(TOOLS, "package"), link, gateway, folder], stdout=subprocess.DEVNULL,
                           stderr=subprocess.PIPE, timeout=LIMIT, check=False)
     return done.returncode, done.stderr.decode()
 
@@ -120,13 +120,14 @@ def builds(run):
 
 
 def refused(run):
-    """A program of another version than the changelog's is not packed."""
+    """A program of another version than the changelog's is not packed, be it that of links or that of gateways."""
     folder = run.folder()
     program = write(folder, "program", "#!/bin/sh\necho stridelink 9.9.9\n")
     os.chmod(program, 0o755)
-    status, told = build(folder, program)
-    expect(status == 1 and told.startswith("package: the program is 'stridelink 9.9.9'"), "told: %s" % told)
-    expect_equal(os.listdir(folder), ["program"], "what is left")
+    for programs in ({"link": program}, {"gateway": program}):
+        status, told = build(folder, **programs)
+        expect(status == 1 and told.startswith("package: %s is 'stridelink 9.9.9'" % program), "told: %s" % told)
+        expect_equal(os.listdir(folder), ["program"], "what is left")
 
 
 def linted(run):
@@ -145,6 +146,21 @@ def first_example(run):
     answers = root.tell("/usr/bin/stridelink", "run", EXAMPLES + "/one-packet.script")
     expect_equal(answers, text(os.path.join(TOP, "examples", "one-packet.output")), "the answers")
     expect_equal(root.tell("cat", EXAMPLES + "/one-packet.output"), answers, "the answers in the package")
+
+
+def gateway_example(run):
+    """The command runs the program of gateways for its words, from its own name and from a link to it."""
+    root = installed()
+    example = re.search(r"^\.Bd .*?\n(.*?)^\.Ed", text(os.path.join(TOP, "docs", "man", "stridelink-gateway.5")),
+                        re.MULTILINE | re.DOTALL).group(1)
+    write(root.path("tmp"), "gateway.toml", example)
+    root.tell("ln", "-sf", "/usr/bin/stridelink", "/tmp/linked")
+    for name in ("stridelink", "/tmp/linked"):
+        told = root.tell(name, "gateway", "--check", "/tmp/gateway.toml")
+        expect_equal(told, "/tmp/gateway.toml: ok\n", "a check by %s" % name)
+        expect("ADDRESS" in root.tell(name, "ask", "--help"), "the help of ask by %s" % name)
+        expect_equal(root.tell(name, "--version"), root.tell("/usr/libexec/stridelink/stridelink-gateway", "--version"),
+                     "the versions of both programs")
 
 
 def pages(run):
@@ -228,6 +244,10 @@ COMPLETED = (
     ("run --st\tone-packet.s\t", ["run", "--strict", "one-packet.script"]),
     ("run --strict --st\t", ["run", "--strict", "--st"]),
     ("bi\t--c\tone-packet.s\t", ["bill", "--csv", "one-packet.script"]),
+    ("ga\t--ch\tone-packet.s\t", ["gateway", "--check", "one-packet.script"]),
+    ("gateway --grace one-packet.s\t", ["gateway", "--grace", "one-packet.s"]),
+    ("as\tun\tone-packet.s\tst\t", ["ask", "unix:one-packet.script", "status"]),
+    ("ask 127.0.0.1:7002 ro\tre\t", ["ask", "127.0.0.1:7002", "rotate", "re"]),
 )
 
 
@@ -240,7 +260,7 @@ def completes(run):
 
 def completes_all(run):
     """The options that are completed are those that help tells."""
-    for command in ("run", "serve", "bill"):
+    for command in ("run", "serve", "bill", "gateway"):
         told = installed().tell("stridelink", command, "-h")
         options = sorted(set(re.findall(r"^ .*?(--[a-z-]+)", told, re.MULTILINE)))
         completed = installed().tell("bash", "-c", ". %s; COMP_WORDS=(stridelink %s --) COMP_CWORD=2; _stridelink; "
@@ -289,7 +309,7 @@ def removed(run):
 
 CASES = [builds, refused, linted]
 if os.geteuid() == 0:
-    CASES += [first_example, pages, tools, completes, completes_all, dissects, unit, removed]
+    CASES += [first_example, gateway_example, pages, tools, completes, completes_all, dissects, unit, removed]
 else:
     print("package.py: only root can install the package, and what is installed is not tried", file=sys.stderr)
 try_cases(*CASES)

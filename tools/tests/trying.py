@@ -16,6 +16,9 @@ for folder in (TOOLS, os.path.join(TOP, "examples")):
 
 from serving import PROGRAM, Failure, Run, expect, expect_equal, limit_time  # noqa: E402
 
+# The program of gateways.
+GATEWAY = os.path.abspath(os.environ.get("GATEWAY", os.path.join(TOP, "bin", "stridelink-gateway")))
+
 # Seconds for a case.
 LIMIT = 120
 

@@ -2,7 +2,7 @@
 ghost use Rattle.std.specs.Prelude.{◌≡◌, [], IfOk};
 ghost use Rattle.share_disk.specs.OpenText.{HasText};
 
-use crate::files::{make_new, write_new};
+use crate::files::{make_new, write_new, write_soon};
 use crate::folder::Folder;
 use crate::open_text::OpenText;
 use share_catalog::{FileKind, Tariffs, tariffs_line};
@@ -34,6 +34,43 @@ impl Folder {
                 Err(fault)
             }
         }
+    }
+
+    /// Begins a book as `begin` does, and waits for nothing to be durable: `keep_begun` is to be called next. If that
+    /// fails, what it made is removed, and it may be called again.
+    pub fn begin_soon<R: Files<File = File>>(
+        &self,
+        rt: &R,
+        alloc: Global,
+        number: u64,
+        tariffs: &Tariffs,
+    ) -> io::Result<OpenText>
+        ensures number { IfOk result (λ text. text.number ≡ number) }
+        ensures bytes { IfOk result (λ text. HasText text []) }
+    {
+        let tariffs_path = self.path_of(alloc, number, FileKind::Tariffs)?;
+        let text_path = self.path_of(alloc, number, FileKind::Open)?;
+        let line = tariffs_line(tariffs);
+        write_soon(rt, tariffs_path.as_str(), line.as_bytes())?;
+        match make_new(rt, text_path.as_str()) {
+            Ok(file) => Ok(OpenText::over(file, number)),
+            Err(fault) => {
+                let _ = fs::remove_file(rt, tariffs_path.as_str());
+                Err(fault)
+            }
+        }
+    }
+
+    /// Makes the tariffs of a book durable that was begun, and the names of its files.
+    pub fn keep_begun<R: Files<File = File>>(
+        &self,
+        rt: &R,
+        alloc: Global,
+        number: u64,
+    ) -> io::Result<()> {
+        let path = self.path_of(alloc, number, FileKind::Tariffs)?;
+        fs::open(rt, path.as_str())?.sync_all()?;
+        self.sync()
     }
 
     // Makes the file of an open text, and makes its name durable. If that fails, the file that it made is removed.

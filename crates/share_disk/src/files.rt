@@ -32,6 +32,20 @@ pub(crate) fn write_new<R: Files<File = File>>(rt: &R, path: &str, bytes: &[u8])
     written
 }
 
+/// Makes a new file with these bytes. If that fails, the file that it made is removed.
+pub(crate) fn write_soon<R: Files<File = File>>(
+    rt: &R,
+    path: &str,
+    bytes: &[u8],
+) -> io::Result<()> {
+    let mut file = make_new(rt, path)?;
+    let written = file.write_all(bytes);
+    if written.is_err() {
+        let _ = fs::remove_file(rt, path);
+    }
+    written
+}
+
 // Writes bytes to a file, and makes them durable.
 fn write_durably(file: File, bytes: &[u8]) -> io::Result<()> {
     let mut file = file;

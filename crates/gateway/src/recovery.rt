@@ -1,0 +1,78 @@
+//! The folder of the books at a start.
+
+use crate::faults::NoFolder;
+use share_disk::{Folder, NoRun, RecoveredBook, Recovery};
+use share_messages::{Kind, Messages};
+use share_reactor::Place;
+use std::alloc::Global;
+use std::fmt;
+use std::fmt::{Display, Formatter};
+use std::fs::{File, Files};
+use std::io::Eprint;
+use std::time::Clock;
+
+/// What was done with a book.
+#[derive(Clone, Copy, Debug)]
+struct Done(RecoveredBook);
+
+impl Display for Done {
+    fn fmt<W: fmt::Write>(&self, f: &mut Formatter<W>) -> fmt::Result {
+        let number = self.0.number;
+        write!(f, "book {number}: ")?;
+        match self.0.recovery {
+            Recovery::Closed => f.write_str("cut, and closed"),
+            Recovery::Completed => f.write_str("its report and its row were written"),
+            Recovery::Removed => f.write_str("removed, since it had no whole line"),
+            Recovery::SetAside(reason) => print_reason(f, reason),
+        }
+    }
+}
+
+// Prints why a text was set aside.
+fn print_reason<W: fmt::Write>(f: &mut Formatter<W>, reason: NoRun) -> fmt::Result {
+    match reason {
+        NoRun::SetAside => f.write_str("its row was written, and it is set aside"),
+        NoRun::NoTariffs => f.write_str("set aside, since it has no tariffs"),
+        NoRun::Line { number, wrong } => {
+            write!(f, "set aside, since line {number} is no run's: {wrong}")
+        }
+    }
+}
+
+fn kind_of(recovery: Recovery) -> Kind {
+    match recovery {
+        Recovery::SetAside(_) => Kind::Bad,
+        Recovery::Closed | Recovery::Completed | Recovery::Removed => Kind::Recovered,
+    }
+}
+
+// Prints a line for each book with which something was done.
+fn print_books<R: Clock + Eprint>(rt: &R, alloc: Global, books: &[RecoveredBook], is_quiet: bool) {
+    let mut messages = Messages::new(alloc, is_quiet);
+    for book in books {
+        messages.say(rt, kind_of(book.recovery), None, Done(*book));
+    }
+    messages.flush(rt);
+}
+
+/// Locks the folder and recovers its books. Prints a line for each book with which something was done.
+pub(crate) fn open_books<R: Files<File = File> + Clock + Eprint>(
+    rt: &R,
+    alloc: Global,
+    path: &str,
+    is_quiet: bool,
+) -> Result<Place, NoFolder> {
+    let folder = Folder::open(rt, alloc, path)?;
+    match folder.recover(rt, alloc) {
+        Ok(recovered) => {
+            print_books(rt, alloc, recovered.books.as_slice(), is_quiet);
+            let number = recovered.next;
+            drop(recovered);
+            Ok(Place { folder, number })
+        }
+        Err(reason) => {
+            drop(folder);
+            Err(NoFolder::from(reason))
+        }
+    }
+}

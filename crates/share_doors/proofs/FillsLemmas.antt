@@ -1,0 +1,43 @@
+-- What the connections of a tenant do to a book, and what a door counts of it, call by call.
+use Rattle.std.proofs.Common.{◌≡◌, ℕ, refl, ap, sym, subst}
+use Rattle.share_model.specs.funding.Graph.{NameBytes}
+use Rattle.share_book.specs.Audited.{Audited}
+use Rattle.share_doors.specs.Door.{DoorView, counted}
+use Rattle.share_doors.specs.Fills.{Fills, nothing, packet}
+use Rattle.share_doors.specs.Takes.{TakesBytes, TakesOne, TakesOnly, nothing as takes_nothing, packet as takes_packet}
+
+-- nothing happened
+pub fills_nothing : (d e : DoorView) (a b : Audited) → e ≡ d → b ≡ a → Fills d a e b
+fills_nothing d e a b door book =
+    subst (λ (x : DoorView). Fills d a x b) (sym door)
+    (subst (λ (x : Audited). Fills d a d x) (sym book) (nothing d a))
+
+-- a packet was taken, and counted
+pub fills_one : (d e : DoorView) (n : ℕ) (a b : Audited) → e ≡ counted n d → TakesBytes d.tenant n a b → Fills d a e b
+fills_one d e n a b door one =
+    subst (λ (x : DoorView). Fills d a x b) (sym door) (packet d d a a b (nothing d a) n one)
+
+-- one call after others
+pub fills_then : (d e f : DoorView) (a b c : Audited) → Fills d a e b → Fills e b f c → Fills d a f c
+fills_then d _ _ a _ _ first (nothing e b) = first
+fills_then d _ _ a _ _ first (packet e f b g c more n one) =
+    packet d f a g c (fills_then d e f a b g first more) n one
+
+-- the tenant stays
+pub fills_tenant : (d e : DoorView) (a b : Audited) → Fills d a e b → e.tenant ≡ d.tenant
+fills_tenant _ _ _ _ (nothing d a) = refl
+fills_tenant _ _ _ _ (packet d e a b c more n one) = fills_tenant d e a b more
+
+-- only the counts change
+pub fills_same : (d e : DoorView) (a b : Audited) → Fills d a e b
+    → e ≡ record d { packets = e.packets; bytes = e.bytes }
+fills_same _ _ _ _ (nothing d a) = refl
+fills_same _ _ _ _ (packet d e a b c more n one) =
+    ap (λ (x : DoorView). counted n x) (fills_same d e a b more)
+
+-- packets of the tenant were taken
+pub fills_takes : (d e : DoorView) (a b : Audited) → Fills d a e b → TakesOnly d.tenant a b
+fills_takes _ _ _ _ (nothing d a) = takes_nothing d.tenant a
+fills_takes _ _ _ _ (packet d e a b c more n one) =
+    takes_packet d.tenant a b c (fills_takes d e a b more)
+    (subst (λ (name : NameBytes). TakesOne name b c) (fills_tenant d e a b more) one.one)

@@ -1,0 +1,50 @@
+use Rattle.std.proofs.Common.{refl, ◌∙◌, sym, subst}
+use Rattle.share_doors.specs.Door.{DoorView}
+use Rattle.share_doors.specs.Fills.{Fills, nothing}
+use Rattle.share_doors.specs.Takes.{nothing as takes_nothing}
+use Rattle.share_doors.proofs.FillsLemmas.{fills_same, fills_takes, fills_then}
+use Rattle.share_doors.proofs.door.Door.fill.Goals as goal
+
+pub returns-then-not-self-clause-book : goal.returns-then-not-self-clause-book
+returns-then-not-self-clause-book g c = takes_nothing _ _
+
+pub returns-then-not-self-clause-counted : goal.returns-then-not-self-clause-counted
+returns-then-not-self-clause-counted g c = nothing _ _
+
+pub packets-init : goal.packets-init
+packets-init g c = (nothing _ _, refl)
+
+pub packets-preserved : goal.packets-preserved
+packets-preserved g c = (
+  fills_then _ _ _ _ _ _ c.packets.invariant.0 c.serve_next.ensures.counted,
+  c.serve_next.ensures.plan ∙ c.packets.invariant.1,
+)
+
+pub returns-then-not-has_room-clause-same : goal.returns-then-not-has_room-clause-same
+returns-then-not-has_room-clause-same g c = fills_same _ _ _ _ c.packets.invariant.0
+
+pub returns-then-not-has_room-clause-book : goal.returns-then-not-has_room-clause-book
+returns-then-not-has_room-clause-book g c = fills_takes _ _ _ _ c.packets.invariant.0
+
+pub returns-then-idle-capacity-clause-same : goal.returns-then-idle-capacity-clause-same
+returns-then-idle-capacity-clause-same g c =
+    fills_same _ _ _ _
+    (subst (λ (d : DoorView). Fills c.args.self.now c.args.book.now.audited d c.serve_next.new.book.audited)
+    (sym c.self-in-packets-2.view_is)
+    (fills_then _ _ _ _ _ _ c.packets.invariant.0 c.serve_next.ensures.counted))
+
+pub returns-then-idle-capacity-clause-book : goal.returns-then-idle-capacity-clause-book
+returns-then-idle-capacity-clause-book g c =
+    fills_takes _ _ _ _ (fills_then _ _ _ _ _ _ c.packets.invariant.0 c.serve_next.ensures.counted)
+
+pub returns-then-idle-capacity-clause-counted : goal.returns-then-idle-capacity-clause-counted
+returns-then-idle-capacity-clause-counted g c =
+    subst (λ (d : DoorView). Fills c.args.self.now c.args.book.now.audited d c.serve_next.new.book.audited)
+    (sym c.self-in-packets-2.view_is)
+    (fills_then _ _ _ _ _ _ c.packets.invariant.0 c.serve_next.ensures.counted)
+
+pub returns-clause-same : goal.returns-clause-same
+returns-clause-same g c = fills_same _ _ _ _ c.packets.invariant.0
+
+pub returns-clause-book : goal.returns-clause-book
+returns-clause-book g c = fills_takes _ _ _ _ c.packets.invariant.0

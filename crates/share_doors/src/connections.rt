@@ -1,0 +1,55 @@
+//! What is done with all connections of a tenant.
+
+use crate::sender::{ClosedWhy, Sender};
+use slab::Slab;
+
+/// What a look at the connections found.
+#[derive(Clone, Copy, Debug)]
+pub(crate) enum Looked {
+    /// The key of one that is over.
+    Over(usize),
+    /// None is over, and one may be that has hung up, once what is held of it was taken.
+    Later,
+    /// None is over.
+    Nothing,
+}
+
+/// Looks for a connection that is over, also one that has hung up.
+pub(crate) fn look_over(senders: &mut Slab<Sender>) -> Looked {
+    let mut found = Looked::Nothing;
+    'keys: for key in 0..senders.capacity() {
+        let Some(sender) = senders.get_mut(key) else {
+            continue 'keys;
+        };
+        sender.look();
+        if sender.is_over() {
+            return Looked::Over(key);
+        }
+        if sender.may_be_over() {
+            found = Looked::Later;
+        }
+    }
+    found
+}
+
+/// Ends the connections that came by this port, or all of them.
+pub(crate) fn end_all(senders: &mut Slab<Sender>, port: Option<usize>) {
+    'keys: for key in 0..senders.capacity() {
+        if let Some(sender) = senders.get_mut(key) {
+            if port.is_none_or(|port| sender.port() == port) {
+                sender.end(ClosedWhy::Asked);
+            }
+        }
+    }
+}
+
+/// How many connections came by this port.
+pub(crate) fn count_at(senders: &Slab<Sender>, port: usize) -> usize {
+    let mut count: usize = 0;
+    'keys: for key in 0..senders.capacity() {
+        if senders.get(key).is_some_and(|sender| sender.port() == port) {
+            count = count.saturating_add(1);
+        }
+    }
+    count
+}

@@ -1,0 +1,228 @@
+//! One connection on which packets of a tenant come in.
+ghost use Rattle.std.specs.Prelude.{◌≡◌};
+ghost use Rattle.share_doors.specs.Takes.{GivesOne};
+
+use crate::held::HeldRecords;
+use share_base::Name;
+use share_book::{Book, Taken};
+use share_gateway::Cut;
+use share_model::Rates;
+use share_sockets::{Progress, Stream};
+use std::alloc::Global;
+use std::io;
+use std::io::{Error, ErrorKind};
+
+/// How many bytes are read in one call.
+const PIECE: usize = 4096;
+
+/// How many pieces are read for one packet at most: a whole record has at most 9067 bytes.
+const PIECES: u32 = 4;
+
+/// Why a connection is over.
+#[derive(Clone, Copy, Debug, PartialEq, Eq)]
+pub enum ClosedWhy {
+    /// The far end ended it after a whole record, or before the first.
+    Ended,
+    /// The far end ended it within a record.
+    CutShort,
+    /// The far end ended it, or it failed, and nothing of it was left to be taken. It was not read at that time.
+    HungUp,
+    /// It failed.
+    Failed(ErrorKind),
+    /// Its bytes are no record of its tenant.
+    Malformed,
+    /// Its packet found no memory. That packet is lost.
+    NoMemory,
+    /// Its owner ended it.
+    Asked,
+}
+
+/// What came of a connection that was asked for a packet.
+#[derive(Clone, Copy, Debug, PartialEq, Eq)]
+pub enum Came {
+    /// A packet, which the book took. Its payload has so many bytes.
+    Packet(usize),
+    /// No whole packet is here before the socket is ready again.
+    Nothing,
+    /// A packet is here, or may be, which was not taken in this call.
+    More,
+    /// Nothing more comes of the connection.
+    Over(ClosedWhy),
+}
+
+/// A connection that was closed: the token that its events carried, the port by which it came, and why.
+#[derive(Clone, Copy, Debug, PartialEq, Eq)]
+pub struct ClosedSender {
+    pub token: usize,
+    pub port: usize,
+    pub why: ClosedWhy,
+}
+
+/// A connection of a tenant.
+#[derive(Drop)]
+pub struct Sender {
+    stream: Stream,
+    records: HeldRecords,
+    // The token that its events carry, and the port by which it came.
+    token: usize,
+    port: usize,
+    // Whether the socket may have bytes.
+    is_readable: bool,
+    // Whether the far end was reported to send no more, and whether that may show since it was looked at last.
+    is_read_closed: bool,
+    may_have_hung_up: bool,
+    // Why nothing more is taken of it, if so.
+    over: Option<ClosedWhy>,
+}
+
+impl Sender {
+    /// A connection of the tenant of this name, of which nothing was read. Its port is any number that its owner gives.
+    pub fn new(
+        alloc: Global,
+        stream: Stream,
+        tenant: Name,
+        token: usize,
+        port: usize,
+    ) -> io::Result<Sender> {
+        match HeldRecords::new(alloc, tenant) {
+            Err(_) => Err(Error::from(ErrorKind::OutOfMemory)),
+            Ok(records) => Ok(Sender {
+                stream,
+                records,
+                token,
+                port,
+                is_readable: true,
+                is_read_closed: false,
+                may_have_hung_up: false,
+                over: None,
+            }),
+        }
+    }
+
+    /// The token that its events carry.
+    pub fn token(&self) -> usize {
+        self.token
+    }
+
+    /// The port by which it came.
+    pub fn port(&self) -> usize {
+        self.port
+    }
+
+    /// Whether nothing more is taken of it.
+    pub fn is_over(&self) -> bool {
+        self.over.is_some()
+    }
+
+    /// Nothing more is taken of it, for this reason, unless there was one before.
+    pub fn end(&mut self, why: ClosedWhy) {
+        if self.over.is_none() {
+            self.over = Some(why);
+        }
+    }
+
+    /// What is reported of it once it is closed, if it is over.
+    pub fn closed(&self) -> Option<ClosedSender> {
+        let why = self.over?;
+        Some(ClosedSender {
+            token: self.token,
+            port: self.port,
+            why,
+        })
+    }
+
+    /// Its socket was reported ready, and if so, that the far end sends no more.
+    pub fn note(&mut self, is_read_closed: bool) {
+        self.is_readable = true;
+        self.is_read_closed |= is_read_closed;
+        self.may_have_hung_up |= is_read_closed;
+    }
+
+    /// Whether it is over, or a look may find that it has hung up.
+    pub fn may_be_over(&self) -> bool {
+        self.may_have_hung_up || self.over.is_some()
+    }
+
+    /// Looks whether it has hung up, if that may be. It has not while some of it is left to be taken: in its records,
+    /// or unread.
+    pub fn look(&mut self) {
+        if !self.may_have_hung_up || !self.records.is_empty() {
+            return;
+        }
+        self.may_have_hung_up = false;
+        if self.stream.has_hung_up() {
+            self.end(ClosedWhy::HungUp);
+        }
+    }
+
+    /// Puts its next packet into the book, which has room for it. It is over if nothing more comes of it.
+    pub fn give<S: Rates>(&mut self, alloc: Global, tenant: Name, book: &mut Book<S>) -> Came
+        ensures book { GivesOne tenant book.old.audited result book.new.audited }
+        ensures plan { book.new.plan ≡ book.old.plan }
+    {
+        let came = self.give_next(alloc, tenant, book);
+        if let Came::Over(why) = came {
+            self.end(why);
+        }
+        came
+    }
+
+    fn give_next<S: Rates>(&mut self, alloc: Global, tenant: Name, book: &mut Book<S>) -> Came
+        ensures book { GivesOne tenant book.old.audited result book.new.audited }
+        ensures plan { book.new.plan ≡ book.old.plan }
+    {
+        'pieces: for _ in 0..PIECES {
+            match self.records.next() {
+                Cut::Item => return self.put(alloc, tenant, book),
+                Cut::Bad => return Came::Over(ClosedWhy::Malformed),
+                Cut::More => (),
+            }
+            match self.read() {
+                Ok(Progress::Moved(_)) | Ok(Progress::Again) => (),
+                Ok(Progress::Waits) => return Came::Nothing,
+                Ok(Progress::Over) => return Came::Over(self.why_ended()),
+                Err(fault) => return Came::Over(ClosedWhy::Failed(fault.kind())),
+            }
+        }
+        Came::More
+    }
+
+    // Puts the packet that was cut last into the book. The book has room for it, so it is taken if there is memory.
+    fn put<S: Rates>(&mut self, alloc: Global, tenant: Name, book: &mut Book<S>) -> Came
+        ensures book { GivesOne tenant book.old.audited result book.new.audited }
+        ensures plan { book.new.plan ≡ book.old.plan }
+    {
+        let payload = self.records.payload();
+        match book.take(alloc, tenant, payload) {
+            Taken::Packet { .. } => Came::Packet(payload.len()),
+            _ => Came::Over(ClosedWhy::NoMemory),
+        }
+    }
+
+    // Reads a piece of the stream, if some may be there.
+    fn read(&mut self) -> io::Result<Progress> {
+        if !self.is_readable {
+            return Ok(Progress::Waits);
+        }
+        let mut piece = [0u8; PIECE];
+        let outcome = self.stream.try_read(&mut piece);
+        match outcome {
+            Ok(Progress::Moved(count)) => {
+                self.records.feed(&piece[..count]);
+                self.may_have_hung_up = self.is_read_closed;
+            }
+            Ok(Progress::Waits) => self.is_readable = false,
+            _ => (),
+        }
+        outcome
+    }
+
+    // Why a stream is over that the far end has ended.
+    fn why_ended(&self) -> ClosedWhy {
+        if self.records.is_empty() {
+            ClosedWhy::Ended
+        } else {
+            ClosedWhy::CutShort
+        }
+    }
+}

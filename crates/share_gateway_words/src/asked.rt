@@ -1,0 +1,40 @@
+//! What the words of the command line ask for.
+
+use share_settings::Listener;
+
+/// How a gateway is to run.
+#[derive(Clone, Copy, Debug)]
+pub struct GatewayOrders<'a> {
+    /// The file of its settings.
+    pub file: &'a str,
+    /// Whether the file is checked, and no gateway runs.
+    pub is_check: bool,
+    /// For how many seconds what can be sent is sent, once the end has begun.
+    pub grace: u64,
+    /// Whether the end of standard input ends the gateway.
+    pub is_until_eof: bool,
+    /// Whether most messages are left out.
+    pub is_quiet: bool,
+}
+
+/// What a gateway is to be asked.
+#[derive(Debug, Drop)]
+pub struct AskOrders<'a> {
+    /// The address as it was given.
+    pub address: &'a str,
+    /// Where the gateway listens for control connections.
+    pub listener: Listener,
+    /// The lines, without their line feeds.
+    pub lines: Vec<&'a str>,
+}
+
+/// What the words of the command line ask for.
+#[derive(Debug, Drop)]
+pub enum Asked<'a> {
+    /// To run a gateway, or to check its file.
+    Gateway(GatewayOrders<'a>),
+    /// To send lines to a gateway.
+    Ask(AskOrders<'a>),
+    /// To show a text: help, the version, or what is wrong with the words.
+    Text(clap::Error),
+}

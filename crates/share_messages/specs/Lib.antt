@@ -1,0 +1,4 @@
+pub mod Kinds
+pub mod Lines
+pub mod Limits
+pub mod Runs

@@ -1,0 +1,115 @@
+//! The text of lines.
+ghost use Rattle.std.specs.Prelude.{◌≡◌, Some};
+ghost use Rattle.std.specs.Fmt.{WritesOnOk};
+ghost use Rattle.share_messages.specs.Lines.{head_text, left_out_text, line_text, rest_text, shown_char};
+ghost use Rattle.share_messages.specs.Lines.{shown_text, tenant_word, time_word};
+
+use crate::kind::Kind;
+use share_base::Name;
+use share_catalog::Time;
+use std::{fmt, str};
+
+/// A line: when it is printed, what it is about, the tenant that it is about, and why. Its text ends with a line feed.
+/// A question mark stands for each control character of the reason, so a reason from outside makes no second line.
+#[derive(Clone, Copy, Debug)]
+pub struct Line<'a> {
+    pub time: Option<Time>,
+    pub kind: Kind,
+    pub tenant: Option<Name>,
+    pub why: &'a str,
+}
+
+impl fmt::Display for Line<'_> {
+    ghost output = { λ l. Some (line_text l.time l.kind l.tenant l.why.now) };
+
+    #[tactic(auto, unfolding(crate::specs::Lines::line_text))]
+    fn fmt<W: fmt::Write>(&self, f: &mut fmt::Formatter<W>) -> fmt::Result {
+        write_head(f, self.time, self.kind)?;
+        write_rest(f, self.tenant, self.why)
+    }
+}
+
+/// The reason of the line that says how many lines of its kind were left out.
+#[derive(Clone, Copy, Debug)]
+pub struct LinesLeftOut(pub u64);
+
+impl fmt::Display for LinesLeftOut {
+    ghost output = { λ lines. Some (left_out_text lines.0) };
+
+    fn fmt<W: fmt::Write>(&self, f: &mut fmt::Formatter<W>) -> fmt::Result {
+        let count = self.0;
+        write!(f, "lines left out: {count}")
+    }
+}
+
+// Writes when the line is printed and what it is about.
+fn write_head<W: fmt::Write>(
+    f: &mut fmt::Formatter<W>,
+    time: Option<Time>,
+    kind: Kind,
+) -> fmt::Result
+    ensures { WritesOnOk W.write_str_gives f.old result (head_text time kind) f.new }
+{
+    write_time(f, time)?;
+    f.write_str(" ")?;
+    f.write_str(kind.word())?;
+    f.write_str(" ")
+}
+
+// Writes the tenant that the line is about, and why.
+fn write_rest<W: fmt::Write>(
+    f: &mut fmt::Formatter<W>,
+    tenant: Option<Name>,
+    why: &str,
+) -> fmt::Result
+    ensures { WritesOnOk W.write_str_gives f.old result (rest_text tenant why.now) f.new }
+{
+    write_tenant(f, tenant)?;
+    f.write_str(" ")?;
+    write_shown(f, why)?;
+    f.write_str("\n")
+}
+
+fn write_time<W: fmt::Write>(f: &mut fmt::Formatter<W>, time: Option<Time>) -> fmt::Result
+    ensures { WritesOnOk W.write_str_gives f.old result (time_word time) f.new }
+{
+    match time {
+        None => f.write_str("-"),
+        Some(time) => write_bytes(f, &time.text()),
+    }
+}
+
+fn write_tenant<W: fmt::Write>(f: &mut fmt::Formatter<W>, tenant: Option<Name>) -> fmt::Result
+    ensures { WritesOnOk W.write_str_gives f.old result (tenant_word tenant) f.new }
+{
+    match tenant {
+        None => f.write_str("-"),
+        Some(name) => write_bytes(f, name.as_bytes()),
+    }
+}
+
+// Writes bytes that are text, as those of a time or a name are.
+fn write_bytes<W: fmt::Write>(f: &mut fmt::Formatter<W>, bytes: &[u8]) -> fmt::Result
+    ensures { WritesOnOk W.write_str_gives f.old result bytes.now f.new }
+{
+    match str::from_utf8(bytes) {
+        Ok(text) => f.write_str(text),
+        Err(_) => Err(fmt::Error),
+    }
+}
+
+// Writes a text without its control characters.
+fn write_shown<W: fmt::Write>(f: &mut fmt::Formatter<W>, text: &str) -> fmt::Result
+    ensures { WritesOnOk W.write_str_gives f.old result (shown_text text.now) f.new }
+{
+    'chars: for c in text.chars() {
+        f.write_char(shown(c))?;
+    }
+    Ok(())
+}
+
+fn shown(c: char) -> char
+    ensures { result ≡ shown_char c }
+{
+    if c.is_control() { '?' } else { c }
+}

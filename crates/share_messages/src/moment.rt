@@ -1,0 +1,35 @@
+//! The moment of a line.
+
+use share_catalog::Time;
+use share_disk::time_of;
+use std::time::{Clock, SystemTime};
+
+/// A moment: its second since 1970, by which lines are counted, and its time in a line, if there is one.
+#[derive(Clone, Copy, Debug)]
+pub(crate) struct Moment {
+    pub(crate) second: u64,
+    pub(crate) time: Option<Time>,
+}
+
+impl Moment {
+    /// The moment by the system's clock. If the clock fails there is no time.
+    pub(crate) fn now(clock: &impl Clock) -> Moment {
+        match SystemTime::now(clock) {
+            Ok(now) => Moment {
+                second: second_of(now),
+                time: time_of(now),
+            },
+            Err(_) => Moment {
+                second: 0,
+                time: None,
+            },
+        }
+    }
+}
+
+fn second_of(moment: SystemTime) -> u64 {
+    match moment.duration_since(SystemTime::UNIX_EPOCH) {
+        Ok(since) => since.as_secs(),
+        Err(_) => 0,
+    }
+}

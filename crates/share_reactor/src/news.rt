@@ -1,0 +1,168 @@
+//! What a gateway prints of what happens.
+
+use share_base::Name;
+use share_doors::ClosedWhy;
+use share_messages::{Kind, Messages};
+use share_rotation::Books;
+use share_uplink::{Uplink, Work};
+use std::io;
+use std::io::Eprint;
+use std::time::Clock;
+
+/// The messages of a gateway.
+#[derive(Drop)]
+pub struct News {
+    messages: Messages,
+}
+
+impl News {
+    /// No messages.
+    pub fn new(messages: Messages) -> News {
+        News { messages }
+    }
+
+    /// Prints what became of the uplink.
+    pub(crate) fn tell_uplink<R: Clock + Eprint>(&mut self, rt: &R, work: Work, uplink: &Uplink) {
+        match work {
+            Work::Rests | Work::Busy => (),
+            Work::Connected => {
+                let address = uplink.address();
+                self.messages
+                    .say(rt, Kind::Connected, None, format_args!("to {address}"));
+            }
+            Work::Lost => self.tell_lost(rt, uplink),
+            Work::Unreachable => self.tell_unreachable(rt, uplink),
+        }
+    }
+
+    fn tell_lost<R: Clock + Eprint>(&mut self, rt: &R, uplink: &Uplink) {
+        let (address, most) = (uplink.address(), uplink.lost_at_most());
+        match uplink.last_fault() {
+            Some(fault) => self.messages.say(
+                rt,
+                Kind::Lost,
+                None,
+                format_args!("{address}: {fault}; {most} bytes at most may be lost"),
+            ),
+            None => self.messages.say(
+                rt,
+                Kind::Lost,
+                None,
+                format_args!("{address}; {most} bytes at most may be lost"),
+            ),
+        }
+    }
+
+    fn tell_unreachable<R: Clock + Eprint>(&mut self, rt: &R, uplink: &Uplink) {
+        let address = uplink.address();
+        if let Some(fault) = uplink.last_fault() {
+            self.messages.say(
+                rt,
+                Kind::Unreachable,
+                None,
+                format_args!("{address}: {fault}"),
+            );
+        }
+    }
+
+    /// Prints why a connection of a tenant was closed, unless its far end ended it.
+    pub(crate) fn tell_closed<R: Clock + Eprint>(&mut self, rt: &R, tenant: Name, why: ClosedWhy) {
+        let said = match why {
+            ClosedWhy::Ended | ClosedWhy::HungUp | ClosedWhy::Asked => return,
+            ClosedWhy::Failed(kind) => {
+                self.messages
+                    .say(rt, Kind::Closed, Some(tenant), format_args!("{kind}"));
+                return;
+            }
+            ClosedWhy::CutShort => "a record was cut short",
+            ClosedWhy::Malformed => "no record of this tenant",
+            ClosedWhy::NoMemory => "out of memory: a packet is lost",
+        };
+        self.messages
+            .say(rt, Kind::Closed, Some(tenant), format_args!("{said}"));
+    }
+
+    /// Prints that a connection of a tenant was closed at once.
+    pub(crate) fn tell_too_many<R: Clock + Eprint>(&mut self, rt: &R, tenant: Name) {
+        self.messages.say(
+            rt,
+            Kind::Refused,
+            Some(tenant),
+            format_args!("a connection beyond the limit of its listener"),
+        );
+    }
+
+    /// Prints that a control connection was closed for another one.
+    pub(crate) fn tell_control_closed<R: Clock + Eprint>(&mut self, rt: &R) {
+        self.messages.say(
+            rt,
+            Kind::Control,
+            None,
+            format_args!("too many connections: the one that was silent for longest is closed"),
+        );
+    }
+
+    /// Prints that a connection could not be accepted.
+    pub(crate) fn tell_not_accepted<R: Clock + Eprint>(&mut self, rt: &R, fault: &io::Error) {
+        self.messages.say(
+            rt,
+            Kind::Refused,
+            None,
+            format_args!("cannot accept a connection: {fault}"),
+        );
+    }
+
+    /// Prints that the disk fails, or that it writes again.
+    pub(crate) fn tell_disk<R: Clock + Eprint>(&mut self, rt: &R, books: &Books) {
+        match books.disk_fault() {
+            Some(fault) => self
+                .messages
+                .say(rt, Kind::Disk, None, format_args!("{fault}")),
+            None => self
+                .messages
+                .say(rt, Kind::Disk, None, format_args!("writes again")),
+        }
+    }
+
+    /// Prints that the plan was read anew.
+    pub(crate) fn tell_reload<R: Clock + Eprint>(&mut self, rt: &R, path: &str) {
+        self.messages
+            .say(rt, Kind::Reload, None, format_args!("{path}"));
+    }
+
+    /// Prints which packets were dropped when a book followed another.
+    pub(crate) fn tell_remainders<R: Clock + Eprint>(&mut self, rt: &R, books: &mut Books) {
+        self.tell_packets(rt, Kind::Dropped, books);
+    }
+
+    /// Prints what was left at the end.
+    pub(crate) fn tell_left<R: Clock + Eprint>(&mut self, rt: &R, books: &mut Books) {
+        let bytes = books.left().bytes;
+        self.tell_packets(rt, Kind::Left, books);
+        if bytes > 0 {
+            self.messages.say(
+                rt,
+                Kind::Left,
+                None,
+                format_args!("{bytes} bytes of frames"),
+            );
+        }
+        self.messages.flush(rt);
+    }
+
+    // Prints the packets of each tenant that no frame carries.
+    fn tell_packets<R: Clock + Eprint>(&mut self, rt: &R, kind: Kind, books: &mut Books) {
+        for _ in 0..64 {
+            let Some(remainder) = books.next_remainder() else {
+                return;
+            };
+            let packets = remainder.packets;
+            self.messages.say(
+                rt,
+                kind,
+                Some(remainder.tenant),
+                format_args!("{packets} packets"),
+            );
+        }
+    }
+}

@@ -1,0 +1,353 @@
+//! The loop of a gateway.
+
+use crate::controls::Controls;
+use crate::doorways::Doorways;
+use crate::input::Input;
+use crate::news::News;
+use crate::ports::{PortPlace, remove_file};
+use crate::sources::{Source, Sources};
+use mio::event::Event;
+use mio::{Events, Poll, Token};
+use share_base::FlowNo;
+use share_catalog::Closing;
+use share_reload::{ControlHolds, Roster};
+use share_rotation::{Books, Left, Made};
+use share_settings::Settings;
+use share_uplink::{Uplink, Work};
+use std::alloc::Global;
+use std::fs::{File, Files};
+use std::io;
+use std::io::Eprint;
+use std::net::Net;
+use std::sync::Wait;
+use std::time::{Clock, Duration, Instant};
+
+/// How many events are reported at a time.
+const EVENTS: usize = 256;
+
+/// How many turns are made in a round.
+const TURNS: u32 = 64;
+
+/// What is left to do after a round.
+#[derive(Clone, Copy, Debug, PartialEq, Eq)]
+pub(crate) enum Rest {
+    /// Nothing, before a source is ready or a time has come.
+    Nothing,
+    /// Something, at once.
+    Some,
+    /// Turns, when the rate allows them.
+    Paced,
+}
+
+/// How a gateway ends.
+#[derive(Clone, Copy, Debug)]
+pub struct Options {
+    /// For how many seconds what can be sent is sent once the end has begun.
+    pub grace: u64,
+    /// Whether the end of standard input begins the end.
+    pub until_eof: bool,
+    /// Whether only the messages are printed that tell of a loss.
+    pub is_quiet: bool,
+}
+
+/// Where the end of a gateway stands.
+#[derive(Clone, Copy, Debug)]
+pub(crate) enum Ending {
+    /// It was not asked for.
+    No,
+    /// What can be sent is sent, since this time.
+    Sending(Instant),
+    /// The last book is being closed, since the end began at this time.
+    Closing(Instant),
+}
+
+/// A gateway that runs.
+#[derive(Drop)]
+pub struct Reactor<'b> {
+    pub(crate) alloc: Global,
+    pub(crate) poll: Poll,
+    pub(crate) sources: Sources,
+    pub(crate) doorways: Doorways,
+    pub(crate) controls: Controls,
+    pub(crate) control_place: PortPlace,
+    pub(crate) uplink: Uplink,
+    pub(crate) uplink_token: Token,
+    pub(crate) input: Input,
+    pub(crate) books: &'b mut Books,
+    pub(crate) news: News,
+    // What a reload is compared with: the settings, the numbers that names have, and what control lines hold.
+    pub(crate) settings: Settings,
+    pub(crate) roster: Roster,
+    pub(crate) holds: ControlHolds,
+    pub(crate) grace: u64,
+    pub(crate) ending: Ending,
+}
+
+// The shorter of two pauses, of which one may be for ever.
+fn shorter(pause: Option<Duration>, other: Duration) -> Option<Duration> {
+    match pause {
+        Some(pause) if pause < other => Some(pause),
+        _ => Some(other),
+    }
+}
+
+impl Reactor<'_> {
+    /// Runs until the end was asked for and is over. Returns what was left.
+    pub(crate) fn run<R: Files<File = File> + Net + Clock + Wait + Eprint>(
+        &mut self,
+        rt: &R,
+        path: &str,
+    ) -> io::Result<Left> {
+        let mut events = Events::with_capacity(self.alloc, EVENTS)?;
+        let mut pause = Some(Duration::from_millis(0));
+        for _ in rt.forever() {
+            self.poll.poll(&mut events, pause)?;
+            self.note_all(&events);
+            let now = Instant::now(rt)?;
+            let rest = self.round(rt, path, now);
+            if let Some(left) = self.end(rt, now) {
+                return Ok(left);
+            }
+            pause = self.pause(rest, now);
+        }
+        unreachable!()
+    }
+
+    // Notes what is ready.
+    fn note_all(&mut self, events: &Events) {
+        for event in events {
+            self.note(event);
+        }
+    }
+
+    fn note(&mut self, event: &Event) {
+        match self.sources.get(event.token()) {
+            None | Some(Source::Disk) => (),
+            Some(Source::Uplink) => self.uplink.note(event.is_readable(), event.is_writable()),
+            Some(Source::Input) => self.input.note(),
+            Some(Source::ControlListener) => self.controls.note_listener(),
+            Some(Source::Port(port)) => self.doorways.note_port(port),
+            Some(Source::Sender { port, key }) => {
+                self.doorways.note_sender(port, key, event.is_read_closed())
+            }
+            Some(Source::Control(key)) => {
+                self.controls
+                    .note(key, event.is_readable(), event.is_writable())
+            }
+        }
+    }
+
+    // Does what is at hand.
+    fn round<R: Files<File = File> + Net + Clock + Wait + Eprint>(
+        &mut self,
+        rt: &R,
+        path: &str,
+        now: Instant,
+    ) -> Rest {
+        self.books.credit(now);
+        let mut is_busy = self.accept(rt, now);
+        is_busy |= self.fill();
+        self.make_turns();
+        self.doorways
+            .close_over(rt, &mut self.sources, &mut self.news);
+        is_busy |= self.write_text(rt, now);
+        is_busy |= self.send(rt, now);
+        is_busy |= self.obey(rt, path, now);
+        is_busy |= self.go_on(rt, now);
+        if !matches!(self.ending, Ending::Closing(_)) {
+            self.news.tell_remainders(rt, self.books);
+        }
+        self.rest(is_busy)
+    }
+
+    // What is left to do after a round that left something, or nothing, at hand.
+    fn rest(&self, is_busy: bool) -> Rest {
+        if is_busy {
+            Rest::Some
+        } else if !self.books.can_turn() {
+            Rest::Nothing
+        } else if self.books.is_allowed() {
+            Rest::Some
+        } else {
+            Rest::Paced
+        }
+    }
+
+    fn accept<R: Clock + Eprint>(&mut self, rt: &R, now: Instant) -> bool {
+        let registry = self.poll.registry();
+        let (alloc, sources, news) = (self.alloc, &mut self.sources, &mut self.news);
+        let ports = self
+            .doorways
+            .accept(rt, alloc, registry, sources, news, now);
+        let controls = self
+            .controls
+            .accept(rt, alloc, registry, sources, news, now);
+        ports || controls
+    }
+
+    // Takes packets, unless the end has begun.
+    fn fill(&mut self) -> bool {
+        if !matches!(self.ending, Ending::No) {
+            return false;
+        }
+        match self.books.book() {
+            None => false,
+            Some(book) => self.doorways.fill(self.alloc, book),
+        }
+    }
+
+    // Makes turns. After each the buffer of the flow that was sent is filled up.
+    fn make_turns(&mut self) {
+        for _ in 0..TURNS {
+            match self.books.turn() {
+                Made::Nothing | Made::Paced => return,
+                Made::Frame(flow) => self.refill(flow),
+            }
+        }
+    }
+
+    fn refill(&mut self, flow: FlowNo) {
+        if !matches!(self.ending, Ending::No) {
+            return;
+        }
+        if let Some(book) = self.books.book() {
+            self.doorways.refill(self.alloc, flow, book);
+        }
+    }
+
+    // Gives text to the disk. Returns whether turns or packets waited for that alone.
+    fn write_text<R: Clock + Wait + Eprint>(&mut self, rt: &R, now: Instant) -> bool {
+        let (lacked, was_stalled) = (self.books.lacks_text(), self.books.is_stalled());
+        self.books.write_text(rt, now);
+        if was_stalled != self.books.is_stalled() {
+            self.news.tell_disk(rt, self.books);
+        }
+        lacked && !self.books.lacks_text() || was_stalled && !self.books.is_stalled()
+    }
+
+    // Dials the uplink, and gives it what may go.
+    fn send<R: Net + Clock + Eprint>(&mut self, rt: &R, now: Instant) -> bool {
+        let registry = self.poll.registry();
+        let dialled = self.uplink.tick(rt, registry, self.uplink_token, now);
+        self.news.tell_uplink(rt, dialled, &self.uplink);
+        let work = self.uplink.work(self.books.transit(), now);
+        self.news.tell_uplink(rt, work, &self.uplink);
+        match work {
+            Work::Busy | Work::Connected => true,
+            Work::Rests | Work::Lost | Work::Unreachable => false,
+        }
+    }
+
+    // Goes on with the close of a book.
+    fn go_on<R: Clock + Wait>(&mut self, rt: &R, now: Instant) -> bool {
+        if matches!(self.ending, Ending::No) {
+            self.books.note_due(now);
+        }
+        self.books.go_on(rt, now)
+    }
+
+    /// Begins the end, if it has not begun.
+    pub(crate) fn begin_end(&mut self, now: Instant) {
+        if let Ending::No = self.ending {
+            self.ending = Ending::Sending(now);
+        }
+    }
+
+    // Goes on with the end. Returns what was left once it is over.
+    fn end<R: Clock + Wait + Eprint>(&mut self, rt: &R, now: Instant) -> Option<Left> {
+        if self.input.drain() {
+            self.begin_end(now);
+        }
+        match self.ending {
+            Ending::No => None,
+            Ending::Sending(since) => {
+                self.end_sending(rt, since, now);
+                None
+            }
+            Ending::Closing(since) => self.end_closing(rt, since, now),
+        }
+    }
+
+    // Closes the last book once nothing can be sent, or the grace is over.
+    fn end_sending<R: Clock + Wait + Eprint>(&mut self, rt: &R, since: Instant, now: Instant) {
+        let is_late = self.grace_left(since, now).is_zero();
+        if self.books.is_between() {
+            if is_late && self.books.is_stalled() {
+                self.give_up(since);
+            }
+            return;
+        }
+        if self.books.sends() && !is_late {
+            return;
+        }
+        self.books.close(Closing::End);
+        if self.books.finish(rt) {
+            self.ending = Ending::Closing(since);
+        } else if is_late && self.books.is_stalled() {
+            self.give_up(since);
+        }
+    }
+
+    // Leaves the open book as it is on a disk that fails.
+    fn give_up(&mut self, since: Instant) {
+        self.books.abandon();
+        self.books.leave();
+        self.ending = Ending::Closing(since);
+    }
+
+    // Returns what was left once the last book is closed, or cannot be.
+    fn end_closing<R: Clock + Eprint>(
+        &mut self,
+        rt: &R,
+        since: Instant,
+        now: Instant,
+    ) -> Option<Left> {
+        let fails = self.books.disk_fault().is_some() && self.grace_left(since, now).is_zero();
+        if !self.books.is_closed() && !fails {
+            return None;
+        }
+        self.books.abandon();
+        let left = self.books.left();
+        self.news.tell_left(rt, self.books);
+        Some(left)
+    }
+
+    fn grace_left(&self, since: Instant, now: Instant) -> Duration {
+        Duration::from_secs(self.grace).saturating_sub(now.saturating_duration_since(since))
+    }
+
+    /// Removes the files of Unix sockets.
+    pub(crate) fn remove_files<R: Files>(&self, rt: &R) {
+        self.doorways.remove_files(rt);
+        remove_file(rt, &self.control_place);
+    }
+
+    // How long nothing has to be done, if no source is ready before. `None` is for ever.
+    fn pause(&self, rest: Rest, now: Instant) -> Option<Duration> {
+        let mut pause = self.uplink.pause(now);
+        match rest {
+            Rest::Some => return Some(Duration::from_millis(0)),
+            Rest::Paced => pause = shorter(pause, Duration::from_millis(1)),
+            Rest::Nothing => (),
+        }
+        for at in [self.books.due(), self.doorways.due(), self.controls.due()] {
+            if let Some(at) = at {
+                pause = shorter(pause, at.saturating_duration_since(now));
+            }
+        }
+        self.pause_at_end(pause, now)
+    }
+
+    // The pause, or what is left of the grace.
+    fn pause_at_end(&self, pause: Option<Duration>, now: Instant) -> Option<Duration> {
+        match self.ending {
+            Ending::No => pause,
+            Ending::Sending(since) | Ending::Closing(since) => {
+                shorter(
+                    pause,
+                    self.grace_left(since, now).max(Duration::from_millis(10)),
+                )
+            }
+        }
+    }
+}

@@ -1,0 +1,63 @@
+//! What the events of a token are about.
+
+use mio::Token;
+use slab::Slab;
+use std::alloc::Global;
+
+/// What an event is about.
+#[derive(Clone, Copy, Debug, PartialEq, Eq)]
+pub enum Source {
+    Uplink,
+    /// The disk has written text, or has closed a book.
+    Disk,
+    /// Standard input.
+    Input,
+    /// The listener of control connections.
+    ControlListener,
+    /// The listener of a port, by its key.
+    Port(usize),
+    /// A connection that came by a port, by its key among those of its tenant.
+    Sender { port: usize, key: usize },
+    /// A control connection, by its key.
+    Control(usize),
+}
+
+/// The sources of events. A token is the key of its source.
+#[derive(Drop)]
+pub struct Sources {
+    all: Slab<Source>,
+}
+
+impl Sources {
+    /// No sources.
+    pub fn new(alloc: Global) -> Sources {
+        Sources {
+            all: Slab::new(alloc),
+        }
+    }
+
+    /// Adds a source, and returns its token, or `None` without memory for it.
+    pub fn add(&mut self, source: Source) -> Option<Token> {
+        match self.all.insert(source) {
+            Ok(key) => Some(Token(key)),
+            Err(_) => None,
+        }
+    }
+
+    /// What the events of a token are about.
+    pub fn get(&self, token: Token) -> Option<Source> {
+        self.all.get(token.0).copied()
+    }
+
+    /// Gives a source another meaning.
+    pub fn set(&mut self, token: Token, source: Source) {
+        if let Some(place) = self.all.get_mut(token.0) {
+            *place = source;
+        }
+    }
+
+    /// Removes a source, and returns it.
+    pub fn remove(&mut self, token: Token) -> Option<Source> {
+        self.all.try_remove(token.0)
+    }
+}

@@ -1,0 +1,129 @@
+//! How a gateway stands.
+
+use crate::reactor::Reactor;
+use share_base::FlowNo;
+use share_book::Book;
+use share_gateway::Tenant;
+use share_rotation::Sent;
+use share_status::{
+    DiskStatus, Status, TenantStatus, UplinkState as Shown, UplinkStatus, status_text,
+};
+use share_tariff::PlainShelf;
+use share_uplink::UplinkState;
+use std::alloc::AllocError;
+
+/// The version of the program, and what it is proved with.
+const VERSION: &str = "0.1.0";
+
+const PROVED: &str = "rattle-kit-13b logic dac8208d650f15bf";
+
+impl Reactor<'_> {
+    /// The line that answers `status`, while a book is open.
+    pub(crate) fn status(&self) -> Result<Vec<u8>, AllocError> {
+        match self.books.open_book() {
+            Some(book) => self.status_of(book),
+            None => Ok(Vec::new(self.alloc)),
+        }
+    }
+
+    fn status_of(&self, book: &Book<PlainShelf>) -> Result<Vec<u8>, AllocError> {
+        let fault = self.fault_text()?;
+        let mut tenants = Vec::with_capacity(self.alloc, book.plan().tenants().len())?;
+        self.add_tenants(book, &mut tenants)?;
+        let events = book.engine().events();
+        status_text(
+            self.alloc,
+            &Status {
+                version: VERSION,
+                proved: PROVED,
+                book: self.books.number(),
+                events,
+                left: self.books.events().saturating_sub(events),
+                opened: self.books.opened(),
+                uplink: self.uplink_status(),
+                rate: self.rate(),
+                disk: DiskStatus {
+                    waiting: self.books.unwritten(),
+                    fault: fault.as_deref(),
+                },
+                tenants: tenants.as_slice(),
+                downlink: None,
+            },
+        )
+    }
+
+    // Adds how each tenant of the plan stands.
+    fn add_tenants<'a>(
+        &self,
+        book: &'a Book<PlainShelf>,
+        statuses: &mut Vec<TenantStatus<'a>>,
+    ) -> Result<(), AllocError> {
+        let tenants = book.plan().tenants();
+        for index in 0..tenants.len() {
+            let status = self.tenant_status(book, &tenants[index]);
+            if statuses.push(status).is_err() {
+                return Err(AllocError);
+            }
+        }
+        Ok(())
+    }
+
+    fn fault_text(&self) -> Result<Option<String>, AllocError> {
+        match self.books.disk_fault() {
+            None => Ok(None),
+            Some(fault) => Ok(Some(format!(in self.alloc; "{fault}")?)),
+        }
+    }
+
+    fn rate(&self) -> Option<u64> {
+        self.settings.uplink?.rate
+    }
+
+    fn uplink_status(&self) -> Option<UplinkStatus> {
+        let state = match self.uplink.state() {
+            UplinkState::Up => Shown::Up,
+            UplinkState::Dialling => Shown::Dialling,
+        };
+        Some(UplinkStatus {
+            state,
+            address: self.uplink.address(),
+            sent: self.uplink.sent(),
+            outbox: self.books.outbox(),
+            lost: self.uplink.lost(),
+        })
+    }
+
+    fn tenant_status<'a>(
+        &self,
+        book: &'a Book<PlainShelf>,
+        tenant: &'a Tenant,
+    ) -> TenantStatus<'a> {
+        let flow = FlowNo(tenant.flow);
+        let engine = book.engine();
+        let (packets, bytes) = match self.doorways.door(flow) {
+            Some(door) => (door.packets(), door.bytes()),
+            None => (0, 0),
+        };
+        let Sent {
+            packets: sent_packets,
+            bytes: sent_bytes,
+        } = self.books.sent(flow);
+        TenantStatus {
+            name: tenant.name,
+            flow: tenant.flow,
+            held: tenant.held,
+            tickets: engine.tickets(flow).unwrap_or(0),
+            grants: tenant.grants.as_slice(),
+            waiting: engine.backlog(flow).map_or(0, |backlog| backlog.packets),
+            limit: tenant.limit,
+            taken_packets: packets,
+            taken_bytes: bytes,
+            sent_packets,
+            sent_bytes,
+            amount: engine.account(flow).unwrap_or(0),
+            connections: self.doorways.connections(flow),
+            dropped: 0,
+            lost: 0,
+        }
+    }
+}

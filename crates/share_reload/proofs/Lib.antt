@@ -1,0 +1,4 @@
+pub mod HoldLemmas
+pub mod ListLemmas
+pub mod OriginLemmas
+pub mod RosterLemmas

@@ -1,0 +1,119 @@
+//! How the last book is closed.
+
+use crate::books::{Books, LONGEST_FRAME};
+use crate::life::Life;
+use crate::opening::time_now;
+use crate::remainder::Remainder;
+use share_catalog::Closing;
+use share_writer::BookClose;
+use std::sync::Wait;
+use std::time::Clock;
+use std::{io, mem};
+
+/// What was left when a gateway ended.
+#[derive(Clone, Copy, Debug, PartialEq, Eq)]
+pub struct Left {
+    /// Packets that were taken and never scheduled.
+    pub packets: u64,
+    /// Bytes of frames that the uplink did not take.
+    pub bytes: u64,
+    /// Whether the last book was closed.
+    pub is_closed: bool,
+}
+
+impl Books {
+    /// Whether a frame can be scheduled, or is on its way to the wire.
+    pub fn sends(&self) -> bool {
+        match &self.life {
+            Life::Open(book) => book.engine().sends() || self.transit.waiting() > 0,
+            Life::Carrying(..) => true,
+            Life::Over => false,
+        }
+    }
+
+    /// Whether another turn can be made, but for the rate.
+    pub fn can_turn(&self) -> bool {
+        if self.is_stalled || self.succession.is_begun() {
+            return false;
+        }
+        if self.transit.room() < LONGEST_FRAME as usize {
+            return false;
+        }
+        match &self.life {
+            Life::Open(book) => !book.lacks_text() && book.engine().sends(),
+            _ => false,
+        }
+    }
+
+    /// Whether the open book makes no event before some of its text is given to the disk.
+    pub fn lacks_text(&self) -> bool {
+        match &self.life {
+            Life::Open(book) => book.lacks_text(),
+            _ => true,
+        }
+    }
+
+    /// Has the last book closed, if all its text is on its way to the disk. Returns true once that was asked for.
+    pub fn finish<R: Clock + Wait>(&mut self, rt: &R) -> bool {
+        if self.life.has_text() {
+            return false;
+        }
+        match self.last_close(rt) {
+            Ok(Some(close)) => {
+                self.queue.finish(rt, close);
+                self.leave();
+                true
+            }
+            _ => false,
+        }
+    }
+
+    // What is written of the last book at its close, if it is open.
+    fn last_close<R: Clock>(&self, rt: &R) -> io::Result<Option<BookClose>> {
+        match &self.life {
+            Life::Open(book) => Ok(Some(self.close_of(book, Closing::End, time_now(rt)?)?)),
+            _ => Ok(None),
+        }
+    }
+
+    /// Drops the open book, and counts the packets that wait in it.
+    pub fn leave(&mut self) {
+        match mem::replace(&mut self.life, Life::Over) {
+            Life::Open(book) => {
+                let closed = book.close();
+                self.remainders.add_all(&closed);
+                drop(closed);
+            }
+            Life::Carrying(book, closed) => {
+                drop(book);
+                self.remainders.add_all(&closed);
+                drop(closed);
+            }
+            Life::Over => (),
+        }
+    }
+
+    /// Whether the last book is closed on disk.
+    pub fn is_closed(&self) -> bool {
+        self.queue.is_finished()
+    }
+
+    /// Has the disk give up what fails.
+    pub fn abandon(&self) {
+        self.queue.abandon();
+    }
+
+    /// What was left, once the last book was closed or left.
+    pub fn left(&self) -> Left {
+        Left {
+            packets: self.remainders.packets(),
+            bytes: self.transit.waiting() as u64,
+            is_closed: self.queue.is_finished(),
+        }
+    }
+
+    /// Removes and returns packets of a tenant that were dropped or left and not told yet.
+    pub fn next_remainder(&mut self) -> Option<Remainder> {
+        self.remainders.pop()
+    }
+}

@@ -1,0 +1,80 @@
+//! The text of the open book on its way to the disk.
+
+use crate::books::Books;
+use crate::life::Life;
+use share_transit::Page;
+use std::io;
+use std::sync::Wait;
+use std::time::{Duration, Instant};
+
+/// How many pages of text are given to the disk in a round.
+const PAGES: u32 = 16;
+
+/// After how many seconds written text is made durable.
+const SYNC_SECONDS: u64 = 1;
+
+impl Books {
+    /// Gives text to the disk, as long as there are pages for it, and learns how much of it is written.
+    pub fn write_text<R: Wait>(&mut self, rt: &R, now: Instant) {
+        for _ in 0..PAGES {
+            if !self.life.has_text() || !self.give_page(rt) {
+                break;
+            }
+        }
+        self.transit.written(self.queue.written());
+        self.is_stalled = self.queue.fault().is_some();
+        self.note_sync(rt, now);
+    }
+
+    // Fills a page and gives it to the disk. Returns false if all pages are on their way.
+    fn give_page<R: Wait>(&mut self, rt: &R) -> bool {
+        let Some(page) = self.queue.page(rt) else {
+            return false;
+        };
+        let mut page = page;
+        self.fill(&mut page);
+        if page.as_slice().is_empty() {
+            self.queue.put_back(page);
+            return false;
+        }
+        self.queue.write(rt, page);
+        true
+    }
+
+    fn fill(&mut self, page: &mut Page) {
+        match &mut self.life {
+            Life::Open(book) => self.transit.hand(book, page),
+            Life::Carrying(book, _) => self.transit.hand_new(book, page),
+            Life::Over => (),
+        }
+    }
+
+    // Has what is written made durable, a second after the first byte of it was.
+    fn note_sync<R: Wait>(&mut self, rt: &R, now: Instant) {
+        let Some(at) = self.sync_at else {
+            if self.queue.has_unsynced() {
+                self.sync_at = now.checked_add(Duration::from_secs(SYNC_SECONDS));
+            }
+            return;
+        };
+        if at.saturating_duration_since(now).is_zero() {
+            self.sync_at = None;
+            let _ = self.queue.sync(rt);
+        }
+    }
+
+    /// How many bytes of text were not written.
+    pub fn unwritten(&self) -> u64 {
+        self.transit.unwritten()
+    }
+
+    /// Why the disk fails, if it does.
+    pub fn disk_fault(&self) -> Option<io::Error> {
+        self.queue.fault()
+    }
+
+    /// Whether the disk fails: then no event is made.
+    pub fn is_stalled(&self) -> bool {
+        self.is_stalled
+    }
+}

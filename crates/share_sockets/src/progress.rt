@@ -1,0 +1,75 @@
+//! What a call came to that does not wait.
+ghost use Rattle.std.specs.Prelude.{◌≡◌, ◌≤◌, ◌≢◌, IfOk, IfErr};
+ghost use Rattle.std.specs.IoError.{error_kind};
+ghost use Rattle.share_sockets.specs.Failure.{IsFailure};
+ghost use Rattle.share_sockets.specs.declared.progress.Progress.TheVariants.{Moved, Again, Waits, Over};
+
+use std::io::{Error, ErrorKind, Result};
+
+/// What a read or a write of at least one byte came to.
+#[derive(Clone, Copy, Debug, PartialEq, Eq)]
+pub enum Progress {
+    /// This many bytes went, at least one.
+    Moved(usize),
+    /// A signal came first: the call is made again.
+    Again,
+    /// No byte goes until the socket is ready again.
+    Waits,
+    /// The far end has ended the stream, or the stream has failed.
+    Over,
+}
+
+/// What the answer to such a call comes to. An error that is no pause is a failure of the stream.
+pub fn outcome_of(answer: Result<usize>) -> Result<Progress>
+    ensures moved { IfOk answer (λ count. 1 ≤ count → result ≡ Ok (Moved count)) }
+    ensures end { IfOk answer (λ count. count ≡ 0 → result ≡ Ok Over) }
+    ensures waits { IfErr answer (λ fault. error_kind fault ≡ ErrorKind.WouldBlock → result ≡ Ok Waits) }
+    ensures again { IfErr answer (λ fault. error_kind fault ≡ ErrorKind.Interrupted → result ≡ Ok Again) }
+    ensures failed { IfErr answer (λ fault. IsFailure fault → result ≡ Err fault) }
+    ensures fault { IfErr result IsFailure }
+{
+    match answer {
+        Ok(0) => Ok(Progress::Over),
+        Ok(count) => Ok(Progress::Moved(count)),
+        Err(fault) => outcome_after(fault),
+    }
+}
+
+// What a fault comes to.
+fn outcome_after(fault: Error) -> Result<Progress>
+    ensures waits { error_kind fault ≡ ErrorKind.WouldBlock → result ≡ Ok Waits }
+    ensures again { error_kind fault ≡ ErrorKind.Interrupted → result ≡ Ok Again }
+    ensures failed { IsFailure fault → result ≡ Err fault }
+    ensures fault { IfErr result IsFailure }
+{
+    if fault.kind() == ErrorKind::WouldBlock {
+        Ok(Progress::Waits)
+    } else if fault.kind() == ErrorKind::Interrupted {
+        Ok(Progress::Again)
+    } else {
+        Err(fault)
+    }
+}
+
+/// The same, if a failure is an end like that of the far end.
+pub fn progress_of(answer: Result<usize>) -> Progress
+    ensures moved { IfOk answer (λ count. 1 ≤ count → result ≡ Moved count) }
+    ensures end { IfOk answer (λ count. count ≡ 0 → result ≡ Over) }
+    ensures waits { IfErr answer (λ fault. error_kind fault ≡ ErrorKind.WouldBlock → result ≡ Waits) }
+    ensures again { IfErr answer (λ fault. error_kind fault ≡ ErrorKind.Interrupted → result ≡ Again) }
+    ensures failed { IfErr answer (λ fault. error_kind fault ≢ ErrorKind.WouldBlock
+        → error_kind fault ≢ ErrorKind.Interrupted → result ≡ Over) }
+{
+    over_if_failed(outcome_of(answer))
+}
+
+/// Takes a failure for an end.
+pub(crate) fn over_if_failed(outcome: Result<Progress>) -> Progress
+    ensures same { IfOk outcome (λ progress. result ≡ progress) }
+    ensures over { IfErr outcome (λ _. result ≡ Over) }
+{
+    match outcome {
+        Ok(progress) => progress,
+        Err(_) => Progress::Over,
+    }
+}

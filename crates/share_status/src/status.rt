@@ -1,0 +1,99 @@
+//! How a gateway stands.
+
+use share_base::Name;
+use share_catalog::Time;
+use share_gateway::Grant;
+use std::net::SocketAddr;
+
+/// Whether the uplink is connected, or is dialled.
+#[derive(Clone, Copy, Debug, PartialEq, Eq)]
+pub enum UplinkState {
+    Up,
+    Dialling,
+}
+
+/// How the uplink stands. Its numbers count bytes.
+#[derive(Clone, Copy, Debug)]
+pub struct UplinkStatus {
+    pub state: UplinkState,
+    pub address: SocketAddr,
+    /// What the sockets of the uplink took.
+    pub sent: u64,
+    /// What was scheduled, and the socket has not taken yet.
+    pub outbox: u64,
+    /// What may have been lost with connections of the uplink.
+    pub lost: u64,
+}
+
+/// How the disk stands: how many bytes of text wait for it, and why it fails, if it does.
+#[derive(Clone, Copy, Debug)]
+pub struct DiskStatus<'a> {
+    pub waiting: u64,
+    pub fault: Option<&'a str>,
+}
+
+/// How a tenant stands.
+#[derive(Clone, Copy, Debug)]
+pub struct TenantStatus<'a> {
+    pub name: Name,
+    pub flow: u32,
+    pub held: bool,
+    /// What its grants are worth.
+    pub tickets: u32,
+    pub grants: &'a [Grant],
+    /// How many of its packets wait.
+    pub waiting: u32,
+    /// How many packets its buffer holds.
+    pub limit: u64,
+    pub taken_packets: u64,
+    pub taken_bytes: u64,
+    pub sent_packets: u64,
+    pub sent_bytes: u64,
+    /// Its account in the open book.
+    pub amount: u64,
+    pub connections: u64,
+    /// How many packets its ports dropped.
+    pub dropped: u64,
+    /// How many packets from the downlink its ports lost.
+    pub lost: u64,
+}
+
+/// Whether a gateway is connected to the downlink, or none is.
+#[derive(Clone, Copy, Debug, PartialEq, Eq)]
+pub enum DownlinkState {
+    Up,
+    Listening,
+}
+
+/// How the downlink stands.
+#[derive(Clone, Copy, Debug)]
+pub struct DownlinkStatus {
+    pub state: DownlinkState,
+    pub address: SocketAddr,
+    pub frames: u64,
+    pub bytes: u64,
+    /// How many frames had the number of no tenant.
+    pub strangers: u64,
+}
+
+/// How a gateway stands.
+#[derive(Clone, Copy, Debug)]
+pub struct Status<'a> {
+    pub version: &'a str,
+    /// What the program is proved with.
+    pub proved: &'a str,
+    /// The number of the open book.
+    pub book: u64,
+    /// How many events the open book has.
+    pub events: u64,
+    /// How many events are left of its life.
+    pub left: u64,
+    /// When the open book was opened.
+    pub opened: Time,
+    pub uplink: Option<UplinkStatus>,
+    /// Bytes of frames a second, if they are limited.
+    pub rate: Option<u64>,
+    pub disk: DiskStatus<'a>,
+    pub tenants: &'a [TenantStatus<'a>],
+    pub downlink: Option<DownlinkStatus>,
+}

@@ -1,0 +1,20 @@
+-- What the wire takes of the frames on their way to it.
+use Rattle.std.specs.Prelude.{◌≡◌, ◌≤◌, ℕ, length}
+use Rattle.share_gateway.specs.Outbox.{begun_again, ready_of, send_more}
+use Rattle.share_transit.specs.Transit.{TransitView}
+use Rattle.share_uplink.specs.declared.state.Work.{Work}
+use Rattle.share_uplink.specs.declared.state.Work.TheVariants.{Rests, Busy, Connected, Lost, Unreachable}
+
+-- the wire took bytes, piece by piece, each time of those that were ready, and nothing else changed
+pub data WireTakes : TransitView → TransitView → Type 0 where
+  nothing : (t : TransitView) → WireTakes t t
+  piece : (s t : TransitView) → WireTakes s t → (n : ℕ) → n ≤ length (ready_of t.outbox)
+      → WireTakes s (record t { outbox = send_more n t.outbox })
+
+-- on a new connection the outbox begins again, and a dial that failed changes nothing; else the wire took bytes
+abbrev pub UplinkWorks : TransitView → Work → TransitView → Type 0
+UplinkWorks before Rests after = WireTakes before after
+UplinkWorks before Busy after = WireTakes before after
+UplinkWorks before Connected after = after ≡ record before { outbox = begun_again before.outbox }
+UplinkWorks before Lost after = WireTakes before after
+UplinkWorks before Unreachable after = after ≡ before

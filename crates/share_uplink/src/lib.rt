@@ -1,0 +1,9 @@
+//! The uplink of a gateway: dialled, dialled again when it is lost, and given what may go on the wire.
+#![tactic(auto)]
+
+mod passing;
+mod state;
+mod uplink;
+
+pub use state::{UplinkState, Work};
+pub use uplink::Uplink;

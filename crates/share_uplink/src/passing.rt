@@ -1,0 +1,79 @@
+//! What goes over the stream of an uplink.
+ghost use Rattle.share_uplink.specs.Passing.{WireTakes};
+
+use crate::state::far_end_closed;
+use share_sockets::{Progress, Stream};
+use share_transit::Transit;
+use std::io;
+
+/// How many calls on the socket are made before the rest of the round has its turn.
+const CALLS: u32 = 64;
+
+/// How many bytes are read in one call.
+const PIECE: usize = 4096;
+
+/// What a stream may be ready for.
+#[derive(Clone, Copy, Debug)]
+pub(crate) struct Ready {
+    // Whether it may have bytes, and whether it may take some.
+    pub(crate) reads: bool,
+    pub(crate) writes: bool,
+}
+
+/// Throws away what came, and then sends what may go. Returns what the stream may still be ready for, or why it is
+/// over. Nothing is sent once the far end is known to have ended it.
+pub(crate) fn exchange(stream: &Stream, ready: Ready, transit: &mut Transit) -> io::Result<Ready>
+    ensures { WireTakes transit.old transit.new }
+{
+    let reads = drain(stream, ready.reads)?;
+    let writes = send(stream, ready.writes, transit)?;
+    Ok(Ready { reads, writes })
+}
+
+// Reads what the far end sends if the stream may have some, and throws it away. Returns whether more may be there.
+fn drain(stream: &Stream, is_readable: bool) -> io::Result<bool> {
+    if !is_readable {
+        return Ok(false);
+    }
+    let mut piece = [0u8; PIECE];
+    for _ in 0..CALLS {
+        match stream.try_read(&mut piece)? {
+            Progress::Moved(_) | Progress::Again => (),
+            Progress::Waits => return Ok(false),
+            Progress::Over => return Err(far_end_closed()),
+        }
+    }
+    Ok(true)
+}
+
+// Gives the stream, if it may take some, the bytes that may go on the wire. Returns whether it may take more.
+fn send(stream: &Stream, is_writable: bool, transit: &mut Transit) -> io::Result<bool>
+    ensures { WireTakes transit.old transit.new }
+{
+    if !is_writable {
+        return Ok(false);
+    }
+    'calls: for _ in 0..CALLS {
+        if transit.ready().is_empty() {
+            return Ok(true);
+        }
+        match send_piece(stream, transit) {
+            Ok(Progress::Moved(_)) | Ok(Progress::Again) => (),
+            Ok(Progress::Waits) => return Ok(false),
+            Ok(Progress::Over) => return Err(far_end_closed()),
+            Err(fault) => return Err(fault),
+        }
+    }
+    Ok(true)
+}
+
+// Gives the stream as many of the bytes that may go on the wire as it takes in one call.
+fn send_piece(stream: &Stream, transit: &mut Transit) -> io::Result<Progress>
+    ensures { WireTakes transit.old transit.new }
+{
+    let outcome = stream.try_write(transit.ready());
+    if let Ok(Progress::Moved(count)) = outcome {
+        transit.sent(count);
+    }
+    outcome
+}

@@ -1,0 +1,95 @@
+//! Where an uplink stands, and what became of it.
+ghost use Rattle.std.specs.Prelude.{◌≡◌, true, false};
+ghost use Rattle.std.specs.IoError.{error_kind};
+ghost use Rattle.share_uplink.specs.States.{state_of};
+ghost use Rattle.share_uplink.specs.declared.state.UplinkState.TheVariants.{Up};
+
+use share_sockets::Stream;
+use std::io::{Error, ErrorKind};
+use std::mem;
+use std::time::Instant;
+
+/// Where an uplink stands.
+#[derive(Drop)]
+pub(crate) enum State {
+    /// It is dialled at this time.
+    Away(Instant),
+    /// A dial began at this time.
+    Dialling(Stream, Instant),
+    /// It is connected since this time.
+    Up(Stream, Instant),
+}
+
+impl State {
+    /// Whether it is connected.
+    pub(crate) fn summary(&self) -> UplinkState
+        ensures { result ≡ state_of self.now }
+    {
+        match self {
+            State::Up(..) => UplinkState::Up,
+            _ => UplinkState::Dialling,
+        }
+    }
+
+    /// Why a dial that began has failed, if it has.
+    pub(crate) fn fault(&self) -> Option<Error> {
+        match self {
+            State::Dialling(stream, _) => stream.take_fault(),
+            _ => None,
+        }
+    }
+
+    /// The dial that began succeeded now. Returns false if none began, and then nothing changes.
+    pub(crate) fn connect(&mut self, now: Instant) -> bool
+        ensures up { result ≡ true → state_of self.new ≡ Up }
+        ensures same { result ≡ false → self.new ≡ self.old }
+    {
+        match mem::replace(self, State::Away(now)) {
+            State::Dialling(stream, _) => {
+                *self = State::Up(stream, now);
+                true
+            }
+            other => {
+                *self = other;
+                false
+            }
+        }
+    }
+}
+
+/// Whether an uplink is connected.
+#[derive(Clone, Copy, Debug, PartialEq, Eq)]
+pub enum UplinkState {
+    Up,
+    /// It is dialled, or is to be dialled again.
+    Dialling,
+}
+
+/// What became of an uplink.
+#[derive(Clone, Copy, Debug, PartialEq, Eq)]
+pub enum Work {
+    /// Nothing is left to do before its socket is ready again, or more may go on the wire.
+    Rests,
+    /// More may be done at once.
+    Busy,
+    /// It was connected just now.
+    Connected,
+    /// It was lost just now.
+    Lost,
+    /// A dial failed just now, or was given up.
+    Unreachable,
+}
+
+/// The far end ended a connection.
+pub(crate) fn far_end_closed() -> Error
+    ensures { error_kind result ≡ ErrorKind.UnexpectedEof }
+{
+    Error::new(ErrorKind::UnexpectedEof, "the far end closed it")
+}
+
+/// A dial was given up.
+pub(crate) fn no_answer() -> Error
+    ensures { error_kind result ≡ ErrorKind.TimedOut }
+{
+    Error::new(ErrorKind::TimedOut, "no answer in 5 seconds")
+}

@@ -1,0 +1,346 @@
+//! The calls of an uplink.
+ghost use Rattle.std.specs.Prelude.{◌+◌, ◌≡◌, ◌≢◌, ◌*◌, min, true, false, None, IsSome};
+ghost use Rattle.std.specs.IoError.{error_kind};
+ghost use Rattle.share_uplink.specs.Passing.{UplinkWorks};
+ghost use Rattle.share_uplink.specs.Uplink.{UplinkCounts, UplinkTicks};
+ghost use Rattle.share_uplink.specs.Uplink.{after_loss, given_more, kind_of, new_uplink, not_reached};
+ghost use Rattle.share_uplink.specs.declared.state.UplinkState.TheVariants.{Up, Dialling};
+ghost use Rattle.share_uplink.specs.declared.uplink.Due.TheVariants.{Nothing};
+
+use crate::passing::{Ready, exchange};
+use crate::state::{State, UplinkState, Work, no_answer};
+use mio::{Interest, Registry, Token};
+use share_sockets::Stream;
+use share_timing::Redial;
+use share_transit::Transit;
+use std::io;
+use std::io::Error;
+use std::marker::Model;
+use std::net::{Net, SocketAddr};
+use std::time::{Duration, Instant};
+
+/// After how many seconds a dial is given up.
+const DIAL_SECONDS: u64 = 5;
+
+/// What time asks of an uplink.
+#[derive(Clone, Copy, Debug, PartialEq, Eq)]
+enum Due {
+    Nothing,
+    Dial,
+    GiveUp,
+}
+
+/// An uplink over TCP. Bytes that come from the far end are thrown away. A contract sees its address and its state, and
+/// what it counts.
+#[derive(Drop)]
+pub struct Uplink {
+    address: SocketAddr,
+    // How many bytes its socket is to hold.
+    buffer: u64,
+    state: State,
+    redial: Redial,
+    // What the socket may be ready for.
+    ready: Ready,
+    // How many bytes the last connection was given, and all of them.
+    given: u64,
+    sent: u64,
+    // How many bytes may be lost at the near end: by the last loss, and by all.
+    lost_at_most: u64,
+    lost: u64,
+    // Why it was lost or not reached last.
+    fault: Option<Error>,
+}
+
+impl Model for Uplink {
+    ghost use Rattle.share_uplink.specs.States.{state_of};
+    ghost use Rattle.share_uplink.specs.Uplink.{UplinkView, kind_of};
+
+    ghost Value = { UplinkView };
+
+    ghost view = { λ u.
+        record {
+          address = u.address;
+          buffer = u.buffer;
+          state = state_of u.state;
+          given = u.given;
+          sent = u.sent;
+          lost_at_most = u.lost_at_most;
+          lost = u.lost;
+          fault = kind_of u.fault;
+        } };
+}
+
+const NOT_READY: Ready = Ready {
+    reads: false,
+    writes: false,
+};
+
+impl Uplink {
+    /// An uplink that is to be dialled at once. Its socket is to hold so many bytes that were written and that the far
+    /// end has not acknowledged. Linux doubles that.
+    pub fn new(address: SocketAddr, buffer: u64, now: Instant) -> Uplink
+        ensures { result ≡ new_uplink address buffer }
+    {
+        Uplink {
+            address,
+            buffer,
+            state: State::Away(now),
+            redial: Redial::new(),
+            ready: NOT_READY,
+            given: 0,
+            sent: 0,
+            lost_at_most: 0,
+            lost: 0,
+            fault: None,
+        }
+    }
+
+    /// Where it is dialled.
+    pub fn address(&self) -> SocketAddr
+        ensures { result ≡ self.now.address }
+    {
+        self.address
+    }
+
+    /// Whether it is connected.
+    pub fn state(&self) -> UplinkState
+        ensures { result ≡ self.now.state }
+    {
+        self.state.summary()
+    }
+
+    /// The same.
+    pub fn is_up(&self) -> bool
+        ensures up { self.now.state ≡ Up → result ≡ true }
+        ensures dialling { self.now.state ≡ Dialling → result ≡ false }
+    {
+        self.state.summary() == UplinkState::Up
+    }
+
+    /// How many bytes the last connection was given.
+    pub fn given(&self) -> u64
+        ensures { result ≡ self.now.given }
+    {
+        self.given
+    }
+
+    /// How many bytes all connections were given.
+    pub fn sent(&self) -> u64
+        ensures { result ≡ self.now.sent }
+    {
+        self.sent
+    }
+
+    /// How many bytes that the last loss was given may have been left in its socket.
+    pub fn lost_at_most(&self) -> u64
+        ensures { result ≡ self.now.lost_at_most }
+    {
+        self.lost_at_most
+    }
+
+    /// The sum of these over all losses.
+    pub fn lost(&self) -> u64
+        ensures { result ≡ self.now.lost }
+    {
+        self.lost
+    }
+
+    /// Why it was lost, or not reached, last.
+    pub fn last_fault(&self) -> Option<Error>
+        ensures { kind_of result ≡ self.now.fault }
+    {
+        self.fault
+    }
+
+    /// After what time `tick` has something to do, if there is such a time.
+    pub fn pause(&self, now: Instant) -> Option<Duration>
+        ensures up { self.now.state ≡ Up → result ≡ None }
+        ensures dialling { self.now.state ≡ Dialling → IsSome result }
+    {
+        match &self.state {
+            State::Away(at) => Some(at.saturating_duration_since(now)),
+            State::Dialling(_, since) => Some(dial_time_left(*since, now)),
+            State::Up(..) => None,
+        }
+    }
+
+    /// Dials if it is time to, and gives up a dial that takes too long. Returns `Rests` or `Unreachable`.
+    pub fn tick(&mut self, net: &impl Net, registry: &Registry, token: Token, now: Instant) -> Work
+        ensures { UplinkTicks self.old result self.new }
+    {
+        match self.due(now) {
+            Due::Nothing => Work::Rests,
+            Due::Dial => self.dial(net, registry, token, now),
+            Due::GiveUp => self.miss(now, no_answer()),
+        }
+    }
+
+    fn due(&self, now: Instant) -> Due
+        ensures { result ≢ Nothing → self.now.state ≡ Dialling }
+    {
+        match &self.state {
+            State::Away(at) => {
+                if at.saturating_duration_since(now).is_zero() {
+                    return Due::Dial;
+                }
+            }
+            State::Dialling(_, since) => {
+                if dial_time_left(*since, now).is_zero() {
+                    return Due::GiveUp;
+                }
+            }
+            State::Up(..) => (),
+        }
+        Due::Nothing
+    }
+
+    fn dial(&mut self, net: &impl Net, registry: &Registry, token: Token, now: Instant) -> Work
+        requires { self.old.state ≡ Dialling }
+        ensures { UplinkTicks self.old result self.new }
+    {
+        match begin(net, self.address, self.buffer, registry, token) {
+            Err(fault) => self.miss(now, fault),
+            Ok(stream) => {
+                self.state = State::Dialling(stream, now);
+                Work::Rests
+            }
+        }
+    }
+
+    // A dial failed.
+    fn miss(&mut self, now: Instant, fault: Error) -> Work
+        requires { self.old.state ≡ Dialling }
+        ensures is { result ≡ Work.Unreachable }
+        ensures view { self.new ≡ not_reached (error_kind fault) self.old }
+    {
+        self.wait(now);
+        self.fault = Some(fault);
+        Work::Unreachable
+    }
+
+    // It was lost.
+    fn lose(&mut self, now: Instant, fault: Error) -> Work
+        requires { self.old.state ≡ Up }
+        ensures is { result ≡ Work.Lost }
+        ensures view { self.new ≡ after_loss (error_kind fault) self.old }
+    {
+        if let State::Up(_, since) = &self.state {
+            let stood = now.saturating_duration_since(*since).as_secs();
+            self.redial.stood(stood.saturating_mul(1000));
+        }
+        self.wait(now);
+        self.lost_at_most = at_risk(self.given, self.buffer);
+        self.lost = self.lost.saturating_add(self.lost_at_most);
+        self.fault = Some(fault);
+        Work::Lost
+    }
+
+    // It is dialled again after a pause.
+    fn wait(&mut self, now: Instant)
+        ensures { self.new ≡ record self.old { state = Dialling } }
+    {
+        let pause = Duration::from_millis(self.redial.pause());
+        self.ready = NOT_READY;
+        self.state = State::Away(now.checked_add(pause).unwrap_or(now));
+    }
+
+    /// Its socket was reported readable or writable.
+    pub fn note(&mut self, readable: bool, writable: bool)
+        ensures { self.new ≡ self.old }
+    {
+        self.ready.reads |= readable;
+        self.ready.writes |= writable;
+    }
+
+    /// Does what its socket is ready for. On a new connection the outbox begins again.
+    pub fn work(&mut self, transit: &mut Transit, now: Instant) -> Work
+        ensures wire { UplinkWorks transit.old result transit.new }
+        ensures counts { UplinkCounts self.old transit.old result self.new transit.new }
+    {
+        match &self.state {
+            State::Away(_) => Work::Rests,
+            State::Dialling(..) => self.finish_dial(transit, now),
+            State::Up(..) => self.pass(transit, now),
+        }
+    }
+
+    // Looks how a dial went, if that is known.
+    fn finish_dial(&mut self, transit: &mut Transit, now: Instant) -> Work
+        requires { self.old.state ≡ Dialling }
+        ensures wire { UplinkWorks transit.old result transit.new }
+        ensures counts { UplinkCounts self.old transit.old result self.new transit.new }
+    {
+        if !self.ready.writes {
+            return Work::Rests;
+        }
+        if let Some(fault) = self.state.fault() {
+            return self.miss(now, fault);
+        }
+        if !self.state.connect(now) {
+            return Work::Rests;
+        }
+        self.given = 0;
+        transit.again();
+        Work::Connected
+    }
+
+    // Throws away what came, and sends what may go.
+    fn pass(&mut self, transit: &mut Transit, now: Instant) -> Work
+        requires { self.old.state ≡ Up }
+        ensures wire { UplinkWorks transit.old result transit.new }
+        ensures counts { UplinkCounts self.old transit.old result self.new transit.new }
+    {
+        let State::Up(stream, _) = &self.state else {
+            return Work::Rests;
+        };
+        let waiting = transit.waiting();
+        let outcome = exchange(stream, self.ready, transit);
+        self.count(waiting.saturating_sub(transit.waiting()));
+        match outcome {
+            Err(fault) => self.lose(now, fault),
+            Ok(ready) => {
+                self.ready = ready;
+                if ready.reads || ready.writes && !transit.ready().is_empty() {
+                    Work::Busy
+                } else {
+                    Work::Rests
+                }
+            }
+        }
+    }
+
+    // Counts bytes that the connection was given.
+    fn count(&mut self, bytes: usize)
+        ensures { self.new ≡ given_more bytes self.old }
+    {
+        self.given = self.given.saturating_add(bytes as u64);
+        self.sent = self.sent.saturating_add(bytes as u64);
+    }
+}
+
+// How many bytes a socket may hold. Linux doubles a buffer, and lets a last segment go beyond it.
+fn at_risk(given: u64, buffer: u64) -> u64
+    ensures { result ≡ min given (2 * buffer + 65536) }
+{
+    given.min(buffer.saturating_mul(2).saturating_add(65536))
+}
+
+// How long a dial may take yet.
+fn dial_time_left(since: Instant, now: Instant) -> Duration {
+    Duration::from_secs(DIAL_SECONDS).saturating_sub(now.saturating_duration_since(since))
+}
+
+// Begins to connect, with events under this token.
+fn begin(
+    net: &impl Net,
+    address: SocketAddr,
+    buffer: u64,
+    registry: &Registry,
+    token: Token,
+) -> io::Result<Stream> {
+    let mut stream = Stream::connect(net, address)?;
+    stream.set_send_buffer(buffer)?;
+    stream.set_nodelay(true)?;
+    stream.register(registry, token, Interest::READABLE | Interest::WRITABLE)?;
+    Ok(stream)
+}

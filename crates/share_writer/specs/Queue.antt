@@ -1,0 +1,29 @@
+-- What a contract sees of the queue to the disk, and what its calls do. A count stops at 2^64 - 1.
+use Rattle.std.specs.Prelude.{ℕ, ◌+◌, ◌-◌, ◌^◌, min, Bool, true, false, List, length, if◌then◌else◌}
+
+-- how many bytes were given to the disk, over all books; how many of these when a sync was asked for last; how many books
+-- were given to be closed; and whether the last one was
+pub record QueueView : Type 0 where
+  pub given : ℕ
+  pub asked : ℕ
+  pub ended : ℕ
+  pub is_over : Bool
+
+abbrev pub new_queue : QueueView
+new_queue = record { given = 0; asked = 0; ended = 0; is_over = false }
+
+-- these bytes were given, unless the last book was closed
+abbrev pub with_bytes : List ℕ → QueueView → QueueView
+with_bytes bytes q = if q.is_over then q else record q { given = min (q.given + length bytes) (2 ^ 64 - 1) }
+
+-- a sync was asked for
+abbrev pub with_sync : QueueView → QueueView
+with_sync q = record q { asked = q.given }
+
+-- a book was given to be closed
+abbrev pub with_close : QueueView → QueueView
+with_close q = record q { ended = min (q.ended + 1) (2 ^ 64 - 1) }
+
+-- the last book was, unless it was before
+abbrev pub with_last : QueueView → QueueView
+with_last q = if q.is_over then q else record (with_close q) { is_over = true }

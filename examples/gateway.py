@@ -1,0 +1,1257 @@
+#!/usr/bin/env python3
+"""Plays the tenants, the control clients and the far end of a gateway, over real sockets.
+
+The environment names the programs: GATEWAY and GATEWAY_WORDS the gateway, STRIDELINK what bills its books (see
+gatewaying.py). Arguments name the cases to play; without any, all are played. With TIMES set, it prints how long each
+took. What is wanted comes from the rules of a gateway. Each case ends by itself, and all of them in four minutes.
+"""
+import calendar
+import contextlib
+import itertools
+import os
+import shutil
+import socket
+import stat
+import statistics
+import subprocess
+import sys
+import threading
+import time
+
+sys.dont_write_bytecode = True
+
+import measured
+from gatewaying import (GATEWAY, HEADER, MOST_CONNECTIONS, MOST_CONTROLS, OUTBOX, SERVED, WORDS, Play, Tenant,
+                        address_of, connect, frame_bytes, free_port, packet, records, run_gateway, run_program)
+from measured import EXAMPLES, WINDOW, Flood, check_windows, started
+from serving import (LOOPBACK, PATIENCE, Failure, ends_by_itself, expect, expect_equal, record, reset, try_cases,
+                     wait_for)
+
+# Seconds for a case, and for all of them.
+LIMIT = 80
+LIMIT_OF_ALL = 240
+
+FLOODED = {"a": 400, "b": 300, "c": 200, "d": 100}
+
+# A rate that a loop in Python follows with ease, in the file and in bytes a second.
+RATE, BYTES_A_SECOND = "20 Mbit/s", 2.5e6
+
+# How far a rate may be off.
+RATE_ERROR = 0.02
+
+# How long no frame may come over a rotation, and how long a plain loop pauses at most if a machine is idle, in seconds.
+MOST_PAUSE = 0.02
+IDLE_PAUSE = 0.005
+ROTATIONS = 20
+
+# Within how many seconds control replies while the far end reads nothing, and by how much memory may grow meanwhile.
+PROMPT = 0.1
+MOST_GROWTH = 1 << 20
+
+# The smallest buffer of the uplink's socket, and how many bytes it may hold: the system doubles it, and takes a last
+# segment whole.
+SMALLEST_BUFFER = 16384
+MOST_HELD = 2 * SMALLEST_BUFFER + 65536
+
+# The life of a short book.
+SHORTEST_LIFE = 131072
+
+# A shell that has mounts of its own, the room of a small disk, and how much of it is taken at first.
+OWN_MOUNTS = ["unshare", "--map-root-user", "--mount", "sh", "-c"]
+SMALL_DISK = 1 << 20
+TAKEN_ROOM = 600 << 10
+NOBODY = 65534
+
+
+# ---- The file
+
+
+# What is changed in a good file, and the fault that it has then, after the name of the file.
+FAULTS = [
+    ("[books]", "[books", ":3: "),
+    ('connect = "', 'connect = "udp:', ": [uplink]: rate: missing"),
+    ("[uplink]", "[uplink]\nbuffer = 16383", ": [uplink]: buffer: "),
+    ("[uplink]", '[uplink]\nrate = "20 Mbit"', ": [uplink]: rate: "),
+    ("[books]", '[books]\nperiod = "9 s"', ": [books]: period: "),
+    ("[books]", "[books]\nevents = 131071", ": [books]: events: "),
+    ('port = ["', 'port = ["nowhere", "', ": tenant 1: port: "),
+    ('name = "a"', 'name = "gap"', ": the plan: a tenant is called gap"),
+    ('name = "a"', 'name = "a"\ntariff = 5', ": tenant 1: no 8 NoTariff"),
+    ('name = "a"', 'name = "a"\nplace = 5', ": tenant 1: place: unknown key"),
+]
+
+
+def checks(run):
+    """A file is checked, and each fault is printed with the file and the reason; no gateway runs, and no file is
+    made."""
+    gateway = run.prepared(1, {"a": 1})
+    file = gateway.file
+    expect_equal(run_gateway([file, "--check"]), (0, f"{file}: ok\n", ""), "a check")
+    expect_equal(run_gateway(["--check", file]), (0, f"{file}: ok\n", ""), "a check")
+    for words in ([], ["--check"], [file, "--grace"], [file, "--check", "x"]):
+        expect_equal(run_gateway(words)[0], 2, f"words {words}")
+    good = gateway.text()
+    for old, new, fault in FAULTS:
+        gateway.write(good.replace(old, new, 1))
+        for words in ([file], [file, "--check"]):
+            status, out, errors = run_gateway(words)
+            expect_equal((status, out), (1, ""), f"the status at {new}")
+            expect(errors.startswith(file + fault) and errors.count("\n") == 1, f"{new}: {errors}, wanted {fault}")
+    expect_equal(os.listdir(gateway.folder), [], "files of the folder")
+
+
+def addresses_in_use(run):
+    """An address that another program listens at is a fault, with the address and the system's reason. What listens
+    stays as it is."""
+    for kind in ("port", "control", "unix"):
+        place = run.folder()
+        if kind == "unix":
+            address = f"unix:{place}/a"
+            taken = run.keep(socket.socket(socket.AF_UNIX))
+            taken.bind(f"{place}/a")
+            taken.listen(1)
+        else:
+            taken = run.keep(socket.create_server((LOOPBACK, 0)))
+            address = address_of(taken.getsockname()[1])
+        ports = [address] if kind != "control" else None
+        control = address if kind == "control" else None
+        gateway = run.prepared(1, {"a": Tenant([1], ports=ports)}, place, control=control)
+        status, out, errors = run_gateway([gateway.file])
+        expect_equal((status, out), (1, ""), f"the status of {kind}")
+        expect(address.removeprefix("unix:") in errors and "in use" in errors.lower(), f"{kind}: {errors}")
+        run.keep(connect(address))
+        expect(not any(name.endswith(".open") for name in os.listdir(gateway.folder)), "a book is open")
+
+
+def second_gateway(run):
+    """A second gateway on the folder of books is refused, and harms nothing."""
+    far = run.far_end()
+    gateway = run.gateway(far, {"a": 1})
+    other = run.prepared(far, {"a": 1}, folder=gateway.folder)
+    status, out, errors = run_gateway([other.file])
+    expect_equal((status, out), (1, ""), "the status of a second gateway")
+    expect(errors.startswith(gateway.folder + ": ") and errors.count("\n") == 1, f"a second gateway: {errors}")
+    gateway.send("a", range(10))
+    far.wait_for(10)
+    gateway.end()
+
+
+def folder_without_leave(run):
+    """A folder that the gateway may not write in, and one that is not there, are faults with the system's reason."""
+    is_root = os.geteuid() == 0
+    place = run.folder()
+    os.chmod(place, 0o755)
+    program = shutil.copy(GATEWAY, place)
+    gateway = run.prepared(1, {"a": 1}, place)
+    os.chmod(gateway.folder, 0o755 if is_root else 0o555)
+    how = {"user": NOBODY, "group": NOBODY, "extra_groups": []} if is_root else {}
+    for folder, reason in ((gateway.folder, "ermission denied"), (place + "/nowhere", "o such file")):
+        gateway.write(gateway.text().replace(gateway.folder, folder))
+        status, out, errors = run_program([*WORDS, gateway.file], program, **how)
+        expect_equal((status, out), (1, ""), f"the status with {folder}")
+        expect(folder in errors and reason in errors and errors.count("\n") == 1, f"{folder}: {errors}")
+    os.chmod(gateway.folder, 0o755)
+    expect_equal(os.listdir(gateway.folder), [], "files of the folder")
+
+
+# ---- Control
+
+
+def orders(run):
+    """Each order has its reply, and what is an event is one in the books."""
+    far = run.far_end()
+    gateway = run.gateway(far, {"a": Tenant([(1, "x"), 300]), "b": 100}, currencies={"x": [(300, "base")]})
+    for line, wanted in [
+            ("hold a", "ok"),
+            ("hold a", "no 21 Held"),
+            ("hold c", "no 7 NoFlow"),
+            ("resume a", "ok"),
+            ("resume a", "no 22 NotHeld"),
+            ("resume c", "no 7 NoFlow"),
+            ("amend a 2 300", "ok"),
+            ("amend x 1 1048576", "ok"),
+            ("amend a 3 300", "no 6 NoTicket"),
+            ("amend a 0 300", "no 6 NoTicket"),
+            ("amend c 1 300", "no 5 NoCurrency"),
+            ("amend a 1 0", "no 4 Range"),
+            ("amend a 1 1048577", "no 4 Range"),
+            ("amend a 1", "no 3 Syntax"),
+            ("nonsense", "no 3 Syntax"),
+            ("", "no 3 Syntax"),
+            ("x" * 30000, "no 3 Syntax"),
+            ("rotate", "book 2"),
+            ("rotate", "book 3")]:
+        gateway.control.expect(line, wanted)
+    gateway.control.expect_all(["hold a", "resume a"] * 500, "ok")
+    expect_equal(gateway.control.report()[-1], "end", "the last line of a report")
+    gateway.end()
+    expect_equal(gateway.books(), ["000001.lengths", "000002.lengths", "000003.lengths"], "books")
+    expect_equal(gateway.whys(), ["rotate", "rotate", "end"], "why books were closed")
+
+
+STATUS_KEYS = ["version", "proved", "book", "events", "left", "opened", "uplink", "rate", "disk", "tenants", "downlink"]
+UPLINK_KEYS = ["state", "address", "sent", "outbox", "lost"]
+TENANT_KEYS = ["name", "flow", "held", "tickets", "grants", "waiting", "limit", "taken_packets", "taken_bytes",
+               "sent_packets", "sent_bytes", "amount", "connections", "dropped", "lost"]
+
+
+def status(run):
+    """`status` is one line of JSON with exactly the keys of its table. Its values are what was sent, counted and
+    read: taken and sent are counted since the start, and an amount is of the book."""
+    far = run.far_end()
+    began = int(time.time())
+    gateway = run.gateway(far, {"a": Tenant([(200, "gold"), 50]),
+                                "b": Tenant([7], ["flow = 3", "packets = 4", "held = true", "tariff = 2"]),
+                                "c": Tenant([1], ["flow = 4"])},
+                          currencies={"gold": [(300, "base")]}, uplink_lines=[f'rate = "{RATE}"'])
+    gateway.send("a", range(10))
+    far.wait_for(10)
+    held = run.keep(gateway.connect("b"))
+    held.sendall(records("b", range(6), 60))
+    idle = [run.keep(gateway.connect("c")) for _ in range(2)]
+    wait_for(lambda: (gateway.tenant("b")["waiting"], gateway.tenant("c")["connections"]) == (4, len(idle)), "status")
+    wait_for(lambda: gateway.status()["disk"]["waiting"] == 0, "a text that is written")
+    found = gateway.status()
+    expect_equal(list(found), STATUS_KEYS, "the keys")
+    expect_equal([list(tenant) for tenant in found["tenants"]], [TENANT_KEYS] * 3, "the keys of the tenants")
+    expect_equal(list(found["uplink"]), UPLINK_KEYS, "the keys of the uplink")
+    expect(all(isinstance(found[key], str) and found[key] for key in ("version", "proved")), "version and proved")
+    # The opening: the currency and its grant, four flows and the close of the gap, four grants, and the hold of b.
+    events = (1 + 2) + (4 + 1) + 2 * 4 + 1 + 10 + 10 + 4
+    expect_equal((found["book"], found["events"], found["left"]), (1, events, (1 << 24) - events), "events")
+    opened = seconds_of(found["opened"])
+    expect(began <= opened <= time.time(), f"the time of the opening: {found['opened']}")
+    sent = frame_bytes(10)
+    expect_equal(found["uplink"], {"state": "up", "address": address_of(far.port), "sent": sent, "outbox": 0,
+                                   "lost": 0}, "the uplink")
+    expect_equal((found["rate"], found["disk"], found["downlink"]),
+                 (int(BYTES_A_SECOND), {"waiting": 0, "fault": None}, None), "rate, disk and downlink")
+    expect_equal(found["tenants"], [
+        tenant_status("a", 1, grants=[(200, "gold"), (50, "base")], taken=(10, 1000), sent=(10, sent), amount=sent),
+        tenant_status("b", 3, held=True, grants=[(7, "base")], waiting=4, limit=4, taken=(4, 240), connections=1),
+        tenant_status("c", 4, grants=[(1, "base")], connections=2)], "the tenants")
+    status_after_changes(gateway, far, sent)
+    gateway.control.expect("resume b", "ok")
+    held.close()
+    far.wait_for(6, 3)
+    gateway.end()
+    expect_equal(gateway.counted(), {"a": (10, sent), "b": (6, frame_bytes(6, 60)), "c": (0, 0)}, "the bill")
+
+
+def seconds_of(text):
+    """The seconds since 1970 of a time as books and status have it."""
+    return calendar.timegm(time.strptime(text, "%Y-%m-%dT%H:%M:%SZ"))
+
+
+def tenant_status(name, flow, held=False, grants=(), waiting=0, limit=256, taken=(0, 0), sent=(0, 0), amount=0,
+                  connections=0):
+    """What `status` says of a tenant that does not compete."""
+    return {"name": name, "flow": flow, "held": held, "tickets": 0,
+            "grants": [{"amount": count, "of": of} for count, of in grants], "waiting": waiting, "limit": limit,
+            "taken_packets": taken[0], "taken_bytes": taken[1], "sent_packets": sent[0], "sent_bytes": sent[1],
+            "amount": amount, "connections": connections, "dropped": 0, "lost": 0}
+
+
+def status_after_changes(gateway, far, sent):
+    """An amended grant, and a rotation."""
+    gateway.control.expect("amend a 2 60", "ok")
+    gateway.control.expect("rotate", "book 2")
+    found = gateway.tenant("a")
+    expect_equal(found["grants"], [{"amount": 200, "of": "gold"}, {"amount": 60, "of": "base"}], "amended grants")
+    expect_equal((found["amount"], found["sent_packets"], found["taken_packets"]), (0, 10, 10), "a new book's values")
+    expect_equal(gateway.status()["uplink"]["sent"], sent, "what was sent since the start")
+    expect_equal(gateway.tenant("b")["waiting"], 4, "packets that were carried over")
+    expect_equal(far.total(), sent, "what came")
+
+
+def status_under_load(run):
+    """While the far end reads nothing, a tenant that floods competes. Its tickets are those of the report: its
+    currency's and its own."""
+    far = run.far_end(reads=False)
+    gateway = run.gateway(far, {"a": Tenant([(200, "gold"), 50])}, currencies={"gold": [(300, "base")]})
+    run.flood(gateway, "a", size=9000)
+    wait_for(lambda: is_still(gateway), "an uplink that takes no more")
+    found = gateway.tenant("a")
+    expect_equal(found["waiting"], 256, "packets that wait")
+    flow = next(line.split() for line in gateway.control.report() if line.startswith("flow "))
+    expect_equal((found["tickets"], int(flow[3])), (350, 350), "the tickets of a tenant that competes")
+    outbox = gateway.status()["uplink"]["outbox"]
+    expect(OUTBOX - 9017 < outbox <= OUTBOX, f"the outbox has {outbox} bytes")
+
+
+def too_many_connections(run):
+    """A connection beyond a tenant's 64 is closed at once, and reported. Others and other tenants are not touched, and
+    where one ends another one is taken. At most ten lines of a kind are printed in a second, and then a count."""
+    far = run.far_end()
+    gateway = run.gateway(far, {"a": 1, "b": 1})
+    connections = [run.keep(gateway.connect("a")) for _ in range(MOST_CONNECTIONS)]
+    for number, connection in enumerate(connections):
+        connection.sendall(record("a", packet(number)))
+    far.wait_for(MOST_CONNECTIONS)
+    late = 40
+    for _ in range(late):
+        ends_by_itself(run.keep(gateway.connect("a")))
+    for number, connection in enumerate(connections):
+        connection.sendall(record("a", packet(100 + number)))
+    gateway.send("b", range(5))
+    far.wait_for(2 * MOST_CONNECTIONS + 5)
+    connections.pop().close()
+    wait_for(lambda: is_taken(gateway, far), "a connection in the place of one that ended")
+    gateway.end()
+    refused = gateway.messages("refused")
+    told = [message for message in refused if message.tenant == "a"]
+    counts = [message.numbers()[-1] for message in refused if message.tenant == "-"]
+    expect(late <= len(told) + sum(counts), f"{len(told)} lines and counts of {counts} for {late} connections")
+    for _, lines in itertools.groupby(told, lambda message: message.time):
+        expect(len(list(lines)) <= 10, "more than ten lines of a kind in a second")
+
+
+def is_taken(gateway, far):
+    """Whether a new connection of a is taken, which gives a packet."""
+    before = far.frames()
+    with gateway.connect("a") as connection, contextlib.suppress(OSError):
+        connection.sendall(record("a", packet(0)))
+        connection.shutdown(socket.SHUT_WR)
+        connection.recv(1)
+    time.sleep(0.05)
+    return far.frames() > before
+
+
+def too_many_controls(run):
+    """Beyond 16 control connections the one whose last line is longest ago is closed, and reported."""
+    gateway = run.gateway(run.far_end(), {"a": 1})
+    controls = [gateway.control] + [run.keep(gateway.new_control()) for _ in range(MOST_CONTROLS - 1)]
+    for control in [*controls, controls[0]]:
+        control.expect("resume a", "no 22 NotHeld")
+        time.sleep(0.01)
+    newest = run.keep(gateway.new_control())
+    newest.expect("resume a", "no 22 NotHeld")
+    ends_by_itself(controls[1].socket)
+    for control in [*controls[2:], controls[0]]:
+        control.expect("resume a", "no 22 NotHeld")
+    expect_equal(len(gateway.messages("control")), 1, "lines about control connections")
+    gateway.end()
+
+
+def replies_not_read(run):
+    """A control client that reads no replies is not read either. Others have their replies, and memory does not
+    grow."""
+    far = run.far_end()
+    gateway = run.gateway(far, {"a": 1})
+    deaf = run.keep(gateway.new_control())
+    asking = run.thread(ask_for_ever, deaf)
+    time.sleep(1)
+    before = gateway.resident()
+    for number in range(100):
+        gateway.send("a", [number])
+        gateway.control.expect("resume a", "no 22 NotHeld")
+    far.wait_for(100)
+    expect(gateway.resident() - before < MOST_GROWTH, "memory grows by replies that nobody reads")
+    expect(asking.is_alive(), "lines without readers of their replies are all taken")
+    gateway.end()
+
+
+def ask_for_ever(control):
+    with contextlib.suppress(OSError):
+        control.socket.settimeout(None)
+        while True:
+            control.send(*["report"] * 100)
+
+
+def asked(run):
+    """`ask` sends lines and prints the replies; its status is 1 if one of them is `no ..`."""
+    gateway = run.gateway(run.far_end(), {"a": 1})
+    for lines, replies, wanted in (
+            (["hold a", "resume a"], "ok\nok\n", 0), (["hold a", "hold a", "resume a"], "ok\nno 21 Held\nok\n", 1),
+            (["nonsense"], "no 3 Syntax\n", 1), (["rotate"], "book 2\n", 0)):
+        expect_equal(run_program(["ask", gateway.address, *lines])[:2], (wanted, replies), f"ask {lines}")
+    code, report, _ = run_program(["ask", gateway.address, "report", "hold a"])
+    expect(code == 0 and report.startswith("clock ") and report.endswith("\nend\nok\n"), f"ask report: {report}")
+    code, text, _ = run_program(["ask", gateway.address, "status"])
+    expect(code == 0 and text.startswith('{"version":') and text.count("\n") == 1, f"ask status: {text}")
+    nowhere = run_program(["ask", address_of(free_port()), "status"])
+    expect(nowhere[:2] == (1, "") and "refused" in nowhere[2], f"ask where nobody listens: {nowhere}")
+    for words in ([], [gateway.address], ["nowhere", "status"]):
+        expect_equal(run_program(["ask", *words])[0], 2, f"ask {words}")
+    expect_equal(run_program(["ask", gateway.address, "end"])[:2], (0, "ok\n"), "ask end")
+    gateway.wait()
+
+
+# ---- Reload
+
+
+def reloads(run):
+    """`reload` replaces tenants and grants in a new book. A tenant that control holds stays held, and connections of
+    tenants that stay go on. The packets of a tenant that is gone are dropped, and reported."""
+    far = run.far_end()
+    gateway = run.gateway(far, {"a": 300, "b": Tenant([200], ["packets = 8"]), "c": 100})
+    kept = run.keep(gateway.connect("a"))
+    kept.sendall(records("a", range(5)))
+    far.wait_for(5)
+    for name, count in (("b", 8), ("c", 3)):
+        gateway.control.expect(f"hold {name}", "ok")
+        run.keep(gateway.connect(name)).sendall(records(name, range(count)))
+    wait_for(lambda: [gateway.tenant(name)["waiting"] for name in "bc"] == [8, 3], "packets that wait")
+    gone = gateway.tenants.pop("c")
+    old = gateway.tenants["b"].ports[0]
+    gateway.tenants["a"].grants = [(50, "base"), (7, "base")]
+    gateway.tenants["b"] = Tenant([200], ["packets = 6"])
+    gateway.tenants["d"] = Tenant([10], ["flow = 4"], gone.ports)
+    gateway.write()
+    gateway.control.expect("reload", "book 2")
+    expect_equal([(tenant["name"], tenant["flow"], tenant["held"], [grant["amount"] for grant in tenant["grants"]])
+                  for tenant in gateway.status()["tenants"]],
+                 [("a", 1, False, [50, 7]), ("b", 2, True, [200]), ("d", 4, False, [10])], "the tenants")
+    # The latest packets beyond a smaller limit are dropped, and so are those of a tenant that is gone.
+    wait_for(lambda: len(gateway.messages("dropped")) == 2, "lines about packets that were dropped")
+    dropped = {message.tenant: message.numbers()[0] for message in gateway.messages("dropped")}
+    expect_equal(dropped, {"b": 2, "c": 3}, "packets that were dropped")
+    kept.sendall(records("a", range(5, 10)))
+    gateway.send("d", range(20))
+    far.wait_for(10, 1)
+    far.wait_for(20, 4)
+    expect_refused(old)
+    gateway.control.expect("resume b", "ok")
+    gateway.send("b", range(6, 16))
+    far.wait_for(16, 2)
+    expect_equal(far.numbers[2], list(range(16)), "the packets of b")
+    reloads_again(gateway, gone, far)
+    gateway.end()
+    expect_equal(gateway.whys(), ["reload", "reload", "end"], "why books were closed")
+    bill = {name: (count, size) for name, (count, size) in gateway.counted().items() if count}
+    expect_equal(bill, {name: (far.counts[flow], far.bytes[flow]) for name, flow in
+                        (("a", 1), ("b", 2), ("d", 4))}, "the bill")
+
+
+def expect_refused(address):
+    """Wants that nobody listens at an address."""
+    try:
+        connect(address).close()
+    except (ConnectionRefusedError, FileNotFoundError):
+        return
+    raise Failure(f"{address} is listened at")
+
+
+def reloads_again(gateway, gone, far):
+    """A hold by control ends with its tenant, and a name keeps its number while the tenant is gone."""
+    gateway.tenants["c"] = Tenant(gone.grants, ["flow = 3"])
+    gateway.tenants = {name: gateway.tenants[name] for name in "abcd"}
+    gateway.write()
+    gateway.control.expect("reload", "book 3")
+    expect_equal([(tenant["name"], tenant["flow"], tenant["held"]) for tenant in gateway.status()["tenants"]],
+                 [("a", 1, False), ("b", 2, False), ("c", 3, False), ("d", 4, False)], "the tenants")
+    far.wait_until_still()
+
+
+# What is done to a gateway with the tenants a, b and d, and the currency x, and how the reply to `reload` goes on. The
+# name c had the number 3.
+def no_reloads(gateway):
+    busy = socket.create_server((LOOPBACK, 0))
+    good = gateway.text()
+    d = '[[tenant]]\nname = "d"\n'
+    yield good.replace("[uplink]", "[uplink]\nbuffer = 65536"), ": [uplink] needs a restart"
+    yield good.replace("[books]", '[books]\nperiod = "1 h"'), ": [books] needs a restart"
+    yield good.replace("[control]", '[control]\nmode = "0660"'), ": [control] needs a restart"
+    yield good + '[downlink]\nlisten = "127.0.0.1:1"\n', ": [downlink]"
+    yield good.replace(d, '[[tenant]]\nname = "e"\nflow = 3\n' + d), ": flow 3 is c's"
+    yield good.replace("flow = 4", "flow = 5"), ": "
+    yield good.replace('amount = 2, of = "base"', 'amount = 2, of = "x"'), ": grant 2 of currency 1: no 15 Cycle"
+    yield good.replace("amount = 1,", "amount = 0,"), ": "
+    yield good.replace("[books]", "[books"), ":"
+    yield good.replace(d, d + "packet = 5\n"), ": tenant 3: packet: unknown key"
+    yield good.replace(gateway.tenants["d"].ports[0], address_of(busy.getsockname()[1])), None
+    busy.close()
+
+
+def reload_refused(run):
+    """A file with a fault, a section that needs a restart, a number that is another's, and a port that cannot be
+    listened at are answered `no ..`, and nothing changes: no book begins, and all connections go on."""
+    far = run.far_end()
+    currencies = {"x": [(1, "base"), (2, "base")]}
+    gateway = run.gateway(far, {"a": (Tenant([(1, "x")])), "b": 1, "c": 1}, currencies=currencies)
+    gateway.tenants.pop("c")
+    gateway.tenants["d"] = Tenant([1], ["flow = 4"])
+    gateway.write()
+    gateway.control.expect("reload", "book 2")
+    kept = {name: run.keep(gateway.connect(name)) for name in "abd"}
+    before = gateway.status()["tenants"]
+    sent = 0
+    for text, wanted in no_reloads(gateway):
+        gateway.write(text)
+        reply = gateway.control.ask("reload")
+        start = "no " if wanted is None else f"no {gateway.file}{wanted}"
+        expect(reply.startswith(start), f"the reply to reload is {reply}, wanted {start}")
+        expect(wanted is not None or "in use" in reply.lower(), f"the reply to reload is {reply}")
+        for name, connection in kept.items():
+            connection.sendall(record(name, packet(sent)))
+        sent += 1
+        far.wait_for(3 * sent)
+        expect_equal(gateway.status()["book"], 2, f"the book after {reply}")
+    after = gateway.status()["tenants"]
+    for key in ("name", "flow", "held", "grants", "limit"):
+        expect_equal([tenant[key] for tenant in after], [tenant[key] for tenant in before], f"{key} of the tenants")
+    gateway.write()
+    gateway.control.expect("reload", "book 3")
+    gateway.end()
+
+
+def reload_under_load(run):
+    """Each packet of tenants that stay comes once and in order while the file is read anew again and again."""
+    count, turns = 6000, 10
+    far = run.far_end()
+    gateway = run.gateway(far, {"a": 300, "b": 100, "c": 1})
+    senders = [run.thread(gateway.send, name, range(count)) for name in "abc"]
+    for turn in range(turns):
+        gateway.tenants["a"].grants = [(100 + turn, "base")]
+        gateway.tenants["b"].lines = [f"packets = {256 - turn % 2}"]
+        if turn % 2:
+            gateway.tenants.pop("guest")
+        else:
+            gateway.tenants["guest"] = Tenant([5], ["flow = 4"])
+        gateway.write()
+        gateway.control.expect("reload", f"book {turn + 2}")
+        time.sleep(0.05)
+    for sender in senders:
+        sender.finish()
+    dropped = [message for message in gateway.messages("dropped") if message.tenant == "b"]
+    lost = sum(message.numbers()[0] for message in dropped)
+    far.wait_for(3 * count - lost)
+    for flow in (1, 3):
+        far.expect_in_order(flow, count)
+    numbers = far.numbers[2]
+    expect(numbers == sorted(set(numbers)) and len(numbers) == count - lost, "the packets of b")
+    gateway.end()
+    bill = {name: row for name, row in gateway.counted().items() if row[0]}
+    expect_equal(bill, {name: (far.counts[flow], far.bytes[flow]) for flow, name in enumerate("abc", 1)}, "the bill")
+
+
+# ---- Books
+
+
+def rotations(run):
+    """Each packet of each tenant comes once and in order over 50 rotations, and the bill is what the far end
+    counted."""
+    count, turns = 8000, 50
+    far = run.far_end()
+    gateway = run.gateway(far, {"a": 300, "b": 100, "c": 1})
+    senders = [run.thread(gateway.send, name, range(count)) for name in "abc"]
+    for turn in range(turns):
+        gateway.control.expect("rotate", f"book {turn + 2}")
+        time.sleep(0.005)
+    for sender in senders:
+        sender.finish()
+    far.wait_for(3 * count)
+    for flow in (1, 2, 3):
+        far.expect_in_order(flow, count)
+    gateway.end()
+    expect_equal(len(gateway.books()), turns + 1, "books")
+    expect_equal(gateway.counted(), {name: (far.counts[flow], far.bytes[flow]) for flow, name in enumerate("abc", 1)},
+                 "the bill")
+
+
+def lives(run):
+    """A book whose life is spent is closed, and the next one goes on: each packet comes once and in order."""
+    count = 90_000
+    far = run.far_end()
+    gateway = run.gateway(far, {"a": 3, "b": 1}, books_lines=[f"events = {SHORTEST_LIFE}"])
+    senders = [run.thread(gateway.send, name, range(count), 20) for name in "ab"]
+    for sender in senders:
+        sender.finish(2 * PATIENCE)
+    far.wait_for(2 * count)
+    for flow in (1, 2):
+        far.expect_in_order(flow, count)
+    gateway.end()
+    expect_equal(gateway.whys(), ["spent", "spent", "end"], "why books were closed")
+    expect_equal([int(row["events"]) for row in gateway.rows()[:2]], [SHORTEST_LIFE] * 2, "events of spent books")
+
+
+def period(run):
+    """A book is closed when its period is over, counted from its opening. Each packet comes once and in order."""
+    far = run.far_end()
+    gateway = run.gateway(far, {"a": 1}, books_lines=['period = "10 s"'])
+    number, end = 0, time.monotonic() + 21
+    with gateway.connect("a") as connection:
+        while time.monotonic() < end:
+            connection.sendall(record("a", packet(number)))
+            number += 1
+            time.sleep(0.02)
+    far.wait_for(number)
+    far.expect_in_order(1, number)
+    gateway.end()
+    expect_equal(gateway.whys(), ["period", "period", "end"], "why books were closed")
+    for row in gateway.rows()[:2]:
+        opened, closed = (seconds_of(row[key]) for key in ("opened", "closed"))
+        expect(10 <= closed - opened <= 11, f"a period of 10 s has {closed - opened}")
+
+
+def whole(run):
+    """Books of whole texts give the bill, and the bytes that came."""
+    far = run.far_end()
+    gateway = run.gateway(far, {"a": 1}, books_lines=['text = "whole"'])
+    gateway.send("a", range(100))
+    far.wait_for(100)
+    gateway.control.expect("rotate", "book 2")
+    gateway.end()
+    expect_equal(gateway.books(), ["000001.audit", "000002.audit"], "books")
+    expect_equal(gateway.counted(), {"a": (100, far.bytes[1])}, "the bill")
+
+
+def rotations_without_a_pause(run):
+    """A rotation under load costs no packet and at most 20 ms without a frame. A plain loop beside it shows the pauses
+    that the machine makes. If the machine is idle, 20 ms are wanted of each rotation, and otherwise of half of them."""
+    far, plain = measured.FarEnd(), measured.FarEnd()
+    run.keep(far)
+    run.keep(plain)
+    run.keep(started([os.path.join(EXAMPLES, "copy_loop.py"), plain.address, str(BYTES_A_SECOND)]))
+    gateway = run.gateway(far.address, FLOODED, uplink_lines=[f'rate = "{RATE}"'])
+    floods(run, gateway)
+    far.wait(1)
+    times = []
+    for book in range(2, ROTATIONS + 2):
+        times.append(time.monotonic())
+        gateway.control.expect("rotate", f"book {book}")
+        time.sleep(0.25)
+    times.append(time.monotonic())
+    far.wait(far.seconds() + 0.2)
+    pauses = [far.longest_pause(*pair) for pair in itertools.pairwise(times)]
+    worst, plainly = max(pauses), plain.longest_pause(times[0], times[-1])
+    is_idle = plainly <= IDLE_PAUSE
+    print(f"rotations: no frame for {1000 * statistics.median(pauses):.1f} ms at the median, {1000 * worst:.1f} ms at "
+          f"most; a plain loop {1000 * plainly:.1f} ms at most: the machine is {'idle' if is_idle else 'busy'}")
+    expect((worst if is_idle else statistics.median(pauses)) <= MOST_PAUSE, "a rotation pauses for more than 20 ms")
+    gateway.control.expect_all(["hold " + name for name in FLOODED], "ok")
+    wait_for(lambda: time.monotonic() - sum(far.pauses[-1]) > 0.5, "the end of the frames")
+    gateway.control.expect("end", "ok")
+    gateway.wait(1)
+    billed = sum(row[1] for row in gateway.counted().values())
+    wait_for(lambda: sum(far.samples[-1][1].values()) >= billed, "the last frames")
+    expect_equal(sum(far.samples[-1][1].values()), billed, "bytes that came")
+
+
+def floods(run, gateway, lengths="700"):
+    """Lets each tenant flood by a program of its own."""
+    flooding = [run.keep(Flood(tenant.ports[0], [f"{name}:{lengths}"])) for name, tenant in gateway.tenants.items()]
+    for flood in flooding:
+        flood.say(f"go {time.monotonic() + measured.TOGETHER}")
+    return flooding
+
+
+# ---- Shares and rates
+
+
+def shares(run):
+    """While four tenants flood, the bytes of their frames are in the ratio of their tickets in every window of five
+    seconds."""
+    far = run.keep(measured.FarEnd())
+    gateway = run.gateway(far.address, FLOODED)
+    floods(run, gateway)
+    far.wait(2 * WINDOW)
+    wanted = {flow: count / sum(FLOODED.values()) for flow, count in enumerate(FLOODED.values(), 1)}
+    worst = check_windows(list(far.samples), wanted, "four floods")
+    rate = sum(far.samples[-1][1].values()) / far.seconds() / (700 + HEADER[SERVED])
+    print(f"shares: {rate:.0f} frames/s, worst error {worst:.4f}")
+
+
+def rate(run):
+    """A rate is followed: bytes of frames in every window of five seconds are within 2 percent of it. The shares are
+    the tickets' meanwhile."""
+    far = run.keep(measured.FarEnd())
+    gateway = run.gateway(far.address, FLOODED, uplink_lines=[f'rate = "{RATE}"'])
+    floods(run, gateway, "700,64,1400")
+    far.wait(WINDOW + 2)
+    samples = [(seconds, sum(units.values())) for seconds, units in far.samples]
+    rates = [(last[1] - first[1]) / (last[0] - first[0]) for first in samples if first[0] >= 0.5
+             for last in samples if WINDOW <= last[0] - first[0] < WINDOW + 0.1]
+    worst = max(abs(found / BYTES_A_SECOND - 1) for found in rates)
+    wanted = {flow: count / sum(FLOODED.values()) for flow, count in enumerate(FLOODED.values(), 1)}
+    check_windows(list(far.samples), wanted, "a rate")
+    print(f"rate: {statistics.mean(rates) / 1e6:.4f} MB/s, wanted {BYTES_A_SECOND / 1e6}; at most {100 * worst:.2f} "
+          "percent off")
+    expect(worst <= RATE_ERROR, f"a rate is {100 * worst:.2f} percent off")
+
+
+def one_against_eight(run):
+    """Eight connections of a tenant get no more than one would, and are served in turn."""
+    far = run.far_end()
+    gateway = run.gateway(far, {"a": 300, "b": 100}, uplink_lines=[f'rate = "{RATE}"'])
+    run.thread(gateway.flood, "a", 700, 0)
+    for number in range(1, 9):
+        run.thread(gateway.flood, "b", 700, number)
+    samples, start = [], time.monotonic()
+    while time.monotonic() < start + WINDOW + 2:
+        samples.append((time.monotonic() - start, dict(far.bytes)))
+        time.sleep(0.05)
+    numbers = far.numbers[2][-4000:]
+    worst = check_windows(samples, {1: 0.75, 2: 0.25}, "one against eight")
+    parts = [numbers.count(number) / len(numbers) for number in range(1, 9)]
+    print(f"one against eight: worst error {worst:.4f}; of eight connections {min(parts):.4f} to {max(parts):.4f}")
+    expect(max(abs(part - 1 / 8) for part in parts) <= 0.01, f"eight connections of a tenant get {parts}")
+
+
+# ---- The uplink
+
+
+def far_end_away(run):
+    """The far end is not there at the start. Packets are taken as far as there is room, control is answered, and
+    nothing is lost when it comes. It goes and comes back."""
+    port = free_port()
+    gateway = run.gateway(port, {"a": 1})
+    sender = run.thread(gateway.send, "a", range(2000))
+    gateway.control.expect_all(["hold a", "resume a"] * 10, "ok")
+    far = run.far_end(port)
+    sender.finish()
+    far.wait_for(2000)
+    far.expect_in_order(1, 2000)
+    far.drop()
+    sender = run.thread(gateway.send, "a", range(2000, 2100))
+    time.sleep(0.3)
+    again = run.far_end(port)
+    sender.finish()
+    wait_for(lambda: again.numbers.get(1, [])[-1:] == [2099], "the last packet")
+    numbers = again.numbers[1]
+    expect_equal(numbers, list(range(numbers[0], 2100)), "packets after a redial")
+    gateway.end()
+
+
+def far_end_goes(run):
+    """The far end goes and comes back ten times. Frames come whole, each at most once and in order. What is missing is
+    at most what the lines about the losses say."""
+    port, turns, size = free_port(), 10, 100
+    gateway = run.gateway(port, {"a": 1}, uplink_lines=[f"buffer = {SMALLEST_BUFFER}"])
+    ending = threading.Event()
+    counts = []
+    sender = run.thread(pace, gateway, ending, counts, size)
+    far_ends = []
+    for _ in range(turns):
+        far_ends.append(run.far_end(port))
+        far_ends[-1].wait_for(200)
+        far_ends[-1].drop()
+    last = run.far_end(port)
+    last.wait_for(200)
+    ending.set()
+    sender.finish(2 * PATIENCE)
+    wait_for(lambda: last.numbers[1][-1] == counts[0] - 1, "the last packet")
+    numbers = [number for far in [*far_ends, last] for number in far.numbers[1]]
+    expect(numbers == sorted(set(numbers)), "a packet comes twice, or out of order")
+    missing = frame_bytes(counts[0] - len(numbers), size)
+    gateway.end()
+    losses = [message.numbers() for message in gateway.messages("lost")]
+    expect_equal(len(losses), turns, "lines about losses")
+    most = sum(max(numbers) for numbers in losses)
+    expect(missing <= most, f"{missing} bytes are missing, and the lines say at most {most}")
+    expect(all(max(numbers) <= MOST_HELD for numbers in losses), f"a loss is more than a socket holds: {losses}")
+    billed, came = sum(row[1] for row in gateway.counted().values()), frame_bytes(len(numbers), size)
+    expect_equal(billed - came, missing, "what is billed and did not come")
+
+
+def pace(gateway, ending, counts, size):
+    """Sends about two thousand packets a second until it is to end, and gives their count."""
+    number = 0
+    with gateway.connect("a") as connection:
+        connection.settimeout(None)
+        while not ending.is_set():
+            connection.sendall(records("a", range(number, number + 20), size))
+            number += 20
+            time.sleep(0.01)
+        connection.shutdown(socket.SHUT_WR)
+        connection.recv(1)
+    counts.append(number)
+
+
+def far_end_does_not_answer(run):
+    """A dial that has no answer is given up after five seconds, reported, and made again. Packets wait meanwhile, and
+    none is lost."""
+    listener = run.keep(socket.create_server((LOOPBACK, 0), backlog=0))
+    port = listener.getsockname()[1]
+    crowd = []
+    for _ in range(3):
+        crowd.append(run.keep(socket.socket()))
+        crowd[-1].setblocking(False)
+        crowd[-1].connect_ex((LOOPBACK, port))
+    start = time.monotonic()
+    gateway = run.gateway(port, {"a": 1})
+    sender = run.thread(gateway.send, "a", range(500))
+    wait_for(lambda: gateway.messages("unreachable"), "a line about a dial without an answer")
+    expect(4.5 <= time.monotonic() - start <= 8, f"a dial is given up after {time.monotonic() - start:.1f} s")
+    listener.close()
+    for each in crowd:
+        each.close()
+    far = run.far_end(port)
+    sender.finish()
+    far.wait_for(500)
+    far.expect_in_order(1, 500)
+    gateway.end()
+
+
+def far_end_writes(run):
+    """What the far end writes is read and thrown away, and frames go on."""
+    far = run.far_end()
+    gateway = run.gateway(far, {"a": 1})
+    gateway.send("a", range(10))
+    far.wait_for(10)
+    far.connection.settimeout(PATIENCE)
+    far.connection.sendall(b"x" * (8 << 20))
+    far.connection.settimeout(None)
+    gateway.send("a", range(10, 1000))
+    far.wait_for(1000)
+    far.expect_in_order(1, 1000)
+    expect_equal(far.connections, 1, "connections of the uplink")
+    gateway.end()
+
+
+def far_end_reads_nothing(run):
+    """While the far end reads nothing, control is answered within 100 ms at the median, a book can be closed, and
+    memory stays as it is. Nothing is lost when it reads on."""
+    count, size = 4000, 3000
+    far = run.far_end(reads=False)
+    gateway = run.gateway(far, FLOODED)
+    senders = [run.thread(gateway.send, name, range(count), size) for name in FLOODED]
+    wait_for(lambda: is_still(gateway), "an uplink that takes no more")
+    before, seconds = gateway.resident(), []
+    for line in ["hold a", "resume a"] * 50:
+        start = time.monotonic()
+        gateway.control.expect(line, "ok")
+        seconds.append(time.monotonic() - start)
+        time.sleep(0.01)
+    gateway.control.expect("rotate", "book 2")
+    time.sleep(1)
+    growth = gateway.resident() - before
+    print(f"a far end that reads nothing: replies in {1000 * statistics.median(seconds):.2f} ms at the median and "
+          f"{1000 * max(seconds):.2f} ms at most; memory grows by {growth} bytes")
+    expect(statistics.median(seconds) <= PROMPT, "control is not answered within 100 ms")
+    expect(growth <= MOST_GROWTH, f"memory grows by {growth} bytes")
+    expect(far.frames() == 0, "the far end has read")
+    far.reads.set()
+    for sender in senders:
+        sender.finish()
+    far.wait_for(4 * count)
+    for flow in range(1, 5):
+        far.expect_in_order(flow, count)
+    gateway.end()
+
+
+def is_still(gateway):
+    """Whether nothing more is scheduled, although packets wait."""
+    before = gateway.control.report()
+    time.sleep(0.3)
+    return gateway.control.report() == before and int(before[4].split()[1]) > 0
+
+
+# ---- Clients
+
+
+def wrong_records(run):
+    """A record that is malformed, or has another tenant's name, ends its connection and no other one. All records
+    before it stand, and half a record is none."""
+    far = run.far_end()
+    gateway = run.gateway(far, {"a": 1, "b": 1})
+    good = run.keep(gateway.connect("a"))
+    good.sendall(record("a", packet(0)))
+    long = b"\1a" + (9001).to_bytes(2, "big") + bytes(9001)
+    bad_records = (b"\0", b"\xff" * 300, record("b", packet(7)), record("a", b""), long, record("A", packet(7)))
+    for bad in bad_records:
+        with gateway.connect("a") as connection:
+            connection.sendall(record("a", packet(1)) + bad)
+            ends_by_itself(connection)
+    whole_record = record("a", packet(2))
+    for cut in (1, 2, 3, 4, 20, len(whole_record) - 1):
+        with gateway.connect("a") as connection:
+            connection.sendall(record("a", packet(3)) + whole_record[:cut])
+    good.sendall(record("a", packet(4)))
+    gateway.send("b", range(3))
+    far.wait_for(len(bad_records) + 6 + 2 + 3)
+    time.sleep(0.1)
+    expect_equal(sorted(far.numbers[1]), [0] + [1] * len(bad_records) + [3] * 6 + [4], "packets of a")
+    good.close()
+    gateway.end()
+
+
+def slow_bytes(run):
+    """A client that sends a byte now and then has its packets sent, and no other client waits for it."""
+    far = run.far_end()
+    gateway = run.gateway(far, {"a": 1, "b": 1})
+    data = records("a", range(3), 30)
+    with gateway.connect("a") as slow:
+        for place, byte in enumerate(data):
+            slow.sendall(bytes([byte]))
+            gateway.send("b", [place])
+            far.wait_for(place + 1, 2)
+            expect_equal(far.counts.get(1, 0), (place + 1) // (len(data) // 3), "packets of the slow client")
+            time.sleep(0.002)
+    far.expect_in_order(1, 3)
+    gateway.end()
+
+
+def sizes(run):
+    """Payloads of 1 to 9000 bytes come as they are."""
+    far = run.far_end(keeps=False)
+    gateway = run.gateway(far, {"a": 1})
+    lengths = [1, 2, 3, 48, 1490, 8999, 9000]
+    with gateway.connect("a") as connection:
+        connection.sendall(b"".join(record("a", b"x" * length) for length in lengths))
+    far.wait_for(len(lengths))
+    expect_equal(far.bytes[1], sum(lengths) + len(lengths) * HEADER[SERVED], "bytes")
+    gateway.end()
+
+
+def hung_up(run):
+    """A connection that hung up, with nothing of it unread, is closed also while its tenant's buffer is full, and so it
+    takes no place. One of which something is unread stays, and loses nothing."""
+    far = run.far_end()
+    gateway = run.gateway(far, {"a": Tenant([1], ["held = true", "packets = 4"])})
+    with gateway.connect("a") as connection:
+        connection.sendall(records("a", range(7)))
+    wait_for(lambda: gateway.tenant("a")["waiting"] == 4, "a full buffer")
+    for _ in range(3):
+        idle = [run.keep(gateway.connect("a")) for _ in range(MOST_CONNECTIONS - 1)]
+        wait_for(lambda: gateway.tenant("a")["connections"] == MOST_CONNECTIONS, "connections")
+        for connection in idle:
+            connection.close()
+        wait_for(lambda: gateway.tenant("a")["connections"] == 1, "the end of connections that hung up")
+    gateway.control.expect("resume a", "ok")
+    far.wait_for(7)
+    far.expect_in_order(1, 7)
+    expect_equal(gateway.messages("refused"), [], "lines about connections beyond the limit")
+    gateway.end()
+
+
+def resets(run):
+    """Clients that reset their connections harm no other one. What came of theirs is a beginning of what they sent."""
+    far = run.far_end()
+    gateway = run.gateway(far, {"a": 300, "b": 100})
+    senders = [run.thread(gateway.send, name, range(10_000)) for name in "ab"]
+    resetting, each = 60, 50
+    for number in range(1, resetting + 1):
+        connection = gateway.connect("ab"[number % 2])
+        base = number * 100_000
+        connection.sendall(records("ab"[number % 2], range(base, base + each)) + b"\1")
+        time.sleep(0.01 * (number % 3))
+        reset(connection)
+    for sender in senders:
+        sender.finish()
+    far.wait_for(20_000)
+    far.wait_until_still()
+    for flow in (1, 2):
+        by_connection = {}
+        for number in far.numbers[flow]:
+            by_connection.setdefault(number // 100_000, []).append(number % 100_000)
+        expect(by_connection.pop(0) == list(range(10_000)), f"the packets of flow {flow}'s client that stays")
+        for numbers in by_connection.values():
+            expect(numbers == list(range(len(numbers))), "a connection that was reset gives more than a beginning")
+    gateway.end()
+
+
+# ---- Unix sockets
+
+
+def unix_sockets(run):
+    """Unix sockets have the mode of the file, and are removed at the end. A file on which nobody listens is taken away
+    at the start, and `reload` sets a changed mode."""
+    far, place = run.far_end(), run.folder()
+    paths = {name: os.path.join(place, name) for name in ("control", "a", "b")}
+    with socket.socket(socket.AF_UNIX) as stale:
+        stale.bind(paths["a"])
+    tenants = {"a": Tenant([1], ports=["unix:" + paths["a"]]),
+               "b": Tenant([1], ['mode = "0660"'], ["unix:" + paths["b"], address_of(free_port())])}
+    gateway = run.gateway(far, tenants, place=place, control="unix:" + paths["control"],
+                          control_lines=['mode = "0666"'])
+    expect_equal({name: mode_of(path) for name, path in paths.items()}, {"control": 0o666, "a": 0o600, "b": 0o660},
+                 "the modes")
+    gateway.send("a", range(5))
+    far.wait_for(5, 1)
+    with gateway.connect("b") as local, gateway.connect("b", 1) as remote:
+        local.sendall(record("b", packet(0)))
+        far.wait_for(1, 2)
+        remote.sendall(record("b", packet(1)))
+        far.wait_for(2, 2)
+    far.expect_in_order(2, 2)
+    gateway.end()
+    expect_equal([name for name, path in paths.items() if os.path.exists(path)], [], "sockets that stay")
+
+
+def unix_modes_reloaded(run):
+    """`reload` sets a changed mode of a Unix socket, and its connections go on."""
+    far, place = run.far_end(), run.folder()
+    path = os.path.join(place, "a")
+    gateway = run.gateway(far, {"a": Tenant([1], ports=["unix:" + path])}, place=place)
+    kept = run.keep(gateway.connect("a"))
+    gateway.tenants["a"].lines = ['mode = "0640"']
+    gateway.write()
+    gateway.control.expect("reload", "book 2")
+    expect_equal(mode_of(path), 0o640, "the mode")
+    kept.sendall(record("a", packet(0)))
+    gateway.send("a", [1])
+    far.wait_for(2)
+    gateway.end()
+    expect(not os.path.exists(path), "a socket stays")
+
+
+def mode_of(path):
+    return stat.S_IMODE(os.stat(path).st_mode)
+
+
+# ---- The end
+
+
+def until_eof(run):
+    """With --until-eof the end of standard input ends a gateway, and what was taken is sent. Without the word it does
+    not."""
+    far = run.far_end()
+    gateway = run.prepared(far, {"a": 1}).start(["--until-eof"], stdin=subprocess.PIPE)
+    gateway.send("a", range(1000))
+    gateway.process.stdin.close()
+    gateway.wait()
+    far.wait_for(1000)
+    far.expect_in_order(1, 1000)
+    gateway.check_books()
+    expect_equal(gateway.whys(), ["end"], "why the book was closed")
+    other = run.gateway(far, {"a": 1})
+    time.sleep(0.2)
+    other.send("a", [1000])
+    far.wait_for(1001)
+    other.end()
+
+
+def grace_is_over(run):
+    """At the end what can be sent is sent for --grace seconds. If the far end reads nothing, the status is 1, the
+    packets that are left are reported by tenant, and the book is closed."""
+    far = run.far_end(reads=False)
+    gateway = run.gateway(far, {"a": 300, "b": 100, "c": 1}, ["--grace", "1"])
+    run.flood(gateway, "a", "b", size=9000)
+    wait_for(lambda: is_still(gateway), "an uplink that takes no more")
+    waiting = {line.split()[2]: int(line.split()[4]) for line in gateway.control.report() if line.startswith("flow ")}
+    expect_equal(waiting, {"a": 256, "b": 256, "c": 0}, "packets that wait")
+    start = time.monotonic()
+    gateway.control.expect("end", "ok")
+    gateway.wait(1)
+    seconds = time.monotonic() - start
+    expect(0.9 <= seconds <= 5, f"a grace of a second takes {seconds:.2f}")
+    left = {message.tenant: message.numbers()[0] for message in gateway.messages("left")}
+    expect(0 < left.pop("-", 0) <= OUTBOX, f"bytes of the outbox are left, and are not reported: {left}")
+    expect_equal(left, {"a": 256, "b": 256}, "packets that are left")
+    gateway.check_books()
+    expect_equal(gateway.whys(), ["end"], "why the book was closed")
+
+
+def held_at_the_end(run):
+    """Packets of held and of unfunded tenants are not waited for: the end comes at once, and they are reported, by a
+    quiet gateway too. A quiet one prints nothing else."""
+    far = run.far_end()
+    gateway = run.gateway(far, {"a": Tenant([1], ["held = true"]), "b": Tenant([]), "c": 1}, ["--quiet"])
+    for name, count in (("a", 3), ("b", 2)):
+        run.keep(gateway.connect(name)).sendall(records(name, range(count)))
+    gateway.send("c", range(100))
+    far.wait_for(100)
+    wait_for(lambda: int(gateway.control.report()[4].split()[1]) == 5, "packets that wait")
+    start = time.monotonic()
+    gateway.end(1)
+    expect(time.monotonic() - start < 5, "packets of held tenants are waited for")
+    left = {message.tenant: message.numbers()[0] for message in gateway.messages("left")}
+    expect_equal(left, {"a": 3, "b": 2}, "packets that are left")
+    expect_equal(len(gateway.messages()), 2, "lines of a quiet gateway")
+
+
+def end_is_sent(run):
+    """At the end all that was taken is sent to a slow far end, and the status is 0."""
+    far = run.far_end()
+    gateway = run.gateway(far, {"a": 1}, uplink_lines=['rate = "1 MB/s"'])
+    connection = run.keep(gateway.connect("a"))
+    connection.sendall(records("a", range(250), 9000))
+    wait_for(lambda: int(gateway.control.report()[1].split()[1]) == 250, "packets that are taken")
+    gateway.end()
+    far.wait_for(250)
+    far.expect_in_order(1, 250)
+
+
+def killed(run):
+    """A kill in mid-flow leaves books that the next start closes. They bill what the far end got, and at most an outbox
+    more."""
+    far = run.far_end(keeps=False)
+    gateway = run.gateway(far, {"a": 300, "b": 100})
+    run.flood(gateway, "a", "b")
+    far.wait_for(1000)
+    for book in (2, 3):
+        gateway.control.expect("rotate", f"book {book}")
+        time.sleep(0.2)
+    gateway.kill()
+    came = far.wait_until_still()
+    gateway.start()
+    expect(any("book 3" in message.why for message in gateway.messages("recovered")), f"said: {gateway.said()}")
+    expect_equal(gateway.whys(), ["rotate", "rotate", "cut"], "why books were closed")
+    billed = sum(row[1] for row in gateway.counted().values())
+    print(f"killed: {billed} bytes are billed, {billed - came} more than came")
+    expect(0 <= billed - came <= OUTBOX, f"{billed} bytes are billed, and {came} came")
+    gateway.send("a", range(100))
+    wait_for(lambda: far.total() == came + frame_bytes(100), "packets of the next book")
+    gateway.end()
+    expect_equal(gateway.whys(), ["rotate", "rotate", "cut", "end"], "why books were closed")
+    after = sum(row[1] for row in gateway.counted().values())
+    expect_equal(after - billed, frame_bytes(100), "the bill of the next book")
+
+
+def killed_between_books(run):
+    """A gateway that is killed again and again, while it rotates its books, leaves books that each start closes. They
+    bill what the far end got, and at most an outbox more for each kill."""
+    kills = 6
+    far = run.far_end(keeps=False)
+    gateway = run.prepared(far, {"a": 300, "b": 100})
+    for number in range(kills):
+        gateway.start()
+        run.flood(gateway, "a", "b")
+        far.wait_for(far.frames() + 500)
+        rotating = run.thread(rotate_often, gateway)
+        time.sleep(0.05 + 0.02 * number)
+        gateway.kill()
+        rotating.finish()
+        came = far.wait_until_still()
+    gateway.start()
+    gateway.end(may_skip=True)
+    expect(set(gateway.whys()) <= {"rotate", "cut", "end"}, f"why books were closed: {gateway.whys()}")
+    billed = sum(row[1] for row in gateway.counted().values())
+    print(f"killed {kills} times: {len(gateway.books())} books; {billed} bytes are billed, "
+          f"{billed - came} more than came")
+    expect(0 <= billed - came <= kills * OUTBOX, f"{billed} bytes are billed, and {came} came")
+
+
+def rotate_often(gateway):
+    with contextlib.suppress(OSError):
+        while gateway.control.ask("rotate"):
+            pass
+
+
+def bad_books(run):
+    """An open book that is no run is renamed at the start, reported, and has a row with zeros. One without a whole
+    first line is removed, and its number is used."""
+    far = run.far_end()
+    gateway = run.prepared(far, {"a": 1})
+    for number, text in ((1, "lengths 2\nturn 18\n"), (2, "lengths")):
+        for kind, content in (("open", text), ("tariffs", "1/0/1 48/16/2 1024/0/1 2048/1024/3\n")):
+            with open(os.path.join(gateway.folder, f"{number:06}.{kind}"), "w", encoding="ascii") as file:
+                file.write(content)
+    gateway.start()
+    gateway.send("a", range(10))
+    far.wait_for(10)
+    gateway.control.expect("end", "ok")
+    gateway.wait()
+    rows = gateway.rows()
+    expect_equal([(int(row["book"]), row["why"]) for row in rows], [(1, "bad"), (3, "end")], "the rows")
+    expect_equal([rows[0][key] for key in ("events", "packets", "bytes", "units", "amount")], ["0"] * 5, "a bad row")
+    expect("000001.bad" in os.listdir(gateway.folder), "the bad book is not there")
+    expect(gateway.messages("bad") or gateway.messages("recovered"), "a bad book is not reported")
+    expect_equal(sorted(os.listdir(gateway.folder)), ["000001.bad", "000003.lengths", "000003.report", "books.csv"],
+                 "the files of the folder")
+
+
+# ---- The disk
+
+
+def disk_fills(run):
+    """A disk that is full pauses the link and is reported once. Lines that are no events are answered, others wait, and
+    nothing that was taken is lost. When there is room again, all goes on."""
+    holder = small_disk(run)
+    if not holder:
+        print("disk_fills: skipped, since no file system can be mounted here")
+        return
+    far, count = run.far_end(), 30_000
+    gateway = on_disk(run, far, *holder)
+    sender = run.thread(gateway.send, "a", range(count))
+    wait_for(lambda: gateway.messages("disk"), "a line about the disk")
+    far.wait_until_still()
+    expect(far.frames() < count, "the disk was never full")
+    waits = [run.keep(gateway.new_control()) for _ in range(2)]
+    waits[0].send("amend a 1 5")
+    waits[1].send("rotate")
+    seconds = []
+    for _ in range(20):
+        start = time.monotonic()
+        expect_equal(gateway.control.report()[-1], "end", "the last line of a report")
+        disk = gateway.status()["disk"]
+        seconds.append(time.monotonic() - start)
+        time.sleep(0.1)
+    expect(statistics.median(seconds) <= PROMPT, "control is not answered within 100 ms")
+    expect(disk["waiting"] > 0 and disk["fault"], f"the disk by status: {disk}")
+    for control in waits:
+        control.socket.settimeout(0.2)
+        try:
+            raise Failure(f"an event has a reply while the disk is full: {control.socket.recv(100)}")
+        except TimeoutError:
+            control.socket.settimeout(PATIENCE)
+    expect_equal(len(gateway.messages("disk")), 1, "lines about a full disk")
+    os.remove(os.path.join(gateway.view, "taken"))
+    for control, wanted in zip(waits, (b"ok\n", b"book 2\n")):
+        expect_equal(control.socket.recv(100), wanted, "a reply when there is room again")
+    sender.finish()
+    far.wait_for(count)
+    far.expect_in_order(1, count)
+    gateway.end()
+    expect_equal(gateway.counted(), {"a": (count, far.bytes[1])}, "the bill")
+
+
+def on_disk(run, far, folder, namespace, words=()):
+    """A gateway whose books are on a small disk."""
+    gateway = run.prepared(far, {"a": 1}, folder=folder)
+    gateway.view = f"/proc/{namespace}/root{folder}"
+    inside = ["nsenter", f"--target={namespace}", "--user", "--mount", "--preserve-credentials"]
+    return gateway.start(words, inside)
+
+
+def disk_fails_at_the_end(run):
+    """If the disk fails at the end of the grace, the book stays open and the status is 1. The next start closes it, and
+    it bills what came and at most an outbox more."""
+    holder = small_disk(run)
+    if not holder:
+        print("disk_fails_at_the_end: skipped, since no file system can be mounted here")
+        return
+    far = run.far_end(keeps=False)
+    gateway = on_disk(run, far, *holder, ["--grace", "1"])
+    run.flood(gateway, "a", size=20)
+    wait_for(lambda: gateway.messages("disk"), "a line about the disk")
+    start = time.monotonic()
+    gateway.control.expect("end", "ok")
+    gateway.wait(1)
+    expect(time.monotonic() - start < 8, "a disk that fails is waited for")
+    expect_equal(sorted(os.listdir(gateway.view)), ["000001.open", "000001.tariffs", "taken"], "the files")
+    came = far.wait_until_still()
+    os.remove(os.path.join(gateway.view, "taken"))
+    again = on_disk(run, far, *holder)
+    expect_equal(again.whys(), ["cut"], "why the book was closed")
+    again.end()
+    billed = sum(row[1] for row in again.counted().values())
+    expect(0 <= billed - came <= OUTBOX, f"{billed} bytes are billed, and {came} came")
+
+
+def small_disk(run):
+    """A folder with a small disk in mounts of its own, and the process that keeps them: nothing if that is not
+    allowed."""
+    folder = os.path.join(run.folder(), "disk")
+    os.mkdir(folder)
+    script = (f'mount -t tmpfs -o size={SMALL_DISK} none "$1" && head -c {TAKEN_ROOM} /dev/zero > "$1/taken" && '
+              'echo ready && exec sleep 1000')
+    try:
+        process = subprocess.Popen([*OWN_MOUNTS, script, "sh", folder], stdout=subprocess.PIPE,
+                                   stderr=subprocess.DEVNULL, text=True)
+    except FileNotFoundError:
+        return None
+    run.stack.callback(process.wait)
+    run.stack.callback(process.kill)
+    run.stack.callback(process.stdout.close)
+    return (folder, process.pid) if process.stdout.readline() == "ready\n" and shutil.which("nsenter") else None
+
+
+def slow_ones(run):
+    """Cases that wait for clocks, side by side."""
+    run.side_by_side([(period,), (far_end_goes,), (far_end_does_not_answer,)], LIMIT)
+
+
+CASES = (checks, addresses_in_use, second_gateway, folder_without_leave, orders, status, status_under_load,
+         too_many_connections, too_many_controls, replies_not_read, asked, reloads, reload_refused, reload_under_load,
+         rotations, lives, whole, rotations_without_a_pause, shares, rate, one_against_eight, far_end_away,
+         far_end_writes, far_end_reads_nothing, wrong_records, slow_bytes, sizes, hung_up, resets, unix_sockets,
+         unix_modes_reloaded, until_eof, grace_is_over, held_at_the_end, end_is_sent, killed, killed_between_books,
+         bad_books, disk_fills, disk_fails_at_the_end, slow_ones)
+
+
+if __name__ == "__main__":
+    if not os.path.exists(GATEWAY):
+        sys.exit(f"gateway.py: there is no {GATEWAY}; GATEWAY names the program")
+    try_cases(CASES, LIMIT, LIMIT_OF_ALL, Play)

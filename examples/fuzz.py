@@ -3,13 +3,13 @@
 what it answers with plain models of the rules.
 
 The program is bin/stridelink, or that of the environment variable STRIDELINK; it has to know `serve` and `run`. The
-models are written from docs/SPECIFICATION.md and README.md, with nothing kept that the rules compute from scratch: the
+models are written from docs/SPECIFICATION.md and docs/man, with nothing kept that the rules compute from scratch: the
 tickets of the flows come from the whole graph at each levelling. Reports are modelled too, and whole outputs are
 compared, byte for byte. Before anything else the models are given worked examples, whose answers were found by hand.
 
     fuzz.py                 runs the seed that stands below, so it does the same each time
     fuzz.py --seed N        runs another seed
-    fuzz.py --minutes N     draws seeds, tells each, and runs them for so long
+    fuzz.py --minutes N     draws seeds, prints each, and runs them for that long
     fuzz.py --self          runs the models alone, on the scripts of a seed: no program is needed
     fuzz.py --print FILE    prints what the models answer to a script
 

@@ -3,7 +3,7 @@
 
 The environment names the programs: GATEWAY and GATEWAY_WORDS the gateway, STRIDELINK what bills its books (see
 gatewaying.py). Arguments name the cases to play; without any, all are played. With TIMES set, it prints how long each
-took. What is wanted comes from the rules of a gateway. Each case ends by itself, and all of them in four minutes.
+took. Expected values come from the rules of a gateway. Each case ends by itself, and all of them in four minutes.
 """
 import calendar
 import contextlib

@@ -3,9 +3,9 @@
 room on a disk, standard output and error.
 
 The program is bin/stridelink, or that of the environment variable STRIDELINK; it has to know `serve` and `run`. With
-words, only the cases of these names are tried; with TIMES set, it tells how long each took. What is wanted comes from
+words, only the cases of these names are tried; with TIMES set, it prints how long each took. Expected values come from
 the rules: each fault has its text and its status, nothing waits for ever, and an audit that can be written is written,
-whatever else fails. Each case has a limit of time, and what it started ends with it.
+whatever fails besides. Each case has a limit of time, and what it started ends with it.
 """
 import contextlib
 import itertools

@@ -2,7 +2,7 @@
 """Plays control clients, ingress clients and the peer of the uplink with a built server, over real sockets.
 
 The program is bin/stridelink, or that of the environment variable STRIDELINK; it has to know `serve` and `run`. With
-words, only the cases of these names are tried; with TIMES set, it tells how long each took. What is wanted comes from
+words, only the cases of these names are tried; with TIMES set, it prints how long each took. Expected values come from
 the rules: the bytes that the peer gets are those that the audit gives as a script, each connection's packets stand in
 it once and in order, and the report is the audit's. Each case has a limit of time, and what it started ends with it.
 """

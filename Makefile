@@ -16,10 +16,13 @@ PREFIX ?= /usr/local
 TOOL_PACKAGES := mandoc man-db tshark gnuplot-nox python3 python3-prometheus-client postgresql systemd bash-completion \
     binutils dpkg-dev lintian
 
-# The proved program goes to bin/, and the scripts of examples/ play it.
+# The proved programs go to bin/ with their command, and the scripts of examples/ play them.
 define examples
 mkdir -p bin
-cp crates/stridelink/out/stridelink bin/stridelink
+cp tools/stridelink bin/stridelink
+cp crates/stridelink/out/stridelink bin/stridelink-script
+cp crates/link/out/link bin/stridelink-link
+cp crates/gateway/out/gateway bin/stridelink-gateway
 examples/compare.sh
 examples/faults.sh
 examples/answers.sh
@@ -31,16 +34,16 @@ examples/serve.py
 examples/hostile.py
 examples/bill.py
 examples/fuzz.py
-GATEWAY=crates/gateway/out/gateway STRIDELINK=bin/stridelink examples/gateway.py
-GATEWAY=crates/gateway/out/gateway examples/ask.py
+examples/gateway.py
+examples/ask.py
 endef
 
 help:
 	@echo 'make try         runs an example, with nothing proved'
 	@echo 'make demo        plays a gateway with four tenants in this terminal, with nothing proved'
-	@echo 'make run         proves and builds the program, and runs the example; JOBS=N for each proof'
-	@echo 'make serve       proves and builds the program, and plays a session over sockets'
-	@echo 'make build       proves and builds bin/stridelink'
+	@echo 'make run         proves and builds the program of scripts and bills, and runs the example; JOBS=N for each proof'
+	@echo 'make serve       proves and builds that of links too, and plays a session over sockets'
+	@echo 'make build       proves and builds these two, bin/stridelink-script and bin/stridelink-link'
 	@echo 'make gateway     proves and builds bin/stridelink-gateway'
 	@echo 'make check       proves what changed since the last check, then runs the tests and the examples'
 	@echo 'make test        passes the gate: docs/GATE.md'
@@ -49,16 +52,17 @@ help:
 	@echo 'make soak        puts long loads on a server and a gateway, and counts shares at the far end of the uplink'
 	@echo 'make fuzz        compares the program with plain models for MINUTES minutes (10)'
 	@echo 'make tools       installs what the tools around a server use (apt-get)'
-	@echo 'make tools-test  tries these tools with the programs, or with those of STRIDELINK and GATEWAY'
+	@echo 'make tools-test  tries these tools with the programs in bin/, or with the command that STRIDELINK names'
 	@echo 'make deb         builds a Debian package in bin/'
-	@echo 'make install     installs the programs, the manual and the completion below PREFIX (/usr/local) in DESTDIR'
+	@echo 'make install     installs the programs, the manual and the completion below PREFIX (/usr/local) in DESTDIR;'
+	@echo '                 PROGRAMS is their folder (bin)'
 	@echo 'make fmt         lays out the sources of each crate'
 	@echo 'make clean       removes what was proved and built'
 
-run: bin/stridelink
+run: bin/stridelink bin/stridelink-script
 	bin/stridelink run < examples/one-packet.script
 
-serve: bin/stridelink
+serve: build
 	examples/session.py
 
 try:
@@ -73,13 +77,22 @@ check:
 	RT_SECONDS=120 .ci/rt all test
 	$(examples)
 
-build: bin/stridelink
+build: bin/stridelink bin/stridelink-script bin/stridelink-link
 
-gateway: bin/stridelink-gateway
+gateway: bin/stridelink bin/stridelink-gateway
 
-bin/stridelink: $(SOURCES)
+# The command that runs one of the programs beside it.
+bin/stridelink: tools/stridelink
+	@mkdir -p bin
+	cp tools/stridelink bin/stridelink
+
+bin/stridelink-script: $(SOURCES)
 	@.ci/prove $(JOBS) stridelink
-	cp crates/stridelink/out/stridelink bin/stridelink
+	cp crates/stridelink/out/stridelink bin/stridelink-script
+
+bin/stridelink-link: $(SOURCES)
+	@.ci/prove $(JOBS) link
+	cp crates/link/out/link bin/stridelink-link
 
 bin/stridelink-gateway: $(SOURCES)
 	@.ci/prove $(JOBS) gateway
@@ -99,7 +112,7 @@ test:
 edits:
 	.ci/edits
 
-bench: bin/stridelink bin/stridelink-gateway
+bench: build gateway
 	python3 bench/bench.py
 	python3 bench/ingress.py
 	python3 bench/locked.py
@@ -107,31 +120,30 @@ bench: bin/stridelink bin/stridelink-gateway
 	python3 bench/serve.py
 	python3 bench/gateway_speed.py
 
-soak: bin/stridelink bin/stridelink-gateway
+soak: build gateway
 	python3 bench/soak.py
 	python3 bench/shares.py
 	python3 bench/gateway_shares.py
 	python3 bench/gateway_soak.py
 
-fuzz: bin/stridelink
+fuzz: build
 	examples/fuzz.py --minutes $(or $(MINUTES),10)
 
 tools:
 	DEBIAN_FRONTEND=noninteractive apt-get install -y --no-install-recommends $(TOOL_PACKAGES)
 
-# The programs that are packed, installed and tried: those of these variables, or the built ones.
+# The folder of the programs that are packed and installed: those that are built here, unless another one is given.
+PROGRAMS ?= bin
+ifeq ($(PROGRAMS),bin)
+deb install: build gateway
+endif
 ifndef STRIDELINK
-deb tools-test install: bin/stridelink
+tools-test: build gateway
 endif
-ifndef GATEWAY
-deb tools-test install: bin/stridelink-gateway
-endif
-LINK_PROGRAM = $(or $(STRIDELINK),bin/stridelink)
-GATEWAY_PROGRAM = $(or $(GATEWAY),bin/stridelink-gateway)
 
 deb:
 	mkdir -p bin
-	tools/package $(LINK_PROGRAM) $(GATEWAY_PROGRAM) bin
+	tools/package $(PROGRAMS) bin
 
 tools-test:
 	tools/tests/bill.py
@@ -147,8 +159,8 @@ tools-test:
 
 install:
 	install -D -m 755 -t $(DESTDIR)$(PREFIX)/bin tools/stridelink
-	install -D -m 755 $(LINK_PROGRAM) $(DESTDIR)$(PREFIX)/libexec/stridelink/stridelink-link
-	install -D -m 755 $(GATEWAY_PROGRAM) $(DESTDIR)$(PREFIX)/libexec/stridelink/stridelink-gateway
+	install -D -m 755 -t $(DESTDIR)$(PREFIX)/libexec/stridelink $(foreach name,script link gateway, \
+	    $(PROGRAMS)/stridelink-$(name))
 	install -D -m 644 -t $(DESTDIR)$(PREFIX)/share/man/man1 docs/man/*.1
 	install -D -m 644 -t $(DESTDIR)$(PREFIX)/share/man/man5 docs/man/*.5
 	install -D -m 644 tools/completion/stridelink.bash \

@@ -1,5 +1,5 @@
 #!/usr/bin/env python3
-"""Measures bin/stridelink beside a plain Rust program of the same lines, and the crates beside plain loops.
+"""Measures bin/stridelink-script beside a plain Rust program of the same lines, and the crates beside plain loops.
 
 `bench.py scripts` runs the scripts alone, and `bench.py loops` the loops over the ledger and the stride queue;
 `bench.py counts` counts the instructions of the first lines of each script, by the line and by the byte that they
@@ -23,7 +23,8 @@ from scripts import SCRIPTS, graphs
 
 ROUNDS = int(os.environ.get("ROUNDS", "15"))
 TOP = os.path.dirname(os.path.dirname(os.path.abspath(__file__)))
-PROGRAM = os.path.join(TOP, "bin", "stridelink")
+PROGRAM = os.path.join(TOP, "bin", "stridelink-script")
+LINK = os.path.join(TOP, "bin", "stridelink-link")
 MEBIBYTE = 1 << 20
 
 # Of how many lines of a script the instructions are counted.

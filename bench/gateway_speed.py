@@ -24,7 +24,7 @@ from gateway_loading import Asks, Far, Floods, Pings, build_load, rate_of
 
 sys.path.insert(0, os.path.join(TOP, "examples"))
 from gatewaying import Play, processor_seconds, resident  # noqa: E402
-from serving import LOOPBACK, PROGRAM, Server  # noqa: E402
+from serving import LINK, LOOPBACK, Server  # noqa: E402
 
 ROUNDS = int(os.environ.get("ROUNDS", "5"))
 SECONDS = float(os.environ.get("SECONDS", "1.5"))
@@ -200,7 +200,7 @@ def main():
         sys.exit("the words are " + ", ".join(parts))
     with tempfile.TemporaryDirectory() as folder:
         # A gateway has no path here: its program and its words are the environment's.
-        programs = {"gateway": None, "serve": PROGRAM, "plain": build_plain(folder)}
+        programs = {"gateway": None, "serve": LINK, "plain": build_plain(folder)}
         load = build_load(folder)
         for word in words:
             parts[word](programs, load)

@@ -1,12 +1,12 @@
 #!/usr/bin/env python3
-"""Measures the server of bin/stridelink beside that of the plain Rust program (bench/plain), over loopback.
+"""Measures the server of bin/stridelink-link beside that of the plain Rust program (bench/plain), over loopback.
 
 `serve.py speed`, with two connections, `serve.py eight`, with eight, `serve.py replies` and `serve.py memory` are the
 parts; without a word all are run. In each of ROUNDS rounds (7 unless set) the programs take turns, and what is printed
 are medians; machines are noisy, so the ratios of one run are what to read, which are medians of the rounds' ratios.
 Processor time is that of the server's threads while the load lasts, without its start and its audit. PACKETS is how
 many packets a run of these two has (60000), of 64 bytes three times as many; MEMORY_PACKETS those of `memory`
-(1000000). Where bin/stridelink has no `serve`, the plain program is measured alone. Nothing is written but a folder in
+(1000000). Where bin/stridelink-link has no `serve`, the plain program is measured alone. Nothing is written but a folder in
 the system's temporary folder, which is removed.
 """
 import multiprocessing
@@ -21,7 +21,7 @@ import threading
 import time
 from dataclasses import dataclass
 
-from bench import MEBIBYTE, PROGRAM, TOP, build_plain, median, print_row
+from bench import MEBIBYTE, LINK, TOP, build_plain, median, print_row
 
 sys.dont_write_bytecode = True
 sys.path.insert(0, os.path.join(TOP, "examples"))
@@ -319,9 +319,9 @@ def main():
     if not set(words) <= set(parts):
         sys.exit("the words are " + ", ".join(parts))
     with tempfile.TemporaryDirectory() as folder:
-        programs = {"stridelink": PROGRAM} if has_serve(PROGRAM) else {}
+        programs = {"stridelink": LINK} if has_serve(LINK) else {}
         if not programs:
-            print("bin/stridelink has no serve: the plain program is measured alone", file=sys.stderr)
+            print("bin/stridelink-link has no serve: the plain program is measured alone", file=sys.stderr)
         programs["plain"] = build_plain(folder)
         for word in words:
             parts[word](programs, folder)

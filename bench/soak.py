@@ -1,8 +1,8 @@
 #!/usr/bin/env python3
-"""Soaks the server of bin/stridelink: a long load with all of its connections, and one client beside a hostile one.
+"""Soaks the server of bin/stridelink-link: a long load with all of its connections, and one client beside a hostile one.
 
 `soak.py load` and `soak.py hostile` are the parts; without a word both are run. The program is that of `--program`, or
-of the variable PROGRAM, or bin/stridelink. Nothing is written but folders in the system's temporary folder, which are
+of the variable PROGRAM, or bin/stridelink-link. Nothing is written but folders in the system's temporary folder, which are
 removed: of a million packets some 4 GB. The server, and then the replay of its audit, hold up to 3 GB of memory in
 either part. Where nothing moves for a minute, the program ends and tells what it waited for.
 
@@ -61,7 +61,7 @@ sys.path.insert(0, os.path.join(TOP, "examples"))
 from serving import (HEADER, LONGEST_PAYLOAD, LOOPBACK, SERVED, Failure, Server, Task, expect,  # noqa: E402
                      expect_equal, limit_time, record, total, wait_for)
 
-PROGRAM = os.environ.get("PROGRAM", bench.PROGRAM)
+PROGRAM = os.environ.get("PROGRAM", bench.LINK)
 PACKETS = int(os.environ.get("PACKETS", "1000000"))
 SEED = int(os.environ.get("SEED", time.time_ns() % 1000000007))
 SECONDS = float(os.environ.get("FLOOD_SECONDS", "4"))
@@ -709,9 +709,9 @@ def measure_hostile(program):
 
 def main():
     parts = {"load": measure_load, "hostile": measure_hostile}
-    parser = argparse.ArgumentParser(description="Soaks the server of bin/stridelink.")
+    parser = argparse.ArgumentParser(description="Soaks the server of bin/stridelink-link.")
     parser.add_argument("parts", nargs="*", metavar="PART", help="load or hostile; without a word both are run")
-    parser.add_argument("--program", default=PROGRAM, help="the program, bin/stridelink unless set")
+    parser.add_argument("--program", default=PROGRAM, help="the program, bin/stridelink-link unless set")
     words = parser.parse_args()
     if not set(words.parts) <= set(parts):
         sys.exit("the words are " + ", ".join(parts))

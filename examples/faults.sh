@@ -74,7 +74,7 @@ refuses "invalid value '4\u{7f}' for '--life <L>': invalid digit found in string
 refuses 'invalid UTF-8 was detected in one or more arguments' "\$'\\xff'"
 refuses 'invalid UTF-8 was detected in one or more arguments' "run --life \$'4\\xff'"
 
-expect 2 "error: unrecognized subcommand 'walk'" '(exec -a other bin/stridelink walk)'
+expect 2 "error: unrecognized subcommand 'walk'" '(exec -a other bin/stridelink-script walk)'
 grep -q '^Usage: stridelink <COMMAND>$' "$said" || {
     echo "another name in the usage: $(< "$said")" >&2
     failed=1

@@ -19,7 +19,7 @@ import sys
 
 sys.dont_write_bytecode = True
 
-from serving import (END, FUNDED, LOOPBACK, ONE_PACKET, PATIENCE, PROGRAM, Failure, address_space, check, connected,
+from serving import (END, FUNDED, LINK, LOOPBACK, ONE_PACKET, PATIENCE, Failure, address_space, check, connected,
                      expect, expect_equal, frame, is_blocked, listeners, lowest_free, one_packet, packets,
                      packets_until_torn, records, reset, total, try_cases, wait_for)
 
@@ -380,7 +380,7 @@ def small_disk(run):
     if subprocess.run([*OWN_MOUNTS, mount], stderr=subprocess.DEVNULL, check=False).returncode != 0:
         return None
     with open(program, "w", encoding="ascii") as script:
-        script.write("#!/bin/sh\nexec %s '%s && exec %s \"$@\"' sh \"$@\"\n" % (" ".join(OWN_MOUNTS), mount, PROGRAM))
+        script.write("#!/bin/sh\nexec %s '%s && exec %s \"$@\"' sh \"$@\"\n" % (" ".join(OWN_MOUNTS), mount, LINK))
     os.chmod(program, 0o755)
     return {"audit": os.path.join(disk, "audit"), "program": program}
 

@@ -18,6 +18,16 @@ from collections import defaultdict
 TOP = os.path.dirname(os.path.dirname(os.path.abspath(__file__)))
 PROGRAM = os.path.abspath(os.environ.get("STRIDELINK", os.path.join(TOP, "bin", "stridelink")))
 
+
+def beside(name):
+    """One of the programs that the command runs, or the command itself if the program does not lie beside it. A program
+    that has few descriptors or little memory is run without the shell of the command."""
+    path = os.path.join(os.path.dirname(PROGRAM), name)
+    return path if os.path.exists(path) else PROGRAM
+
+
+LINK = beside("stridelink-link")
+
 # How long anything may take that is not made slow on purpose, and how long an end by --until-eof may take, in seconds.
 PATIENCE = 20
 END = 40
@@ -248,7 +258,7 @@ class Server:
 
     def __init__(self, folder, uplink, workers=1, clerks=None, life=65536, audit=None, ingress=LOOPBACK + ":0",
                  control=LOOPBACK + ":0", verbose=True, until_eof=False, further=(), stdin=None, stdout=None,
-                 before=None, program=PROGRAM):
+                 before=None, program=LINK):
         self.folder = folder
         self.life = life
         self.audit_path = audit or os.path.join(folder, "audit")

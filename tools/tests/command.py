@@ -1,5 +1,5 @@
 #!/usr/bin/env python3
-"""Tries the command stridelink, as 'make install' puts it: which of two programs runs for which words, by which names the
+"""Tries the command stridelink, as 'make install' puts it: which of three programs runs for which words, by which names the
 command is found, and what it passes on. The programs are stand-ins that print what they are given."""
 import os
 import subprocess
@@ -7,7 +7,7 @@ import sys
 
 from trying import LIMIT, TOOLS, TOP, expect, expect_equal, try_cases, write
 
-PROGRAMS = ("link", "gateway")
+PROGRAMS = ("script", "link", "gateway")
 # The shells that stand for sh, of those that are there.
 SHELLS = [shell for shell in ("sh", "dash", "bash", "busybox") if subprocess.run(
     ["sh", "-c", "command -v %s" % shell], stdout=subprocess.DEVNULL, check=False).returncode == 0]
@@ -22,8 +22,9 @@ def stand_in(folder, name):
 def installed(run):
     """The folder in which the command and the stand-ins are installed. Its name has a space."""
     folder = run.folder()
-    variables = zip(("STRIDELINK", "GATEWAY"), (stand_in(folder, "stridelink-" + name) for name in PROGRAMS))
-    subprocess.run(["make", "-s", "install", "DESTDIR=" + folder, "PREFIX=/usr", *map("=".join, variables)], cwd=TOP,
+    for name in PROGRAMS:
+        stand_in(folder, "stridelink-" + name)
+    subprocess.run(["make", "-s", "install", "DESTDIR=" + folder, "PREFIX=/usr", "PROGRAMS=" + folder], cwd=TOP,
                    timeout=LIMIT, check=True)
     os.rename(os.path.join(folder, "usr"), os.path.join(folder, "a b"))
     return os.path.join(folder, "a b")
@@ -44,9 +45,11 @@ def words(run):
     for first in ("gateway", "ask"):
         ran([command], "gateway", first, "a b", "", "--x", "*", "$HOME", "two\nlines")
         ran([command], "gateway", first)
-    for given in ((), ("run",), ("serve", "gateway"), ("--version",), ("",), ("help", "gateway"), ("gateways", "ask"),
-                  ("-h", "ask")):
+    for given in (("serve",), ("serve", "gateway"), ("serve", "--help")):
         ran([command], "link", *given)
+    for given in ((), ("run",), ("run", "serve"), ("bill", "serve"), ("--version",), ("",), ("help", "serve"),
+                  ("servers",), ("gateways", "ask"), ("-h", "ask")):
+        ran([command], "script", *given)
 
 
 def names(run):
@@ -62,7 +65,7 @@ def names(run):
         for shell in SHELLS:
             begin = [shell, "sh"] if shell == "busybox" else [shell]
             ran([*begin, os.path.join(elsewhere, name)], "gateway", "ask", "x")
-            ran([*begin, "./" + name], "link", "run", cwd=elsewhere)
+            ran([*begin, "./" + name], "script", "run", cwd=elsewhere)
     ran(["stridelink"], "gateway", "ask", PATH="%s:%s" % (folder, os.environ["PATH"]))
     ran(["sh", "stridelink"], "gateway", "ask", cwd=folder)
 
@@ -73,7 +76,7 @@ def beside(run):
     with open(os.path.join(TOOLS, "stridelink"), "rb") as source:
         command = write(folder, "stridelink", source.read())
     os.chmod(command, 0o755)
-    for first, program in (("ask", "gateway"), ("run", "link")):
+    for first, program in (("ask", "gateway"), ("serve", "link"), ("run", "script")):
         done = subprocess.run([command, first], capture_output=True, timeout=LIMIT, check=False)
         fault = "stridelink: cannot find stridelink-%s\n" % program
         expect_equal((done.returncode, done.stdout, done.stderr.decode()), (1, b"", fault), "a missing program")

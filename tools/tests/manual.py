@@ -134,7 +134,7 @@ def numbers(run):
 
 def faults(run):
     """Each fault text of the sources stands among the diagnostics; what is named in it is ADDR or FILE."""
-    texts = [text for path in (("share_served", "faults.rt"), ("share_asked", "services.rt"),
+    texts = [text for path in (("share_served", "faults.rt"), ("link", "services.rt"),
                                ("share_script", "script.rt"))
              for text in re.findall(r'#\[error\("(.*?)"\)\]', source(*path)) if text != "{0}"]
     names = [text.replace("{0}", "FILE" if "audit" in text else "ADDR") for text in texts]

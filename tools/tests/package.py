@@ -16,7 +16,7 @@ import sys
 import tempfile
 import time
 
-from trying import GATEWAY, LIMIT, TOOLS, TOP, audit, expect, expect_equal, expect_works, try_cases, write
+from trying import LIMIT, TOOLS, TOP, audit, expect, expect_equal, expect_works, try_cases, write
 
 from serving import PATIENCE, PROGRAM, Failure, frame
 
@@ -71,9 +71,9 @@ class Root:
         return done.stdout.decode()
 
 
-def build(folder, link=PROGRAM, gateway=GATEWAY):
-    """Builds the package: the status, and what is told of faults."""
-    done = subprocess.run([os.path.join(TOOLS, "package"), link, gateway, folder], stdout=subprocess.DEVNULL,
+def build(folder, programs=os.path.dirname(PROGRAM)):
+    """Builds the package of the programs in a folder: the status, and what is printed of faults."""
+    done = subprocess.run([os.path.join(TOOLS, "package"), programs, folder], stdout=subprocess.DEVNULL,
                           stderr=subprocess.PIPE, timeout=LIMIT, check=False)
     return done.returncode, done.stderr.decode()
 
@@ -120,14 +120,16 @@ def builds(run):
 
 
 def refused(run):
-    """A program of another version than the changelog's is not packed, be it that of links or that of gateways."""
-    folder = run.folder()
-    program = write(folder, "program", "#!/bin/sh\necho stridelink 9.9.9\n")
-    os.chmod(program, 0o755)
-    for programs in ({"link": program}, {"gateway": program}):
-        status, told = build(folder, **programs)
+    """A program of another version than the changelog's is not packed, whichever of the three it is."""
+    for name in ("script", "link", "gateway"):
+        folder, programs = run.folder(), run.folder()
+        for each in ("script", "link", "gateway"):
+            shutil.copy(os.path.join(os.path.dirname(PROGRAM), "stridelink-" + each), programs)
+        program = write(programs, "stridelink-" + name, "#!/bin/sh\necho stridelink 9.9.9\n")
+        os.chmod(program, 0o755)
+        status, told = build(folder, programs)
         expect(status == 1 and told.startswith("package: %s is 'stridelink 9.9.9'" % program), "told: %s" % told)
-        expect_equal(os.listdir(folder), ["program"], "what is left")
+        expect_equal(os.listdir(folder), [], "what is left")
 
 
 def linted(run):

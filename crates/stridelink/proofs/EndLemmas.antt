@@ -1,22 +1,7 @@
--- How a run of the program ended, from how the calls ended that it made.
-use Rattle.std.proofs.Common.{ℕ, Bool, List, Option, sym, true≢false}
-use Rattle.std.specs.Prelude.{Result, Ok, Err, IfOk, IsOk, IsErr, OnOk, MatchResult}
+-- How a run of a script ended, from how the calls ended that it made.
+use Rattle.std.specs.Prelude.{Result, Ok, Err, IfOk}
 use Rattle.std.specs.declared.process.ExitCode.{ExitCode}
-use Rattle.share_journal.specs.Entries.{JournalView}
-use Rattle.share_model.specs.declared.writer.Answer.{Answer}
-use Rattle.share_model.specs.io.Told.{Told}
 use Rattle.share_asked.specs.Statuses.{OfSomeScript}
-use Rattle.share_served.specs.Shutdown.{WasServed}
-use Rattle.stridelink.specs.Serves.{HasServed}
-
-pub has_served : {X Y E F K O : Type 0} (kept : K → JournalView → Bool → Type 0) (told : O → Option Told)
-    (answers : O → List ℕ → Answer → O → Type 0) (keep : K) (output after : O) (result : Result X E)
-    (served : Result Y F) → MatchResult result (λ _. IsOk served) (λ _. IsErr served)
-    → OnOk served (WasServed kept told answers keep output after) → OnOk result (HasServed kept told answers)
-has_served kept told answers keep output after (Ok x) (Ok y) is was =
-    record { keep = keep; output = output; after = after; served = was }
-has_served kept told answers keep output after (Ok x) (Err fault) is was = absurd (true≢false (sym is))
-has_served kept told answers keep output after (Err fault) served is was = tt
 
 pub of_some_script : {S E : Type 0} (P : S → ExitCode → Type 0) (script : S) (result : Result ExitCode E)
     → IfOk result (λ status. P script status) → IfOk result (λ status. OfSomeScript (λ script. P script status))

@@ -2,9 +2,9 @@
 ghost use Rattle.std.specs.Prelude.{◌≡◌, OnOk};
 ghost use Rattle.share_asked.specs.Rates.{program_rates};
 ghost use Rattle.share_words.specs.Orders.{CanBeServed};
-ghost use Rattle.stridelink.specs.Serves.{HasServed};
+ghost use Rattle.link.specs.Serves.{HasServed};
 
-use share_asked::{Unserved, prepared, result_of_run};
+use crate::services::{Unserved, prepared, result_of_run};
 use share_model::{PatientWriter, PlainWriter, Rates, TellingWriter};
 use share_server::{AuditFile, Keep, Plan, serve_on};
 use share_words::ServeOrders;

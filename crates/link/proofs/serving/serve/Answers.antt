@@ -1,5 +1,5 @@
-use Rattle.stridelink.proofs.EndLemmas.{has_served}
-use Rattle.stridelink.proofs.serving.serve.Goals as goal
+use Rattle.link.proofs.EndLemmas.{has_served}
+use Rattle.link.proofs.serving.serve.Goals as goal
 
 pub returns : goal.returns
 returns g c =

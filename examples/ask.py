@@ -1,7 +1,7 @@
 #!/usr/bin/env python3
 """Plays the gateway that `ask` sends its lines to, over TCP and over a Unix socket: what is sent and printed, the exit
 status, and connections that end early. The variable GATEWAY names the program (bin/stridelink-gateway without it). Each
-run ends after PATIENCE seconds (20). Arguments name the cases to play; without any, all are played."""
+run ends after PATIENCE seconds (60). Arguments name the cases to play; without any, all are played."""
 import contextlib
 import errno
 import os
@@ -14,7 +14,7 @@ import time
 
 TOP = os.path.dirname(os.path.dirname(os.path.abspath(__file__)))
 PROGRAM = os.path.abspath(os.environ.get("GATEWAY", os.path.join(TOP, "bin", "stridelink-gateway")))
-PATIENCE = int(os.environ.get("PATIENCE", "20"))
+PATIENCE = int(os.environ.get("PATIENCE", "60"))
 REPORT = b"clock 0\nflow 1 no\nthe end\nendless\nend\n"
 
 

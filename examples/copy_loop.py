@@ -2,15 +2,17 @@
 """A plain program that copies frames to a far end at a rate: it shows what the machine itself does to a rate, and which
 pauses it makes.
 
-usage: copy_loop.py ADDRESS RATE [FOLDER]
+usage: copy_loop.py ADDRESS RATE FOLDER
 
-The frames are of flow 1, with payloads of 700 bytes. Each millisecond it sends as many as the rate, in bytes a second,
-allows. It saves up at most 20 ms of the rate. With a folder it appends lines for each frame to a file there before it
-sends the frame, and at each line of standard input it begins a new file. A thread syncs the file each second, and
-renames it once it is over. It ends with the connection.
+It works as a gateway does. One thread makes frames of flow 1 with payloads of 700 bytes while the rate, in bytes a
+second, allows it and an outbox has room; it saves up at most 20 ms of the rate. Another one appends two lines for each
+frame to a file of the folder, and the frame is sent after that. At each line of standard input it begins a new file. A
+third one syncs the file each second, and renames it once it is over. The program ends with the connection.
 """
+import contextlib
 import os
 import queue
+import select
 import socket
 import struct
 import sys
@@ -19,21 +21,26 @@ import time
 
 PAUSE = 0.001
 SAVED = 0.02
-LENGTH = 700
-LINES = b"send a 700\nturn 717\n"
 SYNC_SECONDS = 1
+LENGTH = 700
+FRAME = struct.pack(">BBBIQH", 0x4C, 2, 1, 1, 1, LENGTH) + b"x" * LENGTH
+LINES = b"send a 700\nturn 717\n"
+
+# How many frames were made and not sent at most.
+MOST_FRAMES = 79
 
 
 class Books:
-    """The files of a folder, one after the other."""
+    """The files of a folder, one after the other. A write wakes the loop."""
 
     def __init__(self, folder):
         self.folder = folder
         self.number = 0
-        self.asked = threading.Event()
-        self.over = queue.SimpleQueue()
+        self.written = 0
+        self.made, self.over = queue.SimpleQueue(), queue.SimpleQueue()
+        self.awake, self.wake = os.pipe()
         self.file = self.begin()
-        for work in (self.read, self.keep):
+        for work in (self.read, self.write, self.keep):
             threading.Thread(target=work, daemon=True).start()
 
     def path(self, number, kind="open"):
@@ -44,20 +51,24 @@ class Books:
         self.number += 1
         return os.open(self.path(self.number), os.O_WRONLY | os.O_CREAT | os.O_EXCL, 0o600)
 
-    def write(self, count):
-        """Appends the lines of that many frames, to the next file if one was asked for."""
-        if self.asked.is_set():
-            self.asked.clear()
-            self.over.put((self.number, self.file))
-            self.file = self.begin()
-        os.write(self.file, LINES * count)
-
     def read(self):
         for _ in sys.stdin:
-            self.asked.set()
+            self.made.put(None)
+
+    def write(self):
+        """Writes the lines of frames that were made, or begins the next file."""
+        while True:
+            count = self.made.get()
+            if count is None:
+                before, self.file = (self.number, self.file), self.begin()
+                self.over.put(before)
+                continue
+            os.write(self.file, LINES * count)
+            self.written += count
+            os.write(self.wake, b"x")
 
     def keep(self):
-        """Makes files durable."""
+        """Syncs files, and renames those that are over."""
         folder = os.open(self.folder, os.O_RDONLY)
         while True:
             try:
@@ -73,29 +84,29 @@ class Books:
 
 def copy(connection, rate, books):
     """Copies frames until the connection ends."""
-    frame = struct.pack(">BBBIQH", 0x4C, 2, 1, 1, 1, LENGTH) + b"x" * LENGTH
     left, seen = SAVED * rate, time.monotonic()
+    made = sent = 0
     while True:
+        if select.select([books.awake], [], [], PAUSE)[0]:
+            os.read(books.awake, 4096)
         now = time.monotonic()
         left, seen = min(left + (now - seen) * rate, SAVED * rate), now
-        count = int(left / len(frame))
-        if count and books:
-            books.write(count)
-        connection.sendall(frame * count)
-        left -= count * len(frame)
-        time.sleep(PAUSE)
+        count = min(max(0, -int(-left // len(FRAME))), MOST_FRAMES - (made - sent))
+        if count:
+            books.made.put(count)
+            made, left = made + count, left - count * len(FRAME)
+        ready = books.written - sent
+        connection.sendall(FRAME * ready)
+        sent += ready
 
 
 def main():
     host, port = sys.argv[1].rsplit(":", 1)
-    books = Books(sys.argv[3]) if len(sys.argv) > 3 else None
-    with socket.create_connection((host, int(port))) as connection:
+    books = Books(sys.argv[3])
+    with socket.create_connection((host, int(port))) as connection, contextlib.suppress(OSError):
         connection.setsockopt(socket.IPPROTO_TCP, socket.TCP_NODELAY, 1)
         print("connected", flush=True)
-        try:
-            copy(connection, float(sys.argv[2]), books)
-        except OSError:
-            pass
+        copy(connection, float(sys.argv[2]), books)
 
 
 if __name__ == "__main__":

@@ -46,8 +46,8 @@ NOTHING_SENT = 2
 PROMPT = 0.1
 MOST_GROWTH = 1 << 20
 
-# How many bytes the outbox has at least if it has no room for the longest frame.
-FULL_OUTBOX = OUTBOX - 9016
+# The longest frame. A turn is made only if the outbox has room for it.
+LONGEST_FRAME = 9017
 
 # How many packets a tenant's buffer has room for.
 LIMIT_OF_PACKETS = 256
@@ -284,21 +284,24 @@ def status_under_load(run):
     far = run.far_end(reads=False)
     gateway = run.gateway(far, {"a": Tenant([(200, "gold"), 50])}, currencies={"gold": [(300, "base")]})
     run.flood(gateway, "a", size=9000)
-    found = wait_until_full(gateway, "a")
+    found = wait_until_full(gateway, "a", 9000)
     flow = next(line.split() for line in gateway.control.report() if line.startswith("flow "))
     expect_equal((found["tenants"][0]["tickets"], int(flow[3])), (350, 350), "the tickets of a tenant that competes")
 
 
-def wait_until_full(gateway, names):
-    """Waits until the uplink takes no more, the outbox has no room for a frame, and the buffers of tenants are full:
-    the status."""
+def wait_until_full(gateway, names, size):
+    """Waits until the uplink takes no more, the outbox has no room for a frame, and the buffers of tenants are full of
+    packets of this size: the status. A frame of which the uplink took a part is kept whole."""
+    frame = frame_bytes(1, size)
+    full_outbox = ((OUTBOX - LONGEST_FRAME) // frame + 1) * frame
+
     def is_full():
         found = gateway.status()
-        expect(found["uplink"]["outbox"] <= OUTBOX, f"the outbox has {found['uplink']['outbox']} bytes")
+        kept = found["uplink"]["outbox"] + found["uplink"]["sent"] % frame
+        expect(kept <= full_outbox, f"the outbox has {kept} bytes of frames, wanted at most {full_outbox}")
         waiting = {tenant["name"]: tenant["waiting"] for tenant in found["tenants"]}
         expect(max(waiting.values()) <= LIMIT_OF_PACKETS, f"packets that wait: {waiting}")
-        are_full = all(waiting[name] == LIMIT_OF_PACKETS for name in names)
-        return are_full and found["uplink"]["outbox"] >= FULL_OUTBOX and found
+        return kept == full_outbox and all(waiting[name] == LIMIT_OF_PACKETS for name in names) and found
 
     def is_still():
         first = is_full()
@@ -836,7 +839,7 @@ def far_end_reads_nothing(run):
     far, echo = run.far_end(reads=False), run.echo()
     gateway = run.gateway(far, FLOODED)
     senders = [run.thread(gateway.send, name, range(count), size) for name in FLOODED]
-    wait_until_full(gateway, FLOODED)
+    wait_until_full(gateway, FLOODED, size)
     before, seconds, plainly = gateway.resident(), [], []
     for line in ["hold a", "resume a"] * 50:
         seconds.append(seconds_taken(lambda line=line: gateway.control.expect(line, "ok")))
@@ -1049,7 +1052,7 @@ def grace_is_over(run):
     far = run.far_end(reads=False)
     gateway = run.gateway(far, {"a": 300, "b": 100, "c": 1}, ["--grace", "1"])
     run.flood(gateway, "a", "b", size=9000)
-    wait_until_full(gateway, "ab")
+    wait_until_full(gateway, "ab", 9000)
     waiting = {line.split()[2]: int(line.split()[4]) for line in gateway.control.report() if line.startswith("flow ")}
     expect_equal(waiting, {"a": 256, "b": 256, "c": 0}, "packets that wait")
     ends_after_a_second(run, gateway)

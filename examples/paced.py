@@ -73,10 +73,16 @@ class Rotation:
     plain_before: float
 
     def is_kept(self):
-        return self.over <= MOST_PAUSE
+        return not is_late(self.over, self.plain_over)
 
     def plain(self):
         return max(self.plain_over, self.plain_before)
+
+
+def is_late(pause, plain):
+    """Whether no frame came for longer than is wanted, beyond the pause of the plain program at the same time unless
+    that shows an idle machine."""
+    return pause > MOST_PAUSE + (plain if plain > IDLE_PAUSE else 0)
 
 
 def rotated(gateway, far, plain, book):
@@ -124,12 +130,12 @@ def judge_rotations(found, is_idle):
     always the one with the longer pause, and the median is near that of the plain program."""
     expect(not is_idle, f"of {len(found)} rotations on an idle machine some pause for more than 20 ms")
     late = sum(not each.is_kept() for each in found)
-    others = [pause for each in found for pause in (each.before, each.plain_over, each.plain_before)]
-    beside = sum(pause > MOST_PAUSE for pause in others)
+    beside = sum(is_late(each.before, each.plain_before) for each in found)
+    beside += sum(pause > MOST_PAUSE for each in found for pause in (each.plain_over, each.plain_before))
     longer = sum(each.over > each.before + MOST_PAUSE / 2 for each in found)
     shorter = sum(each.before > each.over + MOST_PAUSE / 2 for each in found)
     print(f"rotations: the machine is too busy for {ROTATIONS} in a row without a pause: {late} of {len(found)} pause "
-          f"for more than 20 ms, and so do {beside} of {len(others)} windows beside them; {longer} pause for much "
+          f"for more than 20 ms, and so do {beside} of {3 * len(found)} windows beside them; {longer} pause for much "
           f"longer than the time before them, and {shorter} for much shorter")
     expect(late <= 2 * beside + ROTATIONS / 4, "rotations pause more often than the machine does")
     expect(longer <= 3 * shorter + len(found) / 4, "rotations pause for longer than the time between them")

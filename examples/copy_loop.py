@@ -6,8 +6,9 @@ usage: copy_loop.py ADDRESS RATE FOLDER
 
 It works as a gateway does. One thread makes frames of flow 1 with payloads of 700 bytes while the rate, in bytes a
 second, allows it and an outbox has room; it saves up at most 20 ms of the rate. Another one appends two lines for each
-frame to a file of the folder, and the frame is sent after that. At each line of standard input it begins a new file. A
-third one syncs the file each second, and renames it once it is over. The program ends with the connection.
+frame to a file of the folder, and the frame is sent after that. At each line of standard input it begins a new file,
+and takes over as many packets as wait in four full buffers, with a line for each. A third one syncs the file each
+second, and renames it once it is over. The program ends with the connection.
 """
 import contextlib
 import os
@@ -26,8 +27,9 @@ LENGTH = 700
 FRAME = struct.pack(">BBBIQH", 0x4C, 2, 1, 1, 1, LENGTH) + b"x" * LENGTH
 LINES = b"send a 700\nturn 717\n"
 
-# How many frames were made and not sent at most.
+# How many frames were made and not sent at most, and how many packets wait.
 MOST_FRAMES = 79
+WAITING = 4 * 256
 
 
 class Books:
@@ -37,6 +39,8 @@ class Books:
         self.folder = folder
         self.number = 0
         self.written = 0
+        self.is_asked = False
+        self.waiting = [bytes(LENGTH)] * WAITING
         self.made, self.over = queue.SimpleQueue(), queue.SimpleQueue()
         self.awake, self.wake = os.pipe()
         self.file = self.begin()
@@ -53,18 +57,23 @@ class Books:
 
     def read(self):
         for _ in sys.stdin:
-            self.made.put(None)
+            self.is_asked = True
+
+    def follow(self):
+        """Has the next file begun, and takes over the packets that wait."""
+        self.is_asked = False
+        self.waiting = [bytes(bytearray(packet)) for packet in self.waiting]
+        self.made.put((b"".join(b"send a %d\n" % len(packet) for packet in self.waiting), None))
 
     def write(self):
-        """Writes the lines of frames that were made, or begins the next file."""
+        """Writes the lines of frames that were made. Text without a count of frames begins the next file."""
         while True:
-            count = self.made.get()
+            text, count = self.made.get()
             if count is None:
                 before, self.file = (self.number, self.file), self.begin()
                 self.over.put(before)
-                continue
-            os.write(self.file, LINES * count)
-            self.written += count
+            os.write(self.file, text)
+            self.written += count or 0
             os.write(self.wake, b"x")
 
     def keep(self):
@@ -89,11 +98,13 @@ def copy(connection, rate, books):
     while True:
         if select.select([books.awake], [], [], PAUSE)[0]:
             os.read(books.awake, 4096)
+        if books.is_asked:
+            books.follow()
         now = time.monotonic()
         left, seen = min(left + (now - seen) * rate, SAVED * rate), now
         count = min(max(0, -int(-left // len(FRAME))), MOST_FRAMES - (made - sent))
         if count:
-            books.made.put(count)
+            books.made.put((LINES * count, count))
             made, left = made + count, left - count * len(FRAME)
         ready = books.written - sent
         connection.sendall(FRAME * ready)

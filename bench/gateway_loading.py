@@ -13,7 +13,7 @@ from bench import TOP
 sys.dont_write_bytecode = True
 sys.path.insert(0, os.path.join(TOP, "examples"))
 from gatewaying import processor_seconds  # noqa: E402
-from serving import Failure, expect, expect_equal, wait_for  # noqa: E402
+from serving import PATIENCE, Failure, expect, expect_equal, wait_for  # noqa: E402
 
 
 def build_load(folder):
@@ -99,7 +99,7 @@ class Far(Program):
     def wait(self, seconds):
         """Waits until it has counted for that many seconds."""
         wait_for(lambda: self.process.poll() is not None or self.seconds() >= seconds, "frames at the far end",
-                 4 * seconds + 20)
+                 4 * seconds + PATIENCE)
         expect(self.process.poll() is None, "the far end ends")
 
     def wait_until_over(self):

@@ -125,6 +125,9 @@ def pieces(_folder):
         for byte in REPORT + b"ok\n":
             connection.sendall(bytes([byte]))
             time.sleep(0.002)
+        # A connection that is closed while lines of it are unread is reset, and the last replies are lost.
+        while connection.recv(65536):
+            pass
     peer = Peer(serve=serve)
     want("a run", ask(peer.address(), "report", "end"), (0, REPORT + b"ok\n", b""))
     peer.end()

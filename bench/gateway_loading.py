@@ -13,7 +13,7 @@ from bench import TOP
 sys.dont_write_bytecode = True
 sys.path.insert(0, os.path.join(TOP, "examples"))
 from gatewaying import processor_seconds  # noqa: E402
-from serving import Failure, expect, expect_equal, wait_for  # noqa: E402
+from serving import PATIENCE, Failure, expect, expect_equal, wait_for  # noqa: E402
 
 
 def build_load(folder):
@@ -80,13 +80,15 @@ class Far(Program):
         self.pauses = []
         self.counts = {}
         self.connections = 0
+        self.over = 0
         self.thread = threading.Thread(target=self.read, daemon=True)
         self.thread.start()
 
     def read(self):
         for line in self.process.stdout:
-            seconds, flows, pause, self.connections = json.loads(line)
+            seconds, flows, pause, self.connections, over = json.loads(line)
             self.counts = {int(flow): Count(*count) for flow, count in flows.items()}
+            self.over = over
             self.samples.append((seconds, {flow: count.units for flow, count in self.counts.items()}))
             self.pauses.append((seconds, pause))
 
@@ -97,8 +99,12 @@ class Far(Program):
     def wait(self, seconds):
         """Waits until it has counted for that many seconds."""
         wait_for(lambda: self.process.poll() is not None or self.seconds() >= seconds, "frames at the far end",
-                 4 * seconds + 20)
+                 4 * seconds + PATIENCE)
         expect(self.process.poll() is None, "the far end ends")
+
+    def wait_until_over(self):
+        """Waits until each connection that came is read to its end, which the gateway has ended."""
+        wait_for(lambda: 0 < self.connections == self.over, "the end of a connection of the uplink")
 
     def total(self, part="frames"):
         """How much came of all flows: frames, bytes, missing or again."""

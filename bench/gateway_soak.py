@@ -134,7 +134,7 @@ class Soak:
         sent = self.floods.finish()
         self.gateway.control.expect("end", "ok")
         self.gateway.wait(0, STALL)
-        time.sleep(0.5)
+        self.far.wait_until_over()
         return {name: tuple(count) for name, count in sent.items()}
 
     def check(self, sent):

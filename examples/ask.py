@@ -1,7 +1,7 @@
 #!/usr/bin/env python3
 """Plays the gateway that `ask` sends its lines to, over TCP and over a Unix socket: what is sent and printed, the exit
 status, and connections that end early. The variable GATEWAY names the program (bin/stridelink-gateway without it). Each
-run ends after PATIENCE seconds (20). Arguments name the cases to play; without any, all are played."""
+run ends after PATIENCE seconds (60). Arguments name the cases to play; without any, all are played."""
 import contextlib
 import errno
 import os
@@ -14,7 +14,7 @@ import time
 
 TOP = os.path.dirname(os.path.dirname(os.path.abspath(__file__)))
 PROGRAM = os.path.abspath(os.environ.get("GATEWAY", os.path.join(TOP, "bin", "stridelink-gateway")))
-PATIENCE = int(os.environ.get("PATIENCE", "20"))
+PATIENCE = int(os.environ.get("PATIENCE", "60"))
 REPORT = b"clock 0\nflow 1 no\nthe end\nendless\nend\n"
 
 
@@ -125,6 +125,9 @@ def pieces(_folder):
         for byte in REPORT + b"ok\n":
             connection.sendall(bytes([byte]))
             time.sleep(0.002)
+        # A connection that is closed while lines of it are unread is reset, and the last replies are lost.
+        while connection.recv(65536):
+            pass
     peer = Peer(serve=serve)
     want("a run", ask(peer.address(), "report", "end"), (0, REPORT + b"ok\n", b""))
     peer.end()

@@ -25,7 +25,7 @@ from serving import PROGRAM
 BOOKS = os.path.join(os.path.dirname(os.path.realpath(__file__)), "books")
 
 # Seconds for a run.
-LIMIT = 60
+LIMIT = 180
 
 LIFE = 1 << 24
 LONGEST = 9000

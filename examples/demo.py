@@ -172,7 +172,7 @@ def show(run):
     tenants.finish()
     gateway.control.expect("end", "ok")
     gateway.wait()
-    far.wait_until_still()
+    far.wait_until_over()
     print_bill(bill(gateway), far)
 
 

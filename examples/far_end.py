@@ -2,9 +2,10 @@
 """The far end of an uplink: accepts one connection, and counts the units of each flow whose frames arrive.
 
 It prints the address that it listens on. Then it prints a line of JSON every twentieth of a second, and one at the end:
-the seconds since the first byte, for each flow its number and its units so far, and of the longest pause between two
-reads since the line before the time by the system's clock and the seconds. With --rate it reads that many bytes a
-second. It ends with the connection. Bytes that are no frame of version 2 end it with status 1.
+the seconds since the first byte, for each flow its number and its units so far, of the longest pause between two reads
+since the line before the time by the system's clock and the seconds, and the time of the first byte by that clock. With
+--rate it reads that many bytes a second. It ends with the connection. Bytes that are no frame of version 2 end it with
+status 1.
 """
 import argparse
 import json
@@ -100,7 +101,7 @@ def count_all(connection, rate):
                 allowance.used(len(data))
         if not data or instant - (last or start) >= INTERVAL:
             last = instant
-            print(json.dumps([instant - start, counts.units, pause]), flush=True)
+            print(json.dumps([instant - start, counts.units, pause, start]), flush=True)
             pause = (0.0, 0.0)
         if not data:
             return

@@ -3,7 +3,9 @@
 
 The environment names the programs: GATEWAY and GATEWAY_WORDS the gateway, STRIDELINK what bills its books (see
 gatewaying.py). Arguments name the cases to play; without any, all are played. With TIMES set, it prints how long each
-took. Expected values come from the rules of a gateway. Each case ends by itself, and all of them in four minutes.
+took. Expected values come from the rules of a gateway. What depends on time is compared with a plain program that does
+the same beside the gateway, so a busy machine is no fault of it. Each case ends by itself. All of them take three
+minutes on an idle machine, and twenty at most.
 """
 import calendar
 import contextlib
@@ -21,32 +23,44 @@ import time
 sys.dont_write_bytecode = True
 
 import measured
+import paced
 from gatewaying import (GATEWAY, HEADER, MOST_CONNECTIONS, MOST_CONTROLS, OUTBOX, SERVED, WORDS, Play, Tenant,
                         address_of, connect, frame_bytes, free_port, packet, records, run_gateway, run_program)
-from measured import EXAMPLES, WINDOW, Flood, check_windows, started
+from measured import WINDOW, Flood, check_windows
 from serving import (LOOPBACK, PATIENCE, Failure, ends_by_itself, expect, expect_equal, record, reset, try_cases,
                      wait_for)
 
 # Seconds for a case, and for all of them.
-LIMIT = 80
-LIMIT_OF_ALL = 240
+LIMIT = 240
+LIMIT_OF_ALL = 1200
 
 FLOODED = {"a": 400, "b": 300, "c": 200, "d": 100}
 
 # A rate that a loop in Python follows with ease, in the file and in bytes a second.
 RATE, BYTES_A_SECOND = "20 Mbit/s", 2.5e6
 
-# How far a rate may be off.
-RATE_ERROR = 0.02
-
-# How long no frame may come over a rotation, and how long a plain loop pauses at most if a machine is idle, in seconds.
-MOST_PAUSE = 0.02
-IDLE_PAUSE = 0.005
-ROTATIONS = 20
+# How long a gateway with a rate has nothing to send at first, in seconds.
+NOTHING_SENT = 2
 
 # Within how many seconds control replies while the far end reads nothing, and by how much memory may grow meanwhile.
 PROMPT = 0.1
 MOST_GROWTH = 1 << 20
+
+# The longest frame. A turn is made only if the outbox has room for it.
+LONGEST_FRAME = 9017
+
+# How many packets a tenant's buffer has room for.
+LIMIT_OF_PACKETS = 256
+
+# How long nothing changes until an uplink is said to take no more, in seconds.
+STILL = 0.5
+
+# A grace that no end waits for, and how long an end takes at most that does not wait for it, in seconds.
+LONG_GRACE = 100
+SHORT_END = 50
+
+# How long a gateway may take for what a plain program does at the same time, beyond that, in seconds.
+BEYOND = 4
 
 # The smallest buffer of the uplink's socket, and how many bytes it may hold: the system doubles it, and takes a last
 # segment whole.
@@ -270,13 +284,34 @@ def status_under_load(run):
     far = run.far_end(reads=False)
     gateway = run.gateway(far, {"a": Tenant([(200, "gold"), 50])}, currencies={"gold": [(300, "base")]})
     run.flood(gateway, "a", size=9000)
-    wait_for(lambda: is_still(gateway), "an uplink that takes no more")
-    found = gateway.tenant("a")
-    expect_equal(found["waiting"], 256, "packets that wait")
+    found = wait_until_full(gateway, "a", 9000)
     flow = next(line.split() for line in gateway.control.report() if line.startswith("flow "))
-    expect_equal((found["tickets"], int(flow[3])), (350, 350), "the tickets of a tenant that competes")
-    outbox = gateway.status()["uplink"]["outbox"]
-    expect(OUTBOX - 9017 < outbox <= OUTBOX, f"the outbox has {outbox} bytes")
+    expect_equal((found["tenants"][0]["tickets"], int(flow[3])), (350, 350), "the tickets of a tenant that competes")
+
+
+def wait_until_full(gateway, names, size):
+    """Waits until the uplink takes no more, the outbox has no room for a frame, and the buffers of tenants are full of
+    packets of this size: the status. A frame of which the uplink took a part is kept whole."""
+    frame = frame_bytes(1, size)
+    full_outbox = ((OUTBOX - LONGEST_FRAME) // frame + 1) * frame
+
+    def is_full():
+        found = gateway.status()
+        kept = found["uplink"]["outbox"] + found["uplink"]["sent"] % frame
+        expect(kept <= full_outbox, f"the outbox has {kept} bytes of frames, wanted at most {full_outbox}")
+        waiting = {tenant["name"]: tenant["waiting"] for tenant in found["tenants"]}
+        expect(max(waiting.values()) <= LIMIT_OF_PACKETS, f"packets that wait: {waiting}")
+        return kept == full_outbox and all(waiting[name] == LIMIT_OF_PACKETS for name in names) and found
+
+    def is_still():
+        first = is_full()
+        if not first:
+            return False
+        time.sleep(STILL)
+        last = is_full()
+        return last and last["uplink"]["sent"] == first["uplink"]["sent"] and last
+
+    return wait_for(is_still, "an uplink that takes no more, and full buffers")
 
 
 def too_many_connections(run):
@@ -296,7 +331,8 @@ def too_many_connections(run):
     gateway.send("b", range(5))
     far.wait_for(2 * MOST_CONNECTIONS + 5)
     connections.pop().close()
-    wait_for(lambda: is_taken(gateway, far), "a connection in the place of one that ended")
+    numbers = itertools.count(200)
+    wait_for(lambda: is_taken(gateway, far, next(numbers)), "a connection in the place of one that ended")
     gateway.end()
     refused = gateway.messages("refused")
     told = [message for message in refused if message.tenant == "a"]
@@ -306,15 +342,14 @@ def too_many_connections(run):
         expect(len(list(lines)) <= 10, "more than ten lines of a kind in a second")
 
 
-def is_taken(gateway, far):
-    """Whether a new connection of a is taken, which gives a packet."""
-    before = far.frames()
+def is_taken(gateway, far, number):
+    """Gives a packet with a number from 200 on by a new connection of a: whether one has come."""
     with gateway.connect("a") as connection, contextlib.suppress(OSError):
-        connection.sendall(record("a", packet(0)))
+        connection.sendall(record("a", packet(number)))
         connection.shutdown(socket.SHUT_WR)
         connection.recv(1)
     time.sleep(0.05)
-    return far.frames() > before
+    return any(number >= 200 for number in far.numbers[1])
 
 
 def too_many_controls(run):
@@ -339,8 +374,9 @@ def replies_not_read(run):
     far = run.far_end()
     gateway = run.gateway(far, {"a": 1})
     deaf = run.keep(gateway.new_control())
-    asking = run.thread(ask_for_ever, deaf)
-    time.sleep(1)
+    sent = [0]
+    asking = run.thread(ask_for_ever, deaf, sent)
+    wait_for(lambda: sent[0] and is_unchanged(lambda: sent[0]), "lines that are not taken")
     before = gateway.resident()
     for number in range(100):
         gateway.send("a", [number])
@@ -351,11 +387,20 @@ def replies_not_read(run):
     gateway.end()
 
 
-def ask_for_ever(control):
+def ask_for_ever(control, sent):
+    """Sends lines, and counts them."""
     with contextlib.suppress(OSError):
         control.socket.settimeout(None)
         while True:
             control.send(*["report"] * 100)
+            sent[0] += 100
+
+
+def is_unchanged(value):
+    """Whether a value stays as it is for a while."""
+    before = value()
+    time.sleep(STILL)
+    return value() == before
 
 
 def asked(run):
@@ -415,8 +460,9 @@ def reloads(run):
     gateway.send("b", range(6, 16))
     far.wait_for(16, 2)
     expect_equal(far.numbers[2], list(range(16)), "the packets of b")
-    reloads_again(gateway, gone, far)
+    reloads_again(gateway, gone)
     gateway.end()
+    far.wait_until_over()
     expect_equal(gateway.whys(), ["reload", "reload", "end"], "why books were closed")
     bill = {name: (count, size) for name, (count, size) in gateway.counted().items() if count}
     expect_equal(bill, {name: (far.counts[flow], far.bytes[flow]) for name, flow in
@@ -432,7 +478,7 @@ def expect_refused(address):
     raise Failure(f"{address} is listened at")
 
 
-def reloads_again(gateway, gone, far):
+def reloads_again(gateway, gone):
     """A hold by control ends with its tenant, and a name keeps its number while the tenant is gone."""
     gateway.tenants["c"] = Tenant(gone.grants, ["flow = 3"])
     gateway.tenants = {name: gateway.tenants[name] for name in "abcd"}
@@ -440,7 +486,6 @@ def reloads_again(gateway, gone, far):
     gateway.control.expect("reload", "book 3")
     expect_equal([(tenant["name"], tenant["flow"], tenant["held"]) for tenant in gateway.status()["tenants"]],
                  [("a", 1, False), ("b", 2, False), ("c", 3, False), ("d", 4, False)], "the tenants")
-    far.wait_until_still()
 
 
 # What is done to a gateway with the tenants a, b and d, and the currency x, and how the reply to `reload` goes on. The
@@ -569,19 +614,22 @@ def period(run):
     """A book is closed when its period is over, counted from its opening. Each packet comes once and in order."""
     far = run.far_end()
     gateway = run.gateway(far, {"a": 1}, books_lines=['period = "10 s"'])
-    number, end = 0, time.monotonic() + 21
+    number, late, seen = 0, 0.0, time.monotonic()
     with gateway.connect("a") as connection:
-        while time.monotonic() < end:
+        while gateway.status()["book"] < 3:
             connection.sendall(record("a", packet(number)))
             number += 1
             time.sleep(0.02)
+            late, seen = max(late, time.monotonic() - seen), time.monotonic()
+            expect(number < 10_000, "no period is over")
     far.wait_for(number)
     far.expect_in_order(1, number)
     gateway.end()
-    expect_equal(gateway.whys(), ["period", "period", "end"], "why books were closed")
+    expect_equal(gateway.whys()[:2], ["period", "period"], "why books were closed")
     for row in gateway.rows()[:2]:
         opened, closed = (seconds_of(row[key]) for key in ("opened", "closed"))
-        expect(10 <= closed - opened <= 11, f"a period of 10 s has {closed - opened}")
+        expect(10 <= closed - opened <= 11 + late, f"a period of 10 s has {closed - opened}; a loop of pauses of 20 ms "
+               f"had one of {1000 * late:.0f} ms")
 
 
 def whole(run):
@@ -597,30 +645,15 @@ def whole(run):
 
 
 def rotations_without_a_pause(run):
-    """A rotation under load costs no packet and at most 20 ms without a frame. A plain loop beside it shows the pauses
-    that the machine makes. If the machine is idle, 20 ms are wanted of each rotation, and otherwise of half of them."""
-    far, plain = measured.FarEnd(), measured.FarEnd()
-    run.keep(far)
-    run.keep(plain)
-    run.keep(started([os.path.join(EXAMPLES, "copy_loop.py"), plain.address, str(BYTES_A_SECOND)]))
+    """A rotation under load costs no packet and at most 20 ms without a frame. A plain program beside it shows the
+    pauses that the machine makes."""
+    far, plain = run.keep(measured.FarEnd()), paced.Plain(run, BYTES_A_SECOND)
     gateway = run.gateway(far.address, FLOODED, uplink_lines=[f'rate = "{RATE}"'])
     floods(run, gateway)
     far.wait(1)
-    times = []
-    for book in range(2, ROTATIONS + 2):
-        times.append(time.monotonic())
-        gateway.control.expect("rotate", f"book {book}")
-        time.sleep(0.25)
-    times.append(time.monotonic())
-    far.wait(far.seconds() + 0.2)
-    pauses = [far.longest_pause(*pair) for pair in itertools.pairwise(times)]
-    worst, plainly = max(pauses), plain.longest_pause(times[0], times[-1])
-    is_idle = plainly <= IDLE_PAUSE
-    print(f"rotations: no frame for {1000 * statistics.median(pauses):.1f} ms at the median, {1000 * worst:.1f} ms at "
-          f"most; a plain loop {1000 * plainly:.1f} ms at most: the machine is {'idle' if is_idle else 'busy'}")
-    expect((worst if is_idle else statistics.median(pauses)) <= MOST_PAUSE, "a rotation pauses for more than 20 ms")
+    paced.check_rotations(gateway, far, plain)
     gateway.control.expect_all(["hold " + name for name in FLOODED], "ok")
-    wait_for(lambda: time.monotonic() - sum(far.pauses[-1]) > 0.5, "the end of the frames")
+    wait_for(lambda: gateway.status()["uplink"]["outbox"] == 0, "the end of the frames")
     gateway.control.expect("end", "ok")
     gateway.wait(1)
     billed = sum(row[1] for row in gateway.counted().values())
@@ -629,11 +662,12 @@ def rotations_without_a_pause(run):
 
 
 def floods(run, gateway, lengths="700"):
-    """Lets each tenant flood by a program of its own."""
+    """Lets each tenant flood by a program of its own: from which time on."""
     flooding = [run.keep(Flood(tenant.ports[0], [f"{name}:{lengths}"])) for name, tenant in gateway.tenants.items()]
+    began = time.monotonic() + measured.TOGETHER
     for flood in flooding:
-        flood.say(f"go {time.monotonic() + measured.TOGETHER}")
-    return flooding
+        flood.say(f"go {began}")
+    return began
 
 
 # ---- Shares and rates
@@ -653,21 +687,15 @@ def shares(run):
 
 
 def rate(run):
-    """A rate is followed: bytes of frames in every window of five seconds are within 2 percent of it. The shares are
-    the tickets' meanwhile."""
-    far = run.keep(measured.FarEnd())
+    """A rate is followed: bytes of frames in every window of five seconds are within 2 percent of it, and are never
+    more. At most 20 ms of it are saved up while nothing is sent. The shares are the tickets' meanwhile. A plain program
+    beside it shows how well the machine lets a rate be followed."""
+    far, plain = run.keep(measured.FarEnd()), paced.Plain(run, BYTES_A_SECOND)
     gateway = run.gateway(far.address, FLOODED, uplink_lines=[f'rate = "{RATE}"'])
-    floods(run, gateway, "700,64,1400")
-    far.wait(WINDOW + 2)
-    samples = [(seconds, sum(units.values())) for seconds, units in far.samples]
-    rates = [(last[1] - first[1]) / (last[0] - first[0]) for first in samples if first[0] >= 0.5
-             for last in samples if WINDOW <= last[0] - first[0] < WINDOW + 0.1]
-    worst = max(abs(found / BYTES_A_SECOND - 1) for found in rates)
+    time.sleep(NOTHING_SENT)
+    paced.check_rate(far, plain, BYTES_A_SECOND, floods(run, gateway, "700,64,1400"))
     wanted = {flow: count / sum(FLOODED.values()) for flow, count in enumerate(FLOODED.values(), 1)}
     check_windows(list(far.samples), wanted, "a rate")
-    print(f"rate: {statistics.mean(rates) / 1e6:.4f} MB/s, wanted {BYTES_A_SECOND / 1e6}; at most {100 * worst:.2f} "
-          "percent off")
-    expect(worst <= RATE_ERROR, f"a rate is {100 * worst:.2f} percent off")
 
 
 def one_against_eight(run):
@@ -677,11 +705,12 @@ def one_against_eight(run):
     run.thread(gateway.flood, "a", 700, 0)
     for number in range(1, 9):
         run.thread(gateway.flood, "b", 700, number)
-    samples, start = [], time.monotonic()
+    wait_for(lambda: 1 in far.counts and set(far.numbers.get(2, [])) == set(range(1, 9)), "frames of each connection")
+    samples, start, first = [], time.monotonic(), far.counts[2]
     while time.monotonic() < start + WINDOW + 2:
         samples.append((time.monotonic() - start, dict(far.bytes)))
         time.sleep(0.05)
-    numbers = far.numbers[2][-4000:]
+    numbers = far.numbers[2][first:]
     worst = check_windows(samples, {1: 0.75, 2: 0.25}, "one against eight")
     parts = [numbers.count(number) / len(numbers) for number in range(1, 9)]
     print(f"one against eight: worst error {worst:.4f}; of eight connections {min(parts):.4f} to {max(parts):.4f}")
@@ -770,9 +799,13 @@ def far_end_does_not_answer(run):
         crowd[-1].connect_ex((LOOPBACK, port))
     start = time.monotonic()
     gateway = run.gateway(port, {"a": 1})
+    plain = run.beside("sleep", "5")
     sender = run.thread(gateway.send, "a", range(500))
     wait_for(lambda: gateway.messages("unreachable"), "a line about a dial without an answer")
-    expect(4.5 <= time.monotonic() - start <= 8, f"a dial is given up after {time.monotonic() - start:.1f} s")
+    seconds = time.monotonic() - start
+    expect(4.5 <= seconds, f"a dial is given up after {seconds:.1f} s")
+    expect(seconds <= BEYOND + plain.seconds(start), f"a dial is given up after {seconds:.1f} s, and a plain program "
+           f"that sleeps for 5 s took {plain.seconds(start):.1f} s")
     listener.close()
     for each in crowd:
         each.close()
@@ -803,22 +836,22 @@ def far_end_reads_nothing(run):
     """While the far end reads nothing, control is answered within 100 ms at the median, a book can be closed, and
     memory stays as it is. Nothing is lost when it reads on."""
     count, size = 4000, 3000
-    far = run.far_end(reads=False)
+    far, echo = run.far_end(reads=False), run.echo()
     gateway = run.gateway(far, FLOODED)
     senders = [run.thread(gateway.send, name, range(count), size) for name in FLOODED]
-    wait_for(lambda: is_still(gateway), "an uplink that takes no more")
-    before, seconds = gateway.resident(), []
+    wait_until_full(gateway, FLOODED, size)
+    before, seconds, plainly = gateway.resident(), [], []
     for line in ["hold a", "resume a"] * 50:
-        start = time.monotonic()
-        gateway.control.expect(line, "ok")
-        seconds.append(time.monotonic() - start)
+        seconds.append(seconds_taken(lambda line=line: gateway.control.expect(line, "ok")))
+        plainly.append(seconds_taken(echo))
         time.sleep(0.01)
     gateway.control.expect("rotate", "book 2")
     time.sleep(1)
     growth = gateway.resident() - before
     print(f"a far end that reads nothing: replies in {1000 * statistics.median(seconds):.2f} ms at the median and "
-          f"{1000 * max(seconds):.2f} ms at most; memory grows by {growth} bytes")
-    expect(statistics.median(seconds) <= PROMPT, "control is not answered within 100 ms")
+          f"{1000 * max(seconds):.2f} ms at most, of a plain program in {1000 * statistics.median(plainly):.2f} ms; "
+          f"memory grows by {growth} bytes")
+    expect(statistics.median(seconds) <= PROMPT + statistics.median(plainly), "control is not answered within 100 ms")
     expect(growth <= MOST_GROWTH, f"memory grows by {growth} bytes")
     expect(far.frames() == 0, "the far end has read")
     far.reads.set()
@@ -830,11 +863,11 @@ def far_end_reads_nothing(run):
     gateway.end()
 
 
-def is_still(gateway):
-    """Whether nothing more is scheduled, although packets wait."""
-    before = gateway.control.report()
-    time.sleep(0.3)
-    return gateway.control.report() == before and int(before[4].split()[1]) > 0
+def seconds_taken(work):
+    """How long something takes."""
+    start = time.monotonic()
+    work()
+    return time.monotonic() - start
 
 
 # ---- Clients
@@ -876,7 +909,9 @@ def slow_bytes(run):
             slow.sendall(bytes([byte]))
             gateway.send("b", [place])
             far.wait_for(place + 1, 2)
-            expect_equal(far.counts.get(1, 0), (place + 1) // (len(data) // 3), "packets of the slow client")
+            whole_records = (place + 1) // (len(data) // 3)
+            far.wait_for(whole_records, 1)
+            expect_equal(far.counts.get(1, 0), whole_records, "packets of the slow client")
             time.sleep(0.002)
     far.expect_in_order(1, 3)
     gateway.end()
@@ -929,8 +964,8 @@ def resets(run):
         reset(connection)
     for sender in senders:
         sender.finish()
-    far.wait_for(20_000)
-    far.wait_until_still()
+    gateway.end()
+    far.wait_until_over()
     for flow in (1, 2):
         by_connection = {}
         for number in far.numbers[flow]:
@@ -938,7 +973,6 @@ def resets(run):
         expect(by_connection.pop(0) == list(range(10_000)), f"the packets of flow {flow}'s client that stays")
         for numbers in by_connection.values():
             expect(numbers == list(range(len(numbers))), "a connection that was reset gives more than a beginning")
-    gateway.end()
 
 
 # ---- Unix sockets
@@ -1018,14 +1052,10 @@ def grace_is_over(run):
     far = run.far_end(reads=False)
     gateway = run.gateway(far, {"a": 300, "b": 100, "c": 1}, ["--grace", "1"])
     run.flood(gateway, "a", "b", size=9000)
-    wait_for(lambda: is_still(gateway), "an uplink that takes no more")
+    wait_until_full(gateway, "ab", 9000)
     waiting = {line.split()[2]: int(line.split()[4]) for line in gateway.control.report() if line.startswith("flow ")}
     expect_equal(waiting, {"a": 256, "b": 256, "c": 0}, "packets that wait")
-    start = time.monotonic()
-    gateway.control.expect("end", "ok")
-    gateway.wait(1)
-    seconds = time.monotonic() - start
-    expect(0.9 <= seconds <= 5, f"a grace of a second takes {seconds:.2f}")
+    ends_after_a_second(run, gateway)
     left = {message.tenant: message.numbers()[0] for message in gateway.messages("left")}
     expect(0 < left.pop("-", 0) <= OUTBOX, f"bytes of the outbox are left, and are not reported: {left}")
     expect_equal(left, {"a": 256, "b": 256}, "packets that are left")
@@ -1033,19 +1063,32 @@ def grace_is_over(run):
     expect_equal(gateway.whys(), ["end"], "why the book was closed")
 
 
+def ends_after_a_second(run, gateway):
+    """Ends a gateway whose grace is a second, and that cannot send all."""
+    start = time.monotonic()
+    plain = run.beside("sleep", "1")
+    gateway.control.expect("end", "ok")
+    gateway.wait(1)
+    seconds = time.monotonic() - start
+    expect(0.9 <= seconds, f"a grace of a second takes {seconds:.2f}")
+    expect(seconds <= BEYOND + plain.seconds(start), f"a grace of a second takes {seconds:.2f}, and a plain program "
+           f"that sleeps as long {plain.seconds(start):.2f}")
+
+
 def held_at_the_end(run):
     """Packets of held and of unfunded tenants are not waited for: the end comes at once, and they are reported, by a
     quiet gateway too. A quiet one prints nothing else."""
     far = run.far_end()
-    gateway = run.gateway(far, {"a": Tenant([1], ["held = true"]), "b": Tenant([]), "c": 1}, ["--quiet"])
+    gateway = run.gateway(far, {"a": Tenant([1], ["held = true"]), "b": Tenant([]), "c": 1},
+                          ["--quiet", "--grace", str(LONG_GRACE)])
     for name, count in (("a", 3), ("b", 2)):
         run.keep(gateway.connect(name)).sendall(records(name, range(count)))
     gateway.send("c", range(100))
     far.wait_for(100)
     wait_for(lambda: int(gateway.control.report()[4].split()[1]) == 5, "packets that wait")
-    start = time.monotonic()
-    gateway.end(1)
-    expect(time.monotonic() - start < 5, "packets of held tenants are waited for")
+    gateway.control.expect("end", "ok")
+    gateway.wait(1, SHORT_END)
+    gateway.check_books()
     left = {message.tenant: message.numbers()[0] for message in gateway.messages("left")}
     expect_equal(left, {"a": 3, "b": 2}, "packets that are left")
     expect_equal(len(gateway.messages()), 2, "lines of a quiet gateway")
@@ -1054,7 +1097,7 @@ def held_at_the_end(run):
 def end_is_sent(run):
     """At the end all that was taken is sent to a slow far end, and the status is 0."""
     far = run.far_end()
-    gateway = run.gateway(far, {"a": 1}, uplink_lines=['rate = "1 MB/s"'])
+    gateway = run.gateway(far, {"a": 1}, ["--grace", str(LONG_GRACE)], uplink_lines=['rate = "1 MB/s"'])
     connection = run.keep(gateway.connect("a"))
     connection.sendall(records("a", range(250), 9000))
     wait_for(lambda: int(gateway.control.report()[1].split()[1]) == 250, "packets that are taken")
@@ -1069,12 +1112,14 @@ def killed(run):
     far = run.far_end(keeps=False)
     gateway = run.gateway(far, {"a": 300, "b": 100})
     run.flood(gateway, "a", "b")
-    far.wait_for(1000)
+    for flow in (1, 2):
+        far.wait_for(500, flow)
     for book in (2, 3):
         gateway.control.expect("rotate", f"book {book}")
-        time.sleep(0.2)
+        wait_for(lambda book=book: gateway.closed_books() == book - 1, "the row of a book that was closed")
+    time.sleep(0.2)
     gateway.kill()
-    came = far.wait_until_still()
+    came = far.wait_until_over()
     gateway.start()
     expect(any("book 3" in message.why for message in gateway.messages("recovered")), f"said: {gateway.said()}")
     expect_equal(gateway.whys(), ["rotate", "rotate", "cut"], "why books were closed")
@@ -1096,14 +1141,16 @@ def killed_between_books(run):
     far = run.far_end(keeps=False)
     gateway = run.prepared(far, {"a": 300, "b": 100})
     for number in range(kills):
+        before = {flow: far.counts.get(flow, 0) for flow in (1, 2)}
         gateway.start()
         run.flood(gateway, "a", "b")
-        far.wait_for(far.frames() + 500)
+        for flow, count in before.items():
+            far.wait_for(count + 250, flow)
         rotating = run.thread(rotate_often, gateway)
         time.sleep(0.05 + 0.02 * number)
         gateway.kill()
         rotating.finish()
-        came = far.wait_until_still()
+        came = far.wait_until_over(number + 1)
     gateway.start()
     gateway.end(may_skip=True)
     expect(set(gateway.whys()) <= {"rotate", "cut", "end"}, f"why books were closed: {gateway.whys()}")
@@ -1152,23 +1199,21 @@ def disk_fills(run):
     if not holder:
         print("disk_fills: skipped, since no file system can be mounted here")
         return
-    far, count = run.far_end(), 30_000
+    far, count, echo = run.far_end(), 30_000, run.echo()
     gateway = on_disk(run, far, *holder)
     sender = run.thread(gateway.send, "a", range(count))
     wait_for(lambda: gateway.messages("disk"), "a line about the disk")
-    far.wait_until_still()
     expect(far.frames() < count, "the disk was never full")
     waits = [run.keep(gateway.new_control()) for _ in range(2)]
     waits[0].send("amend a 1 5")
     waits[1].send("rotate")
-    seconds = []
+    seconds, plainly = [], []
     for _ in range(20):
-        start = time.monotonic()
-        expect_equal(gateway.control.report()[-1], "end", "the last line of a report")
+        seconds.append(seconds_taken(lambda: expect_equal(gateway.control.report()[-1], "end", "the end of a report")))
+        plainly.append(seconds_taken(echo))
         disk = gateway.status()["disk"]
-        seconds.append(time.monotonic() - start)
         time.sleep(0.1)
-    expect(statistics.median(seconds) <= PROMPT, "control is not answered within 100 ms")
+    expect(statistics.median(seconds) <= PROMPT + statistics.median(plainly), "control is not answered within 100 ms")
     expect(disk["waiting"] > 0 and disk["fault"], f"the disk by status: {disk}")
     for control in waits:
         control.socket.settimeout(0.2)
@@ -1206,12 +1251,9 @@ def disk_fails_at_the_end(run):
     gateway = on_disk(run, far, *holder, ["--grace", "1"])
     run.flood(gateway, "a", size=20)
     wait_for(lambda: gateway.messages("disk"), "a line about the disk")
-    start = time.monotonic()
-    gateway.control.expect("end", "ok")
-    gateway.wait(1)
-    expect(time.monotonic() - start < 8, "a disk that fails is waited for")
+    ends_after_a_second(run, gateway)
     expect_equal(sorted(os.listdir(gateway.view)), ["000001.open", "000001.tariffs", "taken"], "the files")
-    came = far.wait_until_still()
+    came = far.wait_until_over()
     os.remove(os.path.join(gateway.view, "taken"))
     again = on_disk(run, far, *holder)
     expect_equal(again.whys(), ["cut"], "why the book was closed")

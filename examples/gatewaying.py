@@ -115,6 +115,7 @@ class FarEnd:
             self.reads.set()
         self.connection = None
         self.connections = 0
+        self.over = 0
         self.thread = threading.Thread(target=self.run, daemon=True)
         self.thread.start()
 
@@ -131,6 +132,7 @@ class FarEnd:
                 self.fault = fault
             with self.connection:
                 pass
+            self.over += 1
 
     def read(self, connection):
         """Reads to the end of a connection."""
@@ -155,10 +157,11 @@ class FarEnd:
             after = at + FRAME.size + length
             if after > end:
                 break
-            self.counts[flow] = self.counts.get(flow, 0) + 1
-            self.bytes[flow] = self.bytes.get(flow, 0) + after - at
+            # Who waits for the count finds all else of the frame.
             if self.keeps:
                 self.keep(flow, data[at + FRAME.size:after])
+            self.bytes[flow] = self.bytes.get(flow, 0) + after - at
+            self.counts[flow] = self.counts.get(flow, 0) + 1
             at = after
         return data[at:]
 
@@ -185,13 +188,11 @@ class FarEnd:
         except Failure:
             raise Failure(f"{seen()} frames came in {PATIENCE} s, wanted {count}") from None
 
-    def wait_until_still(self):
-        """Waits until nothing more comes for a while; how many bytes came."""
-        before = -1
-        while before != self.total():
-            before = self.total()
-            time.sleep(0.3)
-        return before
+    def wait_until_over(self, connections=1):
+        """Waits until that many connections are read to their ends, which the gateways have ended; how many bytes
+        came."""
+        wait_for(lambda: self.over >= connections, "the end of a connection of the uplink")
+        return self.total()
 
     def expect_in_order(self, flow, count):
         """Wants that the numbers of a flow are those from 0 on, each once."""
@@ -399,11 +400,11 @@ class Gateway:
     def send(self, name, numbers, size=100):
         """Sends packets on a connection of their own, which ends after them. It returns once the gateway took all."""
         with self.connect(name) as connection:
+            connection.settimeout(None)
             numbers = list(numbers)
             for at in range(0, len(numbers), 64):
                 connection.sendall(records(name, numbers[at:at + 64], size))
             connection.shutdown(socket.SHUT_WR)
-            connection.settimeout(None)
             expect_equal(connection.recv(1), b"", "what a tenant's connection gives")
 
     def flood(self, name, size=700, number=0):
@@ -421,9 +422,11 @@ class Gateway:
             return errors.read()
 
     def messages(self, what=None):
-        """The lines of standard error, each of which has to be a message; those of a kind if one is given."""
-        found = []
-        for line in self.said().splitlines():
+        """The lines of standard error, each of which has to be a message; those of a kind if one is given. A line that
+        a gateway is about to print is left out."""
+        found, is_over = [], self.process.poll() is not None
+        said = self.said()
+        for line in said.splitlines()[:None if is_over or said.endswith("\n") else -1]:
             parts = MESSAGE.fullmatch(line)
             expect(parts, f"no message: {line}")
             found.append(Message(*parts.groups()))
@@ -464,6 +467,12 @@ class Gateway:
     def counted(self):
         """Packets and bytes of each tenant, from its books."""
         return {name: row[:2] for name, row in self.bill().items()}
+
+    def closed_books(self):
+        """How many books have a row."""
+        with contextlib.suppress(FileNotFoundError), open(os.path.join(self.view, "books.csv"), "rb") as file:
+            return max(0, file.read().count(b"\n") - 1)
+        return 0
 
     def rows(self):
         """The rows of books.csv."""

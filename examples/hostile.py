@@ -24,9 +24,9 @@ from serving import (END, FUNDED, LINK, LOOPBACK, ONE_PACKET, PATIENCE, Failure,
                      packets_until_torn, records, reset, total, try_cases, wait_for)
 
 # Seconds for a case, and for all of them, and for a server that ends before anything comes.
-LIMIT = 20
-LIMIT_OF_ALL = 60
-QUICK = 10
+LIMIT = 120
+LIMIT_OF_ALL = 600
+QUICK = 30
 
 # Where a server listens whose ports are found without what it tells.
 ELSEWHERE = {"ingress": "127.0.0.2:0", "control": "127.0.0.3:0"}

@@ -14,7 +14,7 @@ import threading
 import time
 from dataclasses import dataclass, field
 
-from serving import TOP, Failure, expect, wait_for
+from serving import PATIENCE, TOP, Failure, expect, wait_for
 
 EXAMPLES = os.path.join(TOP, "examples")
 
@@ -85,8 +85,9 @@ def started(words, prefix=()):
 
 
 class FarEnd:
-    """The far end. Each sample is the seconds since the first byte, and the units by flow. A pause is its time and its
-    seconds."""
+    """The far end. Each sample is the seconds since the first byte, and the units by flow. A pause is its time by the
+    system's clock and its seconds: that of a sample is the longest one since the sample before. The first byte came at
+    the time `first` by that clock."""
 
     def __init__(self, rate=0, listen="127.0.0.1:0", prefix=()):
         words = [os.path.join(EXAMPLES, "far_end.py"), "--listen", listen, "--rate", str(rate)]
@@ -94,18 +95,20 @@ class FarEnd:
         self.address = self.program.first
         self.samples = []
         self.pauses = []
+        self.first = 0.0
         self.thread = threading.Thread(target=self.read, daemon=True)
         self.thread.start()
 
     def read(self):
         for line in self.program.process.stdout:
-            seconds, units, pause = json.loads(line)
-            self.samples.append((seconds, {int(flow): count for flow, count in units.items()}))
+            seconds, units, pause, self.first = json.loads(line)
             self.pauses.append(pause)
+            self.samples.append((seconds, {int(flow): count for flow, count in units.items()}))
 
     def longest_pause(self, start, end):
-        """The longest pause that began between two times of the system's clock, in seconds."""
-        return max((seconds for began, seconds in list(self.pauses) if start <= began <= end), default=0.0)
+        """The longest pause whose middle lies between two times of the system's clock, in seconds."""
+        pauses = list(self.pauses)
+        return max((seconds for began, seconds in pauses if start <= began + seconds / 2 < end), default=0.0)
 
     def seconds(self):
         """How many seconds it has counted."""
@@ -113,7 +116,12 @@ class FarEnd:
 
     def wait(self, seconds):
         """Waits until it has counted for so many seconds."""
-        wait_for(lambda: self.seconds() >= seconds, "frames at the far end", 4 * seconds + 20)
+        wait_for(lambda: self.seconds() >= seconds, "frames at the far end", 4 * seconds + PATIENCE)
+
+    def wait_until(self, instant):
+        """Waits until it has counted all that came before a time of the system's clock. Pauses that began before it are
+        over then."""
+        wait_for(lambda: self.samples and self.first + self.seconds() >= instant, "frames at the far end")
 
     def close(self):
         self.program.process.kill()

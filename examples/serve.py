@@ -31,8 +31,8 @@ from serving import (ENDED, END, LOOPBACK, ONE_PACKET, PATIENCE, QUIET_SECONDS, 
                      try_cases, wait_for)
 
 # Seconds for a case, and for all of them.
-LIMIT = 60
-LIMIT_OF_ALL = 360
+LIMIT = 240
+LIMIT_OF_ALL = 1800
 
 # The most workers, and the most clerks.
 MOST_ENDS = 8
@@ -40,15 +40,24 @@ MOST_ENDS = 8
 # How often a life is spent while clients wait to send.
 BLOCKED_RUNS = 10
 
-# Half of the packets that come to a server that sleeps are at the far end within so many seconds: the system holds a
-# frame back for up to 0.04.
+# Half of the packets that come to a server that sleeps are at the far end within so many seconds, beyond those that a
+# plain program takes for a line: the system holds a frame back for up to 0.04.
 PROMPT = 0.015
 
 # How many packets of a flood may be refused for each that is sent.
 MOST_REFUSED = 0.01
 
-# How fast the far end of a server that ends under floods reads, in bytes a second.
+# How fast the far end of a server that ends under floods reads, in bytes a second, and within how many seconds the
+# server ends.
 SLOW_END = 1e6
+SLOW_END_SECONDS = 45
+
+# A server whose life is spent ends within so many seconds, and so many times what a plain program takes that writes a
+# file of MUCH bytes.
+SPENT_END = 1
+SPENT_END_BESIDE = 5
+MUCH = 3_000_000
+WRITE_MUCH = "import sys\nwith open(sys.argv[1], 'w') as file:\n    file.write('61' * (int(sys.argv[2]) // 2))"
 
 # A server that has nothing to do, or waits for its far end, may use this share of a core: its threads sleep.
 ASLEEP_SHARE = 0.0005
@@ -224,6 +233,7 @@ def full_queue(run):
     senders = [run.thread(send_all, connection, some) for connection, some in zip(connections, sent)]
     wait_for(lambda: is_blocked(server, senders, ASLEEP_SHARE), "clients that wait for a full queue", 2 * PATIENCE)
     commanders = [run.thread(command_much, control, name) for control, name in zip(controls, currencies)]
+    wait_for(lambda: is_blocked(server, senders + commanders, ASLEEP_SHARE), "commands that wait for a full queue")
     used = server.processor_seconds()
     time.sleep(QUIET_SECONDS)
     share = (server.processor_seconds() - used) / QUIET_SECONDS
@@ -262,7 +272,7 @@ def idle(run):
     control.ask_wanted(["open a 4 1"], ["flow 1"])
     connection = server.ingress(record("a", b"a"))
     wait_for(lambda: total("accepted", 1) in control.ask("report")[0], "the packet's arrival")
-    time.sleep(0.1)
+    wait_for(lambda: is_blocked(server, [], ASLEEP_SHARE), "a server that sleeps")
     used = server.processor_seconds()
     time.sleep(QUIET_SECONDS)
     share = (server.processor_seconds() - used) / QUIET_SECONDS
@@ -308,16 +318,21 @@ def lone_packets(run):
     control = server.control()
     control.fund()
     connection = server.ingress()
-    draw, seconds = random.Random(1), []
+    draw, seconds, plainly, echo = random.Random(1), [], [], run.echo()
     some = packets("a", 0, 600, 64)
     for first in range(0, len(some), 3):
         for lone in (some[first:first + 1], some[first + 1:first + 3]):
             time.sleep(draw.uniform(0, 0.004))
             got, start = len(peer.got) + 81 * len(lone), time.monotonic()
             connection.sendall(records(lone))
-            wait_for(lambda: len(peer.got) == got, "the frames of %d packets" % len(lone), seconds=2)
-            seconds.append(time.monotonic() - start)
-    expect(statistics.median(seconds) < PROMPT, "packets take %.1f ms" % (1000 * statistics.median(seconds)))
+            wait_for(lambda: len(peer.got) == got, "the frames of %d packets" % len(lone))
+            middle = time.monotonic()
+            echo()
+            seconds.append(middle - start)
+            plainly.append(time.monotonic() - middle)
+    taken, plain = statistics.median(seconds), statistics.median(plainly)
+    expect(taken < PROMPT + plain, "packets take %.1f ms, and lines of a plain program %.1f"
+           % (1000 * taken, 1000 * plain))
     connection.close()
     control.close()
     server.ends()
@@ -580,7 +595,8 @@ def spent_life_under_load(run):
 
 
 def spent_life_blocked(run):
-    """A server whose life is spent ends within a second, however much its clients still want to send."""
+    """A server whose life is spent ends within a second, however much its clients still want to send. A plain program
+    that writes as much shows how busy the machine is."""
     peer = run.peer()
     server = run.server(peer, workers=4, life=2000)
     control = server.control()
@@ -589,8 +605,14 @@ def spent_life_blocked(run):
     for some in sent:
         run.thread(send_quietly, server.ingress(), some)
     wait_for(lambda: control.ask("mkcur x") == ["no 2 Spent"], "the end of the life")
+    start = time.monotonic()
+    plain = run.beside(sys.executable, "-c", WRITE_MUCH, os.path.join(run.folder(), "much"), str(MUCH))
     control.close()
-    server.ends(1, "the life is spent", seconds=1)
+    server.ends(1, "the life is spent")
+    seconds = time.monotonic() - start
+    plainly = plain.seconds(start)
+    expect(seconds <= SPENT_END + SPENT_END_BESIDE * plainly, "the end takes %.2f s, and a plain program %.2f"
+           % (seconds, plainly))
     check(server, peer, [("part", some) for some in sent])
 
 
@@ -669,7 +691,7 @@ def until_eof_before_a_slow_far_end(run):
     floods.begin()
     floods.far.wait(1.0)
     floods.server.end_input()
-    floods.server.ends(seconds=END)
+    floods.server.ends(seconds=SLOW_END_SECONDS)
 
 
 def send_quietly(connection, some):

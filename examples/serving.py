@@ -28,9 +28,10 @@ def beside(name):
 
 LINK = beside("stridelink-link")
 
-# How long anything may take that is not made slow on purpose, and how long an end by --until-eof may take, in seconds.
-PATIENCE = 20
-END = 40
+# How long anything may take that is not made slow on purpose, and how long an end by --until-eof may take, in seconds:
+# so long that a slow machine that is busy with other work is no fault.
+PATIENCE = 60
+END = 120
 
 # A server that waits may use this share of a core, measured over so many seconds.
 QUIET_SECONDS = 1.5
@@ -554,6 +555,34 @@ def packets_until_torn(run, peer):
     expect_equal(replay.lines.count("torn"), 1, "faults in the audit")
 
 
+class Beside:
+    """A plain program that runs beside the one that is tried, and when it ended."""
+
+    def __init__(self, words):
+        self.process = subprocess.Popen(words, stdin=subprocess.DEVNULL)
+        self.end = None
+        self.thread = threading.Thread(target=self.watch, daemon=True)
+        self.thread.start()
+
+    def watch(self):
+        self.process.wait()
+        self.end = time.monotonic()
+
+    def seconds(self, start):
+        """Waits until it has ended: how long after a time."""
+        self.thread.join(PATIENCE)
+        expect(self.end is not None, "a plain program does not end")
+        return self.end - start
+
+    def close(self):
+        self.process.kill()
+        self.thread.join()
+
+
+# A plain program that replies to each line.
+ECHO = "import sys\nfor line in sys.stdin:\n    print('ok', flush=True)"
+
+
 class Run:
     """What a case may use. All of it ends with the case."""
 
@@ -589,6 +618,24 @@ class Run:
         process = subprocess.Popen([PROGRAM, *words], stdout=subprocess.PIPE, stderr=subprocess.PIPE, **how)
         self.stack.callback(discard, process)
         return process
+
+    def beside(self, *words):
+        """Starts a plain program, which ends by itself."""
+        beside = Beside(words)
+        self.stack.callback(beside.close)
+        return beside
+
+    def echo(self):
+        """What asks a plain program a line, and waits for its reply."""
+        process = subprocess.Popen([sys.executable, "-c", ECHO], stdin=subprocess.PIPE, stdout=subprocess.PIPE,
+                                   bufsize=0)
+        self.stack.callback(discard, process)
+
+        def ask():
+            process.stdin.write(b"status\n")
+            expect(process.stdout.readline(), "a plain program does not reply")
+
+        return ask
 
     def thread(self, work, *words):
         """Works beside. `finish` of what is answered waits for the end, and raises what went wrong."""

@@ -1,10 +1,10 @@
 //! A far end: accepts one connection after another, and counts what comes of each flow.
 //!
 //! It prints its address. Then it prints a line of JSON every twentieth of a second, once the first byte came: the
-//! seconds since then, the counts, the longest pause between two reads since the line before in seconds, and how many
-//! connections came. Lines on standard input: `rest` reads nothing until `go`; `drop` ends the connection; `rate N`
-//! reads N bytes a second, and with 0 as fast as they come. It ends with standard input. Bytes that are no frames end it
-//! with status 1.
+//! seconds since then, the counts, the longest pause between two reads since the line before in seconds, how many
+//! connections came, and how many of them were read to their ends. Lines on standard input: `rest` reads nothing until
+//! `go`; `drop` ends the connection; `rate N` reads N bytes a second, and with 0 as fast as they come. It ends with
+//! standard input. Bytes that are no frames end it with status 1.
 
 use crate::fault;
 use crate::frames::Counts;
@@ -31,6 +31,7 @@ struct Far {
     read: Instant,
     pause: Duration,
     connections: u64,
+    over: u64,
     rate: f64,
     left: f64,
     is_resting: bool,
@@ -66,10 +67,10 @@ impl Far {
         let now = Instant::now();
         let Some(start) = self.start else { return Ok(()) };
         if now - self.printed >= INTERVAL {
-            let Far { counts, connections, .. } = self;
+            let Far { counts, connections, over, .. } = self;
             let (seconds, pause) = ((now - start).as_secs_f64(), self.pause.as_secs_f64());
             let mut out = io::stdout().lock();
-            writeln!(out, "[{seconds:.6},{counts},{pause:.6},{connections}]")?;
+            writeln!(out, "[{seconds:.6},{counts},{pause:.6},{connections},{over}]")?;
             self.printed = now;
             self.pause = Duration::ZERO;
         }
@@ -186,6 +187,7 @@ pub fn run(words: &[&str]) -> io::Result<()> {
         read: now,
         pause: Duration::ZERO,
         connections: 0,
+        over: 0,
         rate,
         left: 0.0,
         is_resting: false,
@@ -194,7 +196,10 @@ pub fn run(words: &[&str]) -> io::Result<()> {
     };
     loop {
         match listener.accept() {
-            Ok((stream, _)) => far.serve(stream)?,
+            Ok((stream, _)) => {
+                far.serve(stream)?;
+                far.over += 1;
+            }
             Err(fault) if fault.kind() == io::ErrorKind::WouldBlock => thread::sleep(Duration::from_millis(1)),
             Err(fault) => return Err(fault),
         }

@@ -12,6 +12,7 @@ import contextlib
 import itertools
 import os
 import shutil
+import signal
 import socket
 import stat
 import statistics
@@ -975,6 +976,37 @@ def resets(run):
             expect(numbers == list(range(len(numbers))), "a connection that was reset gives more than a beginning")
 
 
+def stopped_and_continued(run):
+    """A gateway that is stopped and continued, at work and asleep, loses nothing and keeps its connections. The system
+    ends the wait of a program then."""
+    count = 20_000
+    far = run.far_end()
+    gateway = run.gateway(far, {"a": 300, "b": 100})
+    senders = [run.thread(gateway.send, name, range(count)) for name in "ab"]
+    stop_often(gateway)
+    for sender in senders:
+        sender.finish()
+    far.wait_for(2 * count)
+    for flow in (1, 2):
+        far.expect_in_order(flow, count)
+    stop_often(gateway)
+    gateway.control.expect_all(["hold a", "resume a"], "ok")
+    gateway.send("a", range(count, count + 10))
+    far.wait_for(2 * count + 10)
+    expect_equal(far.connections, 1, "connections of the uplink")
+    gateway.end()
+    expect_equal(gateway.counted(), {name: (far.counts[flow], far.bytes[flow]) for flow, name in enumerate("ab", 1)},
+                 "the bill")
+
+
+def stop_often(gateway):
+    """Stops and continues a gateway twenty times."""
+    for _ in range(20):
+        for number in (signal.SIGSTOP, signal.SIGCONT):
+            gateway.process.send_signal(number)
+            time.sleep(0.01)
+
+
 # ---- Unix sockets
 
 
@@ -1288,8 +1320,8 @@ def slow_ones(run):
 CASES = (checks, addresses_in_use, second_gateway, folder_without_leave, orders, status, status_under_load,
          too_many_connections, too_many_controls, replies_not_read, asked, reloads, reload_refused, reload_under_load,
          rotations, lives, whole, rotations_without_a_pause, shares, rate, one_against_eight, far_end_away,
-         far_end_writes, far_end_reads_nothing, wrong_records, slow_bytes, sizes, hung_up, resets, unix_sockets,
-         unix_modes_reloaded, until_eof, grace_is_over, held_at_the_end, end_is_sent, killed, killed_between_books,
+         far_end_writes, far_end_reads_nothing, wrong_records, slow_bytes, sizes, hung_up, resets,
+         stopped_and_continued, unix_sockets, unix_modes_reloaded, until_eof, grace_is_over, held_at_the_end, end_is_sent, killed, killed_between_books,
          bad_books, disk_fills, disk_fails_at_the_end, slow_ones)
 
 

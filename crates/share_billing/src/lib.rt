@@ -8,4 +8,4 @@ mod printing;
 
 pub use billing::{Billing, NotShown, print_bill};
 pub use faults::Shown;
-pub use printing::Form;
+pub use printing::{Form, shown};

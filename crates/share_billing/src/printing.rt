@@ -179,7 +179,7 @@ fn push_form(
 }
 
 /// The text of the bill of that many books.
-pub(crate) fn shown(
+pub fn shown(
     alloc: Global,
     form: Form,
     books: u64,

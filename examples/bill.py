@@ -2,9 +2,10 @@
 """Bills books with the built program, and compares what it prints with a plain model of a link.
 
 The books of books/ have to give the bills that are stored beside them. Then their texts are altered: a line is left
-out, doubled or swapped with the next one, an odd line is put before it, and a text is cut at each of its bytes. The model runs
-each altered text and finds its bill, or the first line that is no run's and the reason. The program has to find the
-same: then its status is 1, it prints no bill, and standard error names the file and the line.
+out, doubled or swapped with the next one; an odd line is put before it; a turn writes another number of bytes, and a
+packet comes for no tenant; a byte of the last line is left out, or all bytes after it; and a text is cut at each of its
+bytes. The model runs each altered text and finds its bill, or the first line that is no run's and the reason. The
+program has to find the same: then its status is 1, it prints no bill, and standard error names the file and the line.
 
     bill.py           plays all of this, with bin/stridelink or the program of the variable STRIDELINK
     bill.py FILE...   prints what the model finds in books, as CSV
@@ -266,9 +267,25 @@ def joined(lines):
     return b"".join(line + b"\n" for line in lines)
 
 
+def others_of(line):
+    """The lines that a turn is exchanged for, or a packet."""
+    word, _, rest = line.partition(b" ")
+    if word == b"turn":
+        return [b"turn %d" % count for count in (1, int(rest) - 1, int(rest) + 1, LONGEST_TURN)]
+    if word == b"send":
+        return [b"send c " + rest.split(b" ")[1]]
+    return []
+
+
 def altered(text):
     """A text altered in each way, with a word for it."""
     lines = text.split(b"\n")[:-1]
+    for at, line in enumerate(lines):
+        for other in others_of(line):
+            yield "line %d exchanged" % (at + 1), joined(lines[:at] + [other] + lines[at + 1:])
+    for at in range(len(lines[-1])):
+        yield "byte %d of the last line left out" % at, joined(lines[:-1] + [lines[-1][:at] + lines[-1][at + 1:]])
+        yield "last line ended after byte %d" % at, joined(lines[:-1] + [lines[-1][:at]])
     for at in range(len(lines)):
         yield "line %d left out" % (at + 1), joined(lines[:at] + lines[at + 1:])
         yield "line %d doubled" % (at + 1), joined(lines[:at + 1] + lines[at:])

@@ -3,6 +3,7 @@
 mod assertions;
 mod book_memory;
 mod books;
+mod carry_memory;
 mod carrying;
 mod frames;
 mod made;
@@ -10,6 +11,7 @@ mod orders;
 mod outbox;
 mod plans;
 mod records;
+mod replays;
 mod stream_memory;
 mod tariffs;
 mod transit;

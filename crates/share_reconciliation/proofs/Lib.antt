@@ -1,3 +1,4 @@
 pub mod CleanLemmas
 pub mod ReadBackLemmas
 pub mod BookLemmas
+pub mod ReplayLemmas

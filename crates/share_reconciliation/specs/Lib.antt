@@ -1,1 +1,2 @@
 pub mod Reconciled
+pub mod Replayed

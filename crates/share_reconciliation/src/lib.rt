@@ -1,6 +1,7 @@
-//! What the bills of books come to: the bill of a book's text is that of the run that wrote it.
+//! What the texts of books come to: the bill of a text is that of the run that wrote it, and a whole text makes the run
+//! again.
 #![tactic(auto)]
 
 mod laws;
 
-pub use laws::{bill_matches_book, bills_match_books};
+pub use laws::{bill_matches_book, bills_match_books, whole_texts_replay};

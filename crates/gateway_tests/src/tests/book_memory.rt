@@ -3,7 +3,8 @@
 //! first call succeeds.
 
 use super::assertions::{holds, same};
-use super::books::{amend, drain, hold, opened, resume, take_three};
+use super::books::{amend, drain, hold, opened, resume, spend, take_three};
+use super::carrying::LONG;
 use super::made::{named, shared};
 use super::tariffs::Four;
 use share_base::{FlowNo, Name, Reply};
@@ -65,6 +66,48 @@ fn a_packet_is_taken_once_its_memory_is_found(rt: HostRuntime) {
         holds(&rt, "no event", book.text().is_empty());
     }
     holds(&rt, "its line", book.text() == b"send a 17\n".as_slice());
+    drop(book);
+}
+
+// A book whose text has no room for another line: one of the longest packets is taken and sent, again and again.
+fn without_text(rt: &impl Abort, alloc: Global) -> Book<Four> {
+    let mut outbox = Outbox::new(alloc).ok().expect(rt, "an outbox");
+    let mut book = opened(rt, alloc, false, TextKind::Whole);
+    let a = named(rt, "a");
+    for _packet in 0..14_u32 {
+        let _ = book.take(alloc, a, LONG.as_slice());
+        let _ = book.turn(&mut outbox);
+        outbox.allow(LONG.len() * 2);
+        let ready = outbox.ready().len();
+        outbox.sent(ready);
+    }
+    drop(outbox);
+    book
+}
+
+// A packet that takes memory is not taken, for this reason, and no request is made for it.
+fn is_untaken(rt: &impl Abort, alloc: Global, book: &mut Book<Four>, name: Name, why: Taken) {
+    let _no = asks!(alloc, REFUSE_EACH);
+    let taken = book.take(alloc, name, LONG.as_slice());
+    let was_refused = asks!(alloc, WAS_REFUSED);
+    same(rt, why, taken, why);
+    same(rt, "requests", was_refused, false);
+}
+
+#[test]
+fn packets_that_are_not_taken_take_no_memory(rt: HostRuntime) {
+    let alloc = rt.alloc();
+    let (a, z) = (named(&rt, "a"), named(&rt, "z"));
+    let mut book = without_text(&rt, alloc);
+    is_untaken(&rt, alloc, &mut book, a, Taken::NoText);
+    drain(&mut book);
+    is_untaken(&rt, alloc, &mut book, z, Taken::NoRoom);
+    for _packet in 0..4_u32 {
+        let _ = book.take(alloc, a, b"a");
+    }
+    is_untaken(&rt, alloc, &mut book, a, Taken::NoRoom);
+    spend(&rt, &mut book);
+    is_untaken(&rt, alloc, &mut book, a, Taken::Spent);
     drop(book);
 }
 

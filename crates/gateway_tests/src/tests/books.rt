@@ -1,10 +1,11 @@
-//! Books over a plan: the worked one, the tenant that is held from its opening on, and the end of a life.
+//! Books over a plan: the worked one, the tenant that is held from its opening on, and the end of a life, after which the
+//! next book goes on.
 
 use super::assertions::{holds, same};
 use super::made::{named, shared};
 use super::tariffs::Four;
 use share_base::{FlowNo, Name, Refusal, Reply};
-use share_book::{Book, Taken, TextKind, Turned};
+use share_book::{Book, Carried, Closed, Taken, TextKind, Turned};
 use share_gateway::{Currency, Outbox, Tenant};
 use std::alloc::Global;
 use std::process::Abort;
@@ -99,10 +100,8 @@ fn counts(rt: &impl Abort, what: &'static str, book: &Book<Four>) {
     same(rt, what, place, Some(1112415875));
 }
 
-// Two packets of a and one of b come, and one turn is made.
-fn works(rt: &impl Abort, alloc: Global, text: &Text, outbox: &mut Outbox) {
-    let mut book = opened(rt, alloc, false, text.kind);
-    take_three(rt, alloc, &mut book);
+// With two packets of a and one of b, one turn is made.
+fn turns_once(rt: &impl Abort, text: &Text, book: &mut Book<Four>, outbox: &mut Outbox) {
     let wrote = Turned::Wrote {
         flow: FlowNo(2),
         seq: 1,
@@ -110,12 +109,19 @@ fn works(rt: &impl Abort, alloc: Global, text: &Text, outbox: &mut Outbox) {
     };
     same(rt, text.first, book.turn(outbox), wrote);
     sends(rt, text.first, outbox, FRAME.as_slice());
-    counts(rt, text.first, &book);
+    counts(rt, text.first, book);
     holds(
         rt,
         text.first,
         is_text(book.text(), text.first, OPENING, text.lines),
     );
+}
+
+// Two packets of a and one of b come, and one turn is made.
+fn works(rt: &impl Abort, alloc: Global, text: &Text, outbox: &mut Outbox) {
+    let mut book = opened(rt, alloc, false, text.kind);
+    take_three(rt, alloc, &mut book);
+    turns_once(rt, text, &mut book, outbox);
     drain(&mut book);
     holds(rt, text.first, book.text().is_empty());
     drop(book);
@@ -267,8 +273,8 @@ fn changes_are_events_and_change_the_plan(rt: HostRuntime) {
     drop(book);
 }
 
-// Makes events until the life is spent: a hold, refused but for the first, for each that is left.
-fn spend(rt: &impl Abort, book: &mut Book<Four>) {
+/// Makes events until the life is spent: a hold, refused but for the first, for each that is left.
+pub(super) fn spend(rt: &impl Abort, book: &mut Book<Four>) {
     let a = named(rt, "a");
     for _event in 0..EVENTS {
         match hold(book, a) {
@@ -280,8 +286,23 @@ fn spend(rt: &impl Abort, book: &mut Book<Four>) {
     same(rt, "events", book.engine().events(), EVENTS);
 }
 
+// The next book takes over what waits, and goes on with it as one in which the packets come.
+fn goes_on(rt: &impl Abort, alloc: Global, closed: &mut Closed, outbox: &mut Outbox) {
+    let text = &TEXTS[1];
+    let plan = shared(rt, alloc, 2, false);
+    let next = Book::open(alloc, &plan, Four, EVENTS, text.kind);
+    let mut next = next.ok().expect(rt, "a book");
+    let carried = next.carry(closed);
+    same(rt, "carried", carried, Carried::Done { dropped: 0 });
+    let mut book = next.begin();
+    turns_once(rt, text, &mut book, outbox);
+    takes(rt, alloc, &mut book, "b", b"d", 2);
+    drop(book);
+    drop(plan);
+}
+
 #[test]
-fn a_spent_book_gives_what_waits(rt: HostRuntime) {
+fn a_spent_book_gives_what_waits_to_the_next(rt: HostRuntime) {
     let mut outbox = Outbox::new(rt.alloc()).ok().expect(&rt, "an outbox");
     let mut book = opened(&rt, rt.alloc(), false, TextKind::Lengths);
     take_three(&rt, rt.alloc(), &mut book);
@@ -290,12 +311,13 @@ fn a_spent_book_gives_what_waits(rt: HostRuntime) {
     same(&rt, "a packet", taken, Taken::Spent);
     drain(&mut book);
     same(&rt, "a turn", book.turn(&mut outbox), Turned::Spent);
-    let closed = book.close();
+    let mut closed = book.close();
     let waiting = (closed.waiting(FlowNo(1)), closed.waiting(FlowNo(2)));
     same(&rt, "waiting", waiting, (2, 1));
     let totals = closed.totals();
     same(&rt, "totals", (totals.accepted, totals.written), (3, 0));
     holds(&rt, "text", closed.text().is_empty());
+    goes_on(&rt, rt.alloc(), &mut closed, &mut outbox);
     drop(closed);
     drop(outbox);
 }

@@ -18,7 +18,7 @@ const FRAMES: &[u8; 36] =
     b"L\x02\x01\0\0\0\x01\0\0\0\0\0\0\0\x01\0\x01aL\x02\x01\0\0\0\x01\0\0\0\0\0\0\0\x02\0\x01b";
 
 /// A packet as long as packets can be.
-const LONG: [u8; 9000] = [b'x'; 9000];
+pub(super) const LONG: [u8; 9000] = [b'x'; 9000];
 
 /// How the plan of the next book differs, its packets' lines, and how many packets are dropped.
 #[derive(Clone, Copy)]
@@ -40,13 +40,14 @@ const GONE: Change = Change {
     dropped: 2,
 };
 
-fn open(rt: &impl Abort, alloc: Global, plan: &Plan) -> NewBook<Four> {
+/// A new book over a plan.
+pub(super) fn open(rt: &impl Abort, alloc: Global, plan: &Plan) -> NewBook<Four> {
     let book = Book::open(alloc, plan, Four, EVENTS, TextKind::Whole);
     book.ok().expect(rt, "a book")
 }
 
-// Forgets the text of a new book.
-fn drain_new(book: &mut NewBook<Four>) {
+/// Forgets the text of a new book.
+pub(super) fn drain_new(book: &mut NewBook<Four>) {
     let count = book.text().len();
     book.drained(count);
 }
@@ -138,8 +139,8 @@ fn what_has_no_tenant_is_dropped(rt: HostRuntime) {
     drop(plan);
 }
 
-// Sixteen of the longest packets wait.
-fn filled(rt: &impl Abort, alloc: Global, plan: &Plan) -> Closed {
+/// A closed book in which sixteen of the longest packets wait.
+pub(super) fn filled(rt: &impl Abort, alloc: Global, plan: &Plan) -> Closed {
     let mut book = open(rt, alloc, plan).begin();
     let a = named(rt, "a");
     for _packet in 0..16_u32 {

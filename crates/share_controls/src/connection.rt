@@ -1,7 +1,8 @@
 //! One control connection.
-ghost use Rattle.std.specs.Prelude.{◌≡◌, true, false, IfOk};
+ghost use Rattle.std.specs.Prelude.{◌≡◌, ◌++◌, ◌||◌, ℕ, true, false, drop, IfOk, IfNone, IfSome};
 ghost use Rattle.std.specs.Time.{instant_nanos};
-ghost use Rattle.share_controls.specs.Controls.{Fronts, new_control};
+ghost use Rattle.share_controls.specs.Controls.{Comes, Fronts, NextFront, Seeks, has_replies, is_busy, is_done};
+ghost use Rattle.share_controls.specs.Controls.{is_nothing, new_control, noted, sends, takes};
 ghost use Rattle.share_controls.specs.declared.connection.Front.TheVariants.{Nothing};
 
 use share_model::{Got, PlainReader};
@@ -27,8 +28,8 @@ pub enum Front {
     Nothing,
 }
 
-/// A control connection. No line is read while too many bytes of replies wait. A contract sees its token, what is at
-/// the front of its lines, when the last line came there, and whether it is broken.
+/// A control connection. No line is read while too many bytes of replies wait. A contract sees its lines, its replies,
+/// and what its socket may be ready for.
 #[derive(Drop)]
 pub struct ControlConnection {
     lines: IncomingLines<PlainReader<ReadHalf>>,
@@ -58,6 +59,12 @@ impl Model for ControlConnection {
           token = c.token;
           front = c.front;
           last = instant_nanos c.last_line;
+          line = c.lines.line;
+          ahead = c.lines.ahead;
+          replies = c.replies;
+          reads = c.is_readable;
+          writes = c.is_writable;
+          has_ended = c.has_ended;
           is_broken = c.is_broken;
         } };
 }
@@ -106,7 +113,7 @@ impl ControlConnection {
 
     /// Its socket was reported readable or writable.
     pub fn note(&mut self, readable: bool, writable: bool)
-        ensures { self.new ≡ self.old }
+        ensures { self.new ≡ noted readable writable self.old }
     {
         self.is_readable |= readable;
         self.is_writable |= writable;
@@ -114,10 +121,22 @@ impl ControlConnection {
 
     /// Whether nothing more comes of it and no reply waits that can go out.
     pub fn is_over(&self) -> bool
-        ensures { self.now.is_broken ≡ true → result ≡ true }
+        ensures { result ≡ (self.now.is_broken || is_done self.now) }
     {
-        self.is_broken
-            || self.has_ended && self.front == Front::Nothing && self.replies.ready().is_empty()
+        if self.is_broken {
+            return true;
+        }
+        if !self.has_ended || self.has_replies() {
+            return false;
+        }
+        self.front.is_nothing()
+    }
+
+    // Whether replies wait.
+    fn has_replies(&self) -> bool
+        ensures { result ≡ has_replies self.now }
+    {
+        !self.replies.ready().is_empty()
     }
 
     /// The line at the front. It stays there until it is passed. Nothing is read if a line is there, or too many bytes
@@ -128,35 +147,74 @@ impl ControlConnection {
         if self.replies.is_full() {
             return Front::Nothing;
         }
-        if self.front == Front::Nothing {
-            let front = self.advance();
-            if front != Front::Nothing {
-                self.front = front;
+        match self.front {
+            Front::Nothing => self.next_front(now),
+            Front::Line => Front::Line,
+            Front::OverLong => Front::OverLong,
+        }
+    }
+
+    // Lets the next line come to the front.
+    fn next_front(&mut self, now: Instant) -> Front
+        ensures { NextFront self.old (instant_nanos now) result self.new }
+    {
+        match self.advance() {
+            Front::Nothing => Front::Nothing,
+            Front::Line => {
+                self.front = Front::Line;
                 self.last_line = now;
+                Front::Line
+            }
+            Front::OverLong => {
+                self.front = Front::OverLong;
+                self.last_line = now;
+                Front::OverLong
             }
         }
-        self.front
     }
 
     /// The line at the front.
-    pub fn line(&self) -> &[u8] {
+    pub fn line(&self) -> &[u8]
+        ensures { result.now ≡ self.now.line }
+    {
         self.lines.line()
     }
 
     /// Whether more lines, or more of one, may be at hand, or replies may go out.
-    pub fn is_busy(&self) -> bool {
-        let reads = self.is_readable && !self.has_ended && !self.replies.is_full();
-        let sends = self.is_writable && !self.replies.ready().is_empty();
-        !self.is_broken && (sends || reads && self.front == Front::Nothing)
+    pub fn is_busy(&self) -> bool
+        ensures { result ≡ is_busy self.now }
+    {
+        !self.is_broken && (self.sends() || self.takes())
+    }
+
+    // Whether replies may go out.
+    fn sends(&self) -> bool
+        ensures { result ≡ sends self.now }
+    {
+        self.is_writable && self.has_replies()
+    }
+
+    // Whether lines may come.
+    fn takes(&self) -> bool
+        ensures { result ≡ takes self.now }
+    {
+        self.is_readable && !self.has_ended && !self.replies.is_full() && self.front.is_nothing()
     }
 
     // The next line that came. Reads while there is none and more may be at hand.
     fn advance(&mut self) -> Front
-        ensures { self.new ≡ self.old }
+        ensures seeks { Seeks self.old.ahead result self.new.line self.new.ahead }
+        ensures same { self.new ≡ record self.old {
+          line = self.new.line;
+          ahead = self.new.ahead;
+          reads = self.new.reads;
+          has_ended = self.new.has_ended;
+        } }
     {
-        for _ in 0..CALLS {
-            if let Some(front) = self.step() {
-                return front;
+        'calls: for _ in 0..CALLS {
+            match self.step() {
+                Some(front) => return front,
+                None => (),
             }
         }
         Front::Nothing
@@ -164,7 +222,14 @@ impl ControlConnection {
 
     // The next line that came, or else reads once. `None` if bytes came.
     fn step(&mut self) -> Option<Front>
-        ensures { self.new ≡ self.old }
+        ensures found { IfSome result (λ front. Seeks self.old.ahead front self.new.line self.new.ahead) }
+        ensures came { IfNone result (Comes self.old.ahead self.new.ahead) }
+        ensures same { self.new ≡ record self.old {
+          line = self.new.line;
+          ahead = self.new.ahead;
+          reads = self.new.reads;
+          has_ended = self.new.has_ended;
+        } }
     {
         match self.lines.next() {
             Incoming::Line => return Some(Front::Line),
@@ -184,7 +249,13 @@ impl ControlConnection {
 
     /// Passes the line at the front, with this reply. Without memory for the reply the connection is closed.
     pub fn pass(&mut self, reply: &[u8])
-        ensures { self.new ≡ record self.old { front = Nothing; is_broken = self.new.is_broken } }
+        ensures same { self.new ≡ record self.old {
+          front = Nothing;
+          replies = self.new.replies;
+          is_broken = self.new.is_broken;
+        } }
+        ensures replied { self.new.is_broken ≡ false → self.new.replies ≡ self.old.replies ++ reply.now }
+        ensures broken { self.old.is_broken ≡ true → self.new.is_broken ≡ true }
     {
         self.front = Front::Nothing;
         if self.replies.push(reply).is_err() {
@@ -201,10 +272,16 @@ impl ControlConnection {
 
     /// Gives the socket the replies that wait, as far as it takes them.
     pub fn send(&mut self)
-        ensures { self.new ≡ record self.old { is_broken = self.new.is_broken } }
+        ensures sent { (count : ℕ) × (self.new.replies ≡ drop count self.old.replies) }
+        ensures same { self.new ≡ record self.old {
+          replies = self.new.replies;
+          writes = self.new.writes;
+          is_broken = self.new.is_broken;
+        } }
+        ensures broken { self.old.is_broken ≡ true → self.new.is_broken ≡ true }
     {
-        for _ in 0..CALLS {
-            if !self.is_writable || self.replies.ready().is_empty() {
+        'calls: for _ in 0..CALLS {
+            if !self.sends() {
                 return;
             }
             if !self.send_piece() {
@@ -215,7 +292,13 @@ impl ControlConnection {
 
     // Gives the socket replies in one call. Returns false if it is over.
     fn send_piece(&mut self) -> bool
-        ensures { self.new ≡ record self.old { is_broken = self.new.is_broken } }
+        ensures sent { (count : ℕ) × (self.new.replies ≡ drop count self.old.replies) }
+        ensures same { self.new ≡ record self.old {
+          replies = self.new.replies;
+          writes = self.new.writes;
+          is_broken = self.new.is_broken;
+        } }
+        ensures broken { self.old.is_broken ≡ true → self.new.is_broken ≡ true }
     {
         match self.stream.write(self.replies.ready()) {
             Progress::Moved(count) => self.replies.sent(count),
@@ -227,5 +310,17 @@ impl ControlConnection {
             }
         }
         true
+    }
+}
+
+impl Front {
+    // Whether nothing is there.
+    fn is_nothing(self) -> bool
+        ensures { result ≡ is_nothing self }
+    {
+        match self {
+            Front::Nothing => true,
+            Front::Line | Front::OverLong => false,
+        }
     }
 }

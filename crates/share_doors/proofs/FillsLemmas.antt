@@ -1,10 +1,10 @@
 -- What the connections of a tenant do to a book, and what a door counts of it, call by call.
-use Rattle.std.proofs.Common.{◌≡◌, ℕ, refl, ap, sym, subst}
+use Rattle.std.proofs.Common.{◌≡◌, ℕ, Bool, false, refl, ◌∙◌, ap, sym, subst}
 use Rattle.share_model.specs.funding.Graph.{NameBytes}
 use Rattle.share_book.specs.Audited.{Audited}
 use Rattle.share_doors.specs.Door.{DoorView, counted}
 use Rattle.share_doors.specs.Fills.{Fills, nothing, packet}
-use Rattle.share_doors.specs.Takes.{TakesBytes, TakesOne, TakesOnly, nothing as takes_nothing, packet as takes_packet}
+use Rattle.share_doors.specs.Takes.{TakesBytes, TakesOne, TakesOnly, can_take, nothing as takes_nothing, packet as takes_packet}
 
 -- nothing happened
 pub fills_nothing : (d e : DoorView) (a b : Audited) → e ≡ d → b ≡ a → Fills d a e b
@@ -41,3 +41,9 @@ fills_takes _ _ _ _ (nothing d a) = takes_nothing d.tenant a
 fills_takes _ _ _ _ (packet d e a b c more n one) =
     takes_packet d.tenant a b c (fills_takes d e a b more)
     (subst (λ (name : NameBytes). TakesOne name b c) (fills_tenant d e a b more) one.one)
+
+-- a tenant whose packets the book does not take
+pub no_room : (room : Bool) (a : Audited) (name tenant : NameBytes) → room ≡ can_take a name → room ≡ false
+    → name ≡ tenant → can_take a tenant ≡ false
+no_room room a name tenant is none same =
+    subst (λ (x : NameBytes). can_take a x ≡ false) same (sym is ∙ none)

@@ -1,8 +1,9 @@
 //! The connections of one tenant, which are served in turn.
-ghost use Rattle.std.specs.Prelude.{◌≡◌, ◌+◌, ◌<◌, ◌≤◌};
+ghost use Rattle.std.specs.Prelude.{◌≡◌, ◌+◌, ◌<◌, ◌≤◌, false};
 ghost use Rattle.share_doors.specs.Door.{counted};
 ghost use Rattle.share_doors.specs.Fills.{Fills};
-ghost use Rattle.share_doors.specs.Takes.{TakesOnly};
+ghost use Rattle.share_doors.specs.Takes.{TakesOnly, can_take};
+ghost use Rattle.share_doors.specs.declared.door.Filled.TheVariants.{Full};
 
 use crate::connections::{Looked, count_at, end_all, look_over};
 use crate::sender::{Came, ClosedSender, Sender};
@@ -57,7 +58,9 @@ impl Model for Door {
 }
 
 // Whether a packet of the tenant would be taken.
-fn has_room<S: Rates>(book: &Book<S>, tenant: Name) -> bool {
+fn has_room<S: Rates>(book: &Book<S>, tenant: Name) -> bool
+    ensures { result ≡ can_take book.now.audited tenant }
+{
     !book.engine().spent() && !book.lacks_text() && book.room(tenant)
 }
 
@@ -145,6 +148,7 @@ impl Door {
         ensures same { self.new ≡ record self.old { packets = self.new.packets; bytes = self.new.bytes } }
         ensures book { TakesOnly self.old.tenant book.old.audited book.new.audited }
         ensures counted { Fills self.old book.old.audited self.new book.new.audited }
+        ensures full { result ≡ Full → can_take book.new.audited self.old.tenant ≡ false }
         ensures plan { book.new.plan ≡ book.old.plan }
     {
         if !self.is_ready {

@@ -1,11 +1,13 @@
 //! One connection on which packets of a tenant come in.
-ghost use Rattle.std.specs.Prelude.{◌≡◌};
-ghost use Rattle.share_doors.specs.Takes.{GivesOne};
+ghost use Rattle.std.specs.Prelude.{◌≡◌, IfErr, IfOk};
+ghost use Rattle.share_ingress.specs.Found.{NeedsMore};
+ghost use Rattle.share_sockets.specs.Progress.{moved};
+ghost use Rattle.share_doors.specs.Takes.{Feeds, GivesOne, GivesPayload, HoldsMore, IsEndOf, PassesRecords};
 
 use crate::held::HeldRecords;
 use share_base::Name;
 use share_book::{Book, Taken};
-use share_gateway::Cut;
+use share_gateway::{Cut, streams_are_cut_into_records};
 use share_model::Rates;
 use share_sockets::{Progress, Stream};
 use std::alloc::Global;
@@ -115,7 +117,9 @@ impl Sender {
     }
 
     /// Nothing more is taken of it, for this reason, unless there was one before.
-    pub fn end(&mut self, why: ClosedWhy) {
+    pub fn end(&mut self, why: ClosedWhy)
+        ensures { self.new.records ≡ self.old.records }
+    {
         if self.over.is_none() {
             self.over = Some(why);
         }
@@ -158,17 +162,23 @@ impl Sender {
     /// Puts its next packet into the book, which has room for it. It is over if nothing more comes of it.
     pub fn give<S: Rates>(&mut self, alloc: Global, tenant: Name, book: &mut Book<S>) -> Came
         ensures book { GivesOne tenant book.old.audited result book.new.audited }
+        ensures records { PassesRecords tenant self.old.records book.old.audited result self.new.records
+            book.new.audited }
         ensures plan { book.new.plan ≡ book.old.plan }
     {
-        let came = self.give_next(alloc, tenant, book);
-        if let Came::Over(why) = came {
-            self.end(why);
+        match self.give_next(alloc, tenant, book) {
+            Came::Over(why) => {
+                self.end(why);
+                Came::Over(why)
+            }
+            came => came,
         }
-        came
     }
 
     fn give_next<S: Rates>(&mut self, alloc: Global, tenant: Name, book: &mut Book<S>) -> Came
         ensures book { GivesOne tenant book.old.audited result book.new.audited }
+        ensures records { PassesRecords tenant self.old.records book.old.audited result self.new.records
+            book.new.audited }
         ensures plan { book.new.plan ≡ book.old.plan }
     {
         'pieces: for _ in 0..PIECES {
@@ -188,8 +198,9 @@ impl Sender {
     }
 
     // Puts the packet that was cut last into the book. The book has room for it, so it is taken if there is memory.
-    fn put<S: Rates>(&mut self, alloc: Global, tenant: Name, book: &mut Book<S>) -> Came
+    fn put<S: Rates>(&self, alloc: Global, tenant: Name, book: &mut Book<S>) -> Came
         ensures book { GivesOne tenant book.old.audited result book.new.audited }
+        ensures payload { GivesPayload tenant self.now.records.payload book.old.audited result book.new.audited }
         ensures plan { book.new.plan ≡ book.old.plan }
     {
         let payload = self.records.payload();
@@ -200,10 +211,17 @@ impl Sender {
     }
 
     // Reads a piece of the stream, if some may be there.
-    fn read(&mut self) -> io::Result<Progress> {
+    fn read(&mut self) -> io::Result<Progress>
+        requires { NeedsMore self.old.records.bytes }
+        ensures more { HoldsMore self.old.records self.new.records }
+        ensures fed { IfOk result (λ progress. Feeds self.old.records (moved progress) self.new.records) }
+        ensures same { IfErr result (λ _. self.new.records ≡ self.old.records) }
+    {
         if !self.is_readable {
             return Ok(Progress::Waits);
         }
+        // So the piece has room.
+        streams_are_cut_into_records();
         let mut piece = [0u8; PIECE];
         let outcome = self.stream.try_read(&mut piece);
         match outcome {
@@ -218,7 +236,9 @@ impl Sender {
     }
 
     // Why a stream is over that the far end has ended.
-    fn why_ended(&self) -> ClosedWhy {
+    fn why_ended(&self) -> ClosedWhy
+        ensures { IsEndOf result self.now.records }
+    {
         if self.records.is_empty() {
             ClosedWhy::Ended
         } else {

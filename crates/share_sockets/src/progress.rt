@@ -1,7 +1,8 @@
 //! What a call came to that does not wait.
-ghost use Rattle.std.specs.Prelude.{◌≡◌, ◌≤◌, ◌≢◌, IfOk, IfErr};
+ghost use Rattle.std.specs.Prelude.{◌≡◌, ◌≤◌, ◌≢◌, true, IfOk, IfErr};
 ghost use Rattle.std.specs.IoError.{error_kind};
 ghost use Rattle.share_sockets.specs.Failure.{IsFailure};
+ghost use Rattle.share_sockets.specs.Progress.{ReadsAs, is_over};
 ghost use Rattle.share_sockets.specs.declared.progress.Progress.TheVariants.{Moved, Again, Waits, Over};
 
 use std::io::{Error, ErrorKind, Result};
@@ -71,5 +72,28 @@ pub(crate) fn over_if_failed(outcome: Result<Progress>) -> Progress
     match outcome {
         Ok(progress) => progress,
         Err(_) => Progress::Over,
+    }
+}
+
+/// The answer of a reader of std. A call that does not wait has no answer for a socket that is not ready, so a pause is
+/// an interruption.
+pub(crate) fn answer_of(progress: Progress) -> Result<usize>
+    ensures { ReadsAs progress result }
+{
+    match progress {
+        Progress::Moved(count) => Ok(count),
+        Progress::Again | Progress::Waits => Err(Error::from(ErrorKind::Interrupted)),
+        Progress::Over => Ok(0),
+    }
+}
+
+/// Whether a look at the next byte found the end or a failure.
+pub(crate) fn is_end(outcome: Result<Progress>) -> bool
+    ensures found { IfOk outcome (λ progress. result ≡ is_over progress) }
+    ensures failed { IfErr outcome (λ _. result ≡ true) }
+{
+    match outcome {
+        Ok(Progress::Over) | Err(_) => true,
+        Ok(_) => false,
     }
 }

@@ -3,12 +3,12 @@ ghost use Rattle.std.specs.Prelude.{◌≤◌, length, IfOk, IfErr};
 ghost use Rattle.share_sockets.specs.Failure.{IsFailure};
 ghost use Rattle.share_sockets.specs.Progress.{moved};
 
-use crate::progress::{Progress, outcome_of, over_if_failed};
+use crate::progress::{Progress, answer_of, outcome_of, over_if_failed};
 use crate::system;
 use mio::net::{TcpStream, UnixStream};
 use mio::{Interest, Registry, Token};
 use std::io;
-use std::io::{Error, ErrorKind, Read, Write};
+use std::io::{Error, Read, Write};
 use std::net::{Net, SocketAddr};
 use std::os::fd::{AsRawFd, RawFd};
 use std::rc::Rc;
@@ -159,10 +159,6 @@ pub struct ReadHalf(pub Rc<Stream>);
 
 impl Read for ReadHalf {
     fn read(&mut self, buffer: &mut [u8]) -> io::Result<usize> {
-        match self.0.read(buffer) {
-            Progress::Moved(count) => Ok(count),
-            Progress::Again | Progress::Waits => Err(Error::from(ErrorKind::Interrupted)),
-            Progress::Over => Ok(0),
-        }
+        answer_of(self.0.read(buffer))
     }
 }

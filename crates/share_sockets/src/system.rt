@@ -1,6 +1,6 @@
 //! Calls on sockets that `mio` does not offer.
 
-use crate::progress::{Progress, outcome_of};
+use crate::progress::{is_end, outcome_of};
 use libc::net as c;
 use std::io;
 use std::io::Error;
@@ -29,5 +29,5 @@ pub(crate) fn is_at_its_end(fd: RawFd) -> bool {
     } else {
         Ok(count as usize)
     };
-    matches!(outcome_of(answer), Ok(Progress::Over) | Err(_))
+    is_end(outcome_of(answer))
 }

@@ -1,5 +1,7 @@
 //! What goes over the stream of an uplink.
+ghost use Rattle.std.specs.Prelude.{◌≡◌, true, false, Ok, IfOk};
 ghost use Rattle.share_uplink.specs.Passing.{WireTakes};
+ghost use Rattle.share_uplink.specs.Uplink.{has_work};
 
 use crate::state::far_end_closed;
 use share_sockets::{Progress, Stream};
@@ -20,10 +22,22 @@ pub(crate) struct Ready {
     pub(crate) writes: bool,
 }
 
+/// Whether more may be done at once with a stream that is ready for this.
+pub(crate) fn has_work(ready: Ready, transit: &Transit) -> bool
+    ensures { result ≡ has_work ready.reads ready.writes transit.now }
+{
+    if ready.reads {
+        return true;
+    }
+    ready.writes && !transit.ready().is_empty()
+}
+
 /// Throws away what came, and then sends what may go. Returns what the stream may still be ready for, or why it is
 /// over. Nothing is sent once the far end is known to have ended it.
 pub(crate) fn exchange(stream: &Stream, ready: Ready, transit: &mut Transit) -> io::Result<Ready>
-    ensures { WireTakes transit.old transit.new }
+    ensures wire { WireTakes transit.old transit.new }
+    ensures reads { IfOk result (λ after. after.reads ≡ true → ready.reads ≡ true) }
+    ensures writes { IfOk result (λ after. after.writes ≡ true → ready.writes ≡ true) }
 {
     let reads = drain(stream, ready.reads)?;
     let writes = send(stream, ready.writes, transit)?;
@@ -31,7 +45,9 @@ pub(crate) fn exchange(stream: &Stream, ready: Ready, transit: &mut Transit) -> 
 }
 
 // Reads what the far end sends if the stream may have some, and throws it away. Returns whether more may be there.
-fn drain(stream: &Stream, is_readable: bool) -> io::Result<bool> {
+fn drain(stream: &Stream, is_readable: bool) -> io::Result<bool>
+    ensures { IfOk result (λ more. more ≡ true → is_readable ≡ true) }
+{
     if !is_readable {
         return Ok(false);
     }
@@ -48,7 +64,8 @@ fn drain(stream: &Stream, is_readable: bool) -> io::Result<bool> {
 
 // Gives the stream, if it may take some, the bytes that may go on the wire. Returns whether it may take more.
 fn send(stream: &Stream, is_writable: bool, transit: &mut Transit) -> io::Result<bool>
-    ensures { WireTakes transit.old transit.new }
+    ensures wire { WireTakes transit.old transit.new }
+    ensures writes { IfOk result (λ more. more ≡ true → is_writable ≡ true) }
 {
     if !is_writable {
         return Ok(false);

@@ -1,7 +1,8 @@
 //! Where an uplink stands, and what became of it.
 ghost use Rattle.std.specs.Prelude.{◌≡◌, true, false};
 ghost use Rattle.std.specs.IoError.{error_kind};
-ghost use Rattle.share_uplink.specs.States.{state_of};
+ghost use Rattle.std.specs.Time.{instant_nanos};
+ghost use Rattle.share_uplink.specs.States.{dials_of, since_of, state_of};
 ghost use Rattle.share_uplink.specs.declared.state.UplinkState.TheVariants.{Up};
 
 use share_sockets::Stream;
@@ -31,6 +32,17 @@ impl State {
         }
     }
 
+    /// When it is dialled, when its dial began, or since when it is connected.
+    pub(crate) fn since(&self) -> Instant
+        ensures { instant_nanos result ≡ since_of self.now }
+    {
+        match self {
+            State::Away(at) => *at,
+            State::Dialling(_, since) => *since,
+            State::Up(_, since) => *since,
+        }
+    }
+
     /// Why a dial that began has failed, if it has.
     pub(crate) fn fault(&self) -> Option<Error> {
         match self {
@@ -41,7 +53,10 @@ impl State {
 
     /// The dial that began succeeded now. Returns false if none began, and then nothing changes.
     pub(crate) fn connect(&mut self, now: Instant) -> bool
+        ensures began { result ≡ dials_of self.old }
         ensures up { result ≡ true → state_of self.new ≡ Up }
+        ensures dials { result ≡ true → dials_of self.new ≡ false }
+        ensures since { result ≡ true → since_of self.new ≡ instant_nanos now }
         ensures same { result ≡ false → self.new ≡ self.old }
     {
         match mem::replace(self, State::Away(now)) {

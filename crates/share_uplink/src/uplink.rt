@@ -1,13 +1,17 @@
 //! The calls of an uplink.
-ghost use Rattle.std.specs.Prelude.{◌+◌, ◌≡◌, ◌≢◌, ◌*◌, min, true, false, None, IsSome};
+ghost use Rattle.std.specs.Prelude.{◌+◌, ◌-◌, ◌/◌, ◌≡◌, ◌*◌, min, true, false, None, IsSome, IfSome};
+ghost use Rattle.std.specs.Duration.{as_nanos};
 ghost use Rattle.std.specs.IoError.{error_kind};
+ghost use Rattle.std.specs.Time.{instant_nanos};
 ghost use Rattle.share_uplink.specs.Passing.{UplinkWorks};
 ghost use Rattle.share_uplink.specs.Uplink.{UplinkCounts, UplinkTicks};
-ghost use Rattle.share_uplink.specs.Uplink.{after_loss, given_more, kind_of, new_uplink, not_reached};
+ghost use Rattle.share_uplink.specs.Uplink.{after_loss, capped, given_more, is_due, kind_of, later as later_by};
+ghost use Rattle.share_uplink.specs.Uplink.{new_uplink, not_reached, noted, time_left, waits};
 ghost use Rattle.share_uplink.specs.declared.state.UplinkState.TheVariants.{Up, Dialling};
-ghost use Rattle.share_uplink.specs.declared.uplink.Due.TheVariants.{Nothing};
+ghost use Rattle.share_uplink.specs.declared.state.Work.TheVariants.{Rests};
+ghost use Rattle.share_uplink.specs.declared.uplink.Due.TheVariants.{Nothing, Dial, GiveUp};
 
-use crate::passing::{Ready, exchange};
+use crate::passing::{Ready, exchange, has_work};
 use crate::state::{State, UplinkState, Work, no_answer};
 use mio::{Interest, Registry, Token};
 use share_sockets::Stream;
@@ -52,7 +56,7 @@ pub struct Uplink {
 }
 
 impl Model for Uplink {
-    ghost use Rattle.share_uplink.specs.States.{state_of};
+    ghost use Rattle.share_uplink.specs.States.{dials_of, since_of, state_of};
     ghost use Rattle.share_uplink.specs.Uplink.{UplinkView, kind_of};
 
     ghost Value = { UplinkView };
@@ -62,6 +66,11 @@ impl Model for Uplink {
           address = u.address;
           buffer = u.buffer;
           state = state_of u.state;
+          dials = dials_of u.state;
+          since = since_of u.state;
+          pause = u.redial;
+          reads = u.ready.reads;
+          writes = u.ready.writes;
           given = u.given;
           sent = u.sent;
           lost_at_most = u.lost_at_most;
@@ -79,7 +88,7 @@ impl Uplink {
     /// An uplink that is to be dialled at once. Its socket is to hold so many bytes that were written and that the far
     /// end has not acknowledged. Linux doubles that.
     pub fn new(address: SocketAddr, buffer: u64, now: Instant) -> Uplink
-        ensures { result ≡ new_uplink address buffer }
+        ensures { result ≡ new_uplink address buffer (instant_nanos now) }
     {
         Uplink {
             address,
@@ -156,6 +165,7 @@ impl Uplink {
     pub fn pause(&self, now: Instant) -> Option<Duration>
         ensures up { self.now.state ≡ Up → result ≡ None }
         ensures dialling { self.now.state ≡ Dialling → IsSome result }
+        ensures time { IfSome result (λ pause. as_nanos pause ≡ time_left (instant_nanos now) self.now) }
     {
         match &self.state {
             State::Away(at) => Some(at.saturating_duration_since(now)),
@@ -166,7 +176,7 @@ impl Uplink {
 
     /// Dials if it is time to, and gives up a dial that takes too long. Returns `Rests` or `Unreachable`.
     pub fn tick(&mut self, net: &impl Net, registry: &Registry, token: Token, now: Instant) -> Work
-        ensures { UplinkTicks self.old result self.new }
+        ensures { UplinkTicks self.old (instant_nanos now) result self.new }
     {
         match self.due(now) {
             Due::Nothing => Work::Rests,
@@ -176,31 +186,43 @@ impl Uplink {
     }
 
     fn due(&self, now: Instant) -> Due
-        ensures { result ≢ Nothing → self.now.state ≡ Dialling }
+        ensures nothing { result ≡ Nothing → UplinkTicks self.now (instant_nanos now) Rests self.now }
+        ensures state { result ≡ Dial → self.now.state ≡ Dialling }
+        ensures dials { result ≡ Dial → self.now.dials ≡ false }
+        ensures due { result ≡ Dial → is_due (instant_nanos now) self.now ≡ true }
+        ensures long { result ≡ GiveUp → self.now.state ≡ Dialling }
+        ensures began { result ≡ GiveUp → self.now.dials ≡ true }
+        ensures over { result ≡ GiveUp → is_due (instant_nanos now) self.now ≡ true }
     {
         match &self.state {
             State::Away(at) => {
                 if at.saturating_duration_since(now).is_zero() {
-                    return Due::Dial;
+                    Due::Dial
+                } else {
+                    Due::Nothing
                 }
             }
             State::Dialling(_, since) => {
                 if dial_time_left(*since, now).is_zero() {
-                    return Due::GiveUp;
+                    Due::GiveUp
+                } else {
+                    Due::Nothing
                 }
             }
-            State::Up(..) => (),
+            State::Up(..) => Due::Nothing,
         }
-        Due::Nothing
     }
 
     fn dial(&mut self, net: &impl Net, registry: &Registry, token: Token, now: Instant) -> Work
-        requires { self.old.state ≡ Dialling }
-        ensures { UplinkTicks self.old result self.new }
+        requires state { self.old.state ≡ Dialling }
+        requires dials { self.old.dials ≡ false }
+        requires due { is_due (instant_nanos now) self.old ≡ true }
+        ensures { UplinkTicks self.old (instant_nanos now) result self.new }
     {
         match begin(net, self.address, self.buffer, registry, token) {
             Err(fault) => self.miss(now, fault),
             Ok(stream) => {
+                self.ready = NOT_READY;
                 self.state = State::Dialling(stream, now);
                 Work::Rests
             }
@@ -209,9 +231,8 @@ impl Uplink {
 
     // A dial failed.
     fn miss(&mut self, now: Instant, fault: Error) -> Work
-        requires { self.old.state ≡ Dialling }
         ensures is { result ≡ Work.Unreachable }
-        ensures view { self.new ≡ not_reached (error_kind fault) self.old }
+        ensures view { self.new ≡ not_reached (error_kind fault) (instant_nanos now) self.old }
     {
         self.wait(now);
         self.fault = Some(fault);
@@ -220,14 +241,11 @@ impl Uplink {
 
     // It was lost.
     fn lose(&mut self, now: Instant, fault: Error) -> Work
-        requires { self.old.state ≡ Up }
         ensures is { result ≡ Work.Lost }
-        ensures view { self.new ≡ after_loss (error_kind fault) self.old }
+        ensures view { self.new ≡ after_loss (error_kind fault) (instant_nanos now) self.old }
     {
-        if let State::Up(_, since) = &self.state {
-            let stood = now.saturating_duration_since(*since).as_secs();
-            self.redial.stood(stood.saturating_mul(1000));
-        }
+        let stood = milliseconds_between(self.state.since(), now);
+        self.redial.stood(stood);
         self.wait(now);
         self.lost_at_most = at_risk(self.given, self.buffer);
         self.lost = self.lost.saturating_add(self.lost_at_most);
@@ -237,16 +255,16 @@ impl Uplink {
 
     // It is dialled again after a pause.
     fn wait(&mut self, now: Instant)
-        ensures { self.new ≡ record self.old { state = Dialling } }
+        ensures { self.new ≡ waits (instant_nanos now) self.old.pause self.old }
     {
-        let pause = Duration::from_millis(self.redial.pause());
+        let pause = self.redial.pause();
         self.ready = NOT_READY;
-        self.state = State::Away(now.checked_add(pause).unwrap_or(now));
+        self.state = State::Away(later(now, pause));
     }
 
     /// Its socket was reported readable or writable.
     pub fn note(&mut self, readable: bool, writable: bool)
-        ensures { self.new ≡ self.old }
+        ensures { self.new ≡ noted readable writable self.old }
     {
         self.ready.reads |= readable;
         self.ready.writes |= writable;
@@ -255,7 +273,7 @@ impl Uplink {
     /// Does what its socket is ready for. On a new connection the outbox begins again.
     pub fn work(&mut self, transit: &mut Transit, now: Instant) -> Work
         ensures wire { UplinkWorks transit.old result transit.new }
-        ensures counts { UplinkCounts self.old transit.old result self.new transit.new }
+        ensures counts { UplinkCounts self.old transit.old (instant_nanos now) result self.new transit.new }
     {
         match &self.state {
             State::Away(_) => Work::Rests,
@@ -266,9 +284,10 @@ impl Uplink {
 
     // Looks how a dial went, if that is known.
     fn finish_dial(&mut self, transit: &mut Transit, now: Instant) -> Work
-        requires { self.old.state ≡ Dialling }
+        requires state { self.old.state ≡ Dialling }
+        requires began { self.old.dials ≡ true }
         ensures wire { UplinkWorks transit.old result transit.new }
-        ensures counts { UplinkCounts self.old transit.old result self.new transit.new }
+        ensures counts { UplinkCounts self.old transit.old (instant_nanos now) result self.new transit.new }
     {
         if !self.ready.writes {
             return Work::Rests;
@@ -288,7 +307,7 @@ impl Uplink {
     fn pass(&mut self, transit: &mut Transit, now: Instant) -> Work
         requires { self.old.state ≡ Up }
         ensures wire { UplinkWorks transit.old result transit.new }
-        ensures counts { UplinkCounts self.old transit.old result self.new transit.new }
+        ensures counts { UplinkCounts self.old transit.old (instant_nanos now) result self.new transit.new }
     {
         let State::Up(stream, _) = &self.state else {
             return Work::Rests;
@@ -300,7 +319,7 @@ impl Uplink {
             Err(fault) => self.lose(now, fault),
             Ok(ready) => {
                 self.ready = ready;
-                if ready.reads || ready.writes && !transit.ready().is_empty() {
+                if has_work(ready, transit) {
                     Work::Busy
                 } else {
                     Work::Rests
@@ -325,8 +344,29 @@ fn at_risk(given: u64, buffer: u64) -> u64
     given.min(buffer.saturating_mul(2).saturating_add(65536))
 }
 
+// The moment so many milliseconds later, or this one if the clock ends before.
+fn later(now: Instant, milliseconds: u64) -> Instant
+    ensures { instant_nanos result ≡ later_by (instant_nanos now) milliseconds }
+{
+    match now.checked_add(Duration::from_millis(milliseconds)) {
+        Some(moment) => moment,
+        None => now,
+    }
+}
+
+// How many milliseconds the whole seconds have that lie between two moments.
+fn milliseconds_between(since: Instant, now: Instant) -> u64
+    ensures { result ≡ capped (((instant_nanos now - instant_nanos since) / 1_000_000_000) * 1000) }
+{
+    now.saturating_duration_since(since)
+        .as_secs()
+        .saturating_mul(1000)
+}
+
 // How long a dial may take yet.
-fn dial_time_left(since: Instant, now: Instant) -> Duration {
+fn dial_time_left(since: Instant, now: Instant) -> Duration
+    ensures { as_nanos result ≡ 5_000_000_000 - (instant_nanos now - instant_nanos since) }
+{
     Duration::from_secs(DIAL_SECONDS).saturating_sub(now.saturating_duration_since(since))
 }
 

@@ -1,8 +1,9 @@
-use Rattle.std.proofs.Common.{refl, ◌∙◌, sym, subst}
+use Rattle.std.proofs.Common.{◌≡◌, refl, ◌∙◌, ap, sym, subst, rules}
 use Rattle.share_doors.specs.Door.{DoorView}
 use Rattle.share_doors.specs.Fills.{Fills, nothing}
 use Rattle.share_doors.specs.Takes.{nothing as takes_nothing}
-use Rattle.share_doors.proofs.FillsLemmas.{fills_same, fills_takes, fills_then}
+use Rattle.share_doors.specs.declared.door.Filled.TheVariants.{Full}
+use Rattle.share_doors.proofs.FillsLemmas.{fills_same, fills_takes, fills_tenant, fills_then, no_room}
 use Rattle.share_doors.proofs.door.Door.fill.Goals as goal
 
 pub returns-then-not-self-clause-book : goal.returns-then-not-self-clause-book
@@ -25,6 +26,12 @@ returns-then-not-has_room-clause-same g c = fills_same _ _ _ _ c.packets.invaria
 
 pub returns-then-not-has_room-clause-book : goal.returns-then-not-has_room-clause-book
 returns-then-not-has_room-clause-book g c = fills_takes _ _ _ _ c.packets.invariant.0
+
+pub returns-then-not-has_room-clause-full : goal.returns-then-not-has_room-clause-full
+returns-then-not-has_room-clause-full g c =
+    λ (_ : Full ≡ Full). no_room c.has_room.result c.packets.book.audited c.self-in-packets.inside.tenant
+    c.args.self.now.tenant c.has_room.ensures (search rules)
+    (ap (λ (d : DoorView). d.tenant) c.self-in-packets.view_is ∙ fills_tenant _ _ _ _ c.packets.invariant.0)
 
 pub returns-then-idle-capacity-clause-same : goal.returns-then-idle-capacity-clause-same
 returns-then-idle-capacity-clause-same g c =

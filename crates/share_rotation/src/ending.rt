@@ -1,14 +1,14 @@
 //! How the last book is closed.
 
-use crate::books::{Books, LONGEST_FRAME};
-use crate::life::Life;
-use crate::opening::time_now;
-use crate::remainder::Remainder;
+use crate::books::Books;
+use crate::moments::time_now;
+use crate::pace::LONGEST_FRAME;
 use share_catalog::Closing;
+use share_lives::Remainder;
 use share_writer::BookClose;
+use std::io;
 use std::sync::Wait;
 use std::time::Clock;
-use std::{io, mem};
 
 /// What was left when a gateway ended.
 #[derive(Clone, Copy, Debug, PartialEq, Eq)]
@@ -24,11 +24,10 @@ pub struct Left {
 impl Books {
     /// Whether a frame can be scheduled, or is on its way to the wire.
     pub fn sends(&self) -> bool {
-        match &self.life {
-            Life::Open(book) => book.engine().sends() || self.transit.waiting() > 0,
-            Life::Carrying(..) => true,
-            Life::Over => false,
+        if self.life.is_carrying() {
+            return true;
         }
+        self.life.is_open() && (self.life.sends() || self.transit.waiting() > 0)
     }
 
     /// Whether another turn can be made, but for the rate.
@@ -39,18 +38,12 @@ impl Books {
         if self.transit.room() < LONGEST_FRAME as usize {
             return false;
         }
-        match &self.life {
-            Life::Open(book) => !book.lacks_text() && book.engine().sends(),
-            _ => false,
-        }
+        !self.life.lacks_text() && self.life.sends()
     }
 
     /// Whether the open book makes no event before some of its text is given to the disk.
     pub fn lacks_text(&self) -> bool {
-        match &self.life {
-            Life::Open(book) => book.lacks_text(),
-            _ => true,
-        }
+        self.life.lacks_text()
     }
 
     /// Has the last book closed, if all its text is on its way to the disk. Returns true once that was asked for.
@@ -59,38 +52,23 @@ impl Books {
             return false;
         }
         match self.last_close(rt) {
-            Ok(Some(close)) => {
+            Ok(close) => {
                 self.queue.finish(rt, close);
                 self.leave();
                 true
             }
-            _ => false,
+            Err(_) => false,
         }
     }
 
     // What is written of the last book at its close, if it is open.
-    fn last_close<R: Clock>(&self, rt: &R) -> io::Result<Option<BookClose>> {
-        match &self.life {
-            Life::Open(book) => Ok(Some(self.close_of(book, Closing::End, time_now(rt)?)?)),
-            _ => Ok(None),
-        }
+    fn last_close<R: Clock>(&self, rt: &R) -> io::Result<BookClose> {
+        self.close_at(Closing::End, time_now(rt)?)
     }
 
     /// Drops the open book, and counts the packets that wait in it.
     pub fn leave(&mut self) {
-        match mem::replace(&mut self.life, Life::Over) {
-            Life::Open(book) => {
-                let closed = book.close();
-                self.remainders.add_all(&closed);
-                drop(closed);
-            }
-            Life::Carrying(book, closed) => {
-                drop(book);
-                self.remainders.add_all(&closed);
-                drop(closed);
-            }
-            Life::Over => (),
-        }
+        self.life.leave(&mut self.remainders);
     }
 
     /// Whether the last book is closed on disk.

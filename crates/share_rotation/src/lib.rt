@@ -1,19 +1,18 @@
-//! The open book of a gateway: its turns, its text on the way to the disk, its frames on the way to the wire, and how the
-//! next book follows it.
+//! The open book of a gateway: its turns, its text on the way to the disk, its frames on the way to the wire, and when
+//! the next book follows it.
 #![tactic(auto)]
 
 mod books;
 mod closing;
 mod ending;
-mod life;
-mod opening;
+mod moments;
+mod pace;
 mod reading;
-mod remainder;
 mod sent;
+mod succession;
 mod text;
 
 pub use books::{Books, Made, UseBooks, with_books};
 pub use ending::Left;
-pub use opening::{NextPlan, tariffs_of};
-pub use remainder::Remainder;
 pub use sent::Sent;
+pub use share_lives::{NextPlan, Remainder, tariffs_of};

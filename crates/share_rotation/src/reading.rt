@@ -1,12 +1,12 @@
 //! What is read of the open book.
 
 use crate::books::Books;
-use crate::life::Life;
+use crate::moments::earlier;
 use crate::sent::Sent;
 use share_base::{FlowNo, Refusal};
 use share_book::Book;
 use share_catalog::Time;
-use share_orders::{Obeyed, Order, obey, report_text};
+use share_orders::{Obeyed, Order};
 use share_tariff::PlainShelf;
 use std::time::Instant;
 
@@ -15,26 +15,17 @@ impl Books {
     /// closed; then the others do too while no book is open.
     pub fn obey(&mut self, order: Order) -> Obeyed {
         let waits = self.is_stalled || self.succession.is_begun();
-        match &mut self.life {
-            Life::Open(book) => obey(book, waits, order),
-            _ => Obeyed::Waits,
-        }
+        self.life.obey(waits, order)
     }
 
     /// The open book, as it is.
     pub fn open_book(&self) -> Option<&Book<PlainShelf>> {
-        match &self.life {
-            Life::Open(book) => Some(book),
-            _ => None,
-        }
+        self.life.book()
     }
 
     /// The report of the open book.
     pub fn report(&self) -> Result<Vec<u8>, Refusal> {
-        match &self.life {
-            Life::Open(book) => report_text(self.alloc, book),
-            _ => Err(Refusal::NoMemory),
-        }
+        self.life.report()
     }
 
     /// The number of the open book.
@@ -49,7 +40,7 @@ impl Books {
 
     /// The most events of a book.
     pub fn events(&self) -> u64 {
-        self.events
+        self.life.events()
     }
 
     /// What was sent of a flow since the start.
@@ -64,14 +55,5 @@ impl Books {
             return first;
         }
         earlier(first, self.period_end)
-    }
-}
-
-// The earlier of two times, of which either may be missing.
-fn earlier(time: Option<Instant>, other: Option<Instant>) -> Option<Instant> {
-    match (time, other) {
-        (Some(time), Some(other)) => Some(time.min(other)),
-        (Some(time), None) => Some(time),
-        (None, other) => other,
     }
 }

@@ -1,8 +1,7 @@
 //! The text of the open book on its way to the disk.
 
 use crate::books::Books;
-use crate::life::Life;
-use share_transit::Page;
+use crate::moments::is_past;
 use std::io;
 use std::sync::Wait;
 use std::time::{Duration, Instant};
@@ -32,7 +31,7 @@ impl Books {
             return false;
         };
         let mut page = page;
-        self.fill(&mut page);
+        self.life.hand(&mut self.transit, &mut page);
         if page.as_slice().is_empty() {
             self.queue.put_back(page);
             return false;
@@ -41,23 +40,13 @@ impl Books {
         true
     }
 
-    fn fill(&mut self, page: &mut Page) {
-        match &mut self.life {
-            Life::Open(book) => self.transit.hand(book, page),
-            Life::Carrying(book, _) => self.transit.hand_new(book, page),
-            Life::Over => (),
-        }
-    }
-
     // Has what is written made durable, a second after the first byte of it was.
     fn note_sync<R: Wait>(&mut self, rt: &R, now: Instant) {
-        let Some(at) = self.sync_at else {
+        if self.sync_at.is_none() {
             if self.queue.has_unsynced() {
                 self.sync_at = now.checked_add(Duration::from_secs(SYNC_SECONDS));
             }
-            return;
-        };
-        if at.saturating_duration_since(now).is_zero() {
+        } else if is_past(self.sync_at, now) {
             self.sync_at = None;
             let _ = self.queue.sync(rt);
         }

@@ -21,7 +21,6 @@ pub(crate) const MOST_CLOSES: u64 = 4;
 /// The queue from the loop to the two threads that write books. None of its calls waits for the disk.
 ///
 /// A contract sees how many bytes and books were given to the disk. It does not see what the disk has done.
-#[derive(Drop)]
 pub struct DiskQueue {
     shared: Arc<Shared>,
     writer: Sender<WriterJob>,
@@ -43,6 +42,29 @@ impl Model for DiskQueue {
     ghost Value = { QueueView };
 
     ghost view = { λ q. record { given = q.given; asked = q.asked; ended = q.ended; is_over = q.is_over } };
+}
+
+// This is written out so that no crate above proves how each end of a channel is dropped.
+impl Drop for DiskQueue {
+    fn drop(self) {
+        let DiskQueue {
+            shared,
+            writer,
+            filer,
+            written_pages,
+            pages,
+            away: _,
+            given: _,
+            asked: _,
+            ended: _,
+            is_over: _,
+        } = self;
+        drop(shared);
+        drop(writer);
+        drop(filer);
+        drop(written_pages);
+        drop(pages);
+    }
 }
 
 impl DiskQueue {

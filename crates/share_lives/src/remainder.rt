@@ -16,20 +16,20 @@ pub struct Remainder {
 
 /// The remainders of all tenants. Its memory is made once.
 #[derive(Drop)]
-pub(crate) struct Remainders {
+pub struct Remainders {
     all: Vec<Remainder>,
 }
 
 impl Remainders {
     /// No remainders.
-    pub(crate) fn new(alloc: Global) -> Result<Remainders, AllocError> {
+    pub fn new(alloc: Global) -> Result<Remainders, AllocError> {
         Ok(Remainders {
             all: Vec::with_capacity(alloc, TENANTS)?,
         })
     }
 
     /// Removes a remainder, and returns it.
-    pub(crate) fn pop(&mut self) -> Option<Remainder> {
+    pub fn pop(&mut self) -> Option<Remainder> {
         self.all.pop()
     }
 
@@ -49,7 +49,7 @@ impl Remainders {
     }
 
     /// How many packets there are.
-    pub(crate) fn packets(&self) -> u64 {
+    pub fn packets(&self) -> u64 {
         let mut packets: u64 = 0;
         for remainder in &self.all {
             packets = packets.saturating_add(u64::from(remainder.packets));

@@ -1,0 +1,14 @@
+//! The lives of a gateway's books, over plain tariffs: how one is opened, how the next takes over what waits in it, and
+//! what is left at the end.
+#![tactic(auto)]
+
+mod life;
+mod next_book;
+mod next_plan;
+mod remainder;
+mod stage;
+
+pub use life::{Frame, Life, tariffs_of};
+pub use next_book::NextBook;
+pub use next_plan::NextPlan;
+pub use remainder::{Remainder, Remainders};

@@ -1,0 +1,28 @@
+//! Plans that take the place of others.
+
+use share_gateway::Plan;
+use share_model::Rate;
+
+/// A plan that takes the place of the one before, with its tariffs.
+pub struct NextPlan {
+    pub plan: Plan,
+    pub rates: Vec<Rate>,
+}
+
+// This is written out so that no crate above proves how each part of a plan is dropped.
+impl Drop for NextPlan {
+    fn drop(self) {
+        let NextPlan { plan, rates } = self;
+        drop(plan);
+        drop(rates);
+    }
+}
+
+impl NextPlan {
+    /// Drops the plan, and returns its tariffs.
+    pub(crate) fn into_rates(self) -> Vec<Rate> {
+        let NextPlan { plan, rates } = self;
+        drop(plan);
+        rates
+    }
+}

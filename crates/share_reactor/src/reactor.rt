@@ -11,7 +11,7 @@ use mio::{Events, Poll, Token};
 use share_base::FlowNo;
 use share_catalog::Closing;
 use share_reload::{ControlHolds, Roster};
-use share_rotation::{Books, Left, Made};
+use share_rotation::{Books, Frame, Left, Made};
 use share_settings::Settings;
 use share_uplink::{Uplink, Work};
 use std::alloc::Global;
@@ -25,8 +25,11 @@ use std::time::{Clock, Duration, Instant};
 /// How many events are reported at a time.
 const EVENTS: usize = 256;
 
-/// How many turns are made in a round.
-const TURNS: u32 = 64;
+/// How many bytes of frames are scheduled in a round, but for the last frame.
+const ROUND_BYTES: u32 = 1 << 16;
+
+/// How many turns schedule that many bytes if each frame is the shortest one, which has 18.
+const MAX_TURNS: u32 = ROUND_BYTES / 18 + 1;
 
 /// What is left to do after a round.
 #[derive(Clone, Copy, Debug, PartialEq, Eq)]
@@ -196,12 +199,19 @@ impl Reactor<'_> {
         }
     }
 
-    // Makes turns. After each the buffer of the flow that was sent is filled up.
+    // Makes turns, until 64 KiB are scheduled. After each the buffer of the flow that was sent is filled up.
     fn make_turns(&mut self) {
-        for _ in 0..TURNS {
+        let mut scheduled: u32 = 0;
+        for _ in 0..MAX_TURNS {
+            if scheduled >= ROUND_BYTES {
+                return;
+            }
             match self.books.turn() {
                 Made::Nothing | Made::Paced => return,
-                Made::Frame(flow) => self.refill(flow),
+                Made::Frame(Frame { flow, count }) => {
+                    scheduled = scheduled.saturating_add(count);
+                    self.refill(flow);
+                }
             }
         }
     }

@@ -4,7 +4,6 @@ use crate::moments::{end_of_period, time_now};
 use crate::pace::Pace;
 use crate::sent::SentCounts;
 use crate::succession::Succession;
-use share_base::FlowNo;
 use share_book::Book;
 use share_catalog::{Closing, Time};
 use share_lives::{Frame, Life, NextPlan, Remainders};
@@ -22,8 +21,8 @@ use std::time::{Clock, Duration, Instant};
 pub enum Made {
     /// No turn can be made before something else happens.
     Nothing,
-    /// A frame of this flow was scheduled.
-    Frame(FlowNo),
+    /// This frame was scheduled.
+    Frame(Frame),
     /// The allowance is spent: a turn can be made after a time.
     Paced,
 }
@@ -222,12 +221,12 @@ impl Books {
         if self.is_stalled || self.succession.is_begun() {
             return Made::Nothing;
         }
-        let Some(Frame { flow, count }) = self.life.turn(&mut self.transit) else {
+        let Some(frame) = self.life.turn(&mut self.transit) else {
             return Made::Nothing;
         };
-        self.sent.add(flow, count);
-        self.pace.spend(count);
-        Made::Frame(flow)
+        self.sent.add(frame.flow, frame.count);
+        self.pace.spend(frame.count);
+        Made::Frame(frame)
     }
 
     /// Has the next book begin with this plan, and the open one closed.

@@ -15,4 +15,4 @@ mod text;
 pub use books::{Books, Made, UseBooks, with_books};
 pub use ending::Left;
 pub use sent::Sent;
-pub use share_lives::{NextPlan, Remainder, tariffs_of};
+pub use share_lives::{Frame, NextPlan, Remainder, tariffs_of};

@@ -1,15 +1,17 @@
 //! Bills of books, and their exit statuses.
-ghost use Rattle.std.specs.Prelude.{◌≡◌, MatchResult};
+ghost use Rattle.std.specs.Prelude.{◌≡◌, IfOk, MatchResult};
 ghost use Rattle.std.specs.Process.{exit_status};
+ghost use Rattle.share_config.specs.Lists.{default_tariffs};
 
 use crate::refusing::refuse_file;
 use crate::texts::{NO_MEMORY, NO_OUTPUT, fail};
 use share_billing::{Billing, NotShown};
 use share_gateway_words::{BillOrders, BillTariffs};
 use share_loading::read_file;
+use share_model::Rate;
 use share_settings::Settings;
-use share_verified_bill::{VerifiedBilling, print_bill_by, print_verified_bill, standard_rates};
-use std::alloc::Global;
+use share_verified_bill::{VerifiedBilling, print_bill_by, print_verified_bill};
+use std::alloc::{AllocError, Global};
 use std::fs::{File, Files};
 use std::io::{Eprint, Print};
 use std::process::ExitCode;
@@ -23,6 +25,29 @@ fn status_of(rt: &impl Eprint, printed: Result<(), NotShown>) -> ExitCode
         Err(NotShown::Book) => ExitCode::FAILURE,
         Err(NotShown::NoMemory) => fail(rt, NO_MEMORY),
         Err(NotShown::Output) => fail(rt, NO_OUTPUT),
+    }
+}
+
+// The tariffs of a gateway whose file has none.
+fn standard_rates(alloc: Global) -> Result<Vec<Rate>, AllocError>
+    ensures { IfOk result (λ rates. rates.items ≡ default_tariffs) }
+{
+    let rates = [
+        rate(1, 0, 1),
+        rate(48, 16, 2),
+        rate(1024, 0, 1),
+        rate(2048, 1024, 3),
+    ];
+    Ok(Vec::from_array(alloc, rates)?)
+}
+
+fn rate(cell: u64, overhead: u64, price: u64) -> Rate
+    ensures { result ≡ record { cell = cell; overhead = overhead; price = price } }
+{
+    Rate {
+        cell,
+        overhead,
+        price,
     }
 }
 

@@ -9,5 +9,5 @@ mod rows_file;
 mod shelf;
 mod verified;
 
-pub use shelf::{print_bill_by, standard_rates};
+pub use shelf::print_bill_by;
 pub use verified::{VerifiedBilling, print_verified_bill};

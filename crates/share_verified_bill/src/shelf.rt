@@ -1,11 +1,9 @@
 //! Bills under tariffs that are not known before the program runs.
-ghost use Rattle.std.specs.Prelude.{◌≡◌, IfOk};
-ghost use Rattle.share_config.specs.Lists.{default_tariffs};
 
 use share_billing::{Billing, NotShown, print_bill};
 use share_model::{Rate, Rates};
 use share_tariff::PlainShelf;
-use std::alloc::{AllocError, Global};
+use std::alloc::Global;
 use std::fs::Files;
 use std::io::{Eprint, Print};
 
@@ -32,29 +30,6 @@ impl<'a> Rates for SharedShelf<'a> {
 
     fn post(&self, number: u64, account: u64, units: u64) -> u64 {
         self.shelf.post(number, account, units)
-    }
-}
-
-/// The tariffs of a gateway whose file has none.
-pub fn standard_rates(alloc: Global) -> Result<Vec<Rate>, AllocError>
-    ensures { IfOk result (λ rates. rates.items ≡ default_tariffs) }
-{
-    let rates = [
-        rate(1, 0, 1),
-        rate(48, 16, 2),
-        rate(1024, 0, 1),
-        rate(2048, 1024, 3),
-    ];
-    Vec::from_array(alloc, rates)
-}
-
-fn rate(cell: u64, overhead: u64, price: u64) -> Rate
-    ensures { result ≡ record { cell = cell; overhead = overhead; price = price } }
-{
-    Rate {
-        cell,
-        overhead,
-        price,
     }
 }
 

@@ -33,6 +33,8 @@ examples/bill.py
 examples/fuzz.py
 GATEWAY=crates/gateway/out/gateway STRIDELINK=bin/stridelink examples/gateway.py
 GATEWAY=crates/gateway/out/gateway examples/ask.py
+STRIDELINK=crates/gateway/out/gateway examples/bill.py
+GATEWAY=crates/gateway/out/gateway examples/books.py
 endef
 
 help:

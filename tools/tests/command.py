@@ -41,11 +41,11 @@ def ran(words, program, *given, cwd=None, **settings):
 def words(run):
     """The first word says which program runs, and all words are passed on as they are."""
     command = os.path.join(installed(run), "bin", "stridelink")
-    for first in ("gateway", "ask"):
+    for first in ("gateway", "ask", "bill"):
         ran([command], "gateway", first, "a b", "", "--x", "*", "$HOME", "two\nlines")
         ran([command], "gateway", first)
     for given in ((), ("run",), ("serve", "gateway"), ("--version",), ("",), ("help", "gateway"), ("gateways", "ask"),
-                  ("-h", "ask")):
+                  ("-h", "ask"), ("bills", "bill")):
         ran([command], "link", *given)
 
 

@@ -21,7 +21,8 @@ from datetime import datetime
 
 sys.dont_write_bytecode = True
 
-from bill import CUT, FORMS, LIMIT, Difference, Wrong, bill_of, book as stored, expect_equal, joined, read as stored_text, read_book
+from bill import (CUT, FORMS, LIMIT, Difference, Wrong, bill_of, book as stored, expect_equal, joined,
+                  read as stored_text, read_book)
 from fuzz import TARIFFS
 from serving import TOP
 
@@ -418,7 +419,8 @@ def altered_rows(folder):
         row = books.rows[0]
         kept, row[name] = row[name], str(int(row[name]) + 1) if word == "+" else word
         found = compare(books.save(), books.books, "%s is %s" % (name, word))
-        expect_equal(found, (1, "%s: %s\n" % (books.books[0], reason)) if reason else (0, ""), "%s is %s" % (name, word))
+        wanted = (1, "%s: %s\n" % (books.books[0], reason)) if reason else (0, "")
+        expect_equal(found, wanted, "%s is %s" % (name, word))
         row[name] = kept
     for names in (("sha256", "units"), ("units", "amount"), ("sha256", "amount")):
         row = dict(books.rows[1])
@@ -429,7 +431,8 @@ def altered_rows(folder):
 
 
 # Words that no row has in a column.
-WRONG = {"book": ("01", "", "18446744073709551616", "x"), "kind": ("length", "Whole"), "opened": ("2026-02-29T00:00:00Z", ""),
+WRONG = {"book": ("01", "", "18446744073709551616", "x"), "kind": ("length", "Whole"),
+         "opened": ("2026-02-29T00:00:00Z", ""),
          "closed": ("2026-01-31 23:59:59Z", "2026-01-31T24:00:00Z"), "why": ("Period", ""),
          "tariffs": ("48/16/2  1/0/1", "0/0/1", "2049/0/1", "1/1025/1", "1/0/65536", "1/0", " ".join(["1/0/1"] * 9)),
          "events": ("-1", "1.0"), "packets": ("+3", ""), "bytes": (" 5",), "units": ("6e1",), "amount": ("09",),

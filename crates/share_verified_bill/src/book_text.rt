@@ -65,11 +65,7 @@ pub(crate) struct RunBook {
 }
 
 /// Runs the text of a file under these tariffs.
-pub(crate) fn run_file(
-    alloc: Global,
-    shelf: PlainShelf,
-    file: File,
-) -> Result<RunBook, BookFault> {
+pub(crate) fn run_file(alloc: Global, shelf: PlainShelf, file: File) -> Result<RunBook, BookFault> {
     let digest = Cell::new(None);
     let fault = Cell::new(None);
     let text = DigestedFile {

@@ -62,11 +62,7 @@ fn number_of(rt: &impl Eprint, path: &str) -> Result<u64, NotShown> {
 }
 
 // Adds the numbers of the books of these paths.
-fn add_numbers(
-    rt: &impl Eprint,
-    paths: &[&str],
-    numbers: &mut Vec<u64>,
-) -> Result<(), NotShown> {
+fn add_numbers(rt: &impl Eprint, paths: &[&str], numbers: &mut Vec<u64>) -> Result<(), NotShown> {
     for path in paths {
         let number = number_of(rt, path)?;
         if numbers.push(number).is_err() {

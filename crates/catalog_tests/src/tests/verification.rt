@@ -92,7 +92,12 @@ fn texts_of_rows_are_read(rt: HostRuntime) {
             same(&rt, "rows", rows.len(), 2);
             same(&rt, "first", rows[0].book, 3);
             same(&rt, "last", rows[1].book, 4);
-            same(&rt, "bad", (is_bad(&rows[0]), is_bad(&rows[1])), (false, true));
+            same(
+                &rt,
+                "bad",
+                (is_bad(&rows[0]), is_bad(&rows[1])),
+                (false, true),
+            );
         }
         Err(fault) => panic!(rt; "{fault:?}"),
     }
@@ -106,9 +111,27 @@ const GIVEN: [(&[u64], Option<GivenFault>); 9] = [
     (&[4, 5, 7, 8, 9], Some(GivenFault::Missing { book: 3 })),
     (&[3, 5, 7, 8, 9], Some(GivenFault::Missing { book: 4 })),
     (&[3, 4, 5, 7, 8], Some(GivenFault::Missing { book: 9 })),
-    (&[3, 4, 3], Some(GivenFault::Wrong { index: 2, wrong: WrongGiven::Twice })),
-    (&[6, 3, 3], Some(GivenFault::Wrong { index: 0, wrong: WrongGiven::Bad })),
-    (&[12, 12], Some(GivenFault::Wrong { index: 1, wrong: WrongGiven::Twice })),
+    (
+        &[3, 4, 3],
+        Some(GivenFault::Wrong {
+            index: 2,
+            wrong: WrongGiven::Twice,
+        }),
+    ),
+    (
+        &[6, 3, 3],
+        Some(GivenFault::Wrong {
+            index: 0,
+            wrong: WrongGiven::Bad,
+        }),
+    ),
+    (
+        &[12, 12],
+        Some(GivenFault::Wrong {
+            index: 1,
+            wrong: WrongGiven::Twice,
+        }),
+    ),
 ];
 
 // The figures of a book, with this digest.

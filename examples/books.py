@@ -392,9 +392,8 @@ def altered_texts(folder):
         with open(path, "wb") as file:
             file.write(text.replace(old, new, 1))
         found = compare(rows, books.books, "an altered text")
-        expect_equal(found[0], 1, "an altered text")
-        if reason:
-            expect_equal(found[1], "%s: %s\n" % (path, reason), "an altered text")
+        wanted = (1, "%s: %s\n" % (path, reason) if reason else found[1])
+        expect_equal(found, wanted, "an altered text")
         with open(path, "wb") as file:
             file.write(text)
     for path in books.books:

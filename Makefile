@@ -36,6 +36,8 @@ examples/bill.py
 examples/fuzz.py
 examples/gateway.py
 examples/ask.py
+STRIDELINK=bin/stridelink-script examples/bill.py
+examples/books.py
 endef
 
 help:

@@ -12,7 +12,7 @@ _stridelink() {
         serve)
             wanted="--ingress --control --uplink --audit --workers --life --clerks --until-eof --verbose --help"
             ;;
-        bill) wanted="--csv --json --help" ;;
+        bill) wanted="--csv --json --books --plan --help" ;;
         gateway) wanted="--check --grace --until-eof --quiet --help" ;;
         ask)
             wanted="report status hold resume amend rotate reload end --help"
@@ -35,7 +35,7 @@ _stridelink() {
             [[ ${COMP_WORDS[1]} != ask || ${COMP_WORDS[2]} != unix ]] || compopt -o default
             return
             ;;
-        --audit)
+        --audit | --books | --plan)
             compopt -o default
             return
             ;;

@@ -42,12 +42,12 @@ def ran(words, program, *given, cwd=None, **settings):
 def words(run):
     """The first word says which program runs, and all words are passed on as they are."""
     command = os.path.join(installed(run), "bin", "stridelink")
-    for first in ("gateway", "ask"):
+    for first in ("gateway", "ask", "bill"):
         ran([command], "gateway", first, "a b", "", "--x", "*", "$HOME", "two\nlines")
         ran([command], "gateway", first)
     for given in (("serve",), ("serve", "gateway"), ("serve", "--help")):
         ran([command], "link", *given)
-    for given in ((), ("run",), ("run", "serve"), ("bill", "serve"), ("--version",), ("",), ("help", "serve"),
+    for given in ((), ("run",), ("run", "serve"), ("bills", "bill"), ("--version",), ("",), ("help", "serve"),
                   ("servers",), ("gateways", "ask"), ("-h", "ask")):
         ran([command], "script", *given)
 

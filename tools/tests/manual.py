@@ -76,9 +76,10 @@ def lint(run):
 def options(run):
     """Each option of the sources stands in the synopsis and has a paragraph, with the name of its value; and so have
     those of clap."""
-    words = source("share_words", "words.rt") + source("share_words", "bill_words.rt")
+    words = "".join(source(*path) for path in (("share_words", "words.rt"), ("share_words", "bill_words.rt"),
+                                               ("share_gateway_words", "bill_words.rt")))
     flags = re.findall(r'\.long\("([a-z-]+)"\)\s*(?:\.value_name\("([A-Z]+)"\))?', words)
-    others = re.findall(r'\b(?:flag|valued|required)\(\s*alloc,\s*"([a-z-]+)",\s*(?:"([A-Z]+)")?', words)
+    others = re.findall(r'\b(?:flag|valued|required|source)\(\s*alloc,\s*"([a-z-]+)",\s*(?:"([A-Z]+)")?', words)
     wanted = [("--%s %s" % option).strip() for option in flags + others]
     expect_all(wanted, 13, section(page(COMMANDS), "SYNOPSIS"), "options in the synopsis")
     expect_all(("-h", "--help", "-V", "--version", "[FILE]", "FILE ...", "run", "serve", "bill"), 9, section(page(COMMANDS), "SYNOPSIS"),

@@ -246,6 +246,8 @@ COMPLETED = (
     ("run --st\tone-packet.s\t", ["run", "--strict", "one-packet.script"]),
     ("run --strict --st\t", ["run", "--strict", "--st"]),
     ("bi\t--c\tone-packet.s\t", ["bill", "--csv", "one-packet.script"]),
+    ("bill --bo\tone-packet.s\t", ["bill", "--books", "one-packet.script"]),
+    ("bill --plan one-packet.s\t", ["bill", "--plan", "one-packet.script"]),
     ("ga\t--ch\tone-packet.s\t", ["gateway", "--check", "one-packet.script"]),
     ("gateway --grace one-packet.s\t", ["gateway", "--grace", "one-packet.s"]),
     ("as\tun\tone-packet.s\tst\t", ["ask", "unix:one-packet.script", "status"]),

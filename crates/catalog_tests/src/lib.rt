@@ -1,4 +1,5 @@
-//! Tests of books on disk, over the public calls of share_catalog and share_archive.
+//! Tests of books on disk, over the public calls of share_catalog, share_archive and
+//! share_verification.
 #![tactic(auto)]
 
 #[cfg(test)]

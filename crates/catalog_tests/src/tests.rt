@@ -4,3 +4,4 @@ mod assertions;
 mod names;
 mod rows;
 mod steps;
+mod verification;

@@ -1,8 +1,9 @@
 //! A gateway: packets of tenants come in by ports, and go out on one uplink in the shares of a plan. Its settings come
-//! from a file. And the client of its control lines.
+//! from a file. And the client of its control lines, and the bills of its books.
 #![tactic(auto)]
 
 mod asking;
+mod bills;
 mod faults;
 mod recovery;
 mod refusing;
@@ -11,15 +12,13 @@ mod streams;
 mod texts;
 
 use crate::asking::ask_given;
+use crate::bills::bill_given;
 use crate::serving::gateway_given;
 use crate::streams::StandIns;
-use crate::texts::{fail, show};
+use crate::texts::{NO_MEMORY, fail, show};
 use share_gateway_words::{Asked, parse};
 use std::process::ExitCode;
 use std::{env, io};
-
-/// What is printed if memory is refused.
-const NO_MEMORY: &str = "out of memory";
 
 // The words of the command line. `None` if one of them is not UTF-8.
 fn given_words(rt: &HostRuntime) -> io::Result<Option<Vec<String>>> {
@@ -39,6 +38,7 @@ fn main(rt: HostRuntime) -> ExitCode {
         Ok(Asked::Text(text)) => show(&rt, &text),
         Ok(Asked::Gateway(orders)) => gateway_given(&rt, rt.alloc(), orders),
         Ok(Asked::Ask(orders)) => ask_given(&rt, rt.alloc(), orders),
+        Ok(Asked::Bill(orders)) => bill_given(&rt, rt.alloc(), orders),
         Err(_) => fail(&rt, NO_MEMORY),
     };
     drop(stand_ins);

@@ -12,7 +12,10 @@ use std::process::ExitCode;
 const USAGE: u8 = 2;
 
 /// What is printed if standard output takes no text.
-const NO_OUTPUT: &str = "cannot write the output";
+pub(crate) const NO_OUTPUT: &str = "cannot write the output";
+
+/// What is printed if memory is refused.
+pub(crate) const NO_MEMORY: &str = "out of memory";
 
 /// Shows a text of `clap`. Wrong words have their status even if standard error does not take the text.
 pub(crate) fn show(rt: &(impl Print + Eprint), text: &clap::Error) -> ExitCode

@@ -1,11 +1,11 @@
 -- What the words of the command line may ask for.
-use Rattle.std.specs.Prelude.{◌≡◌, ◌≢◌, ◌≤◌, ℕ, List, [], Some, All, Contains}
+use Rattle.std.specs.Prelude.{◌≡◌, ◌≢◌, ◌≤◌, ⊤, ℕ, List, [], Some, All, Contains}
 use Rattle.clap.specs.Values.{kind_of}
 use Rattle.clap.specs.declared.error.kind.ErrorKind.TheVariants.{OutOfMemory}
 use Rattle.share_spellings.specs.Addresses.{listener_of}
 use Rattle.share_gateway_words.specs.declared.asked.AskOrders.{AskOrders}
 use Rattle.share_gateway_words.specs.declared.asked.Asked.{Asked}
-use Rattle.share_gateway_words.specs.declared.asked.Asked.TheVariants.{Gateway, Ask, Text}
+use Rattle.share_gateway_words.specs.declared.asked.Asked.TheVariants.{Gateway, Ask, Bill, Text}
 
 -- a text that has no line feed
 abbrev pub IsLine : List ℕ → Type 0
@@ -21,4 +21,5 @@ pub record CanBeAsked (orders : AskOrders) : Type 0 where
 abbrev pub CanBeObeyed : Asked → Type 0
 CanBeObeyed (Gateway orders) = orders.grace ≤ 86400
 CanBeObeyed (Ask orders) = CanBeAsked orders
+CanBeObeyed (Bill orders) = ⊤
 CanBeObeyed (Text text) = kind_of text ≢ OutOfMemory

@@ -1,5 +1,6 @@
 //! What the words of the command line ask for.
 
+use share_billing::Form;
 use share_settings::Listener;
 
 /// How a gateway is to run.
@@ -28,6 +29,26 @@ pub struct AskOrders<'a> {
     pub lines: Vec<&'a str>,
 }
 
+/// Where the tariffs of books are.
+#[derive(Clone, Copy, Debug)]
+pub enum BillTariffs<'a> {
+    /// They are those of a file without tariffs.
+    Standard,
+    /// In this file of a gateway.
+    OfPlan(&'a str),
+    /// In this `books.csv`, against which the books are checked.
+    OfRows(&'a str),
+}
+
+/// Which books are to be billed.
+#[derive(Debug, Drop)]
+pub struct BillOrders<'a> {
+    /// The files of their texts.
+    pub files: Vec<&'a str>,
+    pub form: Form,
+    pub tariffs: BillTariffs<'a>,
+}
+
 /// What the words of the command line ask for.
 #[derive(Debug, Drop)]
 pub enum Asked<'a> {
@@ -35,6 +56,8 @@ pub enum Asked<'a> {
     Gateway(GatewayOrders<'a>),
     /// To send lines to a gateway.
     Ask(AskOrders<'a>),
+    /// To bill books.
+    Bill(BillOrders<'a>),
     /// To show a text: help, the version, or what is wrong with the words.
     Text(clap::Error),
 }

@@ -1,4 +1,4 @@
-//! The texts of help on gateways and their control lines.
+//! The texts of help on gateways, their control lines and their books.
 
 /// On gateways: what one does, its ends, and the statuses.
 pub const GATEWAY: &str =
@@ -39,4 +39,32 @@ Exit statuses:
   0  all lines were answered, and no reply begins with 'no '
   1  a reply begins with 'no '; or not all lines were answered, which standard error
      reports
+  2  the words of the command line are wrong";
+
+/// On bills: what a book is, what is checked, what a bill has, and the statuses.
+pub const BOOKS: &str =
+    "FILE is the text of a book, with a line for each event of a link: an audit of version 2,
+or a text of lengths. The lines are run again on a new link. Each has to be what that
+link does next: a command, a packet that is taken, or a turn that writes a whole frame
+of this many bytes.
+A bill has a row for each tenant, in the order in which they first appear:
+  packets  frames that went out
+  bytes    the bytes of these frames
+  units    what they were charged, by the tenant's tariff
+  amount   units times the price of a unit
+Several books are summed. The table ends with the sums of all tenants. A flow of the name
+gap is no tenant's.
+Tariffs are those of PLAN, the file of a gateway, or those of a file without tariffs.
+With --books they are those of the rows of ROWS, the books.csv of a gateway. Then each FILE
+has the name that the gateway gave it, and each book from the first to the last row has to
+be given, once. The digest of a text, its units and its amount have to be those of its
+row. A book without a row has its tariffs in the file beside it, as 000003.tariffs. A row
+whose why is bad is reported, and its book is not to be given.
+A book that is still open can be billed: a last line without its line feed is left out,
+and standard error names its file and number.
+Exit statuses:
+  0  the bill was printed
+  1  a line is not what the link does next, which standard error reports as
+     FILE:LINE: REASON; a book is not that of its row, or is not given; a file could not
+     be read; the output could not be written; or memory was lacking. No bill was printed
   2  the words of the command line are wrong";

@@ -1,11 +1,12 @@
-//! The words of `gateway` and `ask`, what they ask for, and the texts of help.
+//! The words of `gateway`, `ask` and `bill`, what they ask for, and the texts of help.
 #![tactic(auto)]
 
 mod ask_words;
 mod asked;
+mod bill_words;
 mod gateway_words;
 mod help;
 mod words;
 
-pub use asked::{AskOrders, Asked, GatewayOrders};
+pub use asked::{AskOrders, Asked, BillOrders, BillTariffs, GatewayOrders};
 pub use words::parse;

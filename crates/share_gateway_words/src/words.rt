@@ -5,6 +5,7 @@ ghost use Rattle.share_gateway_words.specs.Orders.{CanBeObeyed};
 
 use crate::ask_words::{ask_command, ask_orders};
 use crate::asked::{Asked, GatewayOrders};
+use crate::bill_words::{bill_command, bill_orders};
 use crate::gateway_words::{gateway_command, gateway_orders, is_grace};
 use clap::error::ErrorKind;
 use clap::{ArgMatches, Command};
@@ -21,7 +22,7 @@ const NOT_TEXT: &str = "invalid UTF-8 was detected in one or more arguments";
 const NO_GRACE: &str = "a grace is 0 to 86400 seconds";
 
 /// What is wrong if no subcommand was given. `clap` refuses that, but its contract does not say so.
-const NO_COMMAND: &str = "gateway or ask is wanted";
+const NO_COMMAND: &str = "gateway, ask or bill is wanted";
 
 // The command line without its subcommands, under the program's name whatever the first word is.
 fn bare_command_line<'a>(alloc: Global) -> Result<Command<'a>, AllocError> {
@@ -45,7 +46,8 @@ fn with_subcommand<'a>(
 // The command line of the program.
 fn command_line<'a>(alloc: Global) -> Result<Command<'a>, AllocError> {
     let command = with_subcommand(bare_command_line(alloc), gateway_command(alloc));
-    with_subcommand(command, ask_command(alloc))
+    let command = with_subcommand(command, ask_command(alloc));
+    with_subcommand(command, bill_command(alloc))
 }
 
 // What the words of `gateway` ask for, or what is wrong with them. `clap` refuses a grace that is out of range; but its
@@ -83,6 +85,7 @@ fn found_in<'a>(
 {
     match matches.subcommand() {
         Some(("ask", ask)) => ask_asked(alloc, ask),
+        Some(("bill", bill)) => Ok(Ok(Asked::Bill(bill_orders(alloc, bill)?))),
         Some((_, gateway)) => Ok(gateway_asked(gateway_orders(gateway))),
         None => Ok(Err(NO_COMMAND)),
     }
@@ -165,6 +168,7 @@ fn fault_in(asked: Asked<'_>) -> Option<clap::Error>
             drop(text);
         }
         Asked::Ask(orders) => drop(orders),
+        Asked::Bill(orders) => drop(orders),
         Asked::Gateway(_orders) => {}
     }
     None

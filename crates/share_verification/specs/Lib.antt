@@ -1,0 +1,4 @@
+pub mod Figures
+pub mod Given
+pub mod Lines
+pub mod Tables

@@ -1,0 +1,13 @@
+//! What a bill checks of given books beside the rows of `books.csv`. The caller reads the files and runs the texts.
+#![tactic(auto)]
+
+mod figures;
+mod given;
+mod lines;
+mod table;
+mod tariffs;
+
+pub use figures::{BookFigures, first_mismatch, row_of};
+pub use given::{GivenFault, WrongGiven, first_fault, is_bad};
+pub use table::{NotRows, WrongLine, read_rows};
+pub use tariffs::read_tariffs;

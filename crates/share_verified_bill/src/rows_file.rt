@@ -1,0 +1,75 @@
+//! The file of the rows.
+
+use crate::faults::{BadLine, BookFault, CutLine, FaultLine};
+use share_billing::NotShown;
+use share_catalog::{Row, whole_lines};
+use share_verification::{NotRows, is_bad, read_rows};
+use std::alloc::Global;
+use std::fs::{File, Files};
+use std::io::{Eprint, Read};
+use std::{fs, io};
+
+/// The bytes of a file.
+pub(crate) fn bytes_of<R: Files<File = File>>(
+    rt: &R,
+    alloc: Global,
+    path: &str,
+) -> io::Result<Vec<u8>> {
+    let mut file = fs::open(rt, path)?;
+    let mut bytes = Vec::new(alloc);
+    file.read_to_end(&mut bytes)?;
+    Ok(bytes)
+}
+
+/// Prints why there is no bill. The status says so even if standard error takes no text.
+pub(crate) fn say(rt: &impl Eprint, path: &str, fault: BookFault) -> NotShown {
+    let line = FaultLine { path, fault };
+    let _ = eprintln!(rt; "{line}");
+    NotShown::Book
+}
+
+/// The rows of a file. Standard error has a line for each whose text is no run, and one if the last line of the file is
+/// cut.
+pub(crate) fn rows_in<R: Files<File = File> + Eprint>(
+    rt: &R,
+    alloc: Global,
+    path: &str,
+) -> Result<Vec<Row>, NotShown> {
+    let bytes = match bytes_of(rt, alloc, path) {
+        Ok(bytes) => bytes,
+        Err(fault) => return Err(say(rt, path, BookFault::File(fault))),
+    };
+    match read_rows(alloc, bytes.as_slice()) {
+        Ok(rows) => {
+            report_cut(rt, path, bytes.as_slice());
+            report_bad(rt, path, rows.as_slice());
+            Ok(rows)
+        }
+        Err(NotRows::NoMemory) => Err(NotShown::NoMemory),
+        Err(NotRows::Line { number, wrong }) => {
+            Err(say(rt, path, BookFault::Row { number, wrong }))
+        }
+    }
+}
+
+// Prints that the last line has no line feed, if so.
+fn report_cut(rt: &impl Eprint, path: &str, bytes: &[u8]) {
+    if whole_lines(bytes) < bytes.len() {
+        let number = bytes.iter().filter(|byte| **byte == b'\n').count() as u64 + 1;
+        let cut = CutLine { path, number };
+        let _ = eprintln!(rt; "{cut}");
+    }
+}
+
+// Prints which rows say that a text is no run.
+fn report_bad(rt: &impl Eprint, path: &str, rows: &[Row]) {
+    for row in rows {
+        if is_bad(row) {
+            let bad = BadLine {
+                path,
+                book: row.book,
+            };
+            let _ = eprintln!(rt; "{bad}");
+        }
+    }
+}

@@ -134,9 +134,9 @@ def judge_rotations(found, is_idle):
     beside += sum(pause > MOST_PAUSE for each in found for pause in (each.plain_over, each.plain_before))
     longer = sum(each.over > each.before + MOST_PAUSE / 2 for each in found)
     shorter = sum(each.before > each.over + MOST_PAUSE / 2 for each in found)
-    print(f"rotations: no {ROTATIONS} in a row without a pause: {late} of {len(found)} pause for more than 20 ms, and so "
-          f"do {beside} of {3 * len(found)} windows beside them; {longer} pause for much longer than the time before "
-          f"them, and {shorter} for much shorter")
+    print(f"rotations: no {ROTATIONS} in a row without a pause: {late} of {len(found)} pause for more than 20 ms, and "
+          f"so do {beside} of {3 * len(found)} windows beside them; {longer} pause for much longer than the time "
+          f"before them, and {shorter} for much shorter")
     expect(late <= 2 * beside + ROTATIONS / 4, "rotations pause more often than the machine does")
     expect(longer <= 3 * shorter + len(found) / 4, "rotations pause for longer than the time between them")
     most = MOST_BUSY_PAUSE + 3 * statistics.median(each.plain_over for each in found)

@@ -12,7 +12,8 @@ connections, the lengths and the tariffs vary; SECONDS is how long each load las
 *changes.* Flows of a currency go and come, a flow is held and resumed, a ticket is amended; each beside busy loops too.
 *lone.* Packets come one by one at random pauses, in LINKS servers at once (12) for MINUTES minutes (5): the product is
 how long a link was waited for. Each packet is wanted within a second.
-*spent.* RUNS servers (100) spend their lives while clients wait to send. Each has to end within a second.
+*spent.* RUNS servers (100) spend their lives while clients wait to send. Each has to end within a second, and five times
+what a plain program takes that writes as much.
 """
 import contextlib
 import itertools
@@ -207,7 +208,7 @@ def measure_spent():
         with Run() as run:
             spent_life_blocked(run)
         print("\rspent lives: %d" % (number + 1), end="", flush=True)
-    print(" ended within a second")
+    print(" ended in time")
 
 
 def main():

@@ -44,7 +44,7 @@ KEPT = WINDOW + 2
 BEGINNING = 0.5
 
 # How much of what a plain program copies a gateway has to send on a machine that is too busy to keep the rate.
-LEAST_BESIDE = 0.9
+LEAST_BESIDE = 0.4
 
 
 class Plain:

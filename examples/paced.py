@@ -226,12 +226,13 @@ def check_most(far, windows, rate, began):
 
 def judge_rate(windows):
     """Wants of a rate that was not kept for long enough that the machine is why: the plain program keeps it in few
-    windows, and the gateway sends nearly as much as it."""
+    windows, or the gateway sends as much as it in some, and nearly half as much in all."""
     kept = [window for window in windows if window.plain >= 1 - RATE_ERROR]
     part = statistics.mean(window.found for window in windows) / statistics.mean(window.plain for window in windows)
     print(f"rate: not kept for {KEPT:.0f} s: the plain program keeps it in {len(kept)} of {len(windows)} windows; the "
           f"gateway sends {part:.4f} of what it sends")
-    expect(len(kept) <= len(windows) / 4 or any(window.is_kept() for window in windows),
-           "a rate is kept in no window, though a plain program keeps it")
+    near = sum(window.found >= (1 - RATE_ERROR) * min(1, window.plain) for window in windows)
+    expect(len(kept) <= len(windows) / 4 or near >= len(windows) / 20,
+           "a rate is not kept, though a plain program keeps it")
     expect(part >= LEAST_BESIDE, f"a gateway sends {part:.4f} of what a plain program sends at the same rate")
     print("rate: the machine was too busy to measure it: the gateway kept to bounds relative to a plain program")

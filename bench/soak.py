@@ -67,8 +67,10 @@ SEED = int(os.environ.get("SEED", time.time_ns() % 1000000007))
 SECONDS = float(os.environ.get("FLOOD_SECONDS", "4"))
 ROUNDS = int(os.environ.get("ROUNDS", "3"))
 
-# So many seconds may pass without anything that moves.
+# So many seconds may pass without anything that moves. What a flood left in the system's buffers, which may be tens of
+# MB, takes at most so many.
 STALL = 60
+LEFT = 600
 
 # Limits of the server, and what it adds to a payload for the header. A payload of IN_PLACE bytes or fewer is held in
 # its entry.
@@ -603,6 +605,7 @@ def pace(connection, peer, ending, results):
 def flood_with(connection, flood, results):
     """Sends as fast as it can for as long as a flood lasts, and reads what is answered to the end. Tells how much was
     sent, and in how many seconds all of it was taken."""
+    connection.settimeout(None)
     reader = Task(read_away, (connection,))
     reader.start()
     sent, start = 0, time.perf_counter()
@@ -613,7 +616,7 @@ def flood_with(connection, flood, results):
         else:
             time.sleep(0.01)
     finish(connection)
-    reader.finish(STALL)
+    reader.finish(LEFT)
     results.send((sent, time.perf_counter() - start))
 
 
@@ -645,7 +648,7 @@ def told(results, what):
 
 def asked_until(control, results):
     """Asks one line after another until a process has told what it did: the microseconds to each reply."""
-    times, until = [], time.monotonic() + SECONDS + STALL
+    times, until = [], time.monotonic() + SECONDS + LEFT
     while not results.poll():
         expect(time.monotonic() < until, "nothing moves any more: a flood")
         start = time.perf_counter()

@@ -465,9 +465,13 @@ def reloads(run):
     gateway.end()
     far.wait_until_over()
     expect_equal(gateway.whys(), ["reload", "reload", "end"], "why books were closed")
-    bill = {name: (count, size) for name, (count, size) in gateway.counted().items() if count}
-    expect_equal(bill, {name: (far.counts[flow], far.bytes[flow]) for name, flow in
-                        (("a", 1), ("b", 2), ("d", 4))}, "the bill")
+    expect_billed(gateway, far, {"a": 1, "b": 2, "d": 4})
+
+
+def expect_billed(gateway, far, flows):
+    """Wants that the bill is what came, of each tenant by its flow."""
+    bill = {name: row for name, row in gateway.counted().items() if row[0]}
+    expect_equal(bill, {name: (far.counts[flow], far.bytes[flow]) for name, flow in flows.items()}, "the bill")
 
 
 def expect_refused(address):
@@ -567,8 +571,7 @@ def reload_under_load(run):
     numbers = far.numbers[2]
     expect(numbers == sorted(set(numbers)) and len(numbers) == count - lost, "the packets of b")
     gateway.end()
-    bill = {name: row for name, row in gateway.counted().items() if row[0]}
-    expect_equal(bill, {name: (far.counts[flow], far.bytes[flow]) for flow, name in enumerate("abc", 1)}, "the bill")
+    expect_billed(gateway, far, {"a": 1, "b": 2, "c": 3})
 
 
 # ---- Books
@@ -591,8 +594,7 @@ def rotations(run):
         far.expect_in_order(flow, count)
     gateway.end()
     expect_equal(len(gateway.books()), turns + 1, "books")
-    expect_equal(gateway.counted(), {name: (far.counts[flow], far.bytes[flow]) for flow, name in enumerate("abc", 1)},
-                 "the bill")
+    expect_billed(gateway, far, {"a": 1, "b": 2, "c": 3})
 
 
 def lives(run):

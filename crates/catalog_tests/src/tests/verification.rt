@@ -88,19 +88,19 @@ fn texts_of_rows_are_read(rt: HostRuntime) {
         same(&rt, word, fault_of(&read), wanted);
     }
     match rows_of(&rt, rt.alloc(), "H3r4b9") {
-        Ok(rows) => {
-            same(&rt, "rows", rows.len(), 2);
-            same(&rt, "first", rows[0].book, 3);
-            same(&rt, "last", rows[1].book, 4);
-            same(
-                &rt,
-                "bad",
-                (is_bad(&rows[0]), is_bad(&rows[1])),
-                (false, true),
-            );
-        }
+        Ok(rows) => two_rows(&rt, rows.as_slice()),
         Err(fault) => panic!(rt; "{fault:?}"),
     }
+}
+
+// Wants the rows of book 3 and of book 4, of which the second is bad.
+fn two_rows(rt: &impl Abort, rows: &[Row]) {
+    let [first, last] = rows else {
+        panic!(rt; "not two rows");
+    };
+    same(rt, "first", first.book, 3);
+    same(rt, "last", last.book, 4);
+    same(rt, "bad", (is_bad(first), is_bad(last)), (false, true));
 }
 
 /// Numbers that are given beside books 3, 5, 6 (no run) and 9, and the fault.

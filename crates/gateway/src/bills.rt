@@ -51,16 +51,25 @@ fn rate(cell: u64, overhead: u64, price: u64) -> Rate
     }
 }
 
+// The books that are asked for, and the form of their bill.
+fn billing_of<'a, 'b>(orders: &'b BillOrders<'a>) -> Billing<'a, 'b> {
+    Billing {
+        paths: orders.files.as_slice(),
+        form: orders.form,
+    }
+}
+
 // Prints a bill under the tariffs of a file without tariffs.
 fn bill_plainly<R: Files<File = File> + Print + Eprint>(
     rt: &R,
     alloc: Global,
-    billing: &Billing<'_, '_>,
+    orders: BillOrders<'_>,
 ) -> ExitCode {
     let printed = match standard_rates(alloc) {
-        Ok(rates) => print_bill_by(rt, alloc, rates, billing),
+        Ok(rates) => print_bill_by(rt, alloc, rates, &billing_of(&orders)),
         Err(_) => Err(NotShown::NoMemory),
     };
+    drop(orders);
     status_of(rt, printed)
 }
 
@@ -80,12 +89,14 @@ fn bill_by_plan<R: Files<File = File> + Print + Eprint>(
     rt: &R,
     alloc: Global,
     plan: &str,
-    billing: &Billing<'_, '_>,
+    orders: BillOrders<'_>,
 ) -> ExitCode {
-    match read_file(rt, alloc, plan) {
-        Ok(settings) => bill_under(rt, alloc, settings, billing),
+    let status = match read_file(rt, alloc, plan) {
+        Ok(settings) => bill_under(rt, alloc, settings, &billing_of(&orders)),
         Err(refused) => refuse_file(rt, plan, &refused),
-    }
+    };
+    drop(orders);
+    status
 }
 
 // Prints the bill of books that are checked against their rows.
@@ -93,14 +104,16 @@ fn bill_by_rows<R: Files<File = File> + Print + Eprint>(
     rt: &R,
     alloc: Global,
     rows: &str,
-    billing: &Billing<'_, '_>,
+    orders: BillOrders<'_>,
 ) -> ExitCode {
     let verified = VerifiedBilling {
         rows,
-        paths: billing.paths,
-        form: billing.form,
+        paths: orders.files.as_slice(),
+        form: orders.form,
     };
-    status_of(rt, print_verified_bill(rt, alloc, &verified))
+    let printed = print_verified_bill(rt, alloc, &verified);
+    drop(orders);
+    status_of(rt, printed)
 }
 
 /// Prints the bill of the books that are asked for, and returns the exit status.
@@ -109,15 +122,9 @@ pub(crate) fn bill_given<R: Files<File = File> + Print + Eprint>(
     alloc: Global,
     orders: BillOrders<'_>,
 ) -> ExitCode {
-    let billing = Billing {
-        paths: orders.files.as_slice(),
-        form: orders.form,
-    };
-    let status = match orders.tariffs {
-        BillTariffs::Standard => bill_plainly(rt, alloc, &billing),
-        BillTariffs::OfPlan(plan) => bill_by_plan(rt, alloc, plan, &billing),
-        BillTariffs::OfRows(rows) => bill_by_rows(rt, alloc, rows, &billing),
-    };
-    drop(orders);
-    status
+    match orders.tariffs {
+        BillTariffs::Standard => bill_plainly(rt, alloc, orders),
+        BillTariffs::OfPlan(plan) => bill_by_plan(rt, alloc, plan, orders),
+        BillTariffs::OfRows(rows) => bill_by_rows(rt, alloc, rows, orders),
+    }
 }

@@ -148,6 +148,7 @@ deb:
 	tools/package $(PROGRAMS) bin
 
 tools-test:
+	tools/tests/readmes.py
 	tools/tests/bill.py
 	tools/tests/verify.py
 	tools/tests/dissector.py

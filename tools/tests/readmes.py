@@ -100,7 +100,7 @@ def make_scratch(folder, examples):
 def printed_by(examples):
     """What each example printed."""
     with tempfile.TemporaryDirectory() as folder:
-        done = subprocess.run(["nice", "-n", "19", "rt", "try"], cwd=make_scratch(folder, examples),
+        done = subprocess.run(["rt", "try"], cwd=make_scratch(folder, examples),
                               stdout=subprocess.PIPE, stderr=subprocess.PIPE, text=True, timeout=LIMIT, check=False)
     if done.returncode:
         sys.exit(done.stdout + done.stderr + "the examples do not run")

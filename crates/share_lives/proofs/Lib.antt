@@ -1,0 +1,3 @@
+pub mod LifeLemmas
+pub mod RemainderLemmas
+pub mod SplitLemmas

@@ -41,8 +41,8 @@ gains-pushed old new r true is has =
 gains-pushed old new r false is has =
     let full : (b : Bool) → nat_lt (length old) 64 ≡ b → 64 ≤ length old =
     λ b. elim b as (λ b. nat_lt (length old) 64 ≡ b → 64 ≤ length old) [
-      true ↦ λ test. let not = has (ltb-true (length old) 64 test) in cc
-    | false ↦ λ test. ltb-false (length old) 64 test
+      | true ↦ λ test. let not = has (ltb-true (length old) 64 test) in cc
+      | false ↦ λ test. ltb-false (length old) 64 test
     ] in
     let many : 64 ≤ length old = full (nat_lt (length old) 64) refl in
     let size : length new ≡ length old = ap length is in
@@ -71,10 +71,10 @@ gains-then old more mid rest new first then =
     → 64 < length old + length (more ++ rest) → 64 ≤ length new =
     λ b. elim b as (λ b. nat_le (length old + length more) 64 ≡ b → 64 < length old + length (more ++ rest)
     → 64 ≤ length new) [
-      true ↦ λ test many.
+      | true ↦ λ test many.
           let is = ap length (first.all (leb-true (length old + length more) 64 test)) ∙ length-append old more in
           then.most (omega (arith, size, is, many))
-    | false ↦ λ test many.
+      | false ↦ λ test many.
           let above = leb-false (length old + length more) 64 test in
           let full = first.most (omega (arith, above)) in omega (arith, full, new_longer)
     ] in

@@ -107,8 +107,8 @@ pub record Begins (s : SettingsView) (l : LifeView) : Type 0 where
 
 -- the plan that is set for the next book, or the plan of the open one, with the holds and the amounts as they are
 abbrev pub next_plan : PlanView → Option NextPlanView → PlanView
-next_plan open None = open
-next_plan open (Some next) = next.plan
+next_plan current None = current
+next_plan current (Some next) = next.plan
 
 abbrev pub next_rates : List Rate → Option NextPlanView → List Rate
 next_rates rates None = rates

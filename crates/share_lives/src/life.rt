@@ -1,10 +1,12 @@
 //! The life of the open book, and what the next one is opened over.
 ghost use Rattle.std.specs.Prelude.{◌≡◌, ◌+◌, ◌++◌, false, nat_lt, length, take, option_map, IfOk, IfErr, None, Some};
+ghost use Rattle.std.specs.Borrow.{sem};
 ghost use Rattle.std.specs.IoError.{error_kind};
 ghost use Rattle.share_base.specs.declared.refusal.Refusal.TheVariants.{NoMemory};
 ghost use Rattle.share_catalog.specs.Texts.{are_tariffs};
 ghost use Rattle.share_transit.specs.Transit.{handed_count};
 ghost use Rattle.share_book.specs.OpenBook.{IsOpenBook};
+ghost use Rattle.share_lives.specs.Lending.{LifeLends};
 ghost use Rattle.share_lives.specs.Lives.{Begins, CarriesAt, IsNextBook, IsNoneAfter, ObeysAt, ReportsAt, TurnsLife};
 ghost use Rattle.share_lives.specs.Lives.{after_follow, at_stage, begun, drained_at, dropped_at, is_carrying, is_open};
 ghost use Rattle.share_lives.specs.Lives.{is_spent_at, lacks_text_at, left_at, next_plan, next_rates, open_book};
@@ -130,8 +132,11 @@ impl Life {
         self.stage.book()
     }
 
-    /// The open book.
-    pub fn book_mut(&mut self) -> Option<&mut Book<PlainShelf>> {
+    /// The open book. The life has it as the borrower leaves it.
+    pub fn book_mut(&mut self) -> Option<&mut Book<PlainShelf>>
+        ensures* lent { sem 𝓛 (LifeLends self.entry result) }
+        ensures value { option_map (λ b. b.now) result ≡ open_book self.old.stage }
+    {
         self.stage.book_mut()
     }
 

@@ -1,7 +1,9 @@
 //! Where the life of a book stands.
 ghost use Rattle.std.specs.Prelude.{◌≡◌, ◌+◌, ◌++◌, [], not, nat_lt, length, take, option_map};
+ghost use Rattle.std.specs.Borrow.{sem};
 ghost use Rattle.share_transit.specs.Transit.{handed_count};
 ghost use Rattle.share_book.specs.Closed.{closed_of};
+ghost use Rattle.share_lives.specs.Lending.{PhaseLends, StageLends};
 ghost use Rattle.share_lives.specs.Lives.{CarriesAt, ObeysAt, TurnsAt, begun, drained_at, dropped_at, is_carrying};
 ghost use Rattle.share_lives.specs.Lives.{is_open, left_at, open_book, stage_after, text_at};
 ghost use Rattle.share_lives.specs.Remainders.{Gains, remainders_of};
@@ -23,6 +25,20 @@ pub(crate) enum Phase {
     Carrying(NewBook<PlainShelf>, Closed),
     /// The last book was closed.
     Over,
+}
+
+impl Phase {
+    // The open book.
+    fn book_mut(&mut self) -> Option<&mut Book<PlainShelf>>
+        ensures* lent { sem 𝓛 (PhaseLends self.entry result) }
+        ensures value { option_map (λ b. b.now) result ≡ open_book self.old }
+    {
+        if let Phase::Open(book) = self {
+            Some(book)
+        } else {
+            None
+        }
+    }
 }
 
 /// The book whose life it is, and where it stands.
@@ -85,11 +101,11 @@ impl Stage {
     }
 
     /// The open book.
-    pub(crate) fn book_mut(&mut self) -> Option<&mut Book<PlainShelf>> {
-        match &mut self.phase {
-            Phase::Open(book) => Some(book),
-            _ => None,
-        }
+    pub(crate) fn book_mut(&mut self) -> Option<&mut Book<PlainShelf>>
+        ensures* lent { sem 𝓛 (StageLends self.entry result) }
+        ensures value { option_map (λ b. b.now) result ≡ open_book self.old }
+    {
+        self.phase.book_mut()
     }
 
     /// Whether a book is open.
@@ -144,8 +160,8 @@ impl Stage {
         ensures dropped { Gains remainders.old (dropped_at self.old) remainders.new }
     {
         match self.take() {
-            Phase::Carrying(book, closed) => {
-                count_left(closed, remainders);
+            Phase::Carrying(book, before) => {
+                count_left(before, remainders);
                 self.put(Phase::Open(book.begin()));
             }
             other => self.put(other),

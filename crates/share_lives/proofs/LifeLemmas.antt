@@ -15,10 +15,18 @@ use Rattle.share_book.specs.BookHistory.{
   CarriesAll,
   History,
   IsCut,
+  amended,
+  carried,
+  drained,
   drained_by,
+  held,
   next_payload,
+  opened,
   payload_if,
+  resumed,
+  sent,
   tenant_limit,
+  took as book_took,
   waiting_in,
   without_last,
 }
@@ -37,7 +45,22 @@ use Rattle.share_orders.specs.declared.orders.Order.{Order}
 use Rattle.share_orders.specs.declared.orders.Order.TheVariants.{Report, Status, Hold, Resume, Amend, Rotate, Reload, End}
 use Rattle.share_orders.specs.declared.obeying.Obeyed.{Obeyed}
 use Rattle.share_orders.specs.declared.obeying.Obeyed.TheVariants.{Replied, Asks, Waits}
-use Rattle.share_lives.specs.LifeHistory.{LifeHistory, LosesNothing, Splits, scheduled_at, waiting_at}
+use Rattle.share_lives.specs.LifeHistory.{
+  LifeHistory,
+  LosesNothing,
+  Splits,
+  began,
+  followed,
+  handed,
+  left,
+  nothing,
+  obeyed,
+  planned,
+  scheduled_at,
+  took,
+  turned,
+  waiting_at,
+}
 use Rattle.share_lives.specs.Lives.{
   Begins,
   IsNextAfter,
@@ -98,7 +121,7 @@ module _ (name : NameBytes) (taken : List (List ℕ)) (dropped : ℕ) (scheduled
     others = k.others;
     splits = more-kept taken k.some k.others (payload_if (bytes_eq name tenant) payload) k.splits;
     count = k.count;
-    history = took k.some scheduled b tenant payload seq new k.history did;
+    history = book_took k.some scheduled b tenant payload seq new k.history did;
   }
 
   same_plan : (b n : BookView) (some more : List (List ℕ)) → n.plan ≡ b.plan
@@ -106,19 +129,19 @@ module _ (name : NameBytes) (taken : List (List ℕ)) (dropped : ℕ) (scheduled
   same_plan b n some more plan history =
       subst (λ (p : PlanView). History name some more (record { audited = n.audited; plan = p })) (sym plan) history
 
-  unturned : (b n : BookView) (t : TransitView) (turned : Turned) (after : TransitView) → is_wrote turned ≡ false
-      → Keeps name taken dropped scheduled (Open b) → TurnsInto t b.audited turned after n.audited → n.plan ≡ b.plan
+  unturned : (b n : BookView) (t : TransitView) (answer : Turned) (after : TransitView) → is_wrote answer ≡ false
+      → Keeps name taken dropped scheduled (Open b) → TurnsInto t b.audited answer after n.audited → n.plan ≡ b.plan
       → Keeps name taken dropped (scheduled ++ []) (Open n)
-  unturned b n t turned after none k did plan =
-      let same : n.audited ≡ b.audited = (stays_is b.audited t.outbox turned n.audited did.outbox none did.turns).0 in
+  unturned b n t answer after none k did plan =
+      let same : n.audited ≡ b.audited = (stays_is b.audited t.outbox answer n.audited did.outbox none did.turns).0 in
       subst (λ ps. Keeps name taken dropped ps (Open n)) (sym (append-nil scheduled))
       (with_history (Open b) k scheduled (Open n)
       (same_plan b n k.some scheduled plan
       (subst (λ (a : Audited). History name k.some scheduled (record b { audited = a })) (sym same) k.history)))
 
-  turned_book : (b n : BookView) (t : TransitView) (turned : Turned) (after : TransitView)
-      → Keeps name taken dropped scheduled (Open b) → TurnsInto t b.audited turned after n.audited → n.plan ≡ b.plan
-      → Keeps name taken dropped (scheduled ++ scheduled_at name (Open b) (frame_of turned)) (Open n)
+  turned_book : (b n : BookView) (t : TransitView) (answer : Turned) (after : TransitView)
+      → Keeps name taken dropped scheduled (Open b) → TurnsInto t b.audited answer after n.audited → n.plan ≡ b.plan
+      → Keeps name taken dropped (scheduled ++ scheduled_at name (Open b) (frame_of answer)) (Open n)
   turned_book b n t (Wrote flow seq count) after k did plan =
       with_history (Open b) k (scheduled ++ next_payload b.plan name (sending b.audited.link.live)) (Open n)
       (same_plan b n k.some (scheduled ++ next_payload b.plan name (sending b.audited.link.live)) plan
@@ -128,14 +151,14 @@ module _ (name : NameBytes) (taken : List (List ℕ)) (dropped : ℕ) (scheduled
   turned_book b n t Spent after k did plan = unturned b n t Spent after refl k did plan
   turned_book b n t Idle after k did plan = unturned b n t Idle after refl k did plan
 
-  turned_at : (stage new : Phase) (t : TransitView) (turned : Turned) (after : TransitView)
-      → Keeps name taken dropped scheduled stage → TurnsAt stage t turned new after
-      → Keeps name taken dropped (scheduled ++ scheduled_at name stage (frame_of turned)) new
-  turned_at (Open b) (Open n) t turned after k did = turned_book b n t turned after k did.0 did.1
-  turned_at (Open b) (Carrying n c) t turned after k did = absurd did
-  turned_at (Open b) Over t turned after k did = absurd did
-  turned_at (Carrying b c) new t turned after k did = absurd k.history
-  turned_at Over new t turned after k did =
+  turned_at : (stage new : Phase) (t : TransitView) (answer : Turned) (after : TransitView)
+      → Keeps name taken dropped scheduled stage → TurnsAt stage t answer new after
+      → Keeps name taken dropped (scheduled ++ scheduled_at name stage (frame_of answer)) new
+  turned_at (Open b) (Open n) t answer after k did = turned_book b n t answer after k did.0 did.1
+  turned_at (Open b) (Carrying n c) t answer after k did = absurd did
+  turned_at (Open b) Over t answer after k did = absurd did
+  turned_at (Carrying b c) new t answer after k did = absurd k.history
+  turned_at Over new t answer after k did =
       subst (λ ps. Keeps name taken dropped ps new) (sym (append-nil scheduled))
       (subst (Keeps name taken dropped scheduled) (sym did.1) k)
 
@@ -229,8 +252,8 @@ module _ (name : NameBytes) (taken : List (List ℕ)) (dropped : ℕ) (scheduled
     followed_book old b rates p events kind new after k limits begun did cut =
         let order = ap length (in_order k.some scheduled old k.history)
         ∙ length-append scheduled (waiting_in old name) in
-        let left = ap length cut.dropped ∙ length-drop (tenant_limit p name) (waiting_in old name) in
-        without (Open old) k (length (left_for after name)) (omega (arith, order, left))
+        let rest = ap length cut.dropped ∙ length-drop (tenant_limit p name) (waiting_in old name) in
+        without (Open old) k (length (left_for after name)) (omega (arith, order, rest))
         (Open (record b { audited = new }))
         (carried k.some scheduled old rates p events kind b new after k.history limits begun did)
 

@@ -63,17 +63,17 @@ longer_by old new stay =
 -- some are added after others
 pub gains-then : (old more mid rest new : List Remainder) → Gains old more mid → Gains mid rest new
     → Gains old (more ++ rest) new
-gains-then old more mid rest new first then =
+gains-then old more mid rest new first second =
     let size = length-append more rest in
     let mid_longer = (longer_by old mid first.stay).longer in
-    let new_longer = (longer_by mid new then.stay).longer in
+    let new_longer = (longer_by mid new second.stay).longer in
     let most_by : (b : Bool) → nat_le (length old + length more) 64 ≡ b
     → 64 < length old + length (more ++ rest) → 64 ≤ length new =
     λ b. elim b as (λ b. nat_le (length old + length more) 64 ≡ b → 64 < length old + length (more ++ rest)
     → 64 ≤ length new) [
       | true ↦ λ test many.
           let is = ap length (first.all (leb-true (length old + length more) 64 test)) ∙ length-append old more in
-          then.most (omega (arith, size, is, many))
+          second.most (omega (arith, size, is, many))
       | false ↦ λ test many.
           let above = leb-false (length old + length more) 64 test in
           let full = first.most (omega (arith, above)) in omega (arith, full, new_longer)
@@ -82,9 +82,9 @@ gains-then old more mid rest new first then =
       all = λ few.
           let here = first.all (omega (arith, size, few)) in
           let long = ap length here ∙ length-append old more in
-          then.all (omega (arith, size, few, long)) ∙ ap (λ rs. rs ++ rest) here ∙ append_assoc old more rest;
+          second.all (omega (arith, size, few, long)) ∙ ap (λ rs. rs ++ rest) here ∙ append_assoc old more rest;
       stay =
-          sym (take-take (length old) (length mid) new mid_longer) ∙ ap (take (length old)) then.stay ∙ first.stay;
+          sym (take-take (length old) (length mid) new mid_longer) ∙ ap (take (length old)) second.stay ∙ first.stay;
       most = most_by (nat_le (length old + length more) 64) refl;
     }
 
@@ -92,7 +92,7 @@ gains-then old more mid rest new first then =
 pub gains-tenant : (bs : List Buffer) (ts : List TenantView) (i : ℕ) (t : TenantView) → i < length ts
     → get_or ts i t ≡ t → (old mid new : List Remainder) → Gains old (flat_map (tenant_remainder bs) (take i ts)) mid
     → Gains mid (tenant_remainder bs t) new → Gains old (flat_map (tenant_remainder bs) (take (i + 1) ts)) new
-gains-tenant bs ts i t within is old mid new first then =
+gains-tenant bs ts i t within is old mid new first second =
     let all : flat_map (tenant_remainder bs) (take (i + 1) ts)
     ≡ flat_map (tenant_remainder bs) (take i ts) ++ tenant_remainder bs t =
     ap (flat_map (tenant_remainder bs)) (take_more ts i t within)
@@ -100,7 +100,7 @@ gains-tenant bs ts i t within is old mid new first then =
     ∙ ap (λ rs. flat_map (tenant_remainder bs) (take i ts) ++ rs)
     (append-nil (tenant_remainder bs (get_or ts i t)) ∙ ap (tenant_remainder bs) is) in
     subst (λ rs. Gains old rs new) (sym all)
-    (gains-then old (flat_map (tenant_remainder bs) (take i ts)) mid (tenant_remainder bs t) new first then)
+    (gains-then old (flat_map (tenant_remainder bs) (take i ts)) mid (tenant_remainder bs t) new first second)
 
 -- ---- Counting
 
@@ -115,28 +115,30 @@ one_of name n true some test =
     (sym (cond-true (nat_lt 0 n) (record { tenant = name; packets = n } ∷ []) [] test)) (0, omega arith, refl)
 one_of name n false some test = absurd (omega (arith, some, ltb-false 0 n test))
 
+counts_head : (bs : List Buffer) (name : NameBytes) (t u : TenantView) (us : List TenantView) (r : Remainder)
+    → r ≡ record { tenant = name; packets = count_in bs t.flow } → 0 < count_in bs t.flow → (b : Bool)
+    → bytes_eq name u.name ≡ b → (if b then Some u else find (is_tenant name) us) ≡ Some t
+    → (find (is_tenant name) us ≡ Some t → Contains (flat_map (tenant_remainder bs) us) r)
+    → Contains (tenant_remainder bs u ++ flat_map (tenant_remainder bs) us) r
+counts_head bs name t u us r is some true test found rest =
+    let same : u ≡ t = cc in
+    let named : name ≡ u.name = same_name name u.name test in
+    let here : Contains (remainder_of name (count_in bs t.flow)) r =
+    subst (Contains (remainder_of name (count_in bs t.flow))) (sym is)
+    (one_of name (count_in bs t.flow) (nat_lt 0 (count_in bs t.flow)) some refl) in
+    Contains-append_left (tenant_remainder bs u) (flat_map (tenant_remainder bs) us) r
+    (subst (λ (name : NameBytes). Contains (remainder_of name (count_in bs u.flow)) r) named
+    (subst (λ (u : TenantView). Contains (remainder_of name (count_in bs u.flow)) r) (sym same) here))
+counts_head bs name t u us r is some false test found rest =
+    Contains-append_right (tenant_remainder bs u) (flat_map (tenant_remainder bs) us) r (rest found)
+
 counts_in : (bs : List Buffer) (name : NameBytes) (t : TenantView) (ts : List TenantView)
     → find (is_tenant name) ts ≡ Some t → 0 < count_in bs t.flow
     → Contains (flat_map (tenant_remainder bs) ts) (record { tenant = name; packets = count_in bs t.flow })
 counts_in bs name t [] found some = cc
-counts_in bs name t (u ∷ us) found some = counts_by (bytes_eq name u.name) refl
-  where
-    r : Remainder
-    r = record { tenant = name; packets = count_in bs t.flow }
-
-    counts_by : (b : Bool) → bytes_eq name u.name ≡ b
-        → Contains (tenant_remainder bs u ++ flat_map (tenant_remainder bs) us) r
-    counts_by true test =
-        let same : Some u ≡ Some t = sym (cond-true (bytes_eq name u.name) (Some u) (find (is_tenant name) us) test) ∙ found in
-        let is : u ≡ t = cc in
-        let named : name ≡ u.name = same_name name u.name test in
-        Contains-append_left (tenant_remainder bs u) (flat_map (tenant_remainder bs) us) r
-        (subst (λ (u : TenantView). Contains (remainder_of name (count_in bs u.flow)) r) (sym is)
-        (one_of name (count_in bs t.flow) (nat_lt 0 (count_in bs t.flow)) some refl))
-    counts_by false test =
-        Contains-append_right (tenant_remainder bs u) (flat_map (tenant_remainder bs) us) r
-        (counts_in bs name t us
-        (sym (cond-false (bytes_eq name u.name) (Some u) (find (is_tenant name) us) test) ∙ found) some)
+counts_in bs name t (u ∷ us) found some =
+    counts_head bs name t u us (record { tenant = name; packets = count_in bs t.flow }) refl some
+    (bytes_eq name u.name) refl found (λ rest. counts_in bs name t us rest some)
 
 pub counts-tenants : (c : ClosedView) → CountsTenants c
 counts-tenants c = record {

@@ -1,6 +1,6 @@
 -- Lists that are split into two, each in its order.
 use Rattle.std.proofs.Common.{◌≡◌, ℕ, zero, suc, ◌+◌, ◌-◌, List, [], ◌∷◌, ◌++◌, length, take, arith, refl}
-use Rattle.share_lives.specs.LifeHistory.{Splits}
+use Rattle.share_lives.specs.LifeHistory.{Splits, nothing, kept, lost}
 
 pub all-kept : (ps : List (List ℕ)) → Splits ps ps []
 all-kept [] = nothing

@@ -6,4 +6,4 @@ abbrev pub invariant-loop-remainder : goal.invariant-loop-remainder
 invariant-loop-remainder l =
     l.packets
     ≡ min 18446744073709551615
-    (sum_by (λ (r : Remainder). r.packets) (take l.remainder-index l.self-inside.all.items))
+    (sum_by (λ (r : Remainder). r.packets) (take l.remainder-index l.remainder-items))

@@ -13,7 +13,7 @@ ghost use Rattle.share_lives.specs.Lives.{is_spent_at, lacks_text_at, left_at, n
 ghost use Rattle.share_lives.specs.Lives.{sends_at, text_at};
 ghost use Rattle.share_lives.specs.NextBooks.{IsNoBook, text_kind};
 ghost use Rattle.share_lives.specs.Remainders.{Gains};
-ghost use Rattle.share_lives.specs.Tariffs.{book_tariffs};
+ghost use Rattle.share_lives.specs.Tariffs.{book_tariff, book_tariffs};
 ghost use Rattle.share_lives.specs.declared.stage.Phase.TheVariants.{Over};
 
 use crate::next_book::NextBook;
@@ -341,19 +341,20 @@ pub fn tariffs_of(rates: &[Rate]) -> io::Result<Tariffs>
 {
     let mut tariffs = Tariffs::none();
     'rates: for index in 0..rates.len() {
-        let Rate {
-            cell,
-            overhead,
-            price,
-        } = rates[index];
-        let tariff = BookTariff {
-            cell,
-            overhead,
-            price,
-        };
+        let tariff = book_tariff(&rates[index]);
         if !tariffs.add(tariff) {
             return Err(Error::from(ErrorKind::InvalidInput));
         }
     }
     Ok(tariffs)
+}
+
+fn book_tariff(rate: &Rate) -> BookTariff
+    ensures { result ≡ book_tariff rate.now }
+{
+    BookTariff {
+        cell: rate.cell,
+        overhead: rate.overhead,
+        price: rate.price,
+    }
 }

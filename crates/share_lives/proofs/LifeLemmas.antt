@@ -42,7 +42,8 @@ use Rattle.share_transit.specs.Transit.{TransitView, TurnsInto}
 use Rattle.share_transit.proofs.PacedLemmas.{is_wrote, stays_is}
 use Rattle.share_orders.specs.Obeys.{Does, Obeys, waits}
 use Rattle.share_orders.specs.declared.orders.Order.{Order}
-use Rattle.share_orders.specs.declared.orders.Order.TheVariants.{Report, Status, Hold, Resume, Amend, Rotate, Reload, End}
+use Rattle.share_orders.specs.declared.orders.Order.TheVariants.{Report, Status, Hold, Resume, Amend, Rotate}
+use Rattle.share_orders.specs.declared.orders.Order.TheVariants.{Reload, End}
 use Rattle.share_orders.specs.declared.obeying.Obeyed.{Obeyed}
 use Rattle.share_orders.specs.declared.obeying.Obeyed.TheVariants.{Replied, Asks, Waits}
 use Rattle.share_lives.specs.LifeHistory.{

@@ -1,6 +1,6 @@
 -- Tariffs that are refused.
-use Rattle.std.proofs.Common.{◌≡◌, ◌<◌, ◌≤◌, ℕ, zero, suc, Bool, true, false, nat_le, List, [], ◌∷◌, length, take, map, get_or}
-use Rattle.std.proofs.Common.{arith, refl, ap, ◌∙◌, length-take}
+use Rattle.std.proofs.Common.{◌≡◌, ◌<◌, ◌≤◌, ℕ, zero, suc, Bool, true, false, nat_le, List, [], ◌∷◌, length, take}
+use Rattle.std.proofs.Common.{map, get_or, arith, refl, ap, ◌∙◌, length-take}
 use Rattle.std.specs.List.{list_all}
 use Rattle.std.proofs.lemmas.Bool.{and_parts, leb-true}
 use Rattle.std.proofs.lemmas.List.{length-map}
@@ -33,7 +33,7 @@ refused_by rates ts i d t within is some not true test =
       ap is_tariff is ∙ each_is rates i d within both.1,
     ))
 
--- a tariff is refused only if there are eight before it, or it is out of its range: then all together are none of a book
+-- a tariff is refused only if there are eight before it, or it is out of its range: all of them are none of a book
 pub tariffs-refused : (rates : List Rate) (ts : List BookTariff) (i : ℕ) (d : Rate) (t : BookTariff) (added : Bool)
     → i < length rates → t ≡ book_tariff (get_or rates i d) → ts ≡ book_tariffs (take i rates) → added ≡ false
     → (((length ts < 8) × (is_tariff t ≡ true)) → added ≡ true) → are_tariffs (book_tariffs rates) ≡ false

@@ -222,8 +222,8 @@ TurnsAt (Carrying b c) before turned new after = (turned ≡ Idle) × (new ≡ C
 TurnsAt Over before turned new after = (turned ≡ Idle) × (new ≡ Over) × (after ≡ before)
 
 -- a turn of the open book, if one is open, and its frame
-pub record TurnsLife (old : LifeView) (before : TransitView) (frame : Option Frame) (new : LifeView) (after : TransitView)
-    : Type 0 where
+pub record TurnsLife (old : LifeView) (before : TransitView) (frame : Option Frame) (new : LifeView)
+    (after : TransitView) : Type 0 where
   pub turned : Turned
   pub turns : TurnsAt old.stage before turned new.stage after
   pub frame_is : frame ≡ frame_of turned

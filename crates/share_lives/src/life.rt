@@ -87,8 +87,8 @@ impl Drop for Life {
 }
 
 impl Life {
-    /// The first book of these settings is open. The error is `OutOfMemory` if memory was refused, and `InvalidInput` if
-    /// no book can be opened over the plan.
+    /// The first book of these settings is open. The error is `OutOfMemory` if memory was refused, and `InvalidInput`
+    /// if no book can be opened over the plan.
     pub fn begin(alloc: Global, settings: &Settings) -> io::Result<Life>
         ensures ok { IfOk result (Begins settings.now) }
         ensures not { IfErr result (IsNoBook settings.now.tariffs settings.now.plan settings.now.books.events) }
@@ -213,8 +213,8 @@ impl Life {
         }
     }
 
-    /// Obeys an order on the open book. While `waits`, orders that are events or that close the book wait. While no book
-    /// is open all do.
+    /// Obeys an order on the open book. While `waits`, orders that are events or that close the book wait. While no
+    /// book is open all do.
     pub fn obey(&mut self, waits: bool, order: Order) -> Obeyed
         ensures obeyed { ObeysAt waits self.old.stage order result self.new.stage }
         ensures rest { self.new ≡ at_stage self.new.stage self.old }
@@ -324,8 +324,8 @@ impl Life {
         self.stage.begin_next(remainders);
     }
 
-    /// Drops the open book, and adds the packets that wait in it to these. While packets are carried over, it adds those
-    /// that were, and those that are left.
+    /// Drops the open book, and adds the packets that wait in it to these. While packets are carried over, it adds
+    /// those that were, and those that are left.
     pub fn leave(&mut self, remainders: &mut Remainders)
         ensures life { self.new ≡ at_stage Over self.old }
         ensures dropped { Gains remainders.old (left_at self.old.stage) remainders.new }

@@ -168,8 +168,8 @@ impl Stage {
         }
     }
 
-    /// Drops the open book, and adds the packets that wait in it to these. While packets are carried over, it adds those
-    /// that were, and those that are left.
+    /// Drops the open book, and adds the packets that wait in it to these. While packets are carried over, it adds
+    /// those that were, and those that are left.
     pub(crate) fn leave(&mut self, remainders: &mut Remainders)
         ensures stage { self.new ≡ Phase.Over }
         ensures dropped { Gains remainders.old (left_at self.old) remainders.new }
@@ -198,8 +198,8 @@ impl Stage {
     /// Moves text to a page for the disk.
     pub(crate) fn hand(&mut self, transit: &mut Transit, page: &mut Page)
         ensures stage { self.new ≡ drained_at (handed_count transit.old page.old (text_at self.old)) self.old }
-        ensures transit { transit.new
-            ≡ record transit.old { handed = transit.old.handed + handed_count transit.old page.old (text_at self.old) } }
+        ensures transit { let n = handed_count transit.old page.old (text_at self.old) in
+            transit.new ≡ record transit.old { handed = transit.old.handed + n } }
         ensures page { page.new
             ≡ page.old ++ take (handed_count transit.old page.old (text_at self.old)) (text_at self.old) }
     {

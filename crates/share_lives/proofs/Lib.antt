@@ -1,0 +1,4 @@
+pub mod LifeLemmas
+pub mod RemainderLemmas
+pub mod SplitLemmas
+pub mod TariffLemmas

@@ -14,7 +14,8 @@ TOP = os.path.dirname(TOOLS)
 for folder in (TOOLS, os.path.join(TOP, "examples")):
     sys.path.insert(0, folder)
 
-from serving import PROGRAM, Failure, Run, expect, expect_equal, limit_time  # noqa: E402
+from gatewaying import Play  # noqa: E402
+from serving import PROGRAM, Failure, expect, expect_equal, limit_time  # noqa: E402
 
 # The program of gateways.
 GATEWAY = os.path.abspath(os.environ.get("GATEWAY", os.path.join(TOP, "bin", "stridelink-gateway")))
@@ -60,7 +61,7 @@ def holds(case):
     start = time.monotonic()
     signal.alarm(LIMIT)
     try:
-        with Run() as run:
+        with Play() as run:
             case(run)
     except Exception as fault:
         places = ", ".join(str(place.lineno) for place in traceback.extract_tb(fault.__traceback__)

@@ -223,11 +223,11 @@ def recognised(run):
 
 
 def page(run):
-    """What docs/RUNNING.md shows of a frame of version 2 is what tshark prints."""
-    with open(os.path.join(TOP, "docs", "RUNNING.md"), encoding="utf-8") as source:
+    """What docs/SERVING.md shows of a frame of version 2 is what tshark prints."""
+    with open(os.path.join(TOP, "docs", "SERVING.md"), encoding="utf-8") as source:
         text = source.read()
     wanted = "".join("    %s\n" % line for line in printed(run, HI[2]))
-    expect(wanted in text, "docs/RUNNING.md does not show:\n%s" % wanted)
+    expect(wanted in text, "docs/SERVING.md does not show:\n%s" % wanted)
 
 
 try_cases(examples, every_cut, both_versions, no_frame, marked, shown, recognised, page)

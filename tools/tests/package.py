@@ -81,7 +81,9 @@ def build(folder, programs=os.path.dirname(PROGRAM)):
 
 @functools.cache
 def built():
-    """The path of the package, which is built once."""
+    """The path of the package: that of the variable PACKAGE, or one that is built once."""
+    if "PACKAGE" in os.environ:
+        return os.path.abspath(os.environ["PACKAGE"])
     folder = tempfile.mkdtemp(prefix="stridelink-")
     atexit.register(shutil.rmtree, folder, ignore_errors=True)
     expect_equal(build(folder), (0, ""), "the end of package")
@@ -328,10 +330,11 @@ def removed(run):
     root.tell("test", "-f", "/etc/stridelink/north.conf")
 
 
-CASES = [builds, refused, linted]
-if os.geteuid() == 0:
-    CASES += [first_example, gateway_example, pages, tools, completes, completes_all, dissects, units, documents,
-              removed]
-else:
-    print("package.py: only root can install the package, and what is installed is not tried", file=sys.stderr)
-try_cases(*CASES)
+if __name__ == "__main__":
+    CASES = [builds, refused, linted]
+    if os.geteuid() == 0:
+        CASES += [first_example, gateway_example, pages, tools, completes, completes_all, dissects, units, documents,
+                  removed]
+    else:
+        print("package.py: only root can install the package, and what is installed is not tried", file=sys.stderr)
+    try_cases(*CASES)

@@ -130,10 +130,10 @@ def faults(run):
 
 
 def page(run):
-    """docs/RUNNING.md shows the picture of this run, which is drawn as it is there."""
+    """docs/SERVING.md shows the picture of this run, which is drawn as it is there."""
     folder = os.path.join(os.path.dirname(TOOLS), "docs")
-    with open(os.path.join(folder, "RUNNING.md"), encoding="utf-8") as source:
-        expect("](idle-tenant.svg)" in source.read(), "docs/RUNNING.md does not show the picture")
+    with open(os.path.join(folder, "SERVING.md"), encoding="utf-8") as source:
+        expect("](idle-tenant.svg)" in source.read(), "docs/SERVING.md does not show the picture")
     drawn = os.path.join(run.folder(), "idle-tenant")
     expect_works("shares", "--points", "300", write(run.folder(), "audit", idle_tenant.script()), drawn)
     with open(drawn + ".svg", encoding="utf-8") as now, open(os.path.join(folder, "idle-tenant.svg"),

@@ -56,10 +56,10 @@ def audit(*lines, version=1):
     return "".join(line + "\n" for line in ("audit %d" % version, *lines))
 
 
-def holds(case):
-    """Tries a case; whether it holds. Tells why not."""
+def holds(case, limit):
+    """Tries a case for that many seconds at most; whether it holds. Prints why not."""
     start = time.monotonic()
-    signal.alarm(LIMIT)
+    signal.alarm(limit)
     try:
         with Play() as run:
             case(run)
@@ -76,11 +76,11 @@ def holds(case):
     return True
 
 
-def try_cases(*cases):
-    """Tries all cases, or those that the words name, and ends."""
+def try_cases(*cases, limit=LIMIT):
+    """Tries all cases, or those that the words name, and ends. Each has that many seconds."""
     names = {case.__name__: case for case in cases}
     if not set(sys.argv[1:]) <= set(names):
         sys.exit("the cases are " + " ".join(names))
     limit_time()
-    failed = [case for case in cases if case.__name__ in (sys.argv[1:] or names) and not holds(case)]
+    failed = [case for case in cases if case.__name__ in (sys.argv[1:] or names) and not holds(case, limit)]
     sys.exit(1 if failed else 0)

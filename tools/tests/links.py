@@ -47,10 +47,10 @@ class Engine:
         subprocess.run([*as_user, os.path.join(PROGRAMS, name), *words], stdin=subprocess.DEVNULL,
                        stdout=subprocess.DEVNULL, cwd="/", timeout=LIMIT, check=True)
 
-    def query(self, rows):
-        """Gives rows to the query: its status, and the rows of its answer."""
+    def query(self, rows, name="bills.sql"):
+        """Gives rows to a query: its status, and the rows of its answer."""
         done = subprocess.run(["psql", "-q", "-X", "-A", "-t", "-h", self.folder, "-U", USER, "-f",
-                               os.path.join(TOOLS, "bills.sql")], input=rows.encode(), stdout=subprocess.PIPE,
+                               os.path.join(TOOLS, name)], input=rows.encode(), stdout=subprocess.PIPE,
                               stderr=subprocess.PIPE, timeout=LIMIT, check=False)
         return done.returncode, [line.split("|") for line in done.stdout.decode().splitlines()]
 

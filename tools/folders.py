@@ -6,11 +6,10 @@ import subprocess
 import threading
 from dataclasses import dataclass
 
-from audits import Fault
+from audits import COMPRESSED, Fault
 
 ROWS = "books.csv"
 ENDINGS = {"lengths": "lengths", "whole": "audit"}
-COMPRESSED = ".zst"
 
 
 @dataclass(frozen=True)
@@ -55,6 +54,24 @@ class Folder:
     def closed_within(self, begin, end):
         """The rows of books that were closed from `begin` on and before `end`, which are texts such as 2026-11."""
         return [row for row in self.rows if begin <= row["closed"] and (not end or row["closed"] < end)]
+
+
+# The tariffs of a run of 'stridelink run', as a row has them.
+STANDARD = "1/0/1 48/16/2 1024/0/1 2048/1024/3"
+
+
+def expect_standard(path):
+    """Wants that a book has the tariffs that a run has, if a row or a file beside it says which it has."""
+    folder, name = os.path.split(path)
+    tariffs = []
+    if os.path.exists(os.path.join(folder, ROWS)):
+        tariffs = [row["tariffs"] for row in Folder(folder).rows if row.name() == name.removesuffix(COMPRESSED)]
+    beside = os.path.join(folder, name.partition(".")[0] + ".tariffs")
+    if not tariffs and os.path.exists(beside):
+        with open(beside, encoding="ascii") as source:
+            tariffs = [source.read().strip()]
+    if tariffs and tariffs[0] != STANDARD:
+        raise Fault("%s: its tariffs are '%s', and 'stridelink run' has '%s'" % (path, tariffs[0], STANDARD))
 
 
 def expand(path, sink):

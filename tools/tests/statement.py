@@ -19,18 +19,18 @@ TARIFFS = "1/0/1 48/16/2 1024/0/1 2048/1024/3"
 # tariff 2. The payload of 31 bytes makes 48 bytes of frame, which are 64 units too.
 OPENED = ("open acme 4 1", "open bond 4 2", "mktkt 3 base", "fund 1 flow acme", "mktkt 1 base", "fund 2 flow bond")
 BOOKS = (
-    ("2026-11-01T00:00:00Z", "2026-11-15T00:00:00Z", ("send acme 1", "turn 18", "send bond 1", "turn 18")),
-    ("2026-11-15T00:00:00Z", "2026-12-01T00:00:00Z", ("send bond 31", "turn 48")),
-    ("2026-12-01T00:00:00Z", "2026-12-02T00:00:00Z", ("send acme 1", "turn 18")),
+    ("2026-01-01T00:00:00Z", "2026-01-15T00:00:00Z", ("send acme 1", "turn 18", "send bond 1", "turn 18")),
+    ("2026-01-15T00:00:00Z", "2026-02-01T00:00:00Z", ("send bond 31", "turn 48")),
+    ("2026-02-01T00:00:00Z", "2026-02-02T00:00:00Z", ("send acme 1", "turn 18")),
 )
 SUMS = ((2, 36, 82, 146), (1, 48, 64, 128), (1, 18, 18, 18))
 
 # The rows of tenants by periods: packets, bytes, units and amount.
 PERIODS = (
     ((), {"acme": (2, 36, 36, 36), "bond": (2, 66, 128, 256)}),
-    (("--from", "2026-11", "--to", "2026-12"), {"acme": (1, 18, 18, 18), "bond": (1, 18, 64, 128)}),
-    (("--from", "2026-12"), {"acme": (1, 18, 18, 18), "bond": (1, 48, 64, 128)}),
-    (("--to", "2026-12-01T00:00:01Z"), {"acme": (1, 18, 18, 18), "bond": (2, 66, 128, 256)}),
+    (("--from", "2026-01", "--to", "2026-02"), {"acme": (1, 18, 18, 18), "bond": (1, 18, 64, 128)}),
+    (("--from", "2026-02"), {"acme": (1, 18, 18, 18), "bond": (1, 48, 64, 128)}),
+    (("--to", "2026-02-01T00:00:01Z"), {"acme": (1, 18, 18, 18), "bond": (2, 66, 128, 256)}),
 )
 
 
@@ -58,7 +58,7 @@ def periods(run):
     folder = books(run)
     for words, wanted in PERIODS:
         expect_equal(found(folder, *words), wanted, "a statement %s" % (words,))
-    expect_works("age", folder)
+    expect_works("age", "--days", "10000", folder)
     names = sorted(os.listdir(folder))
     expect_equal(names, ["%06d.lengths" % number for number in (1, 2, 3)] + ["books.csv"], "books that are not old")
     expect_works("age", "--days", "0", folder)
@@ -73,9 +73,9 @@ def periods(run):
 def forms(run):
     """The table and JSON have the link, the period, the sums and the digests."""
     folder = books(run)
-    words = ("--link", "north", "--from", "2026-11", "--to", "2026-12", folder)
+    words = ("--link", "north", "--from", "2026-01", "--to", "2026-02", folder)
     lines = expect_works("statement", *words, program=GATEWAY).splitlines()
-    expect_equal(lines[0], "link north, from 2026-11 to 2026-12", "the first line")
+    expect_equal(lines[0], "link north, from 2026-01 to 2026-02", "the first line")
     expect_equal(lines[5].split(), ["all", "tenants", "2", "36", "82", "146"], "the sums")
     with open(os.path.join(folder, "000001.lengths"), "rb") as source:
         digest = hashlib.sha256(source.read()).hexdigest()

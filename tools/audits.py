@@ -1,5 +1,5 @@
-"""Audits, gone through line by line with what `stridelink run` answers. A text that no journal prints is refused. A text
-of lengths is taken as an audit whose payloads are zeros. Texts may be compressed."""
+"""Audits, gone through line by line with what `stridelink run` answers. A text that no journal prints is refused. A
+text of lengths is taken as an audit whose payloads are zeros. Texts may be compressed."""
 import contextlib
 import os
 import subprocess

@@ -10,8 +10,8 @@ from folders import expect_standard
 
 @dataclass(frozen=True)
 class Point:
-    """A flow at a moment: the clock, the units charged to it, those that its tickets promised, its pass, which is None if
-    it does not compete, and the mean pass of those that compete, weighted by their tickets."""
+    """A flow at a moment: the clock, the units charged to it, those that its tickets promised, its pass, which is None
+    if it does not compete, and the mean pass of those that compete, weighted by their tickets."""
     clock: int
     units: int
     promised: float

@@ -323,7 +323,8 @@ def removed(run):
     expect(len(files) > 60, "only %d files" % len(files))
     root.tell("cp", EXAMPLES + "/serve-example.conf", "/etc/stridelink/north.conf")
     root.tell("sh", "-c", "dpkg --no-triggers --purge stridelink 2> /dev/null")
-    expect_equal(text(root.path("tmp/asked")), "stop stridelink-books@*.timer stridelink@*.service stridelink-serve@*.service\n",
+    expect_equal(text(root.path("tmp/asked")),
+                 "stop stridelink-books@*.timer stridelink@*.service stridelink-serve@*.service\n",
                  "what systemctl is asked")
     left = root.tell("sh", "-c", 'for path; do [ ! -e "$path" ] || echo "$path"; done', "sh", *files)
     expect_equal(left, "", "files that are left")

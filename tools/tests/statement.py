@@ -1,6 +1,6 @@
 #!/usr/bin/env python3
-"""Tries tools/statement and tools/age on the books of a worked folder: sums, periods, compressed texts, altered ones, and
-the query over statements in PostgreSQL."""
+"""Tries tools/statement and tools/age on the books of a worked folder: sums, periods, compressed texts, altered ones,
+and the query over statements in PostgreSQL."""
 import csv
 import hashlib
 import io
@@ -50,7 +50,8 @@ def books(run):
 def found(folder, *words):
     """The rows of tenants that the statement prints as CSV."""
     rows = csv.DictReader(io.StringIO(expect_works("statement", "--csv", *words, folder, program=GATEWAY)))
-    return {row["tenant"]: tuple(int(row[column]) for column in ("packets", "bytes", "units", "amount")) for row in rows}
+    return {row["tenant"]: tuple(int(row[column]) for column in ("packets", "bytes", "units", "amount"))
+            for row in rows}
 
 
 def periods(run):

@@ -238,8 +238,8 @@ class GatewayInstance:
 
 
 def gateway_starts_and_stops(run):
-    """A start is over once the gateway answers, a reload adds a tenant, and a stop sends what waits and closes the book.
-    The next start goes on, and a stop after the end of the process is no fault."""
+    """A start is over once the gateway answers, a reload adds a tenant, and a stop sends what waits and closes the
+    book. The next start goes on, and a stop after the end of the process is no fault."""
     far = run.far_end(keeps=False)
     instance = GatewayInstance(run, far)
     instance.start()

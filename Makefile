@@ -14,7 +14,7 @@ SOURCES := crates.txt $(shell find crates -name '*.rt' -o -name '*.antt' | grep 
 PREFIX ?= /usr/local
 
 TOOL_PACKAGES := mandoc man-db tshark gnuplot-nox python3 python3-prometheus-client postgresql systemd bash-completion \
-    binutils dpkg-dev lintian
+    binutils dpkg-dev lintian zstd socat iproute2
 
 # The proved programs go to bin/ with their command, and the scripts of examples/ play them.
 define examples
@@ -157,8 +157,10 @@ tools-test:
 	tools/tests/shares.py
 	tools/tests/unit.py
 	tools/tests/links.py
+	tools/tests/statement.py
 	tools/tests/command.py
 	tools/tests/package.py
+	tools/tests/day.py
 
 install:
 	install -D -m 755 -t $(DESTDIR)$(PREFIX)/bin tools/stridelink

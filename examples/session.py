@@ -1,5 +1,5 @@
 #!/usr/bin/env python3
-"""Plays the session of docs/RUNNING.md over real sockets: an operator funds two tenants, one of them sends packets, and
+"""Plays the session of docs/SERVING.md over real sockets: an operator funds two tenants, one of them sends packets, and
 the bill is proved. It prints what each side sees, and ends with status 1 if something is not as it should be."""
 import subprocess
 import sys
@@ -14,7 +14,7 @@ FUNDING = ("open acme 16 1", "mktkt 300 base", "fund 1 flow acme",
            "open zeta 16 1", "mktkt 100 base", "fund 2 flow zeta")
 PACKETS = (("acme", b"hello"), ("zeta", b"bye"), ("acme", b"again"))
 
-# The frames and the account of acme that docs/RUNNING.md shows.
+# The frames and the account of acme that docs/SERVING.md shows.
 ACME_FRAMES = ["4c0201000000010000000000000001000568656c6c6f", "4c02010000000100000000000000020005616761696e"]
 ACME_ACCOUNT = "44"
 

@@ -1,4 +1,5 @@
-"""Audits, gone through line by line with what `stridelink run` answers. A text that no journal prints is refused."""
+"""Audits, gone through line by line with what `stridelink run` answers. A text that no journal prints is refused. A
+text of lengths is taken as an audit whose payloads are zeros. Texts may be compressed."""
 import contextlib
 import os
 import subprocess
@@ -20,11 +21,20 @@ PROGRAM = os.environ.get("STRIDELINK") or (BUILT if os.path.exists(BUILT) else "
 LIFE = 1 << 24
 
 # The version of an audit and of its frames, by the first line; and how many bytes the header of a frame has.
-VERSIONS = {b"audit 1\n": 1, b"audit 2\n": 2}
+VERSIONS = {b"audit 1\n": 1, b"audit 2\n": 2, b"lengths 2\n": 2}
 HEADER = {1: 12, 2: 17}
+
+# The first line of a text of lengths, and of an audit of its events.
+LENGTHS, AUDIT = b"lengths 2\n", b"audit 2\n"
+
+# The ending of a compressed text.
+COMPRESSED = ".zst"
 
 # Answers to no event: no journal has a line that gets one of these.
 ANSWERS_TO_NO_EVENT = ("no 1 NoMemory", "no 2 Spent", "no 3 Syntax", "no 20 Broken", "idle", "again")
+
+# The longest payload.
+LONGEST = 9000
 
 # How many hexadecimal digits of what was written are read at once, and how much of a wrong line is shown.
 DIGITS = 1 << 17
@@ -61,13 +71,49 @@ def why_unprinted(words, answer):
     return None
 
 
+@contextlib.contextmanager
+def opened(path):
+    """A text that is open for reading, and is expanded if it is compressed."""
+    if not path.endswith(COMPRESSED):
+        with open(path, "rb") as source:
+            yield source
+        return
+    try:
+        process = subprocess.Popen(["zstd", "-dcq", path], stdout=subprocess.PIPE)
+    except FileNotFoundError:
+        raise Fault("cannot run zstd") from None
+    with process:
+        yield process.stdout
+        process.stdout.close()
+
+
+def first_line(path):
+    with opened(path) as source:
+        return source.readline()
+
+
 def version_of(path):
     """The version of an audit."""
-    with open(path, "rb") as audit:
-        version = VERSIONS.get(audit.readline())
+    version = VERSIONS.get(first_line(path))
     if not version:
         raise NoAudit("%s: line 1 is neither 'audit 1' nor 'audit 2'" % path)
     return version
+
+
+def with_payload(line):
+    """A line of a text of lengths as that of an audit: the payload of a packet has zeros. Other lines stay."""
+    words = line.rstrip(b"\n").split(b" ")
+    if words[0] == b"send" and len(words) == 3 and words[2].isdigit() and int(words[2]) <= LONGEST:
+        return b"send %s %s%s" % (words[1], b"00" * int(words[2]), line[len(line.rstrip(b"\n")):])
+    return line
+
+
+def audit_lines(path):
+    """The lines of a text as those of an audit."""
+    with opened(path) as source:
+        first = source.readline()
+        yield AUDIT if first == LENGTHS else first
+        yield from map(with_payload, source) if first == LENGTHS else source
 
 
 class Replay:
@@ -102,8 +148,8 @@ class Replay:
 
     def feed(self):
         """Gives the program its script. One that has ended takes no more."""
-        with contextlib.suppress(BrokenPipeError), self.process.stdin as script, open(self.path, "rb") as audit:
-            for number, line in enumerate(audit, 1):
+        with contextlib.suppress(BrokenPipeError), self.process.stdin as script:
+            for number, line in enumerate(audit_lines(self.path), 1):
                 if number in self.reports:
                     script.write(b"report\n")
                 script.write(line)
@@ -125,9 +171,8 @@ class Replay:
 
     def lines(self):
         """Each line but the first, Answered."""
-        with open(self.path, "rb") as audit:
-            audit.readline()
-            for number, line in enumerate(audit, 2):
+        for number, line in enumerate(audit_lines(self.path), 1):
+            if number > 1:
                 yield self.answered(number, line)
         self.report = read_report(self.next_line)
 

@@ -4,6 +4,7 @@ from collections import deque
 from dataclasses import dataclass, field
 
 from audits import HEADER, Fault, Replay
+from folders import expect_standard
 
 
 @dataclass(frozen=True)
@@ -115,6 +116,7 @@ def check(books, report):
 
 def bill(path):
     """The flows of an audit, in the order of their numbers."""
+    expect_standard(path)
     with Replay(path) as replay:
         books = Books(replay.version)
         for line in replay.lines():
@@ -137,3 +139,17 @@ def add_tickets(path, books):
             if line.report:
                 flow = wanted[line.number]
                 flow.tickets = line.report.flows[flow.number].tickets
+
+
+def bill_of_books(paths):
+    """The sums of the tenants of books by their names, each with its tickets in the last book in which it sent."""
+    found = {}
+    for path in paths:
+        for flow in bill(path):
+            if flow.name == "gap":
+                continue
+            whole = found.setdefault(flow.name, Flow(len(found) + 1, flow.name, flow.tariff))
+            whole.tickets = flow.tickets or whole.tickets
+            for column in ("packets", "bytes", "units", "account"):
+                setattr(whole, column, getattr(whole, column) + getattr(flow, column))
+    return list(found.values())

@@ -1,20 +1,26 @@
-"""The course of each flow of an audit: what was charged to it, what its tickets promised, and its pass, over the clock
-of the link, which counts the units charged."""
+"""The course of each flow of an audit, or of books in a row: what was charged to it, what its tickets promised, and its
+pass, over the clock of the link, which counts the units charged."""
 from dataclasses import dataclass, field
 from itertools import islice
 
-from audits import Replay
+from audits import Replay, opened
 from bills import Books
+from folders import expect_standard
 
 
 @dataclass(frozen=True)
 class Point:
-    """A flow at a moment: the clock, the units charged to it, those that its tickets promised, and its pass; None where
-    it does not compete."""
+    """A flow at a moment: the clock, the units charged to it, those that its tickets promised, its pass, which is None
+    if it does not compete, and the mean pass of those that compete, weighted by their tickets."""
     clock: int
     units: int
     promised: float
     place: int
+    level: int
+
+    def after(self, clock, units, promised):
+        """The point with what earlier books came to in front of it."""
+        return Point(self.clock + clock, self.units + units, self.promised + promised, self.place, self.level)
 
 
 @dataclass
@@ -26,7 +32,7 @@ class Course:
 
 def write_lines(path):
     """The numbers of the lines that write, or tell of a fault."""
-    with open(path, "rb") as audit:
+    with opened(path) as audit:
         for number, line in enumerate(audit, 1):
             if line.startswith((b"turn ", b"torn")):
                 yield number
@@ -36,6 +42,13 @@ def samples(path, most):
     """The numbers of some lines that write, evenly over all of them: all where these are no more than `most`."""
     step = -(-sum(1 for _ in write_lines(path)) // most) or 1
     return set(islice(write_lines(path), 0, None, step))
+
+
+def mean_pass(report):
+    """The mean pass of the flows that compete, weighted by their tickets. It rises as the global pass does, which a
+    report has only as last updated."""
+    rows = [row for row in report.flows.values() if row.competes]
+    return sum(row.tickets * row.place for row in rows) // (sum(row.tickets for row in rows) or 1)
 
 
 class Courses:
@@ -50,11 +63,12 @@ class Courses:
     def sample(self, report, books):
         """Takes a report, and the books as they are then."""
         self.promise(report)
+        level = mean_pass(report)
         for number, row in report.flows.items():
             course = self.courses.setdefault(number, Course(number, row.name))
             place = row.place if row.competes else None
             units = books.flows[number].units
-            course.points.append(Point(report.totals["clock"], units, self.promised.get(number, 0), place))
+            course.points.append(Point(report.totals["clock"], units, self.promised.get(number, 0), place, level))
         self.last = report
 
     def promise(self, report):
@@ -67,6 +81,7 @@ class Courses:
 
 def courses(path, most):
     """The courses of an audit's flows, with a point for each of at most `most` writes, and one for the end."""
+    expect_standard(path)
     found = Courses()
     with Replay(path, samples(path, most)) as replay:
         books = Books(replay.version)
@@ -76,3 +91,20 @@ def courses(path, most):
             books.take(line)
         found.sample(replay.report, books)
     return list(found.courses.values())
+
+
+def courses_of_books(paths, most):
+    """The courses of the tenants of books in a row, by their names. A book begins where the one before it ended. A flow
+    called gap is no tenant's."""
+    found, clock = {}, 0
+    for path in paths:
+        ends = clock
+        for course in courses(path, max(2, most // len(paths))):
+            ends = max(ends, clock + course.points[-1].clock)
+            if course.name == "gap":
+                continue
+            whole = found.setdefault(course.name, Course(len(found) + 1, course.name))
+            last = whole.points[-1] if whole.points else Point(0, 0, 0, None, 0)
+            whole.points += [point.after(clock, last.units, last.promised) for point in course.points]
+        clock = ends
+    return list(found.values())

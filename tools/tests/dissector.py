@@ -7,7 +7,8 @@ import subprocess
 
 from trying import LIMIT, TOOLS, TOP, expect, expect_equal, try_cases
 
-from serving import PROGRAM, frame, frames, payloads
+from gatewaying import Tenant
+from serving import PATIENCE, PROGRAM, frame, frames, payloads
 
 DISSECTOR = os.path.join(TOOLS, "wireshark", "stridelink.lua")
 PORT = 7003
@@ -223,11 +224,28 @@ def recognised(run):
 
 
 def page(run):
-    """What docs/RUNNING.md shows of a frame of version 2 is what tshark prints."""
-    with open(os.path.join(TOP, "docs", "RUNNING.md"), encoding="utf-8") as source:
+    """What docs/SERVING.md shows of a frame of version 2 is what tshark prints."""
+    with open(os.path.join(TOP, "docs", "SERVING.md"), encoding="utf-8") as source:
         text = source.read()
     wanted = "".join("    %s\n" % line for line in printed(run, HI[2]))
-    expect(wanted in text, "docs/RUNNING.md does not show:\n%s" % wanted)
+    expect(wanted in text, "docs/SERVING.md does not show:\n%s" % wanted)
 
 
-try_cases(examples, every_cut, both_versions, no_frame, marked, shown, recognised, page)
+def gateway_traffic(run):
+    """The frames of a gateway, over two books, are shown as they came, with the connection named or recognised."""
+    peer = run.peer()
+    gateway = run.gateway(peer.address, {"acme": 300, "bond": Tenant([100], ["tariff = 2"])})
+    gateway.send("acme", range(20))
+    gateway.send("bond", range(10), 1400)
+    gateway.control.expect("rotate", "book 2")
+    gateway.send("acme", range(5), 9)
+    gateway.end()
+    peer.thread.join(PATIENCE)
+    data = bytes(peer.got)
+    sent = frames(data, 2)[0]
+    expect_equal((len(sent), {(flow, tariff) for flow, _, _, tariff in sent}), (35, {(1, 1), (2, 2)}), "frames")
+    for words in (AS_UPLINK, ()):
+        expect_dissected(run, [(cut(data, 1460), sent, [], "the frames of a gateway")], *words)
+
+
+try_cases(gateway_traffic, examples, every_cut, both_versions, no_frame, marked, shown, recognised, page)

@@ -27,16 +27,19 @@ WANTED = [["acme", "2", "3", "3", "44", "95", "159"], ["zeta", "2", "2", "1", "1
 
 
 class Engine:
-    """A PostgreSQL server, reached by a socket in its folder. It does not run as root."""
+    """A PostgreSQL server, reached by a socket in its folder or in another one. It does not run as root."""
 
-    def __init__(self, run):
+    user = USER
+
+    def __init__(self, run, sockets=None):
         self.folder = tempfile.mkdtemp(prefix="stridelink-")
         run.stack.callback(shutil.rmtree, self.folder, ignore_errors=True)
         shutil.chown(self.folder, USER, USER)
+        self.sockets = sockets or self.folder
         self.data = os.path.join(self.folder, "data")
         self.command("initdb", "--no-sync", "-A", "trust", "-D", self.data)
         self.command("pg_ctl", "-D", self.data, "-w", "-l", os.path.join(self.folder, "log"), "-o",
-                     "-c listen_addresses= -c unix_socket_directories=%s -F" % self.folder, "start")
+                     "-c listen_addresses= -c unix_socket_directories=%s -F" % self.sockets, "start")
         run.stack.callback(self.command, "pg_ctl", "-D", self.data, "-m", "immediate", "stop")
 
     def command(self, name, *words):
@@ -44,10 +47,10 @@ class Engine:
         subprocess.run([*as_user, os.path.join(PROGRAMS, name), *words], stdin=subprocess.DEVNULL,
                        stdout=subprocess.DEVNULL, cwd="/", timeout=LIMIT, check=True)
 
-    def query(self, rows):
-        """Gives rows to the query: its status, and the rows of its answer."""
+    def query(self, rows, name="bills.sql"):
+        """Gives rows to a query: its status, and the rows of its answer."""
         done = subprocess.run(["psql", "-q", "-X", "-A", "-t", "-h", self.folder, "-U", USER, "-f",
-                               os.path.join(TOOLS, "bills.sql")], input=rows.encode(), stdout=subprocess.PIPE,
+                               os.path.join(TOOLS, name)], input=rows.encode(), stdout=subprocess.PIPE,
                               stderr=subprocess.PIPE, timeout=LIMIT, check=False)
         return done.returncode, [line.split("|") for line in done.stdout.decode().splitlines()]
 
@@ -73,4 +76,5 @@ def bills(run):
     expect_equal(engine.query(""), (0, WANTED), "the sums later")
 
 
-try_cases(bills)
+if __name__ == "__main__":
+    try_cases(bills)

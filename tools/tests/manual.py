@@ -114,7 +114,7 @@ def tool_options(run):
     paragraph."""
     text = page(TOOL_PAGE)
     synopsis, paragraphs = section(text, "SYNOPSIS"), section(text, "DESCRIPTION")
-    for name in ("bill", "verify", "shares", "exporter"):
+    for name in ("bill", "verify", "shares", "exporter", "statement", "age"):
         usage = re.search(r"usage: (.*?)\n\n", expect_works(name, "--help"), re.DOTALL).group(1)
         own = " ".join(re.findall(r"^     stridelink-%s (.*)$" % name, synopsis, re.MULTILINE))
         options = re.findall(r"--[a-z]+(?: [A-Z]+)?", usage)

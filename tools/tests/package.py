@@ -23,7 +23,8 @@ from serving import PATIENCE, PROGRAM, Failure, frame
 EXAMPLES = "/usr/share/doc/stridelink/examples"
 COMPLETION = "/usr/share/bash-completion/completions/stridelink"
 ONE_PACKET = ("open acme 16 1", "mktkt 300 base", "fund 1 flow acme", "send acme 68656c6c6f", "turn 17")
-UNIT = "/lib/systemd/system/stridelink@.service"
+UNITS = "/lib/systemd/system/"
+TOOL_NAMES = ("bill", "verify", "shares", "exporter", "statement", "age")
 SETTINGS = {"PATH": "/usr/sbin:/usr/bin:/sbin:/bin", "HOME": "/tmp", "TERM": "dumb", "LC_ALL": "C.UTF-8"}
 
 # Makes the mounts of a root in the folder $1, which end with the command that then runs in it. Its /usr, /etc and /var
@@ -80,7 +81,9 @@ def build(folder, programs=os.path.dirname(PROGRAM)):
 
 @functools.cache
 def built():
-    """The path of the package, which is built once."""
+    """The path of the package: that of the variable PACKAGE, or one that is built once."""
+    if "PACKAGE" in os.environ:
+        return os.path.abspath(os.environ["PACKAGE"])
     folder = tempfile.mkdtemp(prefix="stridelink-")
     atexit.register(shutil.rmtree, folder, ignore_errors=True)
     expect_equal(build(folder), (0, ""), "the end of package")
@@ -175,7 +178,7 @@ def pages(run):
         shown = root.tell("mandoc", "-T", "utf8", "/usr/share/man/man%s/%s.gz" % (name[-1], name))
         expect_equal(shown, wanted, name)
         expect("STRIDELINK" in shown, "%s shows nothing" % name)
-    for tool in ("bill", "verify", "shares", "exporter"):
+    for tool in TOOL_NAMES:
         page = root.tell("mandoc", "-T", "utf8", "/usr/share/man/man1/stridelink-%s.1.gz" % tool)
         expect("STRIDELINK-TOOLS(1)" in page, "the page of %s" % tool)
 
@@ -193,7 +196,7 @@ def tools(run):
                  "the same 17 bytes, with 1 whole frames\n", "what stridelink-verify says")
     root.tell("stridelink-shares", "/tmp/audit", "/tmp/picture")
     expect(text(root.path("tmp/picture.svg")).startswith("<?xml"), "no picture")
-    for tool in ("bill", "verify", "shares", "exporter"):
+    for tool in TOOL_NAMES:
         told = root.tell("stridelink-" + tool, "--help")
         expect(told.startswith("usage: stridelink-%s " % tool), "help of %s" % tool)
 
@@ -279,14 +282,29 @@ def dissects(run):
     expect("\tstridelink\n" in told, "tshark does not know the protocol")
 
 
-def unit(run):
-    """systemd-analyze has nothing to say about the unit, with its page and its commands, and finds it confined."""
+def units(run):
+    """systemd-analyze has nothing to say about the units, with their pages and their commands, and finds each confined.
+    The examples of their configurations are there, and that of a gateway has no fault."""
     root, source = installed(), os.path.join(TOOLS, "systemd")
-    expect_equal(root.tell("cat", UNIT), text(os.path.join(source, "stridelink@.service")), "the unit")
-    expect_equal(root.tell("systemd-analyze", "verify", UNIT), "", "what systemd-analyze verify says")
-    root.tell("systemd-analyze", "security", "--offline=true", "--threshold=30", UNIT)
-    expect_equal(root.tell("cat", EXAMPLES + "/example.conf"), text(os.path.join(source, "example.conf")),
-                 "the example of its configuration")
+    for path in sorted(glob.glob(os.path.join(source, "*@.*"))):
+        name = os.path.basename(path)
+        expect_equal(root.tell("cat", UNITS + name), text(path), name)
+        expect_equal(root.tell("systemd-analyze", "verify", UNITS + name), "", "systemd-analyze verify of " + name)
+        if name.endswith(".service"):
+            root.tell("systemd-analyze", "security", "--offline=true", "--threshold=15", UNITS + name)
+    for name in ("serve-example.conf", "example.toml"):
+        expect_equal(root.tell("cat", "%s/%s" % (EXAMPLES, name)), text(os.path.join(source, name)), name)
+    expect_equal(root.tell("stridelink", "gateway", "--check", EXAMPLES + "/example.toml"),
+                 EXAMPLES + "/example.toml: ok\n", "a check of the example")
+
+
+def documents(run):
+    """The pages for operators are in the package, as they are here."""
+    for name in ("README.md", "SECURITY.md", "docs/RUNNING.md", "docs/SERVING.md", "docs/GATEWAY.md",
+                 "docs/CONFIGURATION.md", "docs/SPECIFICATION.md"):
+        path = "/usr/share/doc/stridelink/" + os.path.basename(name)
+        shown = installed().tell("sh", "-c", 'cat "$1" 2> /dev/null || zcat "$1.gz"', "sh", path)
+        expect_equal(shown, text(os.path.join(TOP, name)), name)
 
 
 def removed(run):
@@ -303,17 +321,21 @@ def removed(run):
     files = [path for path in root.tell("dpkg", "--listfiles", "stridelink").split()
              if "stridelink" in path and path != "/etc/stridelink"]
     expect(len(files) > 60, "only %d files" % len(files))
-    root.tell("cp", EXAMPLES + "/example.conf", "/etc/stridelink/north.conf")
+    root.tell("cp", EXAMPLES + "/serve-example.conf", "/etc/stridelink/north.conf")
     root.tell("sh", "-c", "dpkg --no-triggers --purge stridelink 2> /dev/null")
-    expect_equal(text(root.path("tmp/asked")), "stop stridelink@*.service\n", "what systemctl is asked")
+    expect_equal(text(root.path("tmp/asked")),
+                 "stop stridelink-books@*.timer stridelink@*.service stridelink-serve@*.service\n",
+                 "what systemctl is asked")
     left = root.tell("sh", "-c", 'for path; do [ ! -e "$path" ] || echo "$path"; done', "sh", *files)
     expect_equal(left, "", "files that are left")
     root.tell("test", "-f", "/etc/stridelink/north.conf")
 
 
-CASES = [builds, refused, linted]
-if os.geteuid() == 0:
-    CASES += [first_example, gateway_example, pages, tools, completes, completes_all, dissects, unit, removed]
-else:
-    print("package.py: only root can install the package, and what is installed is not tried", file=sys.stderr)
-try_cases(*CASES)
+if __name__ == "__main__":
+    CASES = [builds, refused, linted]
+    if os.geteuid() == 0:
+        CASES += [first_example, gateway_example, pages, tools, completes, completes_all, dissects, units, documents,
+                  removed]
+    else:
+        print("package.py: only root can install the package, and what is installed is not tried", file=sys.stderr)
+    try_cases(*CASES)

@@ -4,6 +4,7 @@ import csv
 import io
 import os
 import struct
+import subprocess
 import xml.etree.ElementTree
 
 from trying import TOOLS, audit, expect, expect_equal, expect_fails, expect_works, tool, try_cases, write
@@ -104,11 +105,57 @@ def pictures(run):
     picture = os.path.join(folder, "it's one")
     expect_equal(expect_works("shares", path, picture), "", "what is printed")
     texts = [text.strip() for text in xml.etree.ElementTree.parse(picture + ".svg").getroot().itertext()]
-    for name, times in (("a_b", 3), ("a-b (2)", 3), ("a-b (3)", 3), ("The bill", 1)):
+    names = ("a_b", "a-b (2)", "a-b (3)")
+    for name, times in (*((name, 1) for name in names), *((name + ", 1 ticket", 2) for name in names), ("The bill", 1)):
         expect_equal(texts.count(name), times, "how often the picture tells '%s'" % name)
     with open(picture + ".png", "rb") as source:
         head = source.read(24)
     expect_equal((head[:8], struct.unpack(">II", head[16:])), (b"\x89PNG\r\n\x1a\n", (900, 1080)), "the PNG")
+
+
+# Two books in a row of two tenants with 3 tickets and 1, in which gap is no tenant. Frames have 1017 bytes, and as many
+# units: 4 of acme and 2 of bond in the first book, 2 of bond in the second one.
+BOOK_LINES = ("open acme 8 1", "open gap 1 1", "close gap", "open bond 8 1", "mktkt 3 base", "fund 1 flow acme",
+              "mktkt 1 base", "fund 2 flow bond")
+BOOK_FRAMES = (("acme",) * 4 + ("bond",) * 2, ("bond",) * 2)
+BOOK_ENDS = {"acme": 4 * 1017, "bond": 4 * 1017}
+
+
+def book_text(kind, frames):
+    payload = {"lengths": "1000", "audit": "00" * 1000}[kind]
+    first = {"lengths": "lengths 2", "audit": "audit 2"}[kind]
+    lines = (first, *BOOK_LINES, *("send %s %s" % (name, payload) for name in frames), *["turn 1017"] * len(frames))
+    return "".join(line + "\n" for line in lines)
+
+
+def books(run):
+    """Books in a row, of either kind and compressed, are drawn as one: each tenant's units go on, and the last point
+    has all of them. The labels of axes are in few signs, and the legend has the tickets."""
+    folder = run.folder()
+    for kind in ("lengths", "audit"):
+        paths = [write(folder, "%06d.%s" % (number, kind), book_text(kind, frames))
+                 for number, frames in enumerate(BOOK_FRAMES, 1)]
+        for texts in (paths, [path + ".zst" for path in paths]):
+            if not os.path.exists(texts[0]):
+                subprocess.run(["zstd", "-q", *paths], timeout=60, check=True)
+            found = rows(*texts)
+            expect_equal({row["name"]: int(row["units"]) for row in found}, BOOK_ENDS, "units at the end")
+            expect_equal(max(int(row["clock"]) for row in found), sum(BOOK_ENDS.values()), "the clock at the end")
+        picture = os.path.join(folder, "picture")
+        expect_works("shares", *paths, picture)
+        texts = [text.strip() for text in xml.etree.ElementTree.parse(picture + ".svg").getroot().itertext()]
+        for label in ("2 k", "4 k", "acme, 3 tickets", "bond, 1 ticket"):
+            expect(label in texts, "the picture has no '%s': %s" % (label, texts))
+        expect("gap" not in " ".join(texts), "the picture has the flow gap")
+
+
+def other_tariffs(run):
+    """A book with other tariffs than those of a run is refused, and not drawn wrongly."""
+    folder = run.folder()
+    path = write(folder, "000001.open", book_text("lengths", BOOK_FRAMES[0]))
+    write(folder, "000001.tariffs", "2/0/1\n")
+    expect_fails("%s: its tariffs are '2/0/1', and 'stridelink run' has '1/0/1 48/16/2 1024/0/1 2048/1024/3'" % path,
+                 "shares", "--csv", path)
 
 
 def faults(run):
@@ -122,7 +169,7 @@ def faults(run):
     status, printed, told = tool("shares", good, os.path.join(folder, "nothing", "picture"))
     expect_equal((status, printed), (1, ""), "status and output")
     expect(told.startswith("shares: gnuplot fails: "), "told: %s" % told)
-    for words in ((), (good,), ("--csv", good, picture), ("--points", "1", "--csv", good)):
+    for words in ((), (good,), ("--points", "1", "--csv", good)):
         status, printed, told = tool("shares", *words)
         expect_equal((status, printed), (2, ""), "status and output of %s" % (words,))
         expect(told.startswith("usage: shares "), "told: %s" % told)
@@ -130,10 +177,10 @@ def faults(run):
 
 
 def page(run):
-    """docs/RUNNING.md shows the picture of this run, which is drawn as it is there."""
+    """docs/SERVING.md shows the picture of this run, which is drawn as it is there."""
     folder = os.path.join(os.path.dirname(TOOLS), "docs")
-    with open(os.path.join(folder, "RUNNING.md"), encoding="utf-8") as source:
-        expect("](idle-tenant.svg)" in source.read(), "docs/RUNNING.md does not show the picture")
+    with open(os.path.join(folder, "SERVING.md"), encoding="utf-8") as source:
+        expect("](idle-tenant.svg)" in source.read(), "docs/SERVING.md does not show the picture")
     drawn = os.path.join(run.folder(), "idle-tenant")
     expect_works("shares", "--points", "300", write(run.folder(), "audit", idle_tenant.script()), drawn)
     with open(drawn + ".svg", encoding="utf-8") as now, open(os.path.join(folder, "idle-tenant.svg"),
@@ -147,4 +194,4 @@ def shape(picture):
     return [(node.get("d"), node.text) for node in root.iter() if node.tag.endswith(("}path", "}text"))]
 
 
-try_cases(worked, held, sampled, idle, pictures, faults, page)
+try_cases(worked, held, sampled, idle, pictures, books, other_tariffs, faults, page)

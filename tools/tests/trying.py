@@ -14,7 +14,8 @@ TOP = os.path.dirname(TOOLS)
 for folder in (TOOLS, os.path.join(TOP, "examples")):
     sys.path.insert(0, folder)
 
-from serving import PROGRAM, Failure, Run, expect, expect_equal, limit_time  # noqa: E402
+from gatewaying import Play  # noqa: E402
+from serving import PROGRAM, Failure, expect, expect_equal, limit_time  # noqa: E402
 
 # The program of gateways.
 GATEWAY = os.path.abspath(os.environ.get("GATEWAY", os.path.join(TOP, "bin", "stridelink-gateway")))
@@ -55,12 +56,12 @@ def audit(*lines, version=1):
     return "".join(line + "\n" for line in ("audit %d" % version, *lines))
 
 
-def holds(case):
-    """Tries a case; whether it holds. Tells why not."""
+def holds(case, limit):
+    """Tries a case for that many seconds at most; whether it holds. Prints why not."""
     start = time.monotonic()
-    signal.alarm(LIMIT)
+    signal.alarm(limit)
     try:
-        with Run() as run:
+        with Play() as run:
             case(run)
     except Exception as fault:
         places = ", ".join(str(place.lineno) for place in traceback.extract_tb(fault.__traceback__)
@@ -75,11 +76,11 @@ def holds(case):
     return True
 
 
-def try_cases(*cases):
-    """Tries all cases, or those that the words name, and ends."""
+def try_cases(*cases, limit=LIMIT):
+    """Tries all cases, or those that the words name, and ends. Each has that many seconds."""
     names = {case.__name__: case for case in cases}
     if not set(sys.argv[1:]) <= set(names):
         sys.exit("the cases are " + " ".join(names))
     limit_time()
-    failed = [case for case in cases if case.__name__ in (sys.argv[1:] or names) and not holds(case)]
+    failed = [case for case in cases if case.__name__ in (sys.argv[1:] or names) and not holds(case, limit)]
     sys.exit(1 if failed else 0)

@@ -1,23 +1,31 @@
 #!/usr/bin/env python3
-"""Tries the unit of systemd: what systemd-analyze says of it, and, by the commands that are in it, that a stop of a
-loaded link waits for the audit, which gives the bytes that the peer got. No systemd has to run."""
+"""Tries the units of systemd: what systemd-analyze says of them, and the commands that are in them. A stop of a loaded
+server waits for its audit, which gives the bytes that the peer got. A start of a gateway waits until it answers, a stop
+until its book is closed. No systemd has to run."""
 import contextlib
 import glob
 import os
 import shutil
 import signal
+import socket
 import subprocess
 import sys
+import threading
 import time
 
 from trying import LIMIT, TOOLS, expect, expect_equal, try_cases, write
 
+from gatewaying import connect, records
 from serving import (LISTENING, LOOPBACK, PATIENCE, PROGRAM, Control, Replay, check_arrivals, check_frames, connected,
                      payloads, record, wait_for)
 
 FOLDER = os.path.join(TOOLS, "systemd")
-UNIT = os.path.join(FOLDER, "stridelink@.service")
-INSTALLED = "/usr/lib/stridelink/instance"
+UNIT = os.path.join(FOLDER, "stridelink-serve@.service")
+GATEWAY_UNIT = os.path.join(FOLDER, "stridelink@.service")
+INSTALLED = "/usr/lib/stridelink/"
+
+# How exposed systemd-analyze may find each unit, in tenths.
+EXPOSURES = {"stridelink@.service": 15, "stridelink-books@.service": 15, "stridelink-serve@.service": 15}
 
 
 def settings(path):
@@ -32,7 +40,7 @@ class Instance:
     def __init__(self, run, peer):
         self.folder = run.folder()
         self.run = run
-        words = settings(os.path.join(FOLDER, "example.conf"))
+        words = settings(os.path.join(FOLDER, "serve-example.conf"))
         self.life = int(words["LIFE"])
         words.update(INGRESS=LOOPBACK + ":0", CONTROL=LOOPBACK + ":0", UPLINK=peer.address, STRIDELINK=PROGRAM)
         for name in ("RUNTIME_DIRECTORY", "STATE_DIRECTORY"):
@@ -50,7 +58,7 @@ class Instance:
 
     def command(self, key):
         """A command of the unit, with the file of the repository in the place of the one that is installed."""
-        return settings(UNIT)[key].replace(INSTALLED, os.path.join(FOLDER, "instance")).split()
+        return settings(UNIT)[key].replace(INSTALLED, FOLDER + "/").split()
 
     def ports(self):
         with open(os.path.join(self.folder, "told"), encoding="utf-8") as told:
@@ -156,21 +164,128 @@ def text(path):
         return source.read()
 
 
+class GatewayInstance:
+    """A gateway that the unit's own commands start, reload and stop, with the example's file but for its paths and its
+    uplink."""
+
+    def __init__(self, run, far):
+        self.folder = run.folder()
+        self.far = far
+        self.books = os.path.join(self.folder, "state")
+        self.ports = {name: os.path.join(self.folder, name) for name in ("acme", "bond")}
+        os.mkdir(self.books)
+        os.mkdir(os.path.join(self.folder, "uplink"))
+        with open(os.path.join(FOLDER, "example.toml"), encoding="utf-8") as source:
+            self.write(source.read())
+        self.process = None
+        run.stack.callback(self.close)
+
+    def write(self, text):
+        for old, new in (("192.0.2.7:7003", "%s:%d" % (LOOPBACK, self.far.port)),
+                         ("/var/lib/stridelink/uplink", self.books), ("/run/stridelink", self.folder),
+                         ("127.0.0.1:7101", "unix:" + self.ports["acme"]),
+                         ("127.0.0.1:7102", "unix:" + self.ports["bond"])):
+            expect(old in text, "the example has no %s" % old)
+            text = text.replace(old, new)
+        self.file = write(self.folder, "uplink.toml", text)
+
+    def command(self, key):
+        """A command of the unit, with this repository's files and the built program."""
+        line = settings(GATEWAY_UNIT)[key].replace("%i", "uplink")
+        for old, new in ((INSTALLED, FOLDER + "/"), ("/usr/bin/stridelink", PROGRAM), ("/run/stridelink", self.folder),
+                         ("/etc/stridelink", self.folder)):
+            line = line.replace(old, new)
+        return line.split()
+
+    def run_command(self, key, status=0):
+        words = {"PATH": os.environ["PATH"], "STRIDELINK": PROGRAM}
+        if self.process and self.process.poll() is None:
+            words["MAINPID"] = str(self.process.pid)
+        done = subprocess.run(self.command(key), env=words, stdout=subprocess.PIPE, stderr=subprocess.STDOUT,
+                              timeout=LIMIT, check=False)
+        expect_equal(done.returncode, status, "the status of %s (%s)" % (key, done.stdout.decode()))
+        return done.stdout.decode()
+
+    def start(self):
+        self.run_command("ExecStartPre")
+        with open(os.path.join(self.folder, "told"), "ab") as told:
+            self.process = subprocess.Popen(self.command("ExecStart"), stderr=told, stdin=subprocess.DEVNULL)
+        self.run_command("ExecStartPost")
+
+    def stop(self):
+        """Stops it as a manager does, which signals what is left when the command has ended."""
+        waiting = threading.Thread(target=self.process.wait)
+        waiting.start()
+        self.run_command("ExecStop")
+        expect_equal(self.process.wait(PATIENCE), 0, "the status of the gateway")
+        waiting.join()
+
+    def send(self, name, count):
+        with connect("unix:" + self.ports[name]) as connection:
+            connection.sendall(records(name, range(count)))
+            connection.shutdown(socket.SHUT_WR)
+            expect_equal(connection.recv(1), b"", "what a tenant's connection gives")
+
+    def whys(self):
+        """Why each closed book was closed."""
+        with open(os.path.join(self.books, "books.csv"), encoding="ascii") as source:
+            return [line.split(",")[4] for line in source][1:]
+
+    def close(self):
+        if self.process and self.process.poll() is None:
+            self.process.kill()
+            self.process.wait()
+
+
+def gateway_starts_and_stops(run):
+    """A start is over once the gateway answers, a reload adds a tenant, and a stop sends what waits and closes the
+    book. The next start goes on, and a stop after the end of the process is no fault."""
+    far = run.far_end(keeps=False)
+    instance = GatewayInstance(run, far)
+    instance.start()
+    instance.send("acme", 50)
+    with open(instance.file, "a", encoding="utf-8") as file:
+        file.write('\n[[tenant]]\nname = "cone"\nport = ["unix:%s/cone"]\ntickets = [ { amount = 1 } ]\n'
+                   % instance.folder)
+    expect_equal(instance.run_command("ExecReload"), "book 2\n", "what a reload prints")
+    instance.ports["cone"] = os.path.join(instance.folder, "cone")
+    instance.send("cone", 20)
+    instance.stop()
+    expect_equal(far.frames(), 70, "frames at the far end")
+    expect_equal(instance.whys(), ["reload", "end"], "why books were closed")
+    instance.start()
+    subprocess.run([PROGRAM, "ask", "unix:%s/uplink/control" % instance.folder, "end"], stdout=subprocess.DEVNULL,
+                   timeout=LIMIT, check=True)
+    expect_equal(instance.process.wait(PATIENCE), 0, "the status of the gateway")
+    instance.run_command("ExecStop")
+    expect_equal(instance.whys(), ["reload", "end", "end"], "why books were closed")
+
+
+def gateway_is_not_ready(run):
+    """A file with a fault starts nothing, and the start of a gateway that ends at once fails."""
+    instance = GatewayInstance(run, run.far_end(keeps=False))
+    with open(instance.file, "a", encoding="utf-8") as file:
+        file.write("[[tenant]]\n")
+    expect("name" in instance.run_command("ExecStartPre", status=1), "the fault of the file")
+    instance.run_command("ExecStartPost", status=1)
+
+
 def analyzed(run):
-    """systemd-analyze has nothing to say about the unit with the repository's file in it, and finds it confined.
+    """systemd-analyze has nothing to say about the units with the repository's files in them, and finds them confined.
     A machine without it does not try that."""
     if not shutil.which("systemd-analyze"):
         print("unit.py: systemd-analyze is not there, and is not tried", file=sys.stderr)
         return
-    with open(UNIT, encoding="utf-8") as source:
-        unit = write(run.folder(), "stridelink@one.service",
-                     source.read().replace(INSTALLED, os.path.join(FOLDER, "instance")))
-    for words in (["verify", "--man=no", unit],
-                  ["security", "--offline=true", "--threshold=30", unit]):
-        done = subprocess.run(["systemd-analyze", *words], stdout=subprocess.PIPE, stderr=subprocess.STDOUT,
-                              timeout=LIMIT, check=False)
-        said = done.stdout.decode() if words[0] == "verify" else ""
-        expect_equal((done.returncode, said), (0, ""), "systemd-analyze %s" % words[0])
+    for name, exposure in EXPOSURES.items():
+        with open(os.path.join(FOLDER, name), encoding="utf-8") as source:
+            text = source.read().replace(INSTALLED, FOLDER + "/").replace("/usr/bin/stridelink-", TOOLS + "/")
+        unit = write(run.folder(), name.replace("@", "@one"), text.replace("/usr/bin/stridelink", PROGRAM))
+        for words in (["verify", "--man=no", unit],
+                      ["security", "--offline=true", "--threshold=%d" % exposure, unit]):
+            done = subprocess.run(["systemd-analyze", *words], stdout=subprocess.PIPE, stderr=subprocess.STDOUT,
+                                  timeout=LIMIT, check=False)
+            said = done.stdout.decode() if words[0] == "verify" else ""
+            expect_equal((done.returncode, said), (0, ""), "systemd-analyze %s of %s" % (words[0], name))
 
 
-try_cases(stop_loaded, ends_by_itself, analyzed)
+try_cases(stop_loaded, ends_by_itself, gateway_starts_and_stops, gateway_is_not_ready, analyzed)

@@ -2,6 +2,7 @@
 """Tries tools/verify on the bytes of worked audits and of served links: as they are, with each byte changed, and cut at
 each place."""
 import os
+import subprocess
 from dataclasses import dataclass
 
 from trying import audit, expect, expect_equal, expect_fails, expect_works, tool, try_cases, write
@@ -126,6 +127,50 @@ def many_bytes(run):
                            % (len(kept), kept[-1] ^ 1, kept[-1], frames)), "told: %s" % told)
 
 
+# Two books in a row, of either kind, and their frames: packets of flows 1 and 2 under tariffs 1 and 2.
+BOOK_LINES = ("open a 4 1", "open b 4 2", "mktkt 1 base", "fund 1 flow a", "mktkt 1 base", "fund 2 flow b")
+BOOKS = {
+    "lengths": (("send a 2", "turn 19", "send b 1", "turn 18"), ("send a 1", "turn 18")),
+    "audit": (("send a 6869", "turn 19", "send b 62", "turn 18"), ("send a 63", "turn 18")),
+}
+BOOK_FRAMES = (frame(1, 1, b"hi", 1), frame(2, 1, b"b", 2), frame(1, 1, b"c", 1))
+
+# What the far end stored of each connection, and what is printed: as the status, the output and the fault.
+SAME = (0, "the same 3 frames, in 2 books\n", "")
+LOST = (1, "", "verify: 2 frames are the same, and 1 frames of the books did not come\n")
+STORED = (
+    ((b"".join(BOOK_FRAMES),), SAME),
+    ((BOOK_FRAMES[0], BOOK_FRAMES[1] + BOOK_FRAMES[2]), SAME),
+    ((BOOK_FRAMES[0] + BOOK_FRAMES[1][:9], BOOK_FRAMES[1] + BOOK_FRAMES[2]), SAME),
+    ((BOOK_FRAMES[0], b"", BOOK_FRAMES[1][:17], BOOK_FRAMES[1] + BOOK_FRAMES[2]), SAME),
+    ((BOOK_FRAMES[0] + BOOK_FRAMES[1],), LOST),
+    ((BOOK_FRAMES[0], BOOK_FRAMES[2]), LOST),
+)
+
+
+def books(run):
+    """The frames of books in a row are those that came, over cut connections. Frames that a lost connection had taken
+    are counted, and another one is a fault. Compressed texts are read."""
+    for kind, texts in BOOKS.items():
+        folder = run.folder()
+        paths = [write(folder, "%06d.%s" % (number, kind), "".join(
+            line + "\n" for line in ("lengths 2" if kind == "lengths" else "audit 2", *BOOK_LINES, *lines)))
+            for number, lines in enumerate(texts, 1)]
+        for connections, wanted in STORED:
+            words = [word for place, data in enumerate(connections)
+                     for word in ("--frames", write(folder, "frames.%d" % place, data))]
+            expect_equal(tool("verify", *words, *paths), wanted, "%s of %s" % (connections, kind))
+        stored = write(folder, "other", BOOK_FRAMES[0] + BOOK_FRAMES[2])
+        expect_fails("%s has packet 1 of flow 1, with 1 bytes, and %s has packet 1 of flow 2, with 1 bytes, or another "
+                     "payload, as frame 2 of the books" % (stored, paths[0]), "verify", "--frames", stored, *paths)
+        changed_payload = write(folder, "payload", b"".join(BOOK_FRAMES).replace(b"hi", b"ho"))
+        status, _, _ = tool("verify", "--frames", changed_payload, *paths)
+        expect_equal(status, int(kind == "audit"), "the status of a changed payload in a text of kind %s" % kind)
+        subprocess.run(["zstd", "-q", "--rm", *paths], timeout=60, check=True)
+        whole = write(folder, "whole", b"".join(BOOK_FRAMES))
+        expect_equal(tool("verify", "--frames", whole, *(path + ".zst" for path in paths)), SAME, "compressed texts")
+
+
 def faults(run):
     """A text that no journal prints, files that are not there, wrong words."""
     folder = run.folder()
@@ -141,4 +186,4 @@ def faults(run):
         expect(told.startswith("usage: verify "), "told: %s" % told)
 
 
-try_cases(same, changed, cut, torn, many_bytes, faults)
+try_cases(same, changed, cut, torn, many_bytes, books, faults)

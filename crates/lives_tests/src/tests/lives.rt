@@ -92,8 +92,11 @@ fn follows(rt: &impl Abort, alloc: Global, row: &Row, life: &mut Life) {
 
 fn price_is(rt: &impl Abort, row: &Row, life: &Life) {
     let tariffs = life.tariffs().ok().expect(rt, "tariffs");
-    holds(rt, row.name, tariffs.as_slice().len() == 1);
-    holds(rt, row.name, tariffs.as_slice()[0].price == row.price);
+    let prices_it = match tariffs.as_slice() {
+        [tariff] => tariff.price == row.price,
+        _ => false,
+    };
+    holds(rt, row.name, prices_it);
     drop(tariffs);
 }
 

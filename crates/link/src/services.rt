@@ -74,7 +74,7 @@ fn audit_file<'a, R: Files>(
     }
 }
 
-/// What a run needs, in this order: a journal of version 2, the file of the audit, and sockets. At a fault what was made
+/// What a run needs, in this order: a journal of version 2, the file of an audit, sockets. At a fault what was made
 /// already is dropped by calls, which keeps the proof short.
 pub fn prepared<'a, R>(
     rt: &'a R,

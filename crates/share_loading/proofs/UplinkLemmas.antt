@@ -23,7 +23,7 @@ use Rattle.share_config.specs.Files.{some_table, table_at, list_in, reached, pla
 use Rattle.share_gateway.specs.Opened.{first_refused}
 use Rattle.share_loading.specs.Loads.{IsSound}
 use Rattle.share_loading.specs.declared.refused.Refused.{Refused}
-use Rattle.share_loading.specs.Supported.{sends_datagrams, ports_fault, first_unsupported}
+use Rattle.share_loading.specs.Supported.{sends_datagrams, first_unsupported}
 use Rattle.share_loading.specs.declared.supported.Unsupported.TheVariants.{Datagrams, Downlink as NoDownlink}
 
 -- what was said before what was said then
@@ -43,7 +43,7 @@ no_downlink : (s : SettingsView) → first_unsupported s ≡ None → is_some s.
 no_downlink s none = by_tests (sends_datagrams s.uplink) (is_some s.downlink) none
   where
     by_tests : (a b : Bool)
-        → (if a then Some Datagrams else (if b then Some NoDownlink else ports_fault s.ports)) ≡ None → b ≡ false
+        → (if a then Some Datagrams else (if b then Some NoDownlink else None)) ≡ None → b ≡ false
     by_tests true b none = absurd (cc)
     by_tests false true none = absurd (cc)
     by_tests false false none = refl

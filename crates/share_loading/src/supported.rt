@@ -1,10 +1,8 @@
 //! Settings that a gateway does not have yet. They are refused, and not ignored.
 ghost use Rattle.std.specs.Prelude.{◌≡◌};
-ghost use Rattle.std.specs.List.{position};
-ghost use Rattle.share_loading.specs.Supported.{sends_datagrams, is_unsupported_port, has_unsupported_port};
-ghost use Rattle.share_loading.specs.Supported.{ports_fault, first_unsupported};
+ghost use Rattle.share_loading.specs.Supported.{sends_datagrams, first_unsupported};
 
-use share_settings::{Peer, Port, Settings, TenantPorts, Uplink};
+use share_settings::{Peer, Settings, Uplink};
 use thiserror::Error;
 
 /// A setting that is not supported.
@@ -14,12 +12,9 @@ pub enum Unsupported {
     Datagrams,
     #[error("[downlink]: not supported")]
     Downlink,
-    /// A port of the tenant of this number.
-    #[error("tenant {0}: port: udp:, udp-to: and fd: are not supported")]
-    Ports(u64),
 }
 
-/// The first setting that is not supported, in this order: that of the uplink, the downlink, those of the tenants.
+/// The first setting that is not supported, in this order: that of the uplink, the downlink.
 pub fn first_unsupported(settings: &Settings) -> Option<Unsupported>
     ensures { result ≡ first_unsupported settings.now }
 {
@@ -29,7 +24,7 @@ pub fn first_unsupported(settings: &Settings) -> Option<Unsupported>
     if settings.downlink.is_some() {
         return Some(Unsupported::Downlink);
     }
-    ports_fault(settings.ports.as_slice())
+    None
 }
 
 fn sends_datagrams(uplink: Option<Uplink>) -> bool
@@ -41,38 +36,5 @@ fn sends_datagrams(uplink: Option<Uplink>) -> bool
             Peer::Tcp(_) => false,
             Peer::Udp(_) => true,
         },
-    }
-}
-
-// The first tenant with a port that is not supported.
-fn ports_fault(tenants: &[TenantPorts]) -> Option<Unsupported>
-    ensures { result ≡ ports_fault tenants.now }
-{
-    match first_tenant(tenants) {
-        None => None,
-        Some(index) => Some(Unsupported::Ports(index as u64 + 1)),
-    }
-}
-
-fn first_tenant(tenants: &[TenantPorts]) -> Option<usize>
-    ensures { result ≡ position has_unsupported_port tenants.now }
-{
-    tenants
-        .iter()
-        .position(|tenant| has_unsupported_port(tenant))
-}
-
-fn has_unsupported_port(tenant: &TenantPorts) -> bool
-    ensures { result ≡ has_unsupported_port tenant.now }
-{
-    tenant.ports.iter().any(|port| is_unsupported_port(port))
-}
-
-fn is_unsupported_port(port: &Port) -> bool
-    ensures { result ≡ is_unsupported_port port.now }
-{
-    match port {
-        Port::Tcp(_) | Port::Unix(_) => false,
-        Port::Udp(_) | Port::UdpTo(_) | Port::Descriptor(_) => true,
     }
 }

@@ -151,8 +151,7 @@ impl Reactor<'_> {
         let mut is_busy = self.accept(rt, now);
         is_busy |= self.fill();
         self.make_turns();
-        self.doorways
-            .close_over(rt, &mut self.sources, &mut self.news);
+        self.close_over(rt);
         is_busy |= self.write_text(rt, now);
         is_busy |= self.send(rt, now);
         is_busy |= self.obey(rt, path, now);
@@ -186,6 +185,13 @@ impl Reactor<'_> {
             .controls
             .accept(rt, alloc, registry, sources, news, now);
         ports || controls
+    }
+
+    // Closes the connections and the ports of tenants that are over.
+    fn close_over<R: Clock + Eprint>(&mut self, rt: &R) {
+        let registry = self.poll.registry();
+        self.doorways
+            .close_over(rt, registry, &mut self.sources, &mut self.news);
     }
 
     // Takes packets, unless the end has begun.

@@ -35,15 +35,15 @@ const ROWS: [Row; 12] = [
         "\"127.0.0.1:7101\"",
         "\"udp:127.0.0.1:7101\"",
         None,
-        PORTS_OF_1,
+        "",
     ),
     (
         "\"unix:/run/stridelink/acme\"",
         "\"udp-to:127.0.0.1:7202\"",
         None,
-        PORTS_OF_1,
+        "",
     ),
-    ("\"[2001:db8::7]:7102\"", "\"fd:3\"", None, PORTS_OF_2),
+    ("\"[2001:db8::7]:7102\"", "\"fd:3\"", None, ""),
     (
         "lengths",
         "words",
@@ -59,10 +59,6 @@ const ROWS: [Row; 12] = [
     ),
     ("\"bond\"", "\"acme\"", None, "tenant 2: no 9 Taken"),
 ];
-
-const PORTS_OF_1: &str = "tenant 1: port: udp:, udp-to: and fd: are not supported";
-
-const PORTS_OF_2: &str = "tenant 2: port: udp:, udp-to: and fd: are not supported";
 
 fn has_fault(rt: &impl Abort, alloc: Global, row: Row, loaded: Result<Settings, Refused>) {
     match loaded {

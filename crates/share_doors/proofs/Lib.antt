@@ -1,2 +1,4 @@
+pub mod DeliveriesLemmas
 pub mod FillsLemmas
+pub mod OutgoingLemmas
 pub mod RecordLemmas

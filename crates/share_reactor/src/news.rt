@@ -101,8 +101,12 @@ impl News {
                 format_args!("{port}: the far end closed it"),
             ),
             PortEnd::Failed(fault) => {
-                self.messages
-                    .say(rt, Kind::Closed, Some(tenant), format_args!("{port}: {fault}"))
+                self.messages.say(
+                    rt,
+                    Kind::Closed,
+                    Some(tenant),
+                    format_args!("{port}: {fault}"),
+                )
             }
         }
     }

@@ -4,7 +4,9 @@ use crate::controls::Controls;
 use crate::doorways::Doorways;
 use crate::faults::NotRun;
 use crate::input::Input;
-use crate::ports::{Opened, Opening, Port, PortPlace, listen, open_at, place_of_control, remove_file};
+use crate::ports::{
+    Opened, Opening, Port, PortPlace, listen, open_at, place_of_control, remove_file,
+};
 use crate::reactor::Reactor;
 use crate::sources::{Source, Sources};
 use mio::{Poll, Registry, Token, Waker};

@@ -31,12 +31,7 @@ const ROWS: [Row; 12] = [
         None,
         "[downlink]: not supported",
     ),
-    (
-        "\"127.0.0.1:7101\"",
-        "\"udp:127.0.0.1:7101\"",
-        None,
-        "",
-    ),
+    ("\"127.0.0.1:7101\"", "\"udp:127.0.0.1:7101\"", None, ""),
     (
         "\"unix:/run/stridelink/acme\"",
         "\"udp-to:127.0.0.1:7202\"",

@@ -319,7 +319,8 @@ impl Door {
                 true
             }
             Came::More => true,
-            Came::Dropped | Came::Nothing => false,
+            Came::Dropped => false,
+            Came::Nothing => false,
             Came::Over(_) => false,
         }
     }

@@ -105,7 +105,10 @@ impl PacketPort {
     {
         match self.receive(reader) {
             Came::Packet(_) => put(reader, alloc, tenant, book),
-            came => came,
+            Came::Dropped => Came::Dropped,
+            Came::Nothing => Came::Nothing,
+            Came::More => Came::More,
+            Came::Over(why) => Came::Over(why),
         }
     }
 

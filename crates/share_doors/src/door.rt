@@ -38,8 +38,8 @@ pub enum Filled {
 }
 
 /// The door of a tenant: its connections and its packet ports. A contract sees the tenant and its flow, how much was
-/// taken, how many packets of packet ports were read, and how many were dropped.
-#[derive(Drop)]
+/// taken, how many packets of packet ports were read and how many were dropped, and how many were given to deliver and
+/// how often one was lost.
 pub struct Door {
     tenant: Name,
     flow: FlowNo,
@@ -59,6 +59,30 @@ pub struct Door {
     // How many were dropped.
     dropped: u64,
     deliveries: Deliveries,
+}
+
+impl Drop for Door {
+    fn drop(self) {
+        let Door {
+            tenant: _,
+            flow: _,
+            senders,
+            ports,
+            reader,
+            next: _,
+            is_ready: _,
+            may_be_over: _,
+            may_have_closed: _,
+            packets: _,
+            bytes: _,
+            dropped: _,
+            deliveries,
+        } = self;
+        drop(senders);
+        drop(ports);
+        drop(reader);
+        drop(deliveries);
+    }
 }
 
 impl Model for Door {

@@ -70,7 +70,6 @@ pub struct ClosedSender {
 }
 
 /// A connection of a tenant.
-#[derive(Drop)]
 pub struct Sender {
     stream: Stream,
     records: HeldRecords,
@@ -89,6 +88,27 @@ pub struct Sender {
     takes_records: bool,
     // How many packets it was given.
     given: u64,
+}
+
+impl Drop for Sender {
+    fn drop(self) {
+        let Sender {
+            stream,
+            records,
+            token: _,
+            port: _,
+            is_readable: _,
+            is_read_closed: _,
+            may_have_hung_up: _,
+            over: _,
+            outgoing,
+            takes_records: _,
+            given: _,
+        } = self;
+        drop(stream);
+        drop(records);
+        drop(outgoing);
+    }
 }
 
 impl Sender {

@@ -1,5 +1,5 @@
 -- The settings that the bytes of a file say.
-use Rattle.std.specs.Prelude.{◌≡◌, ℕ, List, None, Some, Ok, IsSome, IsUtf8, option_map}
+use Rattle.std.specs.Prelude.{◌≡◌, ℕ, List, None, Some, Ok, IsUtf8, option_map}
 use Rattle.toml.specs.Parse.{parse_document}
 use Rattle.share_gateway.specs.Opened.{first_refused}
 use Rattle.share_settings.specs.Settings.{SettingsView}
@@ -10,11 +10,10 @@ use Rattle.share_loading.specs.Supported.{first_unsupported}
 use Rattle.share_loading.specs.declared.refused.Refused.{Refused}
 use Rattle.share_loading.specs.declared.refused.Refused.TheVariants.{NotRead, NotText, Config, Plan, Unsupported}
 
--- no entry of the plan is refused, each setting is supported, and there is an uplink
+-- no entry of the plan is refused, and each setting is supported
 pub record IsSound (s : SettingsView) : Type 0 where
   pub opens : first_refused s.tariffs s.plan ≡ None
   pub supported : first_unsupported s ≡ None
-  pub uplink : IsSome s.uplink
 
 -- the bytes are a text that says these settings
 pub record IsSaid (bytes : List ℕ) (s : SettingsView) : Type 0 where

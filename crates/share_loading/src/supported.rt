@@ -1,47 +1,25 @@
 //! Settings that a gateway does not have yet. They are refused, and not ignored.
 ghost use Rattle.std.specs.Prelude.{◌≡◌};
 ghost use Rattle.std.specs.List.{position};
-ghost use Rattle.share_loading.specs.Supported.{sends_datagrams, is_unsupported_port, has_unsupported_port};
-ghost use Rattle.share_loading.specs.Supported.{ports_fault, first_unsupported};
+ghost use Rattle.share_loading.specs.Supported.{first_unsupported, has_unsupported_port, is_unsupported_port};
+ghost use Rattle.share_loading.specs.Supported.{ports_fault};
 
-use share_settings::{Peer, Port, Settings, TenantPorts, Uplink};
+use share_settings::{Port, Settings, TenantPorts};
 use thiserror::Error;
 
 /// A setting that is not supported.
 #[derive(Clone, Copy, Debug, PartialEq, Eq, Error)]
 pub enum Unsupported {
-    #[error("[uplink]: connect: udp: is not supported")]
-    Datagrams,
-    #[error("[downlink]: not supported")]
-    Downlink,
     /// A port of the tenant of this number.
     #[error("tenant {0}: port: udp:, udp-to: and fd: are not supported")]
     Ports(u64),
 }
 
-/// The first setting that is not supported, in this order: that of the uplink, the downlink, those of the tenants.
+/// The first setting that is not supported.
 pub fn first_unsupported(settings: &Settings) -> Option<Unsupported>
     ensures { result ≡ first_unsupported settings.now }
 {
-    if sends_datagrams(settings.uplink) {
-        return Some(Unsupported::Datagrams);
-    }
-    if settings.downlink.is_some() {
-        return Some(Unsupported::Downlink);
-    }
     ports_fault(settings.ports.as_slice())
-}
-
-fn sends_datagrams(uplink: Option<Uplink>) -> bool
-    ensures { result ≡ sends_datagrams uplink }
-{
-    match uplink {
-        None => false,
-        Some(uplink) => match uplink.to {
-            Peer::Tcp(_) => false,
-            Peer::Udp(_) => true,
-        },
-    }
 }
 
 // The first tenant with a port that is not supported.

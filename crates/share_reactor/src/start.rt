@@ -2,6 +2,7 @@
 
 use crate::controls::Controls;
 use crate::doorways::Doorways;
+use crate::far_end::FarEnd;
 use crate::faults::NotRun;
 use crate::input::Input;
 use crate::ports::{Port, PortPlace, listen, place_of_control, remove_file};
@@ -12,10 +13,10 @@ use share_base::FlowNo;
 use share_doors::Door;
 use share_settings::{Control, Peer, Settings, TenantPorts};
 use share_sockets::Listener;
-use share_uplink::Uplink;
+use share_uplink::{Transport, Uplink};
 use std::alloc::Global;
 use std::fs::Files;
-use std::io::{Error, ErrorKind};
+use std::io::Error;
 use std::net::Net;
 use std::time::{Clock, Instant};
 
@@ -27,8 +28,9 @@ pub(crate) struct Ground {
     pub(crate) doorways: Doorways,
     pub(crate) controls: Controls,
     pub(crate) control_place: PortPlace,
-    pub(crate) uplink: Uplink,
+    pub(crate) uplink: Option<Uplink>,
     pub(crate) uplink_token: Token,
+    pub(crate) far_end: Option<FarEnd>,
     pub(crate) input: Input,
 }
 
@@ -156,14 +158,27 @@ fn open_control<R: Files + Net>(
     }
 }
 
-// The uplink over TCP. Another one, and a gateway without one, are not supported.
-fn uplink_of(settings: &Settings, now: Instant) -> Result<Uplink, NotRun> {
-    match settings.uplink {
-        Some(uplink) => match uplink.to {
-            Peer::Tcp(address) => Ok(Uplink::new(address, uplink.buffer, now)),
-            Peer::Udp(_) => Err(NotRun::System(Error::from(ErrorKind::Unsupported))),
-        },
-        None => Err(NotRun::System(Error::from(ErrorKind::Unsupported))),
+// The uplink, if there is one.
+fn uplink_of(settings: &Settings, now: Instant) -> Option<Uplink> {
+    let uplink = settings.uplink?;
+    let (address, transport) = match uplink.to {
+        Peer::Tcp(address) => (address, Transport::Stream),
+        Peer::Udp(address) => (address, Transport::Datagrams),
+    };
+    Some(Uplink::new(address, transport, uplink.buffer, now))
+}
+
+// The downlink, if there is one.
+fn open_far_end(
+    net: &impl Net,
+    alloc: Global,
+    registry: &Registry,
+    sources: &mut Sources,
+    settings: &Settings,
+) -> Result<Option<FarEnd>, NotRun> {
+    match &settings.downlink {
+        None => Ok(None),
+        Some(downlink) => Ok(Some(FarEnd::open(net, alloc, registry, sources, downlink)?)),
     }
 }
 
@@ -186,11 +201,12 @@ impl Ground {
     ) -> Result<Ground, NotRun> {
         let mut sources = Sources::new(alloc);
         let mut doorways = Doorways::new(alloc)?;
-        let uplink = uplink_of(settings, Instant::now(rt)?)?;
+        let uplink = uplink_of(settings, Instant::now(rt)?);
         let uplink_token = token_of(&mut sources, Source::Uplink)?;
         let poll = Poll::new(rt)?;
         let input = open_input(&poll, &mut sources, until_eof)?;
         let control_place = place_of_control(alloc, &settings.control.listen)?;
+        let far_end = open_far_end(rt, alloc, poll.registry(), &mut sources, settings)?;
         match open_all(
             rt,
             alloc,
@@ -208,6 +224,7 @@ impl Ground {
                 control_place,
                 uplink,
                 uplink_token,
+                far_end,
                 input,
             }),
             Err(fault) => {

@@ -23,14 +23,9 @@ const ROWS: [Row; 12] = [
         "\"192.0.2.7:7003\"",
         "\"udp:192.0.2.7:7003\"",
         None,
-        "[uplink]: connect: udp: is not supported",
-    ),
-    (
         "",
-        "[downlink]\nlisten = \"192.0.2.1:7003\"\n",
-        None,
-        "[downlink]: not supported",
     ),
+    ("", "[downlink]\nlisten = \"192.0.2.1:7003\"\n", None, ""),
     (
         "\"127.0.0.1:7101\"",
         "\"udp:127.0.0.1:7101\"",
@@ -84,12 +79,7 @@ fn what_a_gateway_does_not_have_is_refused(rt: HostRuntime) {
         has_fault(&rt, alloc, row, load_settings(alloc, text.as_bytes()));
     }
     let far = load_settings(alloc, FAR.as_bytes());
-    has_fault(
-        &rt,
-        alloc,
-        ("", "far", None, "[downlink]: not supported"),
-        far,
-    );
+    has_fault(&rt, alloc, ("", "far", None, ""), far);
     let bytes = load_settings(alloc, b"\xff".as_slice());
     has_fault(&rt, alloc, ("", "bytes", None, "not UTF-8"), bytes);
 }

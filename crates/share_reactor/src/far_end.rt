@@ -55,6 +55,7 @@ struct Connections {
 }
 
 /// Gives packets to the doors of their tenants.
+#[derive(Drop)]
 struct ToDoors<'a>(&'a mut Doorways);
 
 impl Deliver for ToDoors<'_> {

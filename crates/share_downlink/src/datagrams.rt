@@ -7,7 +7,7 @@ use crate::counts::Counts;
 use crate::deliver::Deliver;
 use share_base::FlowNo;
 use share_frame::{FrameRead2, HEADER2, read_frame2};
-use share_sockets::{DatagramSocket, Received};
+use share_sockets::{PacketSocket, Received};
 use std::marker::Model;
 use std::net::{IpAddr, SocketAddr};
 
@@ -76,7 +76,7 @@ fn whole_frame(bytes: &[u8]) -> Option<FlowNo>
 /// A socket on which the frames of another gateway come in, each as a datagram. A contract sees what it counts.
 #[derive(Drop)]
 pub struct Datagrams {
-    socket: DatagramSocket,
+    socket: PacketSocket,
     // The address from which alone datagrams are taken, if they are limited.
     from: Option<IpAddr>,
     tally: Tally,
@@ -94,7 +94,7 @@ impl Model for Datagrams {
 
 impl Datagrams {
     /// The frames that come to a socket. With an address, datagrams from there alone are taken.
-    pub fn new(socket: DatagramSocket, from: Option<IpAddr>) -> Datagrams
+    pub fn new(socket: PacketSocket, from: Option<IpAddr>) -> Datagrams
         ensures { result ≡ no_tally }
     {
         Datagrams {
@@ -130,11 +130,11 @@ impl Datagrams {
         let mut datagram = [0u8; ROOM];
         'datagrams: for _ in 0..DATAGRAMS {
             match self.socket.receive(&mut datagram) {
-                Ok(Received::Datagram(count, from)) => {
+                Ok(Received::Packet(count, from)) => {
                     self.give(&datagram[..count], from, taker);
                 }
                 Ok(Received::Again) => (),
-                Ok(Received::Waits) | Err(_) => {
+                Ok(Received::Waits) | Ok(Received::Over) | Err(_) => {
                     self.is_readable = false;
                     return false;
                 }
@@ -144,10 +144,10 @@ impl Datagrams {
     }
 
     // Gives the packet of a datagram from an address, or drops it.
-    fn give<D: Deliver>(&mut self, datagram: &[u8], from: SocketAddr, taker: &mut D)
+    fn give<D: Deliver>(&mut self, datagram: &[u8], from: Option<SocketAddr>, taker: &mut D)
         ensures { TakesDatagrams D.delivers taker.old self.old taker.new self.new }
     {
-        if takes_address(self.from, from) {
+        if from.is_none_or(|from| takes_address(self.from, from)) {
             self.tally.give(datagram, taker);
         } else {
             self.tally.drop_one();

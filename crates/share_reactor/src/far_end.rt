@@ -9,7 +9,7 @@ use mio::{Interest, Registry, Token};
 use share_base::FlowNo;
 use share_downlink::{Datagrams, Deliver, Downlink, takes_address};
 use share_settings::{Downlink as Setting, Peer};
-use share_sockets::{DatagramSocket, Listener, Stream};
+use share_sockets::{Listener, PacketSocket, Stream};
 use share_status::{DownlinkState, DownlinkStatus};
 use std::alloc::Global;
 use std::io;
@@ -218,9 +218,8 @@ fn receive(
     address: SocketAddr,
     from: Option<IpAddr>,
 ) -> io::Result<(Way, SocketAddr)> {
-    let mut socket = DatagramSocket::bind(net, address)?;
-    socket.register(registry, token, Interest::READABLE)?;
-    let address = socket.local_address()?;
+    let socket = PacketSocket::bind(net, registry, token, address)?;
+    let address = socket.local_address()?.unwrap_or(address);
     Ok((Way::Datagrams(Datagrams::new(socket, from)), address))
 }
 

@@ -1,7 +1,9 @@
 //! What a gateway prints of what happens.
 
+use crate::faults::PortName;
+use crate::ports::PortPlace;
 use share_base::Name;
-use share_doors::ClosedWhy;
+use share_doors::{ClosedWhy, PortEnd};
 use share_downlink::{ClosedConnection, ClosedWhy as DownlinkClosed};
 use share_gateway::Field;
 use share_messages::{Kind, Messages};
@@ -166,6 +168,29 @@ impl News {
         };
         self.messages
             .say(rt, Kind::Closed, Some(tenant), format_args!("{said}"));
+    }
+
+    /// Prints why a packet port of a tenant was closed.
+    pub(crate) fn tell_port_closed<R: Clock + Eprint>(
+        &mut self,
+        rt: &R,
+        tenant: Name,
+        place: &PortPlace,
+        why: &PortEnd,
+    ) {
+        let port = PortName(place);
+        match why {
+            PortEnd::Ended => self.messages.say(
+                rt,
+                Kind::Closed,
+                Some(tenant),
+                format_args!("{port}: the far end closed it"),
+            ),
+            PortEnd::Failed(fault) => {
+                self.messages
+                    .say(rt, Kind::Closed, Some(tenant), format_args!("{port}: {fault}"))
+            }
+        }
     }
 
     /// Prints that a connection of a tenant was closed at once.

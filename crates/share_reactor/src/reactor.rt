@@ -174,8 +174,7 @@ impl Reactor<'_> {
         let mut is_busy = self.accept(rt, now);
         is_busy |= self.fill();
         self.make_turns();
-        self.doorways
-            .close_over(rt, &mut self.sources, &mut self.news);
+        self.close_over(rt);
         is_busy |= self.write_text(rt, now);
         is_busy |= self.send(rt, now);
         is_busy |= self.receive(rt);
@@ -216,10 +215,20 @@ impl Reactor<'_> {
         ports || controls || frames
     }
 
-    // Takes packets, unless the end has begun, or there is no uplink.
+    // Closes the connections and the ports of tenants that are over.
+    fn close_over<R: Clock + Eprint>(&mut self, rt: &R) {
+        let registry = self.poll.registry();
+        self.doorways
+            .close_over(rt, registry, &mut self.sources, &mut self.news);
+    }
+
+    // Takes packets, unless the end has begun. Without an uplink they are read and dropped.
     fn fill(&mut self) -> bool {
-        if !matches!(self.ending, Ending::No) || self.uplink.is_none() {
+        if !matches!(self.ending, Ending::No) {
             return false;
+        }
+        if self.uplink.is_none() {
+            return self.doorways.discard();
         }
         match self.books.book() {
             None => false,

@@ -5,7 +5,7 @@ use crate::doorways::Doorways;
 use crate::far_end::FarEnd;
 use crate::faults::NotRun;
 use crate::input::Input;
-use crate::ports::{Port, PortPlace, listen, place_of_control, remove_file};
+use crate::ports::{Opened, Opening, Port, PortPlace, listen, open_at, place_of_control, remove_file};
 use crate::reactor::Reactor;
 use crate::sources::{Source, Sources};
 use mio::{Poll, Registry, Token, Waker};
@@ -42,15 +42,15 @@ fn token_of(sources: &mut Sources, source: Source) -> Result<Token, NotRun> {
     }
 }
 
-// What is said of a place that cannot be listened at.
-fn not_listened(alloc: Global, place: &PortPlace, fault: Error) -> NotRun {
+// What is said of a place that cannot be opened.
+fn not_opened(alloc: Global, place: &PortPlace, fault: Error) -> NotRun {
     match place.copy(alloc) {
         Ok(port) => NotRun::Place { port, fault },
         Err(_) => NotRun::NoMemory,
     }
 }
 
-/// Listens at a port of the tenant with this door, and adds it.
+/// Opens a port of the tenant with this door, and adds it.
 pub(crate) fn open_port<R: Files + Net>(
     rt: &R,
     alloc: Global,
@@ -62,22 +62,15 @@ pub(crate) fn open_port<R: Files + Net>(
     mode: u32,
 ) -> Result<usize, NotRun> {
     let token = token_of(sources, Source::ControlListener)?;
-    let listener = match listen(rt, registry, token, place, mode) {
-        Ok(listener) => listener,
+    let opened = match open_at(rt, registry, token, place, mode) {
+        Ok(opened) => opened,
         Err(fault) => {
             drop(sources.remove(token));
-            return Err(not_listened(alloc, place, fault));
+            return Err(not_opened(alloc, place, fault));
         }
     };
     let place = place.copy(alloc)?;
-    let added = doorways.add_port(Port {
-        place,
-        listener,
-        token,
-        door,
-        is_ready: true,
-    });
-    match added {
+    match add_port(alloc, doorways, opened, place, token, door) {
         Some(port) => {
             sources.set(token, Source::Port(port));
             Ok(port)
@@ -86,7 +79,38 @@ pub(crate) fn open_port<R: Files + Net>(
     }
 }
 
-// Listens at the ports of a tenant.
+// Adds what was opened at a place. Returns its key.
+fn add_port(
+    alloc: Global,
+    doorways: &mut Doorways,
+    opened: Opened,
+    place: PortPlace,
+    token: Token,
+    door: usize,
+) -> Option<usize> {
+    match opened {
+        Opened::Listener(listener) => doorways.add_port(Port {
+            place,
+            opening: Opening::Listener {
+                listener,
+                is_ready: true,
+            },
+            token,
+            door,
+        }),
+        Opened::Packets(socket) => {
+            let port = doorways.add_port(Port {
+                place,
+                opening: Opening::Closed,
+                token,
+                door,
+            })?;
+            doorways.add_socket(alloc, port, socket)
+        }
+    }
+}
+
+// Opens the ports of a tenant.
 fn open_ports<R: Files + Net>(
     rt: &R,
     alloc: Global,
@@ -105,7 +129,7 @@ fn open_ports<R: Files + Net>(
     Ok(())
 }
 
-// Adds the door of a tenant, and listens at its ports.
+// Adds the door of a tenant, and opens its ports.
 fn open_door<R: Files + Net>(
     rt: &R,
     alloc: Global,
@@ -127,7 +151,7 @@ fn open_door<R: Files + Net>(
     open_ports(rt, alloc, registry, sources, doorways, door, ports)
 }
 
-// Adds the doors of all tenants, and listens at their ports.
+// Adds the doors of all tenants, and opens their ports.
 fn open_doors<R: Files + Net>(
     rt: &R,
     alloc: Global,
@@ -154,7 +178,7 @@ fn open_control<R: Files + Net>(
     let token = token_of(sources, Source::ControlListener)?;
     match listen(rt, registry, token, place, control.mode) {
         Ok(listener) => Ok(listener),
-        Err(fault) => Err(not_listened(alloc, place, fault)),
+        Err(fault) => Err(not_opened(alloc, place, fault)),
     }
 }
 
@@ -247,7 +271,7 @@ impl Ground {
     }
 }
 
-// Listens at all ports, and for control connections.
+// Opens all ports, and listens for control connections.
 fn open_all<R: Files + Net>(
     rt: &R,
     alloc: Global,
@@ -271,7 +295,7 @@ fn open_all<R: Files + Net>(
 }
 
 impl Reactor<'_> {
-    /// Listens at a port of the tenant with this door while the gateway runs. Returns the key of the port.
+    /// Opens a port of the tenant with this door while the gateway runs. Returns the key of the port.
     pub(crate) fn open_port<R: Files + Net>(
         &mut self,
         rt: &R,

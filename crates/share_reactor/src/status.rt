@@ -123,8 +123,8 @@ impl Reactor<'_> {
             sent_bytes,
             amount: engine.account(flow).unwrap_or(0),
             connections: self.doorways.connections(flow),
-            dropped: 0,
-            lost: 0,
+            dropped: self.doorways.dropped(flow),
+            lost: self.doorways.lost(flow),
         }
     }
 }

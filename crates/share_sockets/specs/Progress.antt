@@ -3,12 +3,6 @@ use Rattle.std.specs.Prelude.{◌≡◌, ℕ, Bool, true, false, Result, Ok, Mat
 use Rattle.std.specs.IoError.{error_kind}
 use Rattle.std.specs.declared.io.Error.{Error}
 use Rattle.std.specs.declared.io.ErrorKind.TheVariants.{Interrupted}
-use Rattle.share_sockets.specs.declared.datagrams.Received.{Received}
-use Rattle.share_sockets.specs.declared.datagrams.Received.TheVariants.{
-  Datagram,
-  Again as ReceivesAgain,
-  Waits as ReceivesLater,
-}
 use Rattle.share_sockets.specs.declared.progress.Progress.{Progress}
 use Rattle.share_sockets.specs.declared.progress.Progress.TheVariants.{Moved, Again, Waits, Over}
 
@@ -18,12 +12,6 @@ moved (Moved n) = n
 moved Again = 0
 moved Waits = 0
 moved Over = 0
-
--- how many bytes of a datagram are in the buffer
-abbrev pub received : Received → ℕ
-received (Datagram n from) = n
-received ReceivesAgain = 0
-received ReceivesLater = 0
 
 abbrev pub is_over : Progress → Bool
 is_over (Moved n) = false

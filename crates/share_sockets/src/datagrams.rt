@@ -1,51 +1,33 @@
-//! Sockets for datagrams.
+//! Sockets by which much is sent as datagrams.
 ghost use Rattle.std.specs.Prelude.{◌≤◌, length, IfOk, IfErr};
 ghost use Rattle.share_sockets.specs.Failure.{IsFailure};
-ghost use Rattle.share_sockets.specs.Progress.{moved, received};
+ghost use Rattle.share_sockets.specs.Packets.{packet_length};
+ghost use Rattle.share_sockets.specs.Progress.{moved};
 
+use crate::packets::any_address_like;
 use crate::progress::{Progress, outcome_of};
+use crate::received::Received;
 use crate::system;
 use mio::net::UdpSocket;
 use mio::{Interest, Registry, Token};
 use std::io;
 use std::io::{Error, ErrorKind};
-use std::net::{IpAddr, Ipv4Addr, Ipv6Addr, Net, SocketAddr};
+use std::net::{Net, SocketAddr};
 use std::os::fd::AsRawFd;
 
-/// What a call came to that receives a datagram.
-#[derive(Clone, Copy, Debug)]
-pub enum Received {
-    /// A datagram from this address. So many of its bytes are in the buffer: all, if the buffer has room for one more.
-    Datagram(usize, SocketAddr),
-    /// The call is made again: a signal came first, or a far end refused what was sent to it.
-    Again,
-    /// No datagram is there before the socket is ready again.
-    Waits,
-}
-
-/// A socket for datagrams, whose calls do not wait.
+/// A socket whose datagrams go to an address, and to which those from there alone come. Its calls do not wait. Unlike a
+/// `PacketSocket` it says if it has no room for a datagram, or if it has failed, so that none is lost at the near end.
 #[derive(Drop)]
 pub struct DatagramSocket {
     socket: UdpSocket,
 }
 
 impl DatagramSocket {
-    /// A socket to which datagrams for an address come.
-    pub fn bind(net: &impl Net, address: SocketAddr) -> io::Result<DatagramSocket> {
-        let socket = UdpSocket::bind(net, address)?;
-        Ok(DatagramSocket { socket })
-    }
-
-    /// A socket whose datagrams go to an address, and to which those from there alone come.
+    /// A socket that is connected to an address.
     pub fn connect(net: &impl Net, address: SocketAddr) -> io::Result<DatagramSocket> {
-        let socket = UdpSocket::bind(net, any_address(address))?;
+        let socket = UdpSocket::bind(net, any_address_like(address))?;
         socket.connect(address)?;
         Ok(DatagramSocket { socket })
-    }
-
-    /// The address that it is bound to.
-    pub fn local_address(&self) -> io::Result<SocketAddr> {
-        self.socket.local_addr()
     }
 
     /// Sets how many bytes the socket may hold that were sent and have not left. Linux doubles it, and cuts it to its
@@ -64,12 +46,14 @@ impl DatagramSocket {
         registry.register(&mut self.socket, token, interest)
     }
 
-    /// Receives a datagram. Bytes that have no room are lost.
+    /// Receives a datagram. Bytes that have no room are lost. A refusal of an earlier datagram, which comes back by this
+    /// call, is no failure: the call is made again.
     pub fn receive(&self, buffer: &mut [u8]) -> io::Result<Received>
-        ensures moved { IfOk result (λ outcome. received outcome ≤ length buffer.new) }
+        ensures length { IfOk result (λ came. packet_length came ≤ length buffer.new) }
+        ensures fault { IfErr result IsFailure }
     {
-        match self.socket.recv_from(buffer) {
-            Ok((count, from)) => Ok(Received::Datagram(count, from)),
+        match self.socket.recv(buffer) {
+            Ok(count) => Ok(Received::Packet(count, None)),
             Err(fault) => received_after(fault),
         }
     }
@@ -100,7 +84,8 @@ fn is_refusal(fault: &Error) -> bool {
 
 // What a fault of a call that receives comes to.
 fn received_after(fault: Error) -> io::Result<Received>
-    ensures { IfOk result (λ outcome. received outcome ≤ 0) }
+    ensures length { IfOk result (λ came. packet_length came ≤ 0) }
+    ensures fault { IfErr result IsFailure }
 {
     if is_refusal(&fault) {
         return Ok(Received::Again);
@@ -110,13 +95,4 @@ fn received_after(fault: Error) -> io::Result<Received>
         Ok(_) => Ok(Received::Waits),
         Err(fault) => Err(fault),
     }
-}
-
-// The address that stands for any of the same family, with a port that the system picks.
-fn any_address(address: SocketAddr) -> SocketAddr {
-    let any = match address {
-        SocketAddr::V4(_) => IpAddr::V4(Ipv4Addr::UNSPECIFIED),
-        SocketAddr::V6(_) => IpAddr::V6(Ipv6Addr::UNSPECIFIED),
-    };
-    SocketAddr::new(any, 0)
 }

@@ -34,8 +34,8 @@ fn drain(socket: &DatagramSocket, is_readable: bool) -> io::Result<bool>
     let mut piece = [0u8; PIECE];
     for _ in 0..CALLS {
         match socket.receive(&mut piece)? {
-            Received::Datagram(..) | Received::Again => (),
-            Received::Waits => return Ok(false),
+            Received::Packet(..) | Received::Again => (),
+            Received::Waits | Received::Over => return Ok(false),
         }
     }
     Ok(true)

@@ -30,15 +30,15 @@ const ROWS: [Row; 12] = [
         "\"127.0.0.1:7101\"",
         "\"udp:127.0.0.1:7101\"",
         None,
-        PORTS_OF_1,
+        "",
     ),
     (
         "\"unix:/run/stridelink/acme\"",
         "\"udp-to:127.0.0.1:7202\"",
         None,
-        PORTS_OF_1,
+        "",
     ),
-    ("\"[2001:db8::7]:7102\"", "\"fd:3\"", None, PORTS_OF_2),
+    ("\"[2001:db8::7]:7102\"", "\"fd:3\"", None, ""),
     (
         "lengths",
         "words",
@@ -55,10 +55,6 @@ const ROWS: [Row; 12] = [
     ("\"bond\"", "\"acme\"", None, "tenant 2: no 9 Taken"),
 ];
 
-const PORTS_OF_1: &str = "tenant 1: port: udp:, udp-to: and fd: are not supported";
-
-const PORTS_OF_2: &str = "tenant 2: port: udp:, udp-to: and fd: are not supported";
-
 fn has_fault(rt: &impl Abort, alloc: Global, row: Row, loaded: Result<Settings, Refused>) {
     match loaded {
         Ok(_) => same(rt, row, (row.2, row.3), (None, "")),
@@ -71,7 +67,7 @@ fn has_fault(rt: &impl Abort, alloc: Global, row: Row, loaded: Result<Settings, 
 }
 
 #[test]
-fn what_a_gateway_does_not_have_is_refused(rt: HostRuntime) {
+fn files_are_loaded(rt: HostRuntime) {
     let alloc = rt.alloc();
     for row in ROWS {
         holds(&rt, row, FILE.contains(row.0));

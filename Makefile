@@ -35,6 +35,7 @@ examples/hostile.py
 examples/bill.py
 examples/fuzz.py
 examples/gateway.py
+examples/datagrams.py
 examples/ask.py
 STRIDELINK=bin/stridelink-script examples/bill.py
 examples/books.py

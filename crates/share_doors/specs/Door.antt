@@ -1,9 +1,10 @@
 -- What a contract sees of a door.
-use Rattle.std.specs.Prelude.{ℕ, ◌+◌, ◌-◌, ◌^◌, min}
+use Rattle.std.specs.Prelude.{◌≡◌, ℕ, ◌+◌, ◌-◌, ◌^◌, min}
 use Rattle.share_model.specs.funding.Graph.{NameBytes}
 
 -- the tenant's name, and the number of its flow; how many packets were taken, and how many bytes their payloads have; how
--- many packets of packet ports were read; and how many packets were dropped
+-- many packets of packet ports were read, and how many packets were dropped; how many packets it was given to deliver, and
+-- how often one was lost
 pub record DoorView : Type 0 where
   pub tenant : NameBytes
   pub flow : ℕ
@@ -11,6 +12,20 @@ pub record DoorView : Type 0 where
   pub bytes : ℕ
   pub read : ℕ
   pub dropped : ℕ
+  pub given : ℕ
+  pub lost : ℕ
+
+abbrev pub new_door : NameBytes → ℕ → DoorView
+new_door tenant flow = record {
+  tenant = tenant;
+  flow = flow;
+  packets = 0;
+  bytes = 0;
+  read = 0;
+  dropped = 0;
+  given = 0;
+  lost = 0;
+}
 
 -- counts stay at the greatest one
 abbrev pub one_more : ℕ → ℕ
@@ -27,3 +42,11 @@ read_one d = record d { read = one_more d.read }
 -- a packet was dropped
 abbrev pub dropped_one : DoorView → DoorView
 dropped_one d = record d { dropped = one_more d.dropped }
+
+-- packets of packet ports were read, and each was dropped and counted
+pub record DropsSome (old new : DoorView) : Type 0 where
+  pub count : ℕ
+  pub door : new ≡ record old {
+    read = min (old.read + count) (2 ^ 64 - 1);
+    dropped = min (old.dropped + count) (2 ^ 64 - 1);
+  }

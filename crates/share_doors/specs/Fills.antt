@@ -17,6 +17,6 @@ pub data Fills : DoorView → Audited → DoorView → Audited → Type 0 where
 -- Packets were dropped, one after the other, and each was counted. Each packet that was read of a packet port is one of
 -- these.
 pub data Drops : DoorView → DoorView → Type 0 where
-  nothing : (d : DoorView) → Drops d d
-  of_connection : (d e : DoorView) → Drops d e → Drops d (dropped_one e)
-  of_port : (d e : DoorView) → Drops d e → Drops d (dropped_one (read_one e))
+  no_drop : (d : DoorView) → Drops d d
+  record_dropped : (d e : DoorView) → Drops d e → Drops d (dropped_one e)
+  packet_dropped : (d e : DoorView) → Drops d e → Drops d (dropped_one (read_one e))

@@ -134,3 +134,11 @@ FindsRecord old Dropped new = ⊥
 FindsRecord old Nothing new = HoldsPart old new
 FindsRecord old More new = HoldsMore old new
 FindsRecord old (Over why) new = EndsWith why old new
+
+-- what becomes of the records of a connection whose next packet is dropped
+abbrev pub DropsRecord : RecordsView → Came → RecordsView → Type 0
+DropsRecord old (Packet n) new = ⊥
+DropsRecord old Dropped new = (n : ℕ) × CutsFirst n old new
+DropsRecord old Nothing new = HoldsPart old new
+DropsRecord old More new = HoldsMore old new
+DropsRecord old (Over why) new = EndsWith why old new

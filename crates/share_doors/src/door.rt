@@ -1,7 +1,7 @@
 //! The connections and the packet ports of one tenant, which are served in turn.
 ghost use Rattle.std.specs.Prelude.{◌≡◌, ◌+◌, ◌<◌, ◌≤◌, true, false};
-ghost use Rattle.share_doors.specs.Door.{counted, dropped_one};
-ghost use Rattle.share_doors.specs.Fills.{Fills};
+ghost use Rattle.share_doors.specs.Door.{DropsSome, counted, dropped_one, new_door, one_more};
+ghost use Rattle.share_doors.specs.Fills.{Drops, Fills};
 ghost use Rattle.share_doors.specs.Takes.{TakesOnly, can_take};
 ghost use Rattle.share_doors.specs.declared.door.Filled.TheVariants.{Full};
 
@@ -71,6 +71,8 @@ impl Model for Door {
           bytes = d.bytes;
           read = d.reader.count;
           dropped = d.dropped;
+          given = d.deliveries.given;
+          lost = d.deliveries.lost;
         } };
 }
 
@@ -84,7 +86,7 @@ fn has_room<S: Rates>(book: &Book<S>, tenant: Name) -> bool
 impl Door {
     /// The door of a tenant that has this flow, with no connections and no packet ports.
     pub fn new(alloc: Global, tenant: Name, flow: FlowNo) -> Door
-        ensures { result ≡ record { tenant = tenant; flow = flow; packets = 0; bytes = 0; read = 0; dropped = 0 } }
+        ensures { result ≡ new_door tenant flow }
     {
         Door {
             tenant,
@@ -139,7 +141,9 @@ impl Door {
     }
 
     /// How many packets that were delivered its ports and connections lost.
-    pub fn lost(&self) -> u64 {
+    pub fn lost(&self) -> u64
+        ensures { result ≡ self.now.lost }
+    {
         self.deliveries.lost()
     }
 
@@ -317,7 +321,9 @@ impl Door {
 
     /// Reads packets, one of each connection and each port in turn, and drops them. Returns `More` if more may be at
     /// hand.
-    pub fn discard(&mut self) -> Filled {
+    pub fn discard(&mut self) -> Filled
+        ensures { Drops self.old self.new }
+    {
         if !self.is_ready {
             return Filled::Emptied;
         }
@@ -337,7 +343,9 @@ impl Door {
     }
 
     // Drops the packet of the next port or connection. Returns false if it has none.
-    fn discard_next(&mut self) -> bool {
+    fn discard_next(&mut self) -> bool
+        ensures { Drops self.old self.new }
+    {
         let place = self.next;
         self.next = following(place, self.places());
         let ports = self.ports.capacity();
@@ -348,7 +356,9 @@ impl Door {
         }
     }
 
-    fn discard_of_port(&mut self, key: usize) -> bool {
+    fn discard_of_port(&mut self, key: usize) -> bool
+        ensures { Drops self.old self.new }
+    {
         let Some(port) = self.ports.get_mut(key) else {
             return false;
         };
@@ -369,7 +379,9 @@ impl Door {
         }
     }
 
-    fn discard_of_sender(&mut self, key: usize) -> bool {
+    fn discard_of_sender(&mut self, key: usize) -> bool
+        ensures { Drops self.old self.new }
+    {
         let Some(sender) = self.senders.get_mut(key) else {
             return false;
         };
@@ -391,21 +403,18 @@ impl Door {
     /// Gives a packet to each port, and to each connection as a record. One that does not take it at once loses it, and
     /// so does a tenant with neither.
     pub fn deliver(&mut self, payload: &[u8])
-        ensures { self.new ≡ self.old }
+        ensures { self.new ≡ record self.old { given = one_more self.old.given; lost = self.new.lost } }
     {
-        if self.ports.is_empty() && self.senders.is_empty() {
-            self.deliveries.count_without_port();
-            return;
-        }
-        self.deliveries.give_to_ports(&mut self.ports, payload);
         self.deliveries
-            .give_to_senders(&mut self.senders, self.tenant, payload);
+            .give(&mut self.ports, &mut self.senders, self.tenant, payload);
         // A descriptor may have failed.
         self.may_have_closed = true;
     }
 
     /// Removes a packet port that goes to another tenant, or is gone. What waits in its socket is dropped.
-    pub fn remove_port(&mut self, key: usize) -> Option<PacketPort> {
+    pub fn remove_port(&mut self, key: usize) -> Option<PacketPort>
+        ensures { DropsSome self.old self.new }
+    {
         let mut port = self.ports.try_remove(key)?;
         let dropped = port.start_anew(&mut self.reader);
         self.dropped = self.dropped.saturating_add(dropped);

@@ -1,5 +1,5 @@
 //! The record that a connection is being given.
-ghost use Rattle.std.specs.Prelude.{◌≡◌, ◌≤◌, [], length, drop, true, false, OnOk, OnErr};
+ghost use Rattle.std.specs.Prelude.{◌≡◌, ◌≤◌, ◌++◌, [], length, drop, true, false, OnOk, OnErr};
 ghost use Rattle.share_base.specs.Body.{is_payload_length};
 ghost use Rattle.share_model.specs.ingress.Records.{record_of};
 ghost use Rattle.share_gateway.specs.Records.{item_for};
@@ -41,7 +41,8 @@ impl Outgoing {
 
     /// Begins the record of a payload. If memory is refused, nothing is left.
     pub(crate) fn begin(&mut self, tenant: Name, payload: &[u8]) -> Result<(), AllocError>
-        requires { is_payload_length (length payload.now) ≡ true }
+        requires none { self.old ≡ [] }
+        requires payload { is_payload_length (length payload.now) ≡ true }
         ensures ok { OnOk result (self.new ≡ record_of (item_for tenant payload.now)) }
         ensures refused { OnErr result (self.new ≡ []) }
     {
@@ -87,7 +88,8 @@ impl Outgoing {
 
 // Adds the record of a payload to bytes.
 fn push_record(bytes: &mut Vec<u8>, tenant: Name, payload: &[u8]) -> Result<(), AllocError>
-    requires { is_payload_length (length payload.now) ≡ true }
+    requires payload { is_payload_length (length payload.now) ≡ true }
+    ensures { OnOk result (bytes.new.items ≡ bytes.old.items ++ record_of (item_for tenant payload.now)) }
 {
     let name = tenant.as_bytes();
     bytes.reserve(FRAMING + name.len() + payload.len())?;

@@ -1,7 +1,8 @@
 //! One socket or descriptor at which packets of a tenant come in, and go out.
-ghost use Rattle.std.specs.Prelude.{◌≡◌, true, length};
+ghost use Rattle.std.specs.Prelude.{◌≡◌, ◌+◌, ◌-◌, ◌^◌, min, true, length};
 ghost use Rattle.std.specs.IoError.{error_kind};
 ghost use Rattle.share_base.specs.Body.{is_payload_length};
+ghost use Rattle.share_doors.specs.Door.{one_more};
 ghost use Rattle.share_doors.specs.Packets.{PortGives, PortTakes, ReadsOne, came_of};
 ghost use Rattle.share_doors.specs.Takes.{can_take};
 
@@ -47,6 +48,8 @@ pub struct PacketPort {
     is_readable: bool,
     // Why nothing more comes of it, if so.
     end: Option<PortEnd>,
+    // How many packets it was given.
+    given: u64,
 }
 
 impl PacketPort {
@@ -58,6 +61,7 @@ impl PacketPort {
             sender: None,
             is_readable: true,
             end: None,
+            given: 0,
         }
     }
 
@@ -150,10 +154,12 @@ impl PacketPort {
         Came::Over(ClosedWhy::Failed(kind))
     }
 
-    /// Drops the packets that wait in its socket, and forgets who sent the last one.
-    pub(crate) fn start_anew(&mut self, reader: &mut PacketReader) -> u64 {
+    /// Drops the packets that wait in its socket, and forgets who sent the last one. Returns how many it dropped.
+    pub(crate) fn start_anew(&mut self, reader: &mut PacketReader) -> u64
+        ensures { reader.new.count ≡ min (reader.old.count + result) (2 ^ 64 - 1) }
+    {
         let mut dropped: u64 = 0;
-        for _ in 0..WAITING {
+        'packets: for _ in 0..WAITING {
             match self.receive(reader) {
                 Came::Packet(_) | Came::Dropped => dropped = dropped.saturating_add(1),
                 Came::More => (),
@@ -166,7 +172,10 @@ impl PacketPort {
 
     /// Gives a packet to its descriptor, to its last sender, or to the address that it is connected to. Returns whether
     /// it was taken.
-    pub(crate) fn deliver(&mut self, payload: &[u8]) -> bool {
+    pub(crate) fn deliver(&mut self, payload: &[u8]) -> bool
+        ensures { self.new.given ≡ one_more self.old.given }
+    {
+        self.given = self.given.saturating_add(1);
         if self.is_over() {
             return false;
         }

@@ -1,8 +1,10 @@
 //! One connection on which packets of a tenant come in.
-ghost use Rattle.std.specs.Prelude.{◌≡◌, IfErr, IfOk};
+ghost use Rattle.std.specs.Prelude.{◌≡◌, [], IfErr, IfOk};
 ghost use Rattle.share_ingress.specs.Found.{NeedsMore};
 ghost use Rattle.share_sockets.specs.Progress.{moved};
-ghost use Rattle.share_doors.specs.Takes.{Feeds, FindsRecord, GivesOne, GivesPayload, HoldsMore, IsEndOf};
+ghost use Rattle.share_doors.specs.Door.{one_more};
+ghost use Rattle.share_doors.specs.Outgoing.{GoesOn, Sends};
+ghost use Rattle.share_doors.specs.Takes.{DropsRecord, Feeds, FindsRecord, GivesOne, GivesPayload, HoldsMore, IsEndOf};
 ghost use Rattle.share_doors.specs.Takes.{PassesRecords};
 
 use crate::held::HeldRecords;
@@ -85,6 +87,8 @@ pub struct Sender {
     // The record that it is being given, and whether it takes more.
     outgoing: Outgoing,
     takes_records: bool,
+    // How many packets it was given.
+    given: u64,
 }
 
 impl Sender {
@@ -109,6 +113,7 @@ impl Sender {
                 over: None,
                 outgoing: Outgoing::new(alloc),
                 takes_records: true,
+                given: 0,
             }),
         }
     }
@@ -200,7 +205,9 @@ impl Sender {
     }
 
     /// Drops its next packet. Returns `Dropped` if it has one. It is over if nothing more comes of it.
-    pub fn discard(&mut self) -> Came {
+    pub fn discard(&mut self) -> Came
+        ensures { DropsRecord self.old.records result self.new.records }
+    {
         match self.find_record() {
             Came::Packet(_) => Came::Dropped,
             Came::Over(why) => {
@@ -282,33 +289,44 @@ impl Sender {
 
     /// Gives it a packet as a record of the tenant, unless it has not taken all of the record before. Returns whether
     /// the record was begun. What is left of it is kept, and goes before all else.
-    pub fn deliver(&mut self, tenant: Name, payload: &[u8]) -> bool {
-        if payload.is_empty() || payload.len() > MAX_PAYLOAD {
-            return false;
-        }
+    pub fn deliver(&mut self, tenant: Name, payload: &[u8]) -> bool
+        ensures given { self.new.given ≡ one_more self.old.given }
+        ensures sends { Sends tenant payload.now self.old.outgoing result self.new.outgoing }
+    {
+        self.given = self.given.saturating_add(1);
         self.go_on();
         if self.is_over() || !self.takes_records || !self.outgoing.is_empty() {
+            return false;
+        }
+        self.begin(tenant, payload)
+    }
+
+    // Begins a record. It is given up if none of it is taken at once. Returns whether some was.
+    fn begin(&mut self, tenant: Name, payload: &[u8]) -> bool
+        requires { self.old.outgoing ≡ [] }
+        ensures given { self.new.given ≡ self.old.given }
+        ensures sends { Sends tenant payload.now self.old.outgoing result self.new.outgoing }
+    {
+        if payload.is_empty() || payload.len() > MAX_PAYLOAD {
             return false;
         }
         if self.outgoing.begin(tenant, payload).is_err() {
             return false;
         }
-        self.begin_record()
-    }
-
-    // Writes the record that was begun. It is given up if none of it is taken at once. Returns whether some was.
-    fn begin_record(&mut self) -> bool {
         let length = self.outgoing.bytes().len();
         self.go_on();
-        if self.outgoing.bytes().len() == length {
-            self.outgoing.clear();
-            return false;
+        if self.takes_records && self.outgoing.bytes().len() < length {
+            return true;
         }
-        self.takes_records
+        self.outgoing.clear();
+        false
     }
 
     /// Writes what is left of a record, as far as the socket takes it.
-    pub fn go_on(&mut self) {
+    pub fn go_on(&mut self)
+        ensures given { self.new.given ≡ self.old.given }
+        ensures left { GoesOn self.old.outgoing self.new.outgoing }
+    {
         'writes: for _ in 0..WRITES {
             if self.outgoing.is_empty() || !self.write() {
                 return;
@@ -317,7 +335,10 @@ impl Sender {
     }
 
     // Writes once. Returns whether the socket may take more.
-    fn write(&mut self) -> bool {
+    fn write(&mut self) -> bool
+        ensures given { self.new.given ≡ self.old.given }
+        ensures left { GoesOn self.old.outgoing self.new.outgoing }
+    {
         match self.stream.try_write(self.outgoing.bytes()) {
             Ok(Progress::Moved(count)) => {
                 self.outgoing.took(count);

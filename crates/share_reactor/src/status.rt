@@ -15,7 +15,7 @@ use std::alloc::AllocError;
 /// The version of the program, and what it is proved with.
 const VERSION: &str = "0.1.0";
 
-const PROVED: &str = "rattle-kit-13b logic dac8208d650f15bf";
+const PROVED: &str = "rattle-kit-13f logic dac8208d650f15bf";
 
 impl Reactor<'_> {
     /// The line that answers `status`, while a book is open.

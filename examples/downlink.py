@@ -33,13 +33,15 @@ MANY = 400
 # Another address of this host.
 OTHER_HOST = "127.0.0.2"
 
-# The tickets of tenants that flood, the uplink's rate and what it is in bytes a second, and the seconds that are counted.
+# The tickets of tenants that flood, the uplink's rate and what it is in bytes a second, and the seconds that are
+# counted.
 FLOODED = {"a": 400, "b": 300, "c": 200, "d": 100}
 RATE = "8 Mbit/s"
 START, WINDOW = 1.5, 5.0
 MOST_ERROR = 0.01
 
-# At most ten lines of a kind are printed in a second. So long is waited for each line that a case waits for, in seconds.
+# At most ten lines of a kind are printed in a second. So long is waited for each line that a case waits for, in
+# seconds.
 A_LINE = 0.15
 
 # For how long nothing comes until nothing more is said to come, in seconds.
@@ -332,7 +334,7 @@ BAD_FIELDS = [
 
 
 def forged_frames(run):
-    """A bad frame ends its connection, with its offset. The frames before it stand, and those after it are not given."""
+    """A bad frame ends its connection, with its offset. The frames before it stand. Those after it are not given."""
     far = far_gateway(run, {"a": 1})
     received = run.keep(Receiver(far, "a"))
     for count, (at, bytes_there, what) in enumerate(BAD_FIELDS, 1):
@@ -379,7 +381,7 @@ def cut_frames(run):
 
 
 def strangers(run):
-    """A frame of a number that no tenant has is counted, and changes nothing else. A number between two tenants is one."""
+    """A frame of a number that no tenant has is counted, and changes nothing else. So is one between two tenants."""
     far = far_gateway(run, {"a": 1, "b": Tenant([1], ["flow = 3"])})
     got = receivers(run, far, "ab")
     connection = raw(run, far)

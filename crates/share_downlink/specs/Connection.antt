@@ -53,7 +53,8 @@ abbrev pub PiecesGive : {T : Type 0} → (T → ℕ → List ℕ → Bool → T 
     → T → Counts → IncomingView → Type 0
 PiecesGive delivers before c old after d new = Passes delivers before c old after d new
 
--- why nothing more comes: the stream ended; or the bytes that are left begin with no frame, at their place of the stream
+-- why nothing more comes: the stream ended; or the bytes that are left begin with no frame, at their place of the
+-- stream
 abbrev pub EndsPieces : ClosedWhy → IncomingView → Type 0
 EndsPieces Ended i = i.bytes ≡ []
 EndsPieces CutShort i = (i.bytes ≢ []) × IsBeginning Two i.bytes

@@ -155,8 +155,8 @@ impl Datagrams {
     }
 }
 
-/// Whether what comes from an address is taken, if what comes from one host alone is taken, or from all. An IPv4 address
-/// that is mapped to IPv6 is that IPv4 address.
+/// Whether what comes from an address is taken, if what comes from one host alone is taken, or from all. An IPv4
+/// address that is mapped to IPv6 is that IPv4 address.
 pub fn takes_address(only: Option<IpAddr>, address: SocketAddr) -> bool
     ensures { only ≡ None → result ≡ true }
 {

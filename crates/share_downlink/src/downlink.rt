@@ -11,8 +11,8 @@ use std::net::SocketAddr;
 /// How many connections wait for their first frame at most.
 pub const MAX_WAITING: usize = 16;
 
-/// The connections of a downlink, the oldest first. The first one is the current one, and gives its packets. If the first
-/// frame of another one is whole, that one becomes the current one: all that are older are over.
+/// The connections of a downlink, the oldest first. The first one is the current one, and gives its packets. If the
+/// first frame of another one is whole, that one becomes the current one: all that are older are over.
 #[derive(Drop)]
 pub struct Downlink {
     connections: Vec<Connection>,

@@ -156,8 +156,8 @@ impl FarEnd {
         }
     }
 
-    /// Gives the packets of the frames that came to their tenants, and closes the connections that are over. Returns true
-    /// if more may be at hand.
+    /// Gives the packets of the frames that came to their tenants, and closes the connections that are over. Returns
+    /// true if more may be at hand.
     pub(crate) fn take<R: Clock + Eprint>(
         &mut self,
         rt: &R,
@@ -223,7 +223,8 @@ fn receive(
     Ok((Way::Datagrams(Datagrams::new(socket, from)), address))
 }
 
-// Gives the packets of datagrams to their tenants, and prints how many were dropped. Returns true if more may be at hand.
+// Gives the packets of datagrams to their tenants, and prints how many were dropped. Returns true if more may be at
+// hand.
 fn take_datagrams<R: Clock + Eprint>(
     rt: &R,
     datagrams: &mut Datagrams,

@@ -46,8 +46,8 @@ impl DatagramSocket {
         registry.register(&mut self.socket, token, interest)
     }
 
-    /// Receives a datagram. Bytes that have no room are lost. A refusal of an earlier datagram, which comes back by this
-    /// call, is no failure: the call is made again.
+    /// Receives a datagram. Bytes that have no room are lost. A refusal of an earlier datagram, which comes back by
+    /// this call, is no failure: the call is made again.
     pub fn receive(&self, buffer: &mut [u8]) -> io::Result<Received>
         ensures length { IfOk result (λ came. packet_length came ≤ length buffer.new) }
         ensures fault { IfErr result IsFailure }

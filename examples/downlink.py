@@ -523,9 +523,11 @@ def datagrams(run):
         sender.send(frame_of(number, size=sizes[number % 3]))
         received.wait_for(number + 1)
     received.expect_all(len(bad))
-    sender.send(frame_of(0, 7))
+    time.sleep(1)
+    for part in (frame_of(96)[:50], frame_of(96)[50:], frame_of(0, 7)):
+        sender.send(part)
     wait_for_counts(far, len(bad) + 1, 1)
-    wait_for_message(far, f"{len(bad)} datagrams dropped")
+    wait_for_message(far, f"{len(bad) + 2} datagrams dropped")
     far.end()
 
 

@@ -1,6 +1,6 @@
 //! What goes over an uplink of datagrams.
-ghost use Rattle.std.specs.Prelude.{◌≡◌, true, false, IfOk};
-ghost use Rattle.share_uplink.specs.Passing.{SendsFrames, WireTakes};
+ghost use Rattle.std.specs.Prelude.{◌≡◌, true, IfOk, IfErr};
+ghost use Rattle.share_uplink.specs.Passing.{SendsFrames, SendsOne, WireTakes};
 
 use crate::passing::{CALLS, PIECE, Ready};
 use share_sockets::{DatagramSocket, Progress, Received};
@@ -63,9 +63,10 @@ fn send_frames(socket: &DatagramSocket, is_writable: bool, transit: &mut Transit
     Ok(true)
 }
 
-// Sends the frame that may go next, if there is one, as a datagram.
+// Sends the frame that may go next, if there is one, as a datagram. If it was sent, it is out whole.
 fn send_frame(socket: &DatagramSocket, transit: &mut Transit) -> io::Result<Progress>
-    ensures { SendsFrames transit.old transit.new }
+    ensures sent { IfOk result (λ progress. SendsOne transit.old progress transit.new) }
+    ensures failed { IfErr result (λ _. transit.new ≡ transit.old) }
 {
     let count = transit.frame().len();
     let outcome = socket.send(transit.frame());

@@ -36,6 +36,11 @@ pub data Gives {T : Type 0} (delivers : T → ℕ → List ℕ → Bool → T �
       → delivers before f.packet.flow f.packet.payload is_known after
       → Gives delivers first counts (packets ++ f ∷ []) after (counted is_known (frame_size f.packet.payload) c)
 
+-- where in a stream the bytes after these frames begin, if the first of them begins there
+abbrev pub offset_after : ℕ → List Framed → ℕ
+offset_after offset [] = offset
+offset_after offset (f ∷ fs) = offset_after (capped (offset + frame_size f.packet.payload)) fs
+
 -- what a contract sees of the frames of a connection: the bytes of its stream that were not given, the payload that was
 -- cut last, and where in the stream these bytes begin
 pub record IncomingView : Type 0 where
@@ -50,14 +55,11 @@ pub record CutsOff {T : Type 0} (delivers : T → ℕ → List ℕ → Bool → 
   pub good : Each (λ (f : Framed). FitsFrame Two f.tariff f.packet) packets
   pub given : Gives delivers before c packets after d
   pub bytes : old.bytes ≡ framed_bytes packets ++ new.bytes
-  pub offset : new.offset ≡ capped (old.offset + length (framed_bytes packets))
+  pub offset : new.offset ≡ offset_after old.offset packets
 
--- n bytes of the stream came after those that were there
-pub record Comes (old : IncomingView) (n : ℕ) (new : IncomingView) : Type 0 where
-  pub came : List ℕ
-  pub count : length came ≡ n
-  pub bytes : new.bytes ≡ old.bytes ++ came
-  pub offset : new.offset ≡ old.offset
+-- this piece of the stream came after the bytes that were there
+abbrev pub fed : List ℕ → IncomingView → IncomingView
+fed piece i = record i { bytes = i.bytes ++ piece; payload = [] }
 
 -- bytes of the stream came, and the frames of packets that were in front then were given
 pub record Passes {T : Type 0} (delivers : T → ℕ → List ℕ → Bool → T → Type 0) (before : T) (c : Counts)
@@ -67,4 +69,4 @@ pub record Passes {T : Type 0} (delivers : T → ℕ → List ℕ → Bool → T
   pub good : Each (λ (f : Framed). FitsFrame Two f.tariff f.packet) packets
   pub given : Gives delivers before c packets after d
   pub bytes : old.bytes ++ came ≡ framed_bytes packets ++ new.bytes
-  pub offset : new.offset ≡ capped (old.offset + length (framed_bytes packets))
+  pub offset : new.offset ≡ offset_after old.offset packets

@@ -2,7 +2,6 @@
 ghost use Rattle.std.specs.Prelude.{◌≡◌, ◌≢◌, ◌≤◌, ◌<◌, [], None, Some, IfOk, IfErr, MatchResult, length};
 ghost use Rattle.share_base.specs.declared.version.Version.TheVariants.{Two};
 ghost use Rattle.share_model.specs.run.History.{IsBeginning};
-ghost use Rattle.share_downlink.specs.Given.{Comes, IncomingView};
 ghost use Rattle.share_downlink.specs.Connection.{EndsFirst, EndsPieces, FirstGives, IsEndOf, PiecesGive, Reads};
 
 use crate::counts::Counts;

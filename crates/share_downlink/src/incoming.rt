@@ -4,7 +4,7 @@ ghost use Rattle.share_base.specs.Refusal.{IsRefused};
 ghost use Rattle.share_base.specs.declared.version.Version.TheVariants.{Two};
 ghost use Rattle.share_frame.specs.Reading.{IsFirstBad};
 ghost use Rattle.share_model.specs.run.History.{IsBeginning};
-ghost use Rattle.share_downlink.specs.Given.{Comes, CutsOff};
+ghost use Rattle.share_downlink.specs.Given.{CutsOff, fed};
 ghost use Rattle.share_downlink.specs.Steps.{StepGives};
 
 use crate::counts::Counts;
@@ -68,7 +68,7 @@ impl Incoming {
     /// Takes the next piece of the stream, for which there is room.
     pub(crate) fn feed(&mut self, piece: &[u8])
         requires { length self.old.bytes + length piece.now ≤ 65536 }
-        ensures { Comes self.old (length piece.now) self.new }
+        ensures { self.new ≡ fed piece.now self.old }
     {
         self.held += self.frames.feed(piece);
     }

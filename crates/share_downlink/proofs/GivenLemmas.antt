@@ -1,10 +1,11 @@
 -- What is given of the frames of a connection, call by call.
-use Rattle.std.proofs.Common.{◌≡◌, ℕ, ◌+◌, Bool, List, [], ◌∷◌, ◌++◌, refl, ◌∙◌, ap, sym, subst}
-use Rattle.std.proofs.lemmas.List.{append_assoc, append-nil}
+use Rattle.std.proofs.Common.{◌≡◌, ◌<◌, ℕ, ◌+◌, Bool, List, [], ◌∷◌, ◌++◌, length, arith, refl, ◌∙◌, ap, sym, subst}
+use Rattle.std.proofs.lemmas.List.{append_assoc, append-nil, length-append}
 use Rattle.share_base.specs.declared.version.Version.TheVariants.{Two}
 use Rattle.share_gateway.specs.Frames.{Framed, framed_bytes}
+use Rattle.share_model.proofs.lemmas.link.FrameLaws.{length-frame}
 use Rattle.share_model.proofs.lemmas.lists.Laws.{each-append, each-one}
-use Rattle.share_model.specs.link.Frame.{FitsFrame, frame}
+use Rattle.share_model.specs.link.Frame.{FitsFrame, Packet, frame}
 use Rattle.share_downlink.specs.Connection.{ComesMore}
 use Rattle.share_downlink.specs.Given.{CutsOff, Gives, IncomingView, Passes, capped, counted, fed, frame_size}
 use Rattle.share_downlink.specs.Given.{no_packet, offset_after, packet}
@@ -135,3 +136,28 @@ comes_fed piece i j is = record {
   bytes = ap (λ (x : IncomingView). x.bytes) is;
   offset = ap (λ (x : IncomingView). x.offset) is;
 }
+
+-- ---- One frame after the other
+
+pub stays_same : {T : Type 0} (t : T) (c : Counts) (i : IncomingView) → Stays t c i t c i
+stays_same t c i = record { taker = refl; counts = refl; bytes = refl }
+
+-- nothing was given after that
+pub cuts_stay : {T : Type 0} (delivers : T → ℕ → List ℕ → Bool → T → Type 0) (t u v : T) (c d e : Counts)
+    (old mid new : IncomingView) → CutsOff delivers t c old u d mid → Stays u d mid v e new
+    → CutsOff delivers t c old v e new
+cuts_stay {T} delivers t u v c d e old mid new cuts stays =
+    subst (λ (x : T). CutsOff delivers t c old x e new) (sym stays.taker)
+    (subst (λ (x : Counts). CutsOff delivers t c old u x new) (sym stays.counts)
+    (subst (λ (x : IncomingView). CutsOff delivers t c old u d x) (sym stays.bytes) cuts))
+
+-- a frame that was given leaves fewer bytes
+pub gives_less : {T : Type 0} (delivers : T → ℕ → List ℕ → Bool → T → Type 0) (t u : T) (c d : Counts)
+    (old new : IncomingView) (flow seq tariff : ℕ) → GivesOne delivers t c old flow seq tariff u d new
+    → length new.bytes < length old.bytes
+gives_less {T} delivers t u c d old new flow seq tariff gives =
+    let head : Packet = record { flow = flow; seq = seq; payload = new.payload } in
+    let all = ap (λ (x : List ℕ). length x) gives.gives.bytes
+    ∙ length-append (frame Two tariff head) new.bytes in
+    let long = length-frame Two tariff head in
+    omega (arith, all, long)

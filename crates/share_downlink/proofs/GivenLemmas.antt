@@ -30,7 +30,6 @@ offset-more : (offset : ℕ) (packets more : List Framed)
 offset-more offset [] more = refl
 offset-more offset (p ∷ packets) more = offset-more (capped (offset + frame_size p.packet.payload)) packets more
 
-
 -- nothing was given
 pub cuts_nothing : {T : Type 0} (delivers : T → ℕ → List ℕ → Bool → T → Type 0) (t u : T) (c d : Counts)
     (old new : IncomingView) → Stays t c old u d new → CutsOff delivers t c old u d new

@@ -196,9 +196,9 @@ impl Connection {
     ) -> Result<First, ClosedWhy>
         ensures given { MatchResult result
             (λ first. FirstGives D.delivers taker.old counts.old self.old.incoming first taker.new counts.new
-                self.new.incoming)
+            self.new.incoming)
             (λ why. FirstGives D.delivers taker.old counts.old self.old.incoming First.Waits taker.new counts.new
-                self.new.incoming) }
+            self.new.incoming) }
         ensures over { self.new.over ≡ self.old.over }
         ensures why { IfErr result (λ why. EndsFirst why self.new.incoming) }
     {

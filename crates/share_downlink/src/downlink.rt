@@ -59,13 +59,7 @@ impl Downlink {
 
     /// Adds a connection that comes from an address, whose events carry this token. If too many wait for their first
     /// frame then, the one that waits for longest is over. Returns false without memory for it, and then it is closed.
-    pub fn admit(
-        &mut self,
-        alloc: Global,
-        stream: Stream,
-        from: SocketAddr,
-        token: usize,
-    ) -> bool {
+    pub fn admit(&mut self, alloc: Global, stream: Stream, from: SocketAddr, token: usize) -> bool {
         let Ok(connection) = Connection::new(alloc, stream, from, token) else {
             return false;
         };

@@ -27,7 +27,6 @@ pub(crate) struct Incoming {
 
 impl Model for Incoming {
     ghost use Rattle.share_downlink.specs.Given.{IncomingView};
-
     ghost use Rattle.std.specs.Prelude.{◌≡◌, length};
 
     ghost Value = { IncomingView };

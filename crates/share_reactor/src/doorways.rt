@@ -88,7 +88,10 @@ impl Doorways {
         socket: PacketSocket,
     ) -> Option<usize> {
         let door = self.ports.get(port)?.door;
-        let added = self.doors.get_mut(door)?.add_port(alloc, PacketPort::new(socket, port));
+        let added = self
+            .doors
+            .get_mut(door)?
+            .add_port(alloc, PacketPort::new(socket, port));
         match added {
             None => {
                 drop(self.ports.try_remove(port));

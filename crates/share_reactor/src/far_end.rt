@@ -318,9 +318,7 @@ impl Connections {
             return;
         };
         let mut stream = stream;
-        let is_registered = stream
-            .register(registry, token, Interest::READABLE)
-            .is_ok();
+        let is_registered = stream.register(registry, token, Interest::READABLE).is_ok();
         if is_registered && self.downlink.admit(alloc, stream, address, token.0) {
             news.tell_downlink(rt, address);
         } else {
@@ -329,12 +327,7 @@ impl Connections {
     }
 
     // Closes the connections that are over, and tells why.
-    fn close_over<R: Clock + Eprint>(
-        &mut self,
-        rt: &R,
-        sources: &mut Sources,
-        news: &mut News,
-    ) {
+    fn close_over<R: Clock + Eprint>(&mut self, rt: &R, sources: &mut Sources, news: &mut News) {
         for _ in 0..CLOSES {
             let Some(closed) = self.downlink.close_over() else {
                 return;

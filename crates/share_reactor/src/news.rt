@@ -72,12 +72,7 @@ impl News {
 
     /// Prints that a connection came to the downlink.
     pub(crate) fn tell_downlink<R: Clock + Eprint>(&mut self, rt: &R, from: SocketAddr) {
-        self.messages.say(
-            rt,
-            Kind::Downlink,
-            None,
-            format_args!("{from}: connected"),
-        );
+        self.messages.say(rt, Kind::Downlink, None, format_args!("{from}: connected"));
     }
 
     /// Prints that a connection to the downlink was closed at once, since it comes from another address.
@@ -187,8 +182,12 @@ impl News {
                 format_args!("{port}: the far end closed it"),
             ),
             PortEnd::Failed(fault) => {
-                self.messages
-                    .say(rt, Kind::Closed, Some(tenant), format_args!("{port}: {fault}"))
+                self.messages.say(
+                    rt,
+                    Kind::Closed,
+                    Some(tenant),
+                    format_args!("{port}: {fault}"),
+                )
             }
         }
     }

@@ -5,7 +5,9 @@ use crate::doorways::Doorways;
 use crate::far_end::FarEnd;
 use crate::faults::NotRun;
 use crate::input::Input;
-use crate::ports::{Opened, Opening, Port, PortPlace, listen, open_at, place_of_control, remove_file};
+use crate::ports::{
+    Opened, Opening, Port, PortPlace, listen, open_at, place_of_control, remove_file,
+};
 use crate::reactor::Reactor;
 use crate::sources::{Source, Sources};
 use mio::{Poll, Registry, Token, Waker};

@@ -36,8 +36,7 @@ pub(crate) fn set_nonblocking(fd: RawFd) -> io::Result<()> {
 pub(crate) fn is_socket(fd: RawFd) -> bool {
     let mut value = [0u8; 16];
     let mut length: u32 = 4;
-    let status =
-        unsafe { c::getsockopt(fd, c::SOL_SOCKET, c::SO_RCVBUF, &mut value, &mut length) };
+    let status = unsafe { c::getsockopt(fd, c::SOL_SOCKET, c::SO_RCVBUF, &mut value, &mut length) };
     status >= 0
 }
 

@@ -42,7 +42,11 @@ fn drain(socket: &DatagramSocket, is_readable: bool) -> io::Result<bool>
 }
 
 // Sends, if the socket may take some, the frames that may go on the wire. Returns whether it may take more.
-fn send_frames(socket: &DatagramSocket, is_writable: bool, transit: &mut Transit) -> io::Result<bool>
+fn send_frames(
+    socket: &DatagramSocket,
+    is_writable: bool,
+    transit: &mut Transit,
+) -> io::Result<bool>
     ensures frames { SendsFrames transit.old transit.new }
     ensures writes { IfOk result (λ more. more ≡ true → is_writable ≡ true) }
 {

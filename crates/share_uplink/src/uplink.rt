@@ -220,7 +220,14 @@ impl Uplink {
         requires due { is_due (instant_nanos now) self.old ≡ true }
         ensures { UplinkTicks self.old (instant_nanos now) result self.new }
     {
-        match begin(net, self.transport, self.address, self.buffer, registry, token) {
+        match begin(
+            net,
+            self.transport,
+            self.address,
+            self.buffer,
+            registry,
+            token,
+        ) {
             Err(fault) => self.miss(now, fault),
             Ok(socket) => {
                 self.ready = NOT_READY;

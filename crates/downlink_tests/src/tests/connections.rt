@@ -53,7 +53,12 @@ fn a_newer_connection_waits_for_its_first_frame(rt: HostRuntime) -> Result<(), F
     let mut old = connect(&rt, alloc, &mut downlink, 1)?;
     old.write_all(frame(alloc, 1, 1, b"a")?.as_slice())?;
     take(&mut downlink, &mut taker);
-    same(&rt, "a first packet", taker.packets.as_slice(), [(1, b'a', 1)].as_slice());
+    same(
+        &rt,
+        "a first packet",
+        taker.packets.as_slice(),
+        [(1, b'a', 1)].as_slice(),
+    );
     same(&rt, "a connection", downlink.is_up(), true);
 
     let mut new = connect(&rt, alloc, &mut downlink, 2)?;
@@ -68,7 +73,12 @@ fn a_newer_connection_waits_for_its_first_frame(rt: HostRuntime) -> Result<(), F
     take(&mut downlink, &mut taker);
     old.write_all(frame(alloc, 1, 3, b"late")?.as_slice())?;
     take(&mut downlink, &mut taker);
-    same(&rt, "replaced", closed(&mut downlink), Some((1, ClosedWhy::Replaced)));
+    same(
+        &rt,
+        "replaced",
+        closed(&mut downlink),
+        Some((1, ClosedWhy::Replaced)),
+    );
     same(&rt, "no other", closed(&mut downlink), None);
     let wanted = [(1, b'a', 1), (2, b'b', 3), (3, b'c', 2)];
     same(&rt, "packets", taker.packets.as_slice(), wanted.as_slice());

@@ -75,6 +75,20 @@ pub no_room : (room : Bool) (a : Audited) (name tenant : NameBytes) → room ≡
 no_room room a name tenant is none same =
     subst (λ (x : NameBytes). can_take a x ≡ false) same (sym is ∙ none)
 
+-- a tenant whose packets the book takes
+pub has_room : (room : Bool) (a : Audited) (name tenant : NameBytes) → room ≡ can_take a name → room ≡ true
+    → name ≡ tenant → can_take a tenant ≡ true
+has_room room a name tenant is some same =
+    subst (λ (x : NameBytes). can_take a x ≡ true) same (sym is ∙ some)
+
+-- there is no room where there is room
+pub is_room : (room : Bool) (a b : Audited) (name tenant : NameBytes) → room ≡ can_take a name → room ≡ true
+    → name ≡ tenant → a ≡ b → can_take b tenant ≡ false → ⊥
+is_room room a b name tenant is some same book none =
+    let here : can_take b tenant ≡ true
+    = subst (λ (x : Audited). can_take x tenant ≡ true) book (has_room room a name tenant is some same) in
+    let both : true ≡ false = sym here ∙ none in absurd (cc)
+
 -- one drop after others
 pub drops_then : (d e f : DoorView) → Drops d e → Drops e f → Drops d f
 drops_then d _ _ first (no_drop e) = first

@@ -1,5 +1,5 @@
 -- What a contract sees of a door.
-use Rattle.std.specs.Prelude.{◌≡◌, ℕ, ◌+◌, ◌-◌, ◌^◌, min}
+use Rattle.std.specs.Prelude.{ℕ, ◌+◌, ◌-◌, ◌^◌, min}
 use Rattle.share_model.specs.funding.Graph.{NameBytes}
 
 -- the tenant's name, and the number of its flow; how many packets were taken, and how many bytes their payloads have; how
@@ -42,11 +42,3 @@ read_one d = record d { read = one_more d.read }
 -- a packet was dropped
 abbrev pub dropped_one : DoorView → DoorView
 dropped_one d = record d { dropped = one_more d.dropped }
-
--- packets of packet ports were read, and each was dropped and counted
-pub record DropsSome (old new : DoorView) : Type 0 where
-  pub count : ℕ
-  pub door : new ≡ record old {
-    read = min (old.read + count) (2 ^ 64 - 1);
-    dropped = min (old.dropped + count) (2 ^ 64 - 1);
-  }

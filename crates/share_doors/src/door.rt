@@ -1,6 +1,6 @@
 //! The connections and the packet ports of one tenant, which are served in turn.
 ghost use Rattle.std.specs.Prelude.{◌≡◌, ◌+◌, ◌<◌, ◌≤◌, true, false};
-ghost use Rattle.share_doors.specs.Door.{DropsSome, counted, dropped_one, new_door, one_more};
+ghost use Rattle.share_doors.specs.Door.{counted, dropped_one, new_door, one_more};
 ghost use Rattle.share_doors.specs.Fills.{Drops, Fills};
 ghost use Rattle.share_doors.specs.Takes.{TakesOnly, can_take};
 ghost use Rattle.share_doors.specs.declared.door.Filled.TheVariants.{Full};
@@ -19,6 +19,9 @@ use std::marker::Model;
 
 /// How many packets are taken in one call.
 const PACKETS: u32 = 256;
+
+/// How many packets are read at most that wait in a socket which is removed.
+const WAITING: u32 = 4096;
 
 /// How many connections one tenant has at most at the same time.
 pub const MAX_SENDERS: usize = 64;
@@ -246,7 +249,9 @@ impl Door {
 
     // How many keys ports and connections have at most.
     fn places(&self) -> usize {
-        self.ports.capacity().saturating_add(self.senders.capacity())
+        self.ports
+            .capacity()
+            .saturating_add(self.senders.capacity())
     }
 
     // Asks the next port or connection for a packet. Returns false if it has none.
@@ -314,7 +319,8 @@ impl Door {
                 true
             }
             Came::More => true,
-            Came::Dropped | Came::Nothing => false,
+            Came::Dropped => false,
+            Came::Nothing => false,
             Came::Over(_) => false,
         }
     }
@@ -413,12 +419,37 @@ impl Door {
 
     /// Removes a packet port that goes to another tenant, or is gone. What waits in its socket is dropped.
     pub fn remove_port(&mut self, key: usize) -> Option<PacketPort>
-        ensures { DropsSome self.old self.new }
+        ensures { Drops self.old self.new }
     {
         let mut port = self.ports.try_remove(key)?;
-        let dropped = port.start_anew(&mut self.reader);
-        self.dropped = self.dropped.saturating_add(dropped);
+        self.drop_waiting(&mut port);
+        port.forget_sender();
         Some(port)
+    }
+
+    // Drops what waits in the socket of a port.
+    fn drop_waiting(&mut self, port: &mut PacketPort)
+        ensures { Drops self.old self.new }
+    {
+        'packets: for _ in 0..WAITING {
+            if !self.drop_packet(port) {
+                break;
+            }
+        }
+    }
+
+    // Drops the next packet of a port. Returns false if it has none.
+    fn drop_packet(&mut self, port: &mut PacketPort) -> bool
+        ensures { Drops self.old self.new }
+    {
+        match port.receive(&mut self.reader) {
+            Came::Packet(_) | Came::Dropped => {
+                self.count_dropped();
+                true
+            }
+            Came::More => true,
+            Came::Nothing | Came::Over(_) => false,
+        }
     }
 
     /// Closes a packet port that is over, and says which it was. `None` if no port is over.

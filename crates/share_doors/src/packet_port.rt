@@ -1,5 +1,5 @@
 //! One socket or descriptor at which packets of a tenant come in, and go out.
-ghost use Rattle.std.specs.Prelude.{◌≡◌, ◌+◌, ◌-◌, ◌^◌, min, true, length};
+ghost use Rattle.std.specs.Prelude.{◌≡◌, true, length};
 ghost use Rattle.std.specs.IoError.{error_kind};
 ghost use Rattle.share_base.specs.Body.{is_payload_length};
 ghost use Rattle.share_doors.specs.Door.{one_more};
@@ -15,9 +15,6 @@ use share_sockets::{PacketSocket, Received};
 use std::alloc::Global;
 use std::io;
 use std::net::SocketAddr;
-
-/// How many packets are read at most that wait in a socket which goes to another tenant.
-const WAITING: u32 = 4096;
 
 /// Why nothing more comes of a port.
 #[derive(Debug, Drop)]
@@ -79,7 +76,10 @@ impl PacketPort {
     /// What is reported of it once it is closed, if it is over.
     pub(crate) fn closed(self) -> Option<ClosedPort> {
         let PacketPort {
-            socket, port, end, ..
+            socket,
+            port,
+            end,
+            ..
         } = self;
         let why = end?;
         Some(ClosedPort { port, socket, why })
@@ -105,7 +105,10 @@ impl PacketPort {
     {
         match self.receive(reader) {
             Came::Packet(_) => put(reader, alloc, tenant, book),
-            came => came,
+            Came::Dropped => Came::Dropped,
+            Came::Nothing => Came::Nothing,
+            Came::More => Came::More,
+            Came::Over(why) => Came::Over(why),
         }
     }
 
@@ -154,20 +157,9 @@ impl PacketPort {
         Came::Over(ClosedWhy::Failed(kind))
     }
 
-    /// Drops the packets that wait in its socket, and forgets who sent the last one. Returns how many it dropped.
-    pub(crate) fn start_anew(&mut self, reader: &mut PacketReader) -> u64
-        ensures { reader.new.count ≡ min (reader.old.count + result) (2 ^ 64 - 1) }
-    {
-        let mut dropped: u64 = 0;
-        'packets: for _ in 0..WAITING {
-            match self.receive(reader) {
-                Came::Packet(_) | Came::Dropped => dropped = dropped.saturating_add(1),
-                Came::More => (),
-                Came::Nothing | Came::Over(_) => break,
-            }
-        }
+    /// Forgets who sent the last packet.
+    pub(crate) fn forget_sender(&mut self) {
         self.sender = None;
-        dropped
     }
 
     /// Gives a packet to its descriptor, to its last sender, or to the address that it is connected to. Returns whether

@@ -200,7 +200,10 @@ impl Sender {
     {
         match self.find_record() {
             Came::Packet(_) => self.put(alloc, tenant, book),
-            came => came,
+            Came::Dropped => unreachable!(),
+            Came::Nothing => Came::Nothing,
+            Came::More => Came::More,
+            Came::Over(why) => Came::Over(why),
         }
     }
 
@@ -210,11 +213,13 @@ impl Sender {
     {
         match self.find_record() {
             Came::Packet(_) => Came::Dropped,
+            Came::Dropped => unreachable!(),
+            Came::Nothing => Came::Nothing,
+            Came::More => Came::More,
             Came::Over(why) => {
                 self.end(why);
                 Came::Over(why)
             }
-            came => came,
         }
     }
 

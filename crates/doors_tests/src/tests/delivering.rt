@@ -58,7 +58,12 @@ fn packets_go_out_by_each_port(rt: HostRuntime) -> Result<(), Fail> {
     let device = PacketSocket::open(near.as_raw_fd(), poll.registry(), Token(3))?;
     add(&rt, alloc, &mut door, device);
     door.deliver(b"second one");
-    same(&rt, "to the sender again", received(&sender, &mut buffer), 10);
+    same(
+        &rt,
+        "to the sender again",
+        received(&sender, &mut buffer),
+        10,
+    );
     same(&rt, "to the peer", received(&peer, &mut buffer), 10);
     let mut far = far;
     same(&rt, "to the descriptor", far.read(&mut buffer)?, 10);

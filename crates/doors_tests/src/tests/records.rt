@@ -32,7 +32,12 @@ fn count_records(
         match records.next() {
             Cut::Item => {
                 count = count.saturating_add(1);
-                same(rt, "the length of a payload", records.payload().len(), LENGTH);
+                same(
+                    rt,
+                    "the length of a payload",
+                    records.payload().len(),
+                    LENGTH,
+                );
             }
             Cut::Bad => assert!(rt; false, "no record after {count}"),
             Cut::More => match reader.read(&mut piece) {
@@ -60,7 +65,10 @@ fn records_are_whole(rt: HostRuntime) -> Result<(), Fail> {
         door.deliver(payload.as_slice());
     }
     let lost = door.lost();
-    assert!(rt; lost > 0 && lost < PACKETS, "{lost} packets are lost of {PACKETS}");
+    assert!(rt;
+        lost > 0 && lost < PACKETS,
+        "{lost} packets are lost of {PACKETS}"
+    );
     let mut reader = far;
     let mut records = Records::new(alloc, name).expect(&rt, "memory");
     let came = count_records(&rt, &mut door, &mut records, &mut reader);

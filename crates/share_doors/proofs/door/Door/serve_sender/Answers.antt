@@ -4,7 +4,7 @@ use Rattle.share_book.specs.Audited.{Audited}
 use Rattle.share_doors.specs.Door.{DoorView, counted}
 use Rattle.share_doors.specs.Takes.{TakesBytes}
 use Rattle.share_doors.proofs.FillsLemmas.{fills_nothing, fills_one}
-use Rattle.share_doors.proofs.door.Door.serve_next.Goals as goal
+use Rattle.share_doors.proofs.door.Door.serve_sender.Goals as goal
 
 of_tenant : (name other : NameBytes) (n : ℕ) (a b : Audited) → name ≡ other → TakesBytes name n a b
     → TakesBytes other n a b
@@ -27,6 +27,9 @@ returns-in-More-clause-counted g c = fills_nothing _ _ _ _ c.self.view_is c.in-M
 
 pub returns-in-Nothing-clause-counted : goal.returns-in-Nothing-clause-counted
 returns-in-Nothing-clause-counted g c = fills_nothing _ _ _ _ c.self.view_is c.in-Nothing.ensures.book
+
+pub returns-in-Dropped-clause-counted : goal.returns-in-Dropped-clause-counted
+returns-in-Dropped-clause-counted g c = absurd (c.in-Dropped.ensures.book)
 
 pub returns-in-Over-clause-counted : goal.returns-in-Over-clause-counted
 returns-in-Over-clause-counted g c = fills_nothing _ _ _ _ c.self.view_is c.in-Over.ensures.book

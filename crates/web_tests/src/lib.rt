@@ -1,0 +1,5 @@
+//! Tests of what a gateway answers to a browser and to a scrape, over the public calls of share_web.
+#![tactic(auto)]
+
+#[cfg(test)]
+mod tests;

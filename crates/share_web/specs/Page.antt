@@ -11,6 +11,6 @@ common_fields = joined (
     ∷ codes "Cross-Origin-Resource-Policy: same-origin\r\n"
     ∷ codes "Content-Security-Policy: default-src 'none'; connect-src 'self'; img-src data:; base-uri 'none'; "
     ∷ codes "form-action 'none'; frame-ancestors 'none'; "
-    ∷ codes "style-src 'sha256-WhvThh3FC5p7QNmdOLI7oYLr4bwI8JIYWpg5QGezcno='; "
-    ∷ codes "script-src 'sha256-JbnbmjxUoFGrTNTLMV4/LfWSSPHCWiHC/RQrMG9zfow='\r\n"
+    ∷ codes "style-src 'sha256-rmAlRAPAW8mgLDvpp22lPKPQgkzTRvIhG9vAY+qwgFg='; "
+    ∷ codes "script-src 'sha256-lVgxhDOJRHhCn6tpC8qt/wqVcNohvZBJABT8AQBfwek='\r\n"
     ∷ [])

@@ -33,6 +33,7 @@ a:focus-visible, button:focus-visible { outline: 3px solid var(--focus); outline
 button { font: inherit; color: inherit; background: var(--field); border: 1px solid var(--soft); border-radius: 0.3rem\
 ;\n\
 \x20 padding: 0.25rem 0.8rem; min-height: 2rem; cursor: pointer; }\n\
+button[aria-pressed=\"true\"] { color: var(--paper); background: var(--ink); }\n\
 .top { display: flex; flex-wrap: wrap; gap: 0.5rem 1rem; align-items: center; justify-content: space-between; }\n\
 .state { margin: 0.25rem 0; font-weight: 600; }\n\
 .state::before { content: \"\\25CB\\A0\" / \"\"; }\n\
@@ -62,11 +63,11 @@ footer { color: var(--soft); font-size: 0.85rem; border-top: 1px solid var(--lin
 \x20 thead { position: absolute; width: 1px; height: 1px; overflow: hidden; clip-path: inset(50%); white-space: nowrap\
 ; }\n\
 \x20 table, tbody, caption { display: block; }\n\
-\x20 tbody tr { display: grid; grid-template-columns: 1fr 1fr; border: 1px solid var(--line); border-radius: 0.3rem;\n\
-\x20   margin-bottom: 0.75rem; padding: 0.3rem 0; }\n\
+\x20 tbody tr { display: grid; grid-template-columns: repeat(2, minmax(0, 1fr)); border: 1px solid var(--line);\n\
+\x20   border-radius: 0.3rem; margin-bottom: 0.75rem; padding: 0.3rem 0; }\n\
 \x20 tbody th { grid-column: 1 / -1; text-align: left; }\n\
 \x20 tbody th, td { border-bottom: 0; padding: 0.2rem 0.6rem; }\n\
-\x20 td, td.text { text-align: left; }\n\
+\x20 td, td.text { text-align: left; overflow-wrap: anywhere; }\n\
 \x20 td::before { content: attr(data-of) / \"\"; display: block; color: var(--soft); font-size: 0.8rem; }\n\
 \x20 td.share { min-width: 0; grid-column: 1 / -1; }\n\
 }\n\
@@ -137,6 +138,7 @@ let book = null, booksDue = 0, isPaused = false;\n\
 \n\
 const set = (node, text) => { if (node.textContent !== text) node.textContent = text; };\n\
 const grouped = (number) => String(number).replace(/\\B(?=(\\d{3})+$)/g, \"\\u202F\");\n\
+const timed = (text) => text.replace(\"T\", \" \").replace(\"Z\", \" UTC\");\n\
 const percent = (part) => part === null ? \"\\u2013\" : (part * 100).toFixed(1) + \"\\u202F%\";\n\
 const rated = (bytes) => {\n\
 \x20 if (bytes === null) return \"\\u2013\";\n\
@@ -251,7 +253,7 @@ const show = (status, now) => {\n\
 \x20 set(at(\"outbox\"), status.uplink ? grouped(status.uplink.outbox) : \"\\u2013\");\n\
 \x20 set(at(\"lost\"), status.uplink ? grouped(status.uplink.lost) : \"\\u2013\");\n\
 \x20 set(at(\"book\"), grouped(status.book));\n\
-\x20 set(at(\"opened\"), status.opened);\n\
+\x20 set(at(\"opened\"), timed(status.opened));\n\
 \x20 set(at(\"left\"), grouped(status.left));\n\
 \x20 set(at(\"disk\"), status.disk.fault === null ? \"writes\" : \"fails: \" + status.disk.fault);\n\
 \x20 set(at(\"made\"), \"stridelink \" + status.version + \", proved with \" + status.proved);\n\
@@ -262,7 +264,8 @@ const showBooks = (text) => {\n\
 \x20 const column = (line, name) => line[head.indexOf(name)] ?? \"\";\n\
 \x20 const body = at(\"books\");\n\
 \x20 lines.reverse().forEach((line, place) => fill(rowOf(body, place, BOOKS), [\n\
-\x20   grouped(column(line, \"book\")), column(line, \"opened\"), column(line, \"closed\"), column(line, \"why\"),\n\
+\x20   grouped(column(line, \"book\")), timed(column(line, \"opened\")), timed(column(line, \"closed\")), column(line,\
+\x20\"why\"),\n\
 \x20   grouped(column(line, \"packets\")), grouped(column(line, \"bytes\")), grouped(column(line, \"amount\"))]));\n\
 \x20 cut(body, lines.length);\n\
 \x20 at(\"none\").hidden = lines.length > 0;\n\
@@ -316,6 +319,6 @@ X-Content-Type-Options: nosniff\r\n\
 Referrer-Policy: no-referrer\r\n\
 Cross-Origin-Resource-Policy: same-origin\r\n\
 Content-Security-Policy: default-src 'none'; connect-src 'self'; img-src data:; base-uri 'none'; form-action 'none'; f\
-rame-ancestors 'none'; style-src 'sha256-WhvThh3FC5p7QNmdOLI7oYLr4bwI8JIYWpg5QGezcno='; script-src 'sha256-JbnbmjxUoFG\
-rTNTLMV4/LfWSSPHCWiHC/RQrMG9zfow='\r\n"
+rame-ancestors 'none'; style-src 'sha256-rmAlRAPAW8mgLDvpp22lPKPQgkzTRvIhG9vAY+qwgFg='; script-src 'sha256-lVgxhDOJRHh\
+Cn6tpC8qt/wqVcNohvZBJABT8AQBfwek='\r\n"
 }

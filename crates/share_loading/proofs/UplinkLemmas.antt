@@ -7,6 +7,7 @@ use Rattle.toml.specs.Data.{Members}
 use Rattle.share_settings.specs.Settings.{SettingsView}
 use Rattle.share_settings.specs.declared.section.Uplink.{Uplink}
 use Rattle.share_settings.specs.declared.section.Downlink.{Downlink}
+use Rattle.share_settings.specs.declared.section.Web.{Web}
 use Rattle.share_settings.specs.declared.section.Books.{Books}
 use Rattle.share_settings.specs.declared.section.Control.{Control}
 use Rattle.share_settings.specs.Ports.{PortsView}
@@ -15,7 +16,7 @@ use Rattle.share_model.specs.declared.rates.Rate.{Rate}
 use Rattle.share_config.specs.declared.key.Key.TheVariants as key
 use Rattle.share_config.specs.declared.key.Place.TheVariants as place
 use Rattle.share_config.specs.Reading.{Said, ◌>>=◌, needed, optional, known}
-use Rattle.share_config.specs.Sections.{uplink_of, books_of, control_of, downlink_of}
+use Rattle.share_config.specs.Sections.{uplink_of, books_of, control_of, downlink_of, web_of}
 use Rattle.share_config.specs.Lists.{tariffs_of}
 use Rattle.share_config.specs.Tenants.{currency_of, tenant_of, ports_of}
 use Rattle.share_config.specs.Endpoints.{endpoints_of, once}
@@ -50,30 +51,36 @@ no_downlink s none = by_tests (sends_datagrams s.uplink) (is_some s.downlink) no
 
 -- ---- The parts of a file, from one on
 
-abbrev from_plan : Option Uplink → Books → Control → Option Downlink → List Rate → Members → PlanView
+abbrev from_plan : Option Uplink → Books → Control → Option Downlink → Option Web → List Rate → Members → PlanView
     → Said SettingsView
-from_plan uplink books control downlink tariffs ms plan = do
+from_plan uplink books control downlink web tariffs ms plan = do
   ports ← optional (list_in ports_of) [] place.File key.Tenant ms
-  addresses ← once (endpoints_of uplink control downlink ports)
+  addresses ← once (endpoints_of uplink control downlink web ports)
   Ok (record {
     uplink = uplink;
     books = books;
     control = control;
     downlink = downlink;
+    web = web;
     tariffs = tariffs;
     plan = plan;
     ports = ports;
   })
 
-abbrev from_tariffs : Option Uplink → Books → Control → Option Downlink → Members → List Rate → Said SettingsView
-from_tariffs uplink books control downlink ms tariffs = do
+abbrev from_tariffs : Option Uplink → Books → Control → Option Downlink → Option Web → Members → List Rate
+    → Said SettingsView
+from_tariffs uplink books control downlink web ms tariffs = do
   currencies ← optional (list_in currency_of) [] place.File key.Currency ms
   tenants ← optional (list_in tenant_of) [] place.File key.Tenant ms
   plan ← plan_of currencies tenants
-  from_plan uplink books control downlink tariffs ms plan
+  from_plan uplink books control downlink web tariffs ms plan
+
+abbrev from_web : Option Uplink → Books → Control → Option Downlink → Members → Option Web → Said SettingsView
+from_web uplink books control downlink ms web = tariffs_of ms >>= from_tariffs uplink books control downlink web ms
 
 abbrev from_downlink : Option Uplink → Books → Control → Members → Option Downlink → Said SettingsView
-from_downlink uplink books control ms downlink = tariffs_of ms >>= from_tariffs uplink books control downlink ms
+from_downlink uplink books control ms downlink =
+    optional (some_table web_of) None place.File key.Web ms >>= from_web uplink books control downlink ms
 
 abbrev from_given : Option Uplink → Books → Control → Members → Option Downlink → Said SettingsView
 from_given uplink books control ms given = reached uplink given >>= from_downlink uplink books control ms
@@ -103,21 +110,22 @@ linked s uplink given downlink links is none =
     ap is_some links.is_uplink ∙ reaches uplink given downlink is (sym (ap is_some links.is_downlink) ∙ none)
 
 module _ (s : SettingsView) (uplink : Option Uplink) (books : Books) (control : Control) (ms : Members) where
-  links_of_plan : (downlink : Option Downlink) (tariffs : List Rate) (plan : PlanView)
-      → from_plan uplink books control downlink tariffs ms plan ≡ Ok s → HasLinks s uplink downlink
-  links_of_plan downlink tariffs plan is =
+  links_of_plan : (downlink : Option Downlink) (web : Option Web) (tariffs : List Rate) (plan : PlanView)
+      → from_plan uplink books control downlink web tariffs ms plan ≡ Ok s → HasLinks s uplink downlink
+  links_of_plan downlink web tariffs plan is =
       let settings : List PortsView → SettingsView = λ ports. record {
         uplink = uplink;
         books = books;
         control = control;
         downlink = downlink;
+        web = web;
         tariffs = tariffs;
         plan = plan;
         ports = ports;
       } in
       let ports = bound (optional (list_in ports_of) [] place.File key.Tenant ms)
-      (λ ports. once (endpoints_of uplink control downlink ports) >>= λ _. Ok (settings ports)) s is in
-      let addresses = bound (once (endpoints_of uplink control downlink ports.0)) (λ _. Ok (settings ports.0)) s
+      (λ ports. once (endpoints_of uplink control downlink web ports) >>= λ _. Ok (settings ports)) s is in
+      let addresses = bound (once (endpoints_of uplink control downlink web ports.0)) (λ _. Ok (settings ports.0)) s
       ports.2 in
       let same : settings ports.0 ≡ s = cc (addresses.2) in
       record {
@@ -128,16 +136,18 @@ module _ (s : SettingsView) (uplink : Option Uplink) (books : Books) (control : 
   links_of_downlink : (downlink : Option Downlink) → from_downlink uplink books control ms downlink ≡ Ok s
       → HasLinks s uplink downlink
   links_of_downlink downlink is =
-      let tariffs = bound (tariffs_of ms) (from_tariffs uplink books control downlink ms) s is in
+      let web = bound (optional (some_table web_of) None place.File key.Web ms) (from_web uplink books control downlink ms)
+      s is in
+      let tariffs = bound (tariffs_of ms) (from_tariffs uplink books control downlink web.0 ms) s web.2 in
       let currencies = bound (optional (list_in currency_of) [] place.File key.Currency ms)
       (λ currencies. optional (list_in tenant_of) [] place.File key.Tenant ms
-      >>= λ tenants. plan_of currencies tenants >>= from_plan uplink books control downlink tariffs.0 ms) s tariffs.2 in
+      >>= λ tenants. plan_of currencies tenants >>= from_plan uplink books control downlink web.0 tariffs.0 ms) s tariffs.2 in
       let tenants = bound (optional (list_in tenant_of) [] place.File key.Tenant ms)
-      (λ tenants. plan_of currencies.0 tenants >>= from_plan uplink books control downlink tariffs.0 ms) s
+      (λ tenants. plan_of currencies.0 tenants >>= from_plan uplink books control downlink web.0 tariffs.0 ms) s
       currencies.2 in
-      let plan = bound (plan_of currencies.0 tenants.0) (from_plan uplink books control downlink tariffs.0 ms) s
+      let plan = bound (plan_of currencies.0 tenants.0) (from_plan uplink books control downlink web.0 tariffs.0 ms) s
       tenants.2 in
-      links_of_plan downlink tariffs.0 plan.0 plan.2
+      links_of_plan downlink web.0 tariffs.0 plan.0 plan.2
 
 uplink_given : (all : Members) (s : SettingsView) → settings_of all ≡ Ok s → first_unsupported s ≡ None
     → IsSome s.uplink

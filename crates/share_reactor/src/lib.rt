@@ -7,15 +7,18 @@ mod doorways;
 mod faults;
 mod input;
 mod keeping;
+mod last_books;
 mod news;
 mod obeying;
 mod ports;
 mod reactor;
 mod reloading;
 mod running;
+mod serving;
 mod sources;
 mod start;
 mod status;
+mod web;
 
 pub use faults::NotRun;
 pub use reactor::Options;

@@ -6,6 +6,7 @@ use crate::input::Input;
 use crate::news::News;
 use crate::ports::{PortPlace, remove_file};
 use crate::sources::{Source, Sources};
+use crate::web::Web;
 use mio::event::Event;
 use mio::{Events, Poll, Token};
 use share_base::FlowNo;
@@ -73,6 +74,7 @@ pub struct Reactor<'b> {
     pub(crate) doorways: Doorways,
     pub(crate) controls: Controls,
     pub(crate) control_place: PortPlace,
+    pub(crate) web: Option<Web>,
     pub(crate) uplink: Uplink,
     pub(crate) uplink_token: Token,
     pub(crate) input: Input,
@@ -137,6 +139,18 @@ impl Reactor<'_> {
                 self.controls
                     .note(key, event.is_readable(), event.is_writable())
             }
+            Some(source @ (Source::WebListener | Source::WebClient(_))) => self.note_web(source, event),
+        }
+    }
+
+    fn note_web(&mut self, source: Source, event: &Event) {
+        let Some(web) = &mut self.web else {
+            return;
+        };
+        match source {
+            Source::WebListener => web.note_listener(),
+            Source::WebClient(key) => web.note(key, event.is_readable(), event.is_writable()),
+            _ => (),
         }
     }
 
@@ -156,6 +170,7 @@ impl Reactor<'_> {
         is_busy |= self.write_text(rt, now);
         is_busy |= self.send(rt, now);
         is_busy |= self.obey(rt, path, now);
+        is_busy |= self.serve_web(rt, now);
         is_busy |= self.go_on(rt, now);
         if !matches!(self.ending, Ending::Closing(_)) {
             self.news.tell_remainders(rt, self.books);
@@ -344,6 +359,9 @@ impl Reactor<'_> {
             if let Some(at) = at {
                 pause = shorter(pause, at.saturating_duration_since(now));
             }
+        }
+        if let Some(left) = self.web_pause(now) {
+            pause = shorter(pause, left);
         }
         self.pause_at_end(pause, now)
     }

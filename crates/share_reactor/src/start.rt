@@ -7,10 +7,11 @@ use crate::input::Input;
 use crate::ports::{Port, PortPlace, listen, place_of_control, remove_file};
 use crate::reactor::Reactor;
 use crate::sources::{Source, Sources};
+use crate::web::Web;
 use mio::{Poll, Registry, Token, Waker};
 use share_base::FlowNo;
 use share_doors::Door;
-use share_settings::{Control, Peer, Settings, TenantPorts};
+use share_settings::{Control, Peer, Settings, TenantPorts, Web as WebSettings};
 use share_sockets::Listener;
 use share_uplink::Uplink;
 use std::alloc::Global;
@@ -27,6 +28,7 @@ pub(crate) struct Ground {
     pub(crate) doorways: Doorways,
     pub(crate) controls: Controls,
     pub(crate) control_place: PortPlace,
+    pub(crate) web: Option<Web>,
     pub(crate) uplink: Uplink,
     pub(crate) uplink_token: Token,
     pub(crate) input: Input,
@@ -156,6 +158,25 @@ fn open_control<R: Files + Net>(
     }
 }
 
+// Listens for web connections, if the settings ask for it.
+fn open_web<R: Files + Net>(
+    rt: &R,
+    alloc: Global,
+    registry: &Registry,
+    sources: &mut Sources,
+    web: Option<WebSettings>,
+) -> Result<Option<Web>, NotRun> {
+    let Some(web) = web else {
+        return Ok(None);
+    };
+    let token = token_of(sources, Source::WebListener)?;
+    let place = PortPlace::Tcp(web.listen);
+    match listen(rt, registry, token, &place, 0) {
+        Ok(listener) => Ok(Some(Web::new(alloc, listener, web.listen)?)),
+        Err(fault) => Err(not_listened(alloc, &place, fault)),
+    }
+}
+
 // The uplink over TCP. Another one, and a gateway without one, are not supported.
 fn uplink_of(settings: &Settings, now: Instant) -> Result<Uplink, NotRun> {
     match settings.uplink {
@@ -200,12 +221,13 @@ impl Ground {
             settings,
             &control_place,
         ) {
-            Ok(controls) => Ok(Ground {
+            Ok((controls, web)) => Ok(Ground {
                 poll,
                 sources,
                 doorways,
                 controls,
                 control_place,
+                web,
                 uplink,
                 uplink_token,
                 input,
@@ -230,7 +252,8 @@ impl Ground {
     }
 }
 
-// Listens at all ports, and for control connections.
+// Listens at all ports, for control connections, and for web connections. The web listener comes before the control
+// listener, whose file is not removed if a later listener fails.
 fn open_all<R: Files + Net>(
     rt: &R,
     alloc: Global,
@@ -239,18 +262,24 @@ fn open_all<R: Files + Net>(
     doorways: &mut Doorways,
     settings: &Settings,
     control_place: &PortPlace,
-) -> Result<Controls, NotRun> {
+) -> Result<(Controls, Option<Web>), NotRun> {
     let registry = poll.registry();
     open_doors(rt, alloc, registry, sources, doorways, settings)?;
-    let listener = open_control(
+    let web = open_web(rt, alloc, registry, sources, settings.web)?;
+    match open_control(
         rt,
         alloc,
         registry,
         sources,
         &settings.control,
         control_place,
-    )?;
-    Ok(Controls::new(alloc, listener))
+    ) {
+        Ok(listener) => Ok((Controls::new(alloc, listener), web)),
+        Err(fault) => {
+            drop(web);
+            Err(fault)
+        }
+    }
 }
 
 impl Reactor<'_> {

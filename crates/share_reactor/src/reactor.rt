@@ -139,18 +139,20 @@ impl Reactor<'_> {
                 self.controls
                     .note(key, event.is_readable(), event.is_writable())
             }
-            Some(source @ (Source::WebListener | Source::WebClient(_))) => self.note_web(source, event),
+            Some(Source::WebListener) => self.note_web_listener(),
+            Some(Source::WebClient(key)) => self.note_web(key, event),
         }
     }
 
-    fn note_web(&mut self, source: Source, event: &Event) {
-        let Some(web) = &mut self.web else {
-            return;
-        };
-        match source {
-            Source::WebListener => web.note_listener(),
-            Source::WebClient(key) => web.note(key, event.is_readable(), event.is_writable()),
-            _ => (),
+    fn note_web_listener(&mut self) {
+        if let Some(web) = &mut self.web {
+            web.note_listener();
+        }
+    }
+
+    fn note_web(&mut self, key: usize, event: &Event) {
+        if let Some(web) = &mut self.web {
+            web.note(key, event.is_readable(), event.is_writable());
         }
     }
 

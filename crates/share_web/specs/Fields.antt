@@ -1,5 +1,5 @@
 -- The fields of a head: pairs of a name and a value without the white space around it.
-use Rattle.std.specs.Prelude.{ℕ, List, Bool, ◌×◌, ◌&&◌, ◌||◌, ◌-◌, codes, count_by, length, map, nat_eq, take}
+use Rattle.std.specs.Prelude.{ℕ, List, Bool, ◌&&◌, ◌||◌, ◌-◌, codes, count_by, length, map, nat_eq, take}
 use Rattle.std.specs.Char.{to_ascii_lowercase}
 use Rattle.std.specs.List.{ends_with, list_any, starts_with}
 use Rattle.std.specs.Str.{bytes_eq}

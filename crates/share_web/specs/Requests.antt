@@ -1,11 +1,11 @@
 -- What the head of a request asks for.
-use Rattle.std.specs.Prelude.{ℕ, List, Option, None, Some, Bool, false, true, not, ◌&&◌, ◌||◌, ◌==◌, ◌-◌, codes, drop, length}
-use Rattle.std.specs.Prelude.{map, nat_eq, nat_le, position, slice_index, take, if◌then◌else◌}
+use Rattle.std.specs.Prelude.{◌≡◌, ◌<◌, ◌⊎◌, ℕ, List, Option, None, Some, Bool, false, true, not, ◌&&◌, ◌||◌, ◌==◌}
+use Rattle.std.specs.Prelude.{◌-◌, codes, drop, length, map, nat_eq, nat_le, position, slice_index, take, if◌then◌else◌}
 use Rattle.std.specs.Char.{is_ascii_digit}
 use Rattle.std.specs.List.{list_any, starts_with}
 use Rattle.std.specs.Str.{bytes_eq}
 use Rattle.httparse.specs.Grammar.{RequestHead}
-use Rattle.httparse.specs.Spans.{name_and_value}
+use Rattle.httparse.specs.Spans.{RequestExceeds, name_and_value}
 use Rattle.share_web.specs.Fields.{Fields, count_named, has_host_at, wants_open_metrics}
 use Rattle.share_web.specs.Heads.{is_ended}
 use Rattle.share_web.specs.declared.request.Request.{Request}
@@ -56,6 +56,10 @@ request_by address method target fields = record {
 abbrev pub request_of : List ℕ → RequestHead → Request
 request_of address h = request_by address h.method h.target (map name_and_value h.fields)
 
+-- what a head of the grammar asks for; a head with more than 64 fields may be refused
+abbrev pub AsksBy : List ℕ → RequestHead → Request → Type 0
+AsksBy address h asked = (asked ≡ request_of address h) ⊎ ((64 < length h.fields) × (asked ≡ refused why.HeadTooLarge))
+
 -- ---- Heads that are not read
 
 -- a space, another version than 1.0 and 1.1, and a carriage return
@@ -92,3 +96,7 @@ unread head =
     if not (is_ended head) then too_long head
     else if has_other_version head then why.VersionNotSupported
     else why.BadRequest
+
+-- what is asked by a head that is not read; one that goes on with a fault after 64 fields may be refused for these
+abbrev pub IsUnread : List ℕ → Request → Type 0
+IsUnread head asked = (asked ≡ refused (unread head)) ⊎ (RequestExceeds 64 head × (asked ≡ refused why.HeadTooLarge))

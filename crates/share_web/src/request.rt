@@ -1,11 +1,9 @@
 //! What the head of a request asks for.
-ghost use Rattle.std.specs.Prelude.{◌≡◌, ◌<◌, ◌≤◌, ◌⊎◌, ◌×◌, ℕ, List, Some, length, map, option_copied};
+ghost use Rattle.std.specs.Prelude.{◌≡◌, ℕ, List, Some, map, option_copied};
 ghost use Rattle.httparse.specs.Borrowed.{header_parts};
 ghost use Rattle.httparse.specs.Grammar.{HasNoRequest, ReadsRequest, RequestHead};
-ghost use Rattle.httparse.specs.Spans.{RequestExceeds};
-ghost use Rattle.share_web.specs.Requests.{exposition_by, is_read_alone, refused, request_by, request_of, resource_by, unread};
-ghost use Rattle.share_web.specs.Requests.{want_by};
-ghost use Rattle.share_web.specs.declared.target.Refusal.TheVariants.{HeadTooLarge};
+ghost use Rattle.share_web.specs.Requests.{AsksBy, IsUnread, exposition_by, is_read_alone, refused, request_by};
+ghost use Rattle.share_web.specs.Requests.{resource_by, want_by};
 
 use crate::fields::{count_named, has_host_at, wants_open_metrics};
 use crate::target::{Exposition, Refusal, Resource, Want};
@@ -24,14 +22,8 @@ pub struct Request {
 
 /// What a head asks of a gateway that listens at an address.
 pub fn asked(head: &[u8], address: &[u8]) -> Request
-    ensures request { (h : RequestHead) (rest : List ℕ) → ReadsRequest head.now h rest → length h.fields ≤ 64
-        → result ≡ request_of address.now h }
-
-    // A head with too many fields is refused. So is one that goes on with a fault after them.
-    ensures many { (h : RequestHead) (rest : List ℕ) → ReadsRequest head.now h rest → 64 < length h.fields
-        → result ≡ refused HeadTooLarge }
-    ensures none { HasNoRequest head.now → (result ≡ refused (unread head.now))
-        ⊎ (RequestExceeds 64 head.now × (result ≡ refused HeadTooLarge)) }
+    ensures request { (h : RequestHead) (rest : List ℕ) → ReadsRequest head.now h rest → AsksBy address.now h result }
+    ensures none { HasNoRequest head.now → IsUnread head.now result }
 {
     let mut headers = [EMPTY_HEADER; MAX_FIELDS];
     let mut request = httparse::Request::new(&mut headers);

@@ -1,5 +1,5 @@
 -- What a contract sees of a connection, and what its calls do to that.
-use Rattle.std.specs.Prelude.{◌≡◌, ◌-◌, ◌×◌, ◌⊎◌, ℕ, Bool, true, false, ◌&&◌, ◌||◌, List, [], drop}
+use Rattle.std.specs.Prelude.{◌≡◌, ◌-◌, ◌⊎◌, ℕ, Bool, true, false, ◌&&◌, ◌||◌, List, [], drop}
 use Rattle.share_web.specs.Heads.{is_over, taken}
 use Rattle.share_web_clients.specs.declared.client.Stage.{Stage}
 use Rattle.share_web_clients.specs.declared.client.Stage.TheVariants.{Reading, Asked, Answering, Closing, Over}

@@ -5,10 +5,11 @@ use share_base::FlowNo;
 use share_book::Book;
 use share_gateway::Tenant;
 use share_rotation::Sent;
+use share_metrics::metrics_text;
 use share_status::{
     DiskStatus, Status, TenantStatus, UplinkState as Shown, UplinkStatus, status_text,
 };
-use share_web::{Exposition, metrics_text};
+use share_web::Exposition;
 use share_tariff::PlainShelf;
 use share_uplink::UplinkState;
 use std::alloc::{AllocError, Global};

@@ -1,7 +1,7 @@
 -- The bytes of an answer.
-use Rattle.std.specs.Prelude.{ℕ, List, [], ◌∷◌, Bool, codes, decimal, length, if◌then◌else◌}
+use Rattle.std.specs.Prelude.{ℕ, List, [], ◌++◌, Bool, codes, decimal, length, if◌then◌else◌}
 use Rattle.share_web.specs.Page.{common_fields}
-use Rattle.share_web.specs.Parts.{joined}
+use Rattle.share_web.specs.Parts.{three}
 use Rattle.share_web.specs.declared.target.Exposition.TheVariants.{Plain, OpenMetrics}
 use Rattle.share_web.specs.declared.target.Refusal.{Refusal}
 use Rattle.share_web.specs.declared.target.Refusal.TheVariants as why
@@ -14,8 +14,9 @@ body_if body has_body = if has_body then body else []
 -- an answer says how long its body is, whether the body follows or not
 unfoldable pub response : List ℕ → List ℕ → List ℕ → Bool → List ℕ
 response reason fields body has_body =
-    joined (codes "HTTP/1.1 " ∷ reason ∷ codes "\r\n" ∷ common_fields ∷ fields
-    ∷ codes "Content-Length: " ∷ decimal (length body) ∷ codes "\r\n\r\n" ∷ body_if body has_body ∷ [])
+    three (codes "HTTP/1.1 ") reason (codes "\r\n")
+    ++ three common_fields fields (codes "Content-Length: ")
+    ++ three (decimal (length body)) (codes "\r\n\r\n") (body_if body has_body)
 
 abbrev pub fields_of : Resource → List ℕ
 fields_of resource.Page = codes "Content-Type: text/html; charset=utf-8\r\n"

@@ -24,12 +24,19 @@ is_at address host =
     bytes_eq host address
     || (ends_with nat_eq address (codes ":80") && bytes_eq host (take (length address - 3) address))
 
--- some field is a Host that is this address
-abbrev pub has_host_at : List ℕ → Fields → Bool
-has_host_at address fields = list_any (λ field. is_named (codes "host") field && is_at address field.1) fields
+-- a field is a Host that is this address
+abbrev pub is_host_at : List ℕ → List ℕ × List ℕ → Bool
+is_host_at address field = is_named (codes "host") field && is_at address field.1
 
--- some field asks for OpenMetrics before all else
+-- some field is
+abbrev pub has_host_at : List ℕ → Fields → Bool
+has_host_at address fields = list_any (is_host_at address) fields
+
+-- a field asks for OpenMetrics before all else
+abbrev pub accepts_open_metrics : List ℕ × List ℕ → Bool
+accepts_open_metrics field =
+    is_named (codes "accept") field && starts_with nat_eq field.1 (codes "application/openmetrics-text")
+
+-- some field does
 abbrev pub wants_open_metrics : Fields → Bool
-wants_open_metrics fields =
-    list_any (λ field. is_named (codes "accept") field
-    && starts_with nat_eq field.1 (codes "application/openmetrics-text")) fields
+wants_open_metrics fields = list_any accepts_open_metrics fields

@@ -1,11 +1,6 @@
 -- Texts that are put together from parts.
-use Rattle.std.specs.Prelude.{ℕ, List, flat_map}
-use Rattle.std.specs.Borrow.{Bor}
+use Rattle.std.specs.Prelude.{ℕ, List, ◌++◌}
 
--- the parts, one after the other
-abbrev pub joined : List (List ℕ) → List ℕ
-joined parts = flat_map (λ part. part) parts
-
--- the same of parts that are lent
-abbrev pub joined_parts : List (Bor (List ℕ)) → List ℕ
-joined_parts parts = flat_map (λ part. part.now) parts
+-- three parts, one after the other
+unfoldable pub three : List ℕ → List ℕ → List ℕ → List ℕ
+three a b c = a ++ b ++ c

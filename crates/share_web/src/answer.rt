@@ -4,7 +4,7 @@ ghost use Rattle.share_web.specs.Answers.{answer_text, body_if, fields_of, reaso
 ghost use Rattle.share_web.specs.Answers.{response};
 
 use crate::page::common_fields;
-use crate::parts::push_all;
+use crate::parts::push_three;
 use crate::target::{Exposition, Refusal, Resource};
 use itoa::Buffer;
 use std::alloc::{AllocError, Global};
@@ -30,6 +30,7 @@ pub fn refusal_text(alloc: Global, why: Refusal, has_body: bool) -> Result<Vec<u
 }
 
 // An answer with a code and its reason, fields of its own, and a body.
+#[tactic(auto, unfolding(crate::specs::Answers::response))]
 fn response(
     alloc: Global,
     reason: &[u8],
@@ -41,19 +42,13 @@ fn response(
 {
     let mut digits = Buffer::new();
     let mut text = Vec::new(alloc);
-    push_all(
+    push_three(&mut text, b"HTTP/1.1 ", reason, b"\r\n")?;
+    push_three(&mut text, common_fields(), fields, b"Content-Length: ")?;
+    push_three(
         &mut text,
-        &[
-            b"HTTP/1.1 ",
-            reason,
-            b"\r\n",
-            common_fields(),
-            fields,
-            b"Content-Length: ",
-            digits.format(body.len()).as_bytes(),
-            b"\r\n\r\n",
-            body_if(body, has_body),
-        ],
+        digits.format(body.len()).as_bytes(),
+        b"\r\n\r\n",
+        body_if(body, has_body),
     )?;
     Ok(text)
 }

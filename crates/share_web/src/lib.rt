@@ -3,11 +3,9 @@
 #![tactic(auto)]
 
 mod answer;
-mod family;
 mod fields;
 mod head;
 mod laws;
-mod metrics;
 mod page;
 mod parts;
 mod request;
@@ -15,10 +13,9 @@ mod target;
 mod unread;
 
 pub use answer::{answer_text, refusal_text};
-pub use family::{GatewayFamily, TenantFamily};
 pub use head::{Head, MAX_HEAD};
 pub use laws::pieces_make_no_difference;
-pub use metrics::metrics_text;
 pub use page::PAGE;
+pub use parts::push_three;
 pub use request::{Request, asked};
 pub use target::{Exposition, Refusal, Resource, Want};

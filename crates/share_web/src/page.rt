@@ -309,6 +309,7 @@ run();\n\
 </html>\n";
 
 /// The fields that each answer has. The policy allows the page its own style and script, and nothing else.
+#[tactic(auto, unfolding(crate::specs::Page::common_fields))]
 pub(crate) fn common_fields() -> &'static [u8]
     ensures { result.now ≡ common_fields }
 {

@@ -1,15 +1,20 @@
 //! Texts that are put together from parts.
 ghost use Rattle.std.specs.Prelude.{◌≡◌, ◌++◌, OnOk};
-ghost use Rattle.share_web.specs.Parts.{joined_parts};
+ghost use Rattle.share_web.specs.Parts.{three};
 
 use std::alloc::AllocError;
 
-/// Adds parts to a text, in their order.
-pub(crate) fn push_all(text: &mut Vec<u8>, parts: &[&[u8]]) -> Result<(), AllocError>
-    ensures { OnOk result (text.new.items ≡ text.old.items ++ joined_parts parts.now) }
+/// Adds three parts to a text.
+#[tactic(auto, unfolding(crate::specs::Parts::three))]
+pub fn push_three(
+    text: &mut Vec<u8>,
+    first: &[u8],
+    second: &[u8],
+    third: &[u8],
+) -> Result<(), AllocError>
+    ensures { OnOk result (text.new.items ≡ text.old.items ++ three first.now second.now third.now) }
 {
-    'parts: for index in 0..parts.len() {
-        text.extend_from_slice(parts[index])?;
-    }
-    Ok(())
+    text.extend_from_slice(first)?;
+    text.extend_from_slice(second)?;
+    text.extend_from_slice(third)
 }

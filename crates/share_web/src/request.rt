@@ -29,8 +29,9 @@ pub fn asked(head: &[u8], address: &[u8]) -> Request
     let mut request = httparse::Request::new(&mut headers);
     match request.parse(head) {
         Ok(Status::Complete(_)) => request_in(&request, address),
+        Ok(Status::Partial) => refused(unread(head)),
         Err(Error::TooManyHeaders) => refused(Refusal::HeadTooLarge),
-        Ok(Status::Partial) | Err(_) => refused(unread(head)),
+        Err(_) => refused(unread(head)),
     }
 }
 

@@ -3,10 +3,11 @@
 use crate::tests::assertions::same;
 use share_base::Name;
 use share_catalog::Time;
+use share_metrics::metrics_text;
 use share_status::{
     DiskStatus, DownlinkState, DownlinkStatus, Status, TenantStatus, UplinkState, UplinkStatus,
 };
-use share_web::{Exposition, metrics_text};
+use share_web::Exposition;
 use std::alloc::Global;
 use std::process::Abort;
 use std::str;

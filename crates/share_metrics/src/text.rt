@@ -1,14 +1,13 @@
 //! The text of the metrics of a status.
 ghost use Rattle.std.specs.Prelude.{◌≡◌, ◌++◌, IfOk, OnOk};
-ghost use Rattle.share_web.specs.Metrics.{closing, family_head, family_suffix, gateway_family, gateway_text, kind_of};
-ghost use Rattle.share_web.specs.Metrics.{metrics_text, sample_suffix, samples_text, tenant_family, tenant_sample};
-ghost use Rattle.share_web.specs.Metrics.{tenants_text};
+ghost use Rattle.share_metrics.specs.Metrics.{closing, family_head, family_suffix, gateway_family, gateway_text, kind_of};
+ghost use Rattle.share_metrics.specs.Metrics.{metrics_text, number_line, sample_suffix, samples_text, tenant_family, tenant_sample};
+ghost use Rattle.share_metrics.specs.Metrics.{tenants_text};
 
 use crate::family::{GATEWAY_FAMILIES, GatewayFamily, TENANT_FAMILIES, TenantFamily};
-use crate::parts::push_all;
-use crate::target::Exposition;
 use itoa::Buffer;
 use share_status::{Status, TenantStatus};
+use share_web::{Exposition, push_three};
 use std::alloc::{AllocError, Global};
 
 /// The metrics of a status: the families of the gateway, then those by tenant.
@@ -38,7 +37,7 @@ fn push_metrics(
 {
     push_gateway(text, exposition, status)?;
     push_tenants(text, exposition, status.tenants)?;
-    push_all(text, &[closing(exposition)])
+    text.extend_from_slice(closing(exposition))
 }
 
 fn push_gateway(
@@ -55,6 +54,7 @@ fn push_gateway(
     Ok(())
 }
 
+#[tactic(auto, unfolding(crate::specs::Metrics::gateway_family))]
 fn push_gateway_family(
     text: &mut Vec<u8>,
     exposition: Exposition,
@@ -73,17 +73,13 @@ fn push_gateway_family(
         family.help(),
         family.is_counter(),
     )?;
-    let mut digits = Buffer::new();
-    push_all(
+    push_three(
         text,
-        &[
-            family.name(),
-            sample_suffix(family.is_counter()),
-            b" ",
-            digits.format(value).as_bytes(),
-            b"\n",
-        ],
-    )
+        family.name(),
+        sample_suffix(family.is_counter()),
+        b" ",
+    )?;
+    push_number(text, value)
 }
 
 fn push_tenants(
@@ -100,6 +96,7 @@ fn push_tenants(
     Ok(())
 }
 
+#[tactic(auto, unfolding(crate::specs::Metrics::tenant_family))]
 fn push_tenant_family(
     text: &mut Vec<u8>,
     exposition: Exposition,
@@ -131,6 +128,7 @@ fn push_samples(
     Ok(())
 }
 
+#[tactic(auto, unfolding(crate::specs::Metrics::tenant_sample))]
 fn push_sample(
     text: &mut Vec<u8>,
     family: TenantFamily,
@@ -138,22 +136,18 @@ fn push_sample(
 ) -> Result<(), AllocError>
     ensures { OnOk result (text.new.items ≡ text.old.items ++ tenant_sample family tenant.now) }
 {
-    let mut digits = Buffer::new();
-    push_all(
+    push_three(
         text,
-        &[
-            family.name(),
-            sample_suffix(family.is_counter()),
-            b"{tenant=\"",
-            tenant.name.as_bytes(),
-            b"\"} ",
-            digits.format(family.value(tenant)).as_bytes(),
-            b"\n",
-        ],
-    )
+        family.name(),
+        sample_suffix(family.is_counter()),
+        b"{tenant=\"",
+    )?;
+    push_three(text, tenant.name.as_bytes(), b"\"}", b" ")?;
+    push_number(text, family.value(tenant))
 }
 
 // Adds the lines that say what a family is.
+#[tactic(auto, unfolding(crate::specs::Metrics::family_head))]
 fn push_head(
     text: &mut Vec<u8>,
     exposition: Exposition,
@@ -165,20 +159,10 @@ fn push_head(
         (text.new.items ≡ text.old.items ++ family_head exposition name.now help.now is_counter) }
 {
     let suffix = family_suffix(exposition, is_counter);
-    push_all(
-        text,
-        &[
-            b"# HELP ",
-            name,
-            suffix,
-            b" ",
-            help,
-            b"\n# TYPE ",
-            name,
-            suffix,
-            kind_of(is_counter),
-        ],
-    )
+    push_three(text, b"# HELP ", name, suffix)?;
+    push_three(text, b" ", help, b"\n")?;
+    push_three(text, b"# TYPE ", name, suffix)?;
+    text.extend_from_slice(kind_of(is_counter))
 }
 
 // What stands after the name of a family in the lines that say what it is.
@@ -216,4 +200,14 @@ fn closing(exposition: Exposition) -> &'static [u8]
         Exposition::Plain => b"",
         Exposition::OpenMetrics => b"# EOF\n",
     }
+}
+
+// Adds a number and a line feed.
+#[tactic(auto, unfolding(crate::specs::Metrics::number_line))]
+fn push_number(text: &mut Vec<u8>, value: u64) -> Result<(), AllocError>
+    ensures { OnOk result (text.new.items ≡ text.old.items ++ number_line value) }
+{
+    let mut digits = Buffer::new();
+    text.extend_from_slice(digits.format(value).as_bytes())?;
+    text.extend_from_slice(b"\n")
 }

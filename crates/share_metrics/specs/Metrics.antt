@@ -1,15 +1,19 @@
 -- The text of the metrics of a status.
-use Rattle.std.specs.Prelude.{ℕ, List, [], ◌∷◌, ◌++◌, Bool, Option, None, Some, codes, decimal, flat_map}
+use Rattle.std.specs.Prelude.{ℕ, List, [], ◌++◌, Bool, Option, None, Some, codes, decimal, flat_map}
 use Rattle.std.specs.Prelude.{if◌then◌else◌}
 use Rattle.share_status.specs.declared.status.Status.{Status}
 use Rattle.share_status.specs.declared.status.TenantStatus.{TenantStatus}
-use Rattle.share_web.specs.Families.{gateway_families, gateway_help, gateway_name, gateway_value, is_gateway_counter}
-use Rattle.share_web.specs.Families.{is_tenant_counter, tenant_families, tenant_help, tenant_name, tenant_value}
-use Rattle.share_web.specs.Parts.{joined}
-use Rattle.share_web.specs.declared.family.GatewayFamily.{GatewayFamily}
-use Rattle.share_web.specs.declared.family.TenantFamily.{TenantFamily}
+use Rattle.share_metrics.specs.Families.{gateway_families, gateway_help, gateway_name, gateway_value, is_gateway_counter}
+use Rattle.share_metrics.specs.Families.{is_tenant_counter, tenant_families, tenant_help, tenant_name, tenant_value}
+use Rattle.share_web.specs.Parts.{three}
+use Rattle.share_metrics.specs.declared.family.GatewayFamily.{GatewayFamily}
+use Rattle.share_metrics.specs.declared.family.TenantFamily.{TenantFamily}
 use Rattle.share_web.specs.declared.target.Exposition.{Exposition}
 use Rattle.share_web.specs.declared.target.Exposition.TheVariants.{Plain, OpenMetrics}
+
+-- a number and a line feed
+unfoldable pub number_line : ℕ → List ℕ
+number_line n = decimal n ++ codes "\n"
 
 -- ---- What a family is
 
@@ -25,16 +29,18 @@ family_suffix OpenMetrics is_counter = []
 abbrev pub kind_of : Bool → List ℕ
 kind_of is_counter = if is_counter then codes " counter\n" else codes " gauge\n"
 
-abbrev pub family_head : Exposition → List ℕ → List ℕ → Bool → List ℕ
+unfoldable pub family_head : Exposition → List ℕ → List ℕ → Bool → List ℕ
 family_head e name help is_counter =
-    joined (codes "# HELP " ∷ name ∷ family_suffix e is_counter ∷ codes " " ∷ help
-    ∷ codes "\n# TYPE " ∷ name ∷ family_suffix e is_counter ∷ kind_of is_counter ∷ [])
+    three (codes "# HELP ") name (family_suffix e is_counter)
+    ++ three (codes " ") help (codes "\n")
+    ++ three (codes "# TYPE ") name (family_suffix e is_counter)
+    ++ kind_of is_counter
 
 -- ---- Families that have at most one value
 
 abbrev pub gateway_sample : GatewayFamily → ℕ → List ℕ
 gateway_sample f n =
-    joined (gateway_name f ∷ sample_suffix (is_gateway_counter f) ∷ codes " " ∷ decimal n ∷ codes "\n" ∷ [])
+    three (gateway_name f) (sample_suffix (is_gateway_counter f)) (codes " ") ++ number_line n
 
 abbrev pub valued : Exposition → GatewayFamily → Option ℕ → List ℕ
 valued e f None = []
@@ -51,8 +57,9 @@ gateway_text e s = flat_map (gateway_family e s) gateway_families
 
 unfoldable pub tenant_sample : TenantFamily → TenantStatus → List ℕ
 tenant_sample f t =
-    joined (tenant_name f ∷ sample_suffix (is_tenant_counter f) ∷ codes "{tenant=\"" ∷ t.name ∷ codes "\"} "
-    ∷ decimal (tenant_value f t) ∷ codes "\n" ∷ [])
+    three (tenant_name f) (sample_suffix (is_tenant_counter f)) (codes "{tenant=\"")
+    ++ three t.name (codes "\"}") (codes " ")
+    ++ number_line (tenant_value f t)
 
 abbrev pub samples_text : TenantFamily → List TenantStatus → List ℕ
 samples_text f tenants = flat_map (tenant_sample f) tenants

@@ -8,10 +8,10 @@ use Rattle.share_status.specs.declared.status.TenantStatus.{TenantStatus}
 use Rattle.share_status.specs.declared.status.UplinkState.{UplinkState}
 use Rattle.share_status.specs.declared.status.UplinkState.TheVariants as up
 use Rattle.share_status.specs.declared.status.UplinkStatus.{UplinkStatus}
-use Rattle.share_web.specs.declared.family.GatewayFamily.{GatewayFamily}
-use Rattle.share_web.specs.declared.family.GatewayFamily.TheVariants as gateway
-use Rattle.share_web.specs.declared.family.TenantFamily.{TenantFamily}
-use Rattle.share_web.specs.declared.family.TenantFamily.TheVariants as tenant
+use Rattle.share_metrics.specs.declared.family.GatewayFamily.{GatewayFamily}
+use Rattle.share_metrics.specs.declared.family.GatewayFamily.TheVariants as gateway
+use Rattle.share_metrics.specs.declared.family.TenantFamily.{TenantFamily}
+use Rattle.share_metrics.specs.declared.family.TenantFamily.TheVariants as tenant
 
 -- 1 stands for true, and 0 for false
 abbrev pub if_true : Bool → ℕ

@@ -136,12 +136,13 @@ module _ (s : SettingsView) (uplink : Option Uplink) (books : Books) (control : 
   links_of_downlink : (downlink : Option Downlink) → from_downlink uplink books control ms downlink ≡ Ok s
       → HasLinks s uplink downlink
   links_of_downlink downlink is =
-      let web = bound (optional (some_table web_of) None place.File key.Web ms) (from_web uplink books control downlink ms)
-      s is in
+      let web = bound (optional (some_table web_of) None place.File key.Web ms)
+      (from_web uplink books control downlink ms) s is in
       let tariffs = bound (tariffs_of ms) (from_tariffs uplink books control downlink web.0 ms) s web.2 in
       let currencies = bound (optional (list_in currency_of) [] place.File key.Currency ms)
       (λ currencies. optional (list_in tenant_of) [] place.File key.Tenant ms
-      >>= λ tenants. plan_of currencies tenants >>= from_plan uplink books control downlink web.0 tariffs.0 ms) s tariffs.2 in
+      >>= λ tenants. plan_of currencies tenants >>= from_plan uplink books control downlink web.0 tariffs.0 ms) s
+      tariffs.2 in
       let tenants = bound (optional (list_in tenant_of) [] place.File key.Tenant ms)
       (λ tenants. plan_of currencies.0 tenants >>= from_plan uplink books control downlink web.0 tariffs.0 ms) s
       currencies.2 in

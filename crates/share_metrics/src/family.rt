@@ -1,8 +1,8 @@
 //! The families of metrics: their names, what they say, and their values.
 ghost use Rattle.std.specs.Prelude.{◌≡◌};
 ghost use Rattle.share_metrics.specs.Families.{downlink_value, gateway_help, gateway_name, gateway_value};
-ghost use Rattle.share_metrics.specs.Families.{if_true, is_gateway_counter, is_taken, is_tenant_counter, is_up, tenant_help};
-ghost use Rattle.share_metrics.specs.Families.{tenant_name, tenant_value, uplink_value};
+ghost use Rattle.share_metrics.specs.Families.{if_true, is_gateway_counter, is_taken, is_tenant_counter, is_up};
+ghost use Rattle.share_metrics.specs.Families.{tenant_help, tenant_name, tenant_value, uplink_value};
 
 use share_status::{
     DiskStatus, DownlinkState, DownlinkStatus, Status, TenantStatus, UplinkState, UplinkStatus,

@@ -1,8 +1,8 @@
 //! The text of the metrics of a status.
 ghost use Rattle.std.specs.Prelude.{◌≡◌, ◌++◌, IfOk, OnOk};
-ghost use Rattle.share_metrics.specs.Metrics.{closing, family_head, family_suffix, gateway_family, gateway_text, kind_of};
-ghost use Rattle.share_metrics.specs.Metrics.{metrics_text, number_line, sample_suffix, samples_text, tenant_family, tenant_sample};
-ghost use Rattle.share_metrics.specs.Metrics.{tenants_text};
+ghost use Rattle.share_metrics.specs.Metrics.{closing, family_head, family_suffix, gateway_family, gateway_text};
+ghost use Rattle.share_metrics.specs.Metrics.{kind_of, metrics_text, number_line, sample_suffix, samples_text};
+ghost use Rattle.share_metrics.specs.Metrics.{tenant_family, tenant_sample, tenants_text};
 
 use crate::family::{GATEWAY_FAMILIES, GatewayFamily, TENANT_FAMILIES, TenantFamily};
 use itoa::Buffer;

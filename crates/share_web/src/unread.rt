@@ -1,6 +1,7 @@
 //! Heads that are not read.
 ghost use Rattle.std.specs.Prelude.{◌≡◌, length};
-ghost use Rattle.share_web.specs.Requests.{ends_with_other_version, has_line, has_other_version, is_other_version, too_long, unread};
+ghost use Rattle.share_web.specs.Requests.{ends_with_other_version, has_line, has_other_version, is_other_version};
+ghost use Rattle.share_web.specs.Requests.{too_long, unread};
 
 use crate::head::is_ended;
 use crate::target::Refusal;

@@ -1,5 +1,5 @@
 //! What the head of a request asks for.
-ghost use Rattle.std.specs.Prelude.{◌≡◌, ℕ, List, Some, map, option_copied};
+ghost use Rattle.std.specs.Prelude.{◌≡◌, ℕ, List, Some, length, map, option_copied};
 ghost use Rattle.httparse.specs.Borrowed.{header_parts};
 ghost use Rattle.httparse.specs.Grammar.{HasNoRequest, ReadsRequest, RequestHead};
 ghost use Rattle.share_web.specs.Requests.{AsksBy, IsUnread, exposition_by, is_read_alone, refused, request_by};
@@ -26,7 +26,16 @@ pub fn asked(head: &[u8], address: &[u8]) -> Request
     ensures none { HasNoRequest head.now → IsUnread head.now result }
 {
     let mut headers = [EMPTY_HEADER; MAX_FIELDS];
-    let mut request = httparse::Request::new(&mut headers);
+    asked_with(head, address, &mut headers)
+}
+
+// The same, with room for the fields.
+fn asked_with<'b>(head: &'b [u8], address: &[u8], headers: &mut [Header<'b>]) -> Request
+    requires { length headers.old ≡ 64 }
+    ensures request { (h : RequestHead) (rest : List ℕ) → ReadsRequest head.now h rest → AsksBy address.now h result }
+    ensures none { HasNoRequest head.now → IsUnread head.now result }
+{
+    let mut request = httparse::Request::new(headers);
     match request.parse(head) {
         Ok(Status::Complete(_)) => request_in(&request, address),
         Ok(Status::Partial) => refused(unread(head)),

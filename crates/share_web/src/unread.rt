@@ -1,5 +1,5 @@
 //! Heads that are not read.
-ghost use Rattle.std.specs.Prelude.{◌≡◌, length};
+ghost use Rattle.std.specs.Prelude.{◌≡◌, ◌≤◌, ◌==◌, IfSome, length, position};
 ghost use Rattle.share_web.specs.Requests.{ends_with_other_version, has_line, has_other_version, is_other_version};
 ghost use Rattle.share_web.specs.Requests.{too_long, unread};
 
@@ -44,10 +44,18 @@ fn has_line(head: &[u8]) -> bool
 fn has_other_version(head: &[u8]) -> bool
     ensures { result ≡ has_other_version head.now }
 {
-    match head.iter().position(|byte| *byte == b'\n') {
+    match line_end(head) {
         None => false,
         Some(end) => ends_with_other_version(&head[..end]),
     }
+}
+
+// Where the first line feed is.
+fn line_end(head: &[u8]) -> Option<usize>
+    ensures value { result ≡ position (λ byte. byte == 10) head.now }
+    ensures within { IfSome result (λ end. end ≤ length head.now) }
+{
+    head.iter().position(|byte| *byte == b'\n')
 }
 
 fn ends_with_other_version(line: &[u8]) -> bool

@@ -17,12 +17,18 @@ const IN_PLACE: usize = HEADER_ROOM + MAX_IN_PLACE;
 
 /// The payload of a packet: 1 to 9000 bytes, with room for a header before them. Up to 16 are held in the value itself,
 /// more in memory of their own. A contract sees the bytes last stamped before the payload, and the payload.
-#[derive(Drop)]
 pub struct Body {
     // The room and the payload behind it.
     bytes: SmallVec<u8, IN_PLACE>,
     // How many bytes of the room are stamped, those next to the payload.
     stamped: usize,
+}
+
+impl Drop for Body {
+    fn drop(self) {
+        let Body { bytes, stamped: _ } = self;
+        drop(bytes);
+    }
 }
 
 impl Model for Body {
@@ -125,10 +131,17 @@ fn write_header(bytes: &mut [u8], header: &[u8])
 
 /// A payload held twice, so that it can be sent and recorded with no further memory. A contract sees it as
 /// its bytes.
-#[derive(Drop)]
 pub struct Parcel {
     sending: Body,
     audit: Body,
+}
+
+impl Drop for Parcel {
+    fn drop(self) {
+        let Parcel { sending, audit } = self;
+        drop(sending);
+        drop(audit);
+    }
 }
 
 impl Model for Parcel {

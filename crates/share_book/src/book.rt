@@ -59,10 +59,17 @@ pub enum Turned {
 /// A book: one life of an engine of version 2, opened over a plan, and the text of its events as far as it was not
 /// drained. Each call makes one event, with its line at the end of the text, or none, and then changes nothing. Of
 /// these calls only `take` takes memory.
-#[derive(Drop)]
 pub struct Book<S: Rates> {
     audited: AuditedEngine<S>,
     plan: Plan,
+}
+
+impl<S: Rates + Drop> Drop for Book<S> {
+    fn drop(self) {
+        let Book { audited, plan } = self;
+        drop(audited);
+        drop(plan);
+    }
 }
 
 impl<S: Rates> Model for Book<S> {

@@ -30,7 +30,6 @@ pub enum Front {
 
 /// A control connection. No line is read while too many bytes of replies wait. A contract sees its lines, its replies,
 /// and what its socket may be ready for.
-#[derive(Drop)]
 pub struct ControlConnection {
     lines: IncomingLines<PlainReader<ReadHalf>>,
     stream: Rc<Stream>,
@@ -46,6 +45,26 @@ pub struct ControlConnection {
     // Whether no line comes any more, and whether no reply goes out any more.
     has_ended: bool,
     is_broken: bool,
+}
+
+impl Drop for ControlConnection {
+    fn drop(self) {
+        let ControlConnection {
+            lines,
+            stream,
+            replies,
+            token: _,
+            front: _,
+            last_line: _,
+            is_readable: _,
+            is_writable: _,
+            has_ended: _,
+            is_broken: _,
+        } = self;
+        drop(lines);
+        drop(stream);
+        drop(replies);
+    }
 }
 
 impl Model for ControlConnection {

@@ -34,10 +34,17 @@ use std::marker::Model;
 ///
 /// A contract sees its life and its tariffs, what it holds, and the writer. Whatever was called, what it holds is
 /// sound, as `events` says.
-#[derive(Drop)]
 pub struct Engine<W, S: Rates> {
     link: Link<S>,
     writer: W,
+}
+
+impl<W: Drop, S: Rates + Drop> Drop for Engine<W, S> {
+    fn drop(self) {
+        let Engine { link, writer } = self;
+        drop(link);
+        drop(writer);
+    }
 }
 
 impl<W, S: Rates> Model for Engine<W, S> {

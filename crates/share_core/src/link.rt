@@ -28,7 +28,6 @@ use std::marker::Model;
 
 /// The ledger, the queue, the buffers, the books and the counts of a link, and its shelf of tariffs. Beside the queue
 /// it keeps the tickets with which each open flow was levelled last, by its place.
-#[derive(Drop)]
 pub struct Link<S: Rates> {
     life: u64,
     shelf: S,
@@ -42,6 +41,30 @@ pub struct Link<S: Rates> {
     torn: Option<FlowNo>,
     broken: bool,
     counts: Counts,
+}
+
+impl<S: Rates + Drop> Drop for Link<S> {
+    fn drop(self) {
+        let Link {
+            life: _,
+            shelf,
+            version: _,
+            ledger,
+            queue,
+            levelled_with: _,
+            buffers,
+            books,
+            part: _,
+            torn: _,
+            broken: _,
+            counts: _,
+        } = self;
+        drop(shelf);
+        drop(ledger);
+        drop(queue);
+        drop(buffers);
+        drop(books);
+    }
 }
 
 impl<S: Rates> Model for Link<S> {
@@ -136,7 +159,24 @@ impl<S: Rates + Drop> Link<S> {
     pub fn into_buffers(self) -> PayloadBuffers
         ensures { result ≡ self.live.buffers }
     {
-        let Link { buffers, .. } = self;
+        let Link {
+            life: _,
+            shelf,
+            version: _,
+            ledger,
+            queue,
+            levelled_with: _,
+            buffers,
+            books,
+            part: _,
+            torn: _,
+            broken: _,
+            counts: _,
+        } = self;
+        drop(shelf);
+        drop(ledger);
+        drop(queue);
+        drop(books);
         buffers
     }
 }

@@ -32,7 +32,6 @@ pub enum Filled {
 }
 
 /// The door of a tenant: its connections. A contract sees the tenant and its flow, and how much was taken.
-#[derive(Drop)]
 pub struct Door {
     tenant: Name,
     flow: FlowNo,
@@ -46,6 +45,22 @@ pub struct Door {
     // How many packets were taken, and how many bytes their payloads have.
     packets: u64,
     bytes: u64,
+}
+
+impl Drop for Door {
+    fn drop(self) {
+        let Door {
+            tenant: _,
+            flow: _,
+            senders,
+            next: _,
+            is_ready: _,
+            may_be_over: _,
+            packets: _,
+            bytes: _,
+        } = self;
+        drop(senders);
+    }
 }
 
 impl Model for Door {

@@ -61,7 +61,6 @@ pub struct ClosedSender {
 }
 
 /// A connection of a tenant.
-#[derive(Drop)]
 pub struct Sender {
     stream: Stream,
     records: HeldRecords,
@@ -75,6 +74,23 @@ pub struct Sender {
     may_have_hung_up: bool,
     // Why nothing more is taken of it, if so.
     over: Option<ClosedWhy>,
+}
+
+impl Drop for Sender {
+    fn drop(self) {
+        let Sender {
+            stream,
+            records,
+            token: _,
+            port: _,
+            is_readable: _,
+            is_read_closed: _,
+            may_have_hung_up: _,
+            over: _,
+        } = self;
+        drop(stream);
+        drop(records);
+    }
 }
 
 impl Sender {

@@ -28,10 +28,16 @@ pub struct Place {
 
 /// A buffer for each open flow. A contract sees them as a list in order of opening: each with its flow, its limit, the
 /// next sequence number and, of each packet that it holds, the payload and the bytes stamped before it.
-#[derive(Drop)]
 pub struct Buffers {
     alloc: Global,
     rings: Vec<Ring>,
+}
+
+impl Drop for Buffers {
+    fn drop(self) {
+        let Buffers { alloc: _, rings } = self;
+        drop(rings);
+    }
 }
 
 impl Model for Buffers {

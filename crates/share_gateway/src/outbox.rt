@@ -22,7 +22,6 @@ const MAX_FRAMES: usize = 4096;
 
 /// The frames that were scheduled and that the wire has not taken yet, in order. A frame stays until its last byte is
 /// out, so it can begin again. It is a writer that takes a whole frame or none. Its memory is made once.
-#[derive(Drop)]
 pub struct Outbox {
     bytes: ByteQueue,
     // How many bytes each frame has.
@@ -31,6 +30,19 @@ pub struct Outbox {
     out: usize,
     // How many bytes, from the beginning of the first frame on, may be out.
     allowed: usize,
+}
+
+impl Drop for Outbox {
+    fn drop(self) {
+        let Outbox {
+            bytes,
+            lengths,
+            out: _,
+            allowed: _,
+        } = self;
+        drop(bytes);
+        drop(lengths);
+    }
 }
 
 impl Model for Outbox {

@@ -104,10 +104,20 @@ pub enum PlanFault {
 }
 
 /// The currencies and the tenants of a gateway, in order. A contract sees both lists.
-#[derive(Drop)]
 pub struct Plan {
     currencies: Vec<Currency>,
     tenants: Vec<Tenant>,
+}
+
+impl Drop for Plan {
+    fn drop(self) {
+        let Plan {
+            currencies,
+            tenants,
+        } = self;
+        drop(currencies);
+        drop(tenants);
+    }
 }
 
 impl Model for Plan {

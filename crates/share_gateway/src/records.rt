@@ -31,11 +31,17 @@ pub enum Cut {
 
 /// Cuts the records of one tenant out of a stream that comes in pieces. Its memory is made once. A payload is lent
 /// where it was put when its piece came. Only a part of a record that a piece ends with may be moved once more.
-#[derive(Drop)]
 pub struct Records {
     name: Name,
     // The bytes that were fed and not given yet.
     bytes: ByteQueue,
+}
+
+impl Drop for Records {
+    fn drop(self) {
+        let Records { name: _, bytes } = self;
+        drop(bytes);
+    }
 }
 
 impl Model for Records {

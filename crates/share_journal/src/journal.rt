@@ -17,11 +17,21 @@ use std::marker::Model;
 
 /// The events of a link, in order, each with its reply and its source. The room for a whole life is made once, so no
 /// other call takes memory. A contract sees the life, the version of the link and the list of the entries.
-#[derive(Drop)]
 pub struct Journal {
     life: u64,
     version: Version,
     entries: Vec<Entry>,
+}
+
+impl Drop for Journal {
+    fn drop(self) {
+        let Journal {
+            life: _,
+            version: _,
+            entries,
+        } = self;
+        drop(entries);
+    }
 }
 
 impl Model for Journal {

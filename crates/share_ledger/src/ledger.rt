@@ -22,10 +22,17 @@ use std::marker::Model;
 /// A refused call changes nothing and takes no number. If several refusals apply, it answers the first that its text
 /// names. Only `new`, `make_currency`, `make_ticket` and `add_flow` take memory. Numbers count from 1, tickets and
 /// flows apart, and are never used again. Amounts are in units of the ticket's currency, worths in units of `base`.
-#[derive(Drop)]
 pub struct Ledger {
     tables: Tables,
     cache: Cache,
+}
+
+impl Drop for Ledger {
+    fn drop(self) {
+        let Ledger { tables, cache } = self;
+        drop(tables);
+        drop(cache);
+    }
 }
 
 impl Model for Ledger {

@@ -10,10 +10,18 @@ use std::os::unix::fs::PermissionsExt;
 use std::{fs, io};
 
 /// A listener whose calls do not wait.
-#[derive(Drop)]
 pub enum Listener {
     Tcp(TcpListener),
     Unix(UnixListener),
+}
+
+impl Drop for Listener {
+    fn drop(self) {
+        match self {
+            Listener::Tcp(listener) => drop(listener),
+            Listener::Unix(listener) => drop(listener),
+        }
+    }
 }
 
 impl Listener {

@@ -17,10 +17,18 @@ use std::rc::Rc;
 const ATTEMPTS: u32 = 8;
 
 /// A stream whose calls do not wait.
-#[derive(Drop)]
 pub enum Stream {
     Tcp(TcpStream),
     Unix(UnixStream),
+}
+
+impl Drop for Stream {
+    fn drop(self) {
+        match self {
+            Stream::Tcp(stream) => drop(stream),
+            Stream::Unix(stream) => drop(stream),
+        }
+    }
 }
 
 impl Stream {

@@ -25,11 +25,22 @@ use std::marker::Model;
 /// it competes, and to its remain while it does not. The remain is by how much the pass was ahead of the global pass
 /// when the client left. The global pass is that of a client with all tickets of those that compete. The clock counts
 /// the units that all clients were charged.
-#[derive(Drop)]
 pub struct Queue {
     clients: Table,
     global: GlobalPart,
     known: KnownStride,
+}
+
+impl Drop for Queue {
+    fn drop(self) {
+        let Queue {
+            clients,
+            global: _,
+            known,
+        } = self;
+        drop(clients);
+        drop(known);
+    }
 }
 
 impl Model for Queue {

@@ -11,11 +11,17 @@ use share_model::Rates;
 pub const MAX_TARIFFS: usize = 8;
 
 /// One to eight tariffs, numbered from 1. A contract sees the numbers of each, in this order.
-#[derive(Drop)]
 pub struct Shelf {
     tariffs: Vec<Tariff>,
     ghost some: { 1 ≤ vec_len tariffs },
     ghost few: { vec_len tariffs ≤ MAX_TARIFFS },
+}
+
+impl Drop for Shelf {
+    fn drop(self) {
+        let Shelf { tariffs } = self;
+        drop(tariffs);
+    }
 }
 
 impl Shelf {

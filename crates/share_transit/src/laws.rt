@@ -11,8 +11,7 @@ use share_gateway::outboxes_give_frames_in_order;
 /// are the first ones. What the wire took is their frames, whole and in order, and between one `again` and the next it
 /// goes on with the first frame that was not out whole, from its beginning. No byte of another frame went to the wire;
 /// the bytes that are ready are all that are left of those frames; and the frames of the other turns wait, each once
-/// and
-/// in order.
+/// and in order.
 pub fn frames_follow_their_text()
     ensures { (handed : List ℕ) (turns : List TextTurn) (before : List (List ℕ)) (given : List ℕ) (t : TransitView)
         (a : Audited) → Paced handed turns before given t a → FollowsText handed turns before given t a }

@@ -17,8 +17,7 @@ use std::marker::Model;
 const MAX_FRAMES: usize = 4096;
 
 /// A frame that the disk's progress does not allow on the wire: where the text of its turn ends, counted in bytes of
-/// the
-/// text of all books, and how many bytes the frame has.
+/// the text of all books, and how many bytes the frame has.
 #[derive(Clone, Copy)]
 pub struct Due {
     ends: u128,
@@ -27,7 +26,6 @@ pub struct Due {
 
 /// The frames on their way to the wire, and how far the text of their turns is on its way to the disk. It outlives
 /// books: text is counted over all of them. A book is closed only after all its text was handed to the disk.
-#[derive(Drop)]
 pub struct Transit {
     outbox: Outbox,
     // The frames that are not allowed on the wire.
@@ -35,6 +33,19 @@ pub struct Transit {
     // How many bytes of text were handed to the disk, and how many of these it has written.
     handed: u64,
     written: u64,
+}
+
+impl Drop for Transit {
+    fn drop(self) {
+        let Transit {
+            outbox,
+            due,
+            handed: _,
+            written: _,
+        } = self;
+        drop(outbox);
+        drop(due);
+    }
 }
 
 impl Model for Transit {

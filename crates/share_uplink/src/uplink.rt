@@ -36,7 +36,6 @@ enum Due {
 
 /// An uplink over TCP. Bytes that come from the far end are thrown away. A contract sees its address and its state, and
 /// what it counts.
-#[derive(Drop)]
 pub struct Uplink {
     address: SocketAddr,
     // How many bytes its socket is to hold.
@@ -53,6 +52,25 @@ pub struct Uplink {
     lost: u64,
     // Why it was lost or not reached last.
     fault: Option<Error>,
+}
+
+impl Drop for Uplink {
+    fn drop(self) {
+        let Uplink {
+            address: _,
+            buffer: _,
+            state,
+            redial,
+            ready: _,
+            given: _,
+            sent: _,
+            lost_at_most: _,
+            lost: _,
+            fault: _,
+        } = self;
+        drop(state);
+        drop(redial);
+    }
 }
 
 impl Model for Uplink {

@@ -12,12 +12,25 @@ use share_model::{Rates, Totals};
 use std::marker::Model;
 
 /// A book that was closed: what of its text was not drained, its plan, the packets that wait, and its totals.
-#[derive(Drop)]
 pub struct Closed {
     pub(super) text: BookText,
     pub(super) plan: Plan,
     pub(super) buffers: PayloadBuffers,
     pub(super) totals: Totals,
+}
+
+impl Drop for Closed {
+    fn drop(self) {
+        let Closed {
+            text,
+            plan,
+            buffers,
+            totals: _,
+        } = self;
+        drop(text);
+        drop(plan);
+        drop(buffers);
+    }
 }
 
 impl Model for Closed {

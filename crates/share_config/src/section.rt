@@ -238,11 +238,6 @@ fn web_address(table: &Table) -> Result<SocketAddr, ConfigFault>
 {
     match needed_text(table, Place::Web, Key::Listen) {
         Err(fault) => Err(fault),
-        Ok(text) => found(
-            read_address(text),
-            Place::Web,
-            Key::Listen,
-            Reason::Address,
-        ),
+        Ok(text) => found(read_address(text), Place::Web, Key::Listen, Reason::Address),
     }
 }

@@ -40,17 +40,13 @@ fn count_parsed(name: &[u8], headers: &[Header<'_>]) -> usize
 fn any_host_at(address: &[u8], headers: &[Header<'_>]) -> bool
     ensures { result ≡ list_any (λ header. is_host_at address.now (header_parts header)) headers.now }
 {
-    headers
-        .iter()
-        .any(|header| is_host_at(address, header))
+    headers.iter().any(|header| is_host_at(address, header))
 }
 
 fn any_accepts_open_metrics(headers: &[Header<'_>]) -> bool
     ensures { result ≡ list_any (λ header. accepts_open_metrics (header_parts header)) headers.now }
 {
-    headers
-        .iter()
-        .any(|header| accepts_open_metrics(header))
+    headers.iter().any(|header| accepts_open_metrics(header))
 }
 
 fn is_named(name: &[u8], header: &Header<'_>) -> bool

@@ -45,9 +45,9 @@ stage_more a b c q (inr (inr e)) (inr (inr f)) =
 -- a head that is still open was open before
 was_open : (b c : ClientView) → (c.stage ≡ b.stage) ⊎ ((c.stage ≡ Over) ⊎ Asks b c) → is_open c.stage ≡ true
     → is_open b.stage ≡ true
-was_open b c (inl e) open = ap is_open (sym e) ∙ open
-was_open b c (inr (inl e)) open = let no : false ≡ true = ap is_open (sym e) ∙ open in absurd (cc)
-was_open b c (inr (inr e)) open = e.0
+was_open b c (inl e) is = ap is_open (sym e) ∙ is
+was_open b c (inr (inl e)) is = let no : false ≡ true = ap is_open (sym e) ∙ is in absurd (cc)
+was_open b c (inr (inr e)) is = e.0
 
 -- one call after others
 pub reads_more : (a b c : ClientView) → Reads a b → Reads b c → Reads a c
@@ -58,7 +58,7 @@ reads_more a b c p q = record {
     q.head.1 ∙ ap (λ (h : List ℕ). taken h q.head.0) p.head.1 ∙ taken-append a.head p.head.0 q.head.0,
   );
   stage = stage_more a b c q p.stage q.stage;
-  waits = λ open fresh. q.waits open (p.waits (was_open b c q.stage open) fresh);
+  waits = λ is fresh. q.waits is (p.waits (was_open b c q.stage is) fresh);
 }
 
 -- ---- Bytes that go

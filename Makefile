@@ -14,7 +14,7 @@ SOURCES := crates.txt $(shell find crates -name '*.rt' -o -name '*.antt' | grep 
 PREFIX ?= /usr/local
 
 TOOL_PACKAGES := mandoc man-db tshark gnuplot-nox python3 python3-prometheus-client postgresql systemd bash-completion \
-    binutils dpkg-dev lintian
+    binutils dpkg-dev lintian iproute2 iperf3 iputils-ping
 
 # The proved programs go to bin/ with their command, and the scripts of examples/ play them.
 define examples
@@ -156,6 +156,7 @@ tools-test:
 	tools/tests/shares.py
 	tools/tests/unit.py
 	tools/tests/links.py
+	tools/tests/tun.py
 	tools/tests/command.py
 	tools/tests/package.py
 

@@ -114,10 +114,10 @@ def tool_options(run):
     paragraph."""
     text = page(TOOL_PAGE)
     synopsis, paragraphs = section(text, "SYNOPSIS"), section(text, "DESCRIPTION")
-    for name in ("bill", "verify", "shares", "exporter"):
+    for name in ("bill", "verify", "shares", "exporter", "tun"):
         usage = re.search(r"usage: (.*?)\n\n", expect_works(name, "--help"), re.DOTALL).group(1)
         own = " ".join(re.findall(r"^     stridelink-%s (.*)$" % name, synopsis, re.MULTILINE))
-        options = re.findall(r"--[a-z]+(?: [A-Z]+)?", usage)
+        options = re.findall(r"--[a-z][a-z0-9]*(?: [A-Z]+)?", usage)
         expect_all(options + re.findall(r"(?<![-A-Z])[A-Z]{2,}", usage), 2, own, "words of " + name)
         missing = [each for each in options if not re.search("^     %s( |$)" % each, paragraphs, re.MULTILINE)]
         expect(not missing, "options of %s without a paragraph: %s" % (name, missing))

@@ -175,7 +175,7 @@ def pages(run):
         shown = root.tell("mandoc", "-T", "utf8", "/usr/share/man/man%s/%s.gz" % (name[-1], name))
         expect_equal(shown, wanted, name)
         expect("STRIDELINK" in shown, "%s shows nothing" % name)
-    for tool in ("bill", "verify", "shares", "exporter"):
+    for tool in ("bill", "verify", "shares", "exporter", "tun"):
         page = root.tell("mandoc", "-T", "utf8", "/usr/share/man/man1/stridelink-%s.1.gz" % tool)
         expect("STRIDELINK-TOOLS(1)" in page, "the page of %s" % tool)
 
@@ -193,7 +193,7 @@ def tools(run):
                  "the same 17 bytes, with 1 whole frames\n", "what stridelink-verify says")
     root.tell("stridelink-shares", "/tmp/audit", "/tmp/picture")
     expect(text(root.path("tmp/picture.svg")).startswith("<?xml"), "no picture")
-    for tool in ("bill", "verify", "shares", "exporter"):
+    for tool in ("bill", "verify", "shares", "exporter", "tun"):
         told = root.tell("stridelink-" + tool, "--help")
         expect(told.startswith("usage: stridelink-%s " % tool), "help of %s" % tool)
 

@@ -101,15 +101,20 @@ class Measured:
         first.stop()
         time.sleep(DRAINED)
         self.phase(SECONDS / 3, tenant)
-        before = self.counters.samples[-1][1][tenant]
+        before = self.arrived(tenant)
         self.floods[tenant] = self.flood(tenant)
         # The connection of iperf3 that carries no data has some hundred bytes.
-        while self.counters.samples[-1][1][tenant] < before + 5000:
+        while self.arrived(tenant) < before + 5000:
             self.floods[tenant].client.expect_runs()
             time.sleep(0.01)
         time.sleep(BACK)
         self.phase(SECONDS / 3)
         self.firsts = {tenant: first}
+
+    def arrived(self, tenant):
+        """How many bytes came to a tenant's device. Without one they are those of its stream."""
+        samples = self.floods[tenant].samples()
+        return self.counters.samples[-1][1].get(tenant, samples[-1][1] if samples else 0)
 
     def error(self, came):
         """By how much a share of what came was off at most, in all phases. `came` is of a phase: bytes by tenant."""

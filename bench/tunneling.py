@@ -15,7 +15,7 @@ from bench import TOP
 
 sys.dont_write_bytecode = True
 sys.path.insert(0, os.path.join(TOP, "examples"))
-from gatewaying import Gateway, Tenant  # noqa: E402
+from gatewaying import Gateway, Tenant, processor_seconds  # noqa: E402
 from serving import Failure, expect, wait_for  # noqa: E402
 
 PROGRAMS = ("unshare", "nsenter", "ip", "tc", "iperf3", "ping", "rustc")
@@ -151,9 +151,10 @@ class Host:
 
 @dataclass
 class Wire:
-    """A link: megabits a second each way, and milliseconds."""
+    """A link: megabits a second each way, and milliseconds. One that is not shaped is as fast as the machine."""
     megabits: float
     delay: int = 10
+    is_shaped: bool = True
 
     def bytes(self):
         """Bytes a second."""
@@ -164,8 +165,8 @@ class Wire:
         return self.bytes() // 20
 
     def buffer(self):
-        """A send buffer: twice what is on the way, and at least 128 KiB."""
-        return max(131072, 4 * self.bytes() * self.delay // 1000)
+        """A send buffer: the rate times the round trip, and at least 64 KiB."""
+        return max(65536, 2 * self.bytes() * self.delay // 1000)
 
 
 @dataclass
@@ -182,19 +183,26 @@ class Uplink:
 class Hosts:
     """Two hosts and the link between them."""
 
-    def __init__(self, stack, wire, program):
+    def __init__(self, stack, wire, program=None):
         self.wire = wire
         self.near, self.far = (Host(stack, name) for name in LINK)
-        words = (str(wire.bytes()), str(wire.delay), str(wire.queue()), "3", "4")
-        link = Program([TUN, "--mtu", "1500", "near-" + WIRE, "far-" + WIRE, "--", program, *words])
-        stack.callback(link.close)
-        for host in (self.near, self.far):
-            device = f"{host.name}-{WIRE}"
-            wait_for(lambda name=device: is_up(name), "the devices of the link", PATIENCE)
-            do("ip", "link", "set", "dev", device, "netns", host.name, "name", WIRE)
+        names = [f"{host.name}-{WIRE}" for host in self.both()]
+        if wire.is_shaped:
+            self.start_link(stack, names, program)
+        else:
+            do("ip", "link", "add", names[0], "type", "veth", "peer", "name", names[1])
+        for host, name in zip(self.both(), names):
+            do("ip", "link", "set", "dev", name, "netns", host.name, "name", WIRE)
             host.add(WIRE, LINK[host.name] + "/24")
             host.do("ip", "link", "set", "dev", WIRE, "txqueuelen", str(WIRE_QUEUE), "up")
-        self.link = link
+
+    def start_link(self, stack, names, program):
+        """Starts the program of the link between two devices."""
+        words = (self.wire.bytes(), self.wire.delay, self.wire.queue(), 3, 4)
+        link = Program([TUN, "--mtu", "1500", *names, "--", program, *map(str, words)])
+        stack.callback(link.close)
+        for name in names:
+            wait_for(lambda device=name: is_up(device), "the devices of the link", PATIENCE)
 
     def both(self):
         return self.near, self.far
@@ -205,14 +213,14 @@ def is_up(device, prefix=()):
     return bool(done.stdout)
 
 
-def tunnelled(host, words, tenants=TICKETS):
+def tunnelled(host, words):
     """The words that start a program with the devices of tenants on a host."""
-    return [*host.prefix, TUN, "--mtu", str(MTU), *tenants, "--", *words]
+    return [*host.prefix, TUN, "--mtu", str(MTU), *TICKETS, "--", *words]
 
 
-def add_tenants(host, has_ended, tenants=TICKETS):
+def add_tenants(host, has_ended):
     """Gives the devices of tenants their addresses, once they are there."""
-    for tenant in tenants:
+    for tenant in TICKETS:
         def is_there(name=tenant):
             expect(not has_ended(), f"no devices on the {host.name} host")
             return is_up(name, host.prefix)
@@ -239,10 +247,9 @@ def start_pumps(stack, hosts, uplink, program, has_shares=True):
         yield pump.process
 
 
-def start_gateways(stack, hosts, uplink, tickets=None):
+def start_gateways(stack, hosts, uplink):
     """Starts a gateway on each host."""
-    tickets = tickets or TICKETS
-    tenants = {name: Tenant([amount], ports=[f"fd:{number}"]) for number, (name, amount) in enumerate(tickets.items(), 3)}
+    tenants = {name: Tenant([amount], ports=[f"fd:{number}"]) for number, (name, amount) in enumerate(TICKETS.items(), 3)}
     lines = [f"buffer = {hosts.wire.buffer()}"]
     if uplink.part:
         lines.append(f'rate = "{int(uplink.part * hosts.wire.bytes())} B/s"')
@@ -255,8 +262,8 @@ def start_gateways(stack, hosts, uplink, tickets=None):
         gateway.write()
         stack.callback(shutil.rmtree, place, ignore_errors=True)
         stack.callback(gateway.close)
-        gateway.start(prefix=tunnelled(host, [], tenants))
-        add_tenants(host, lambda each=gateway: each.process.poll() is not None, tenants)
+        gateway.start(prefix=tunnelled(host, []))
+        add_tenants(host, lambda each=gateway: each.process.poll() is not None)
         yield gateway.process
 
 
@@ -390,11 +397,12 @@ class Counters(threading.Thread):
 
 
 @contextlib.contextmanager
-def hosts_with(wire, link):
+def hosts_with(wire, link=None):
     """Two hosts with a link between them, and what ends with them."""
     with contextlib.ExitStack() as stack:
         yield Hosts(stack, wire, link), stack
 
 
 __all__ = ["BUSY", "Counters", "Failure", "Flood", "IDLE", "PATIENCE", "Pings", "TICKETS", "Uplink", "WIRE", "Wire",
-           "alone", "build", "expect", "hosts_with", "part_of", "start_classes", "start_gateways", "start_pumps", "wait_for"]
+           "alone", "build", "expect", "hosts_with", "part_of", "processor_seconds", "start_classes", "start_gateways",
+           "start_pumps", "wait_for"]

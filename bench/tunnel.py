@@ -16,9 +16,10 @@ Four tenants with 400:300:200:100 tickets send by iperf3 from one host to the ot
 
 A row has by how much a share was off at most, of the bytes of IP out of the far devices and of what iperf3 received,
 which part of the link was used, and how much longer an echo of a fifth, idle tenant took than over the empty link, at
-the median and at the 95th percentile. A bound that does not hold ends the program with status 1, once all rows are
-printed: shares within 0.002 and 0.01, 0.93 of the link, and 12 ms if the uplink has a rate. Those of htb and of fifo are
-not judged. A machine without network namespaces or TUN devices is skipped. All that is made ends with the program.
+the median and at the 95th percentile. Shares have to be within 0.002 and 0.01, 0.93 of the link has to be used, and an
+echo may take 12 ms longer if the uplink has a rate. A bound that does not hold ends the program with status 1, once all
+rows are printed. Rows of htb and of fifo are not judged. A machine without network namespaces or TUN devices is
+skipped. All that is made ends with the program, however it ends.
 """
 import os
 import sys
@@ -43,6 +44,12 @@ EMPTY = 1.5
 FLOOD = 1.5
 LEAVER = "b"
 LAST = "d"
+
+# The subjects whose bounds are judged.
+JUDGED = ("gateway", "pump")
+
+HEADINGS = ("subject", "link", "uplink", "case", "error of IP", "error of goodput", "of the link", "wait, ms, median",
+            "95 of 100")
 
 FAILED = []
 
@@ -72,7 +79,7 @@ class Measured:
         self.floods = {tenant: self.flood(tenant) for tenant in BUSY}
         self.pings = Pings(hosts, IDLE, 0.1)
         self.phases = []
-        self.back = None
+        self.firsts = {}
 
     def flood(self, tenant):
         datagrams = FLOOD * 8 * self.hosts.wire.bytes() if tenant == self.case.datagrams else None
@@ -111,6 +118,10 @@ class Measured:
         self.phase(SECONDS / 3)
         self.firsts = {tenant: first}
 
+    def has_devices(self):
+        """Whether tenants have devices of their own."""
+        return IDLE in self.counters.samples[-1][1]
+
     def arrived(self, tenant):
         """How many bytes came to a tenant's device. Without one they are those of its stream."""
         samples = self.floods[tenant].samples()
@@ -130,7 +141,7 @@ class Measured:
 
     def error_of_goodput(self):
         def came(number, start, end):
-            floods = {**self.floods, **(self.firsts if number == 0 and self.case.leaver else {})}
+            floods = {**self.floods, **(self.firsts if number == 0 else {})}
             tenants = self.phases[number][2]
             return {tenant: floods[tenant].came(start, end) for tenant in tenants}
 
@@ -159,22 +170,22 @@ def start_subject(subject, hosts, stack, uplink, programs):
         list(start_pumps(stack, hosts, uplink, programs["pump"], subject == "pump"))
 
 
-def judged(value, text, bound, is_least=False):
-    """A value, with its bound if it does not hold it."""
-    holds = value >= bound if is_least else value <= bound
-    return text if holds else f"{text} (bound {bound:g})"
+def most(value, text, bound):
+    """A value, with its bound if it exceeds it."""
+    return text if value <= bound else f"{text} (bound {bound:g})"
 
 
-def row(measured, subject, uplink):
-    """The cells of a row that are measured."""
-    errors = [measured.error_of_goodput()]
-    cells = ["-", judged(errors[0], f"{errors[0]:.4f}", MOST_GOODPUT)]
-    if subject != "htb":
-        error = measured.error_of_devices()
-        cells[0] = judged(error, f"{error:.4f}", MOST_IP)
-    used, (median, late) = measured.used(), measured.waits()
-    return [*cells, judged(used, f"{used:.3f}", LEAST_USED, True), f"{median:.1f}",
-            judged(late, f"{late:.1f}", MOST_WAIT if uplink.part else float("inf"))]
+def row(measured, uplink, is_judged):
+    """The cells of a row that are measured. Without a tunnel there are no devices of tenants."""
+    goodput, used, (median, late) = measured.error_of_goodput(), measured.used(), measured.waits()
+    error = measured.error_of_devices() if measured.has_devices() else 0.0
+    texts = [f"{error:.4f}" if measured.has_devices() else "-", f"{goodput:.4f}", f"{used:.3f}", f"{median:.1f}",
+             f"{late:.1f}"]
+    if not is_judged:
+        return texts
+    return [most(error, texts[0], MOST_IP), most(goodput, texts[1], MOST_GOODPUT),
+            most(-used, texts[2], -LEAST_USED), texts[3],
+            most(late, texts[4], MOST_WAIT if uplink.part else float("inf"))]
 
 
 def measure(subject, wire, uplink, case, programs):
@@ -185,11 +196,11 @@ def measure(subject, wire, uplink, case, programs):
             start_subject(subject, hosts, stack, uplink, programs)
             measured = Measured(hosts, stack, case)
             measured.run()
-            cells = row(measured, subject, uplink)
+            cells = row(measured, uplink, subject in JUDGED)
     except (Failure, OSError) as fault:
         cells = [f"{fault} (bound)"]
     print_row([*name, *cells])
-    if subject in ("gateway", "pump") and any("(bound" in cell for cell in cells):
+    if any("(bound" in cell for cell in cells):
         FAILED.append(", ".join(name))
 
 
@@ -199,9 +210,8 @@ def main():
         sys.exit("the words are gateway, htb, pump, fifo")
     alone()
     programs = {name: build(name) for name in ("link", "pump")}
-    print_row(("subject", "link", "uplink", "case", "error of IP", "error of goodput", "of the link", "wait, ms, median",
-               "95 of 100"))
-    print_row(["---"] * 9)
+    print_row(HEADINGS)
+    print_row(["---"] * len(HEADINGS))
     for rate in LINKS:
         for subject in subjects:
             for uplink in [CLASSES] if subject == "htb" else UPLINKS:

@@ -73,7 +73,8 @@ def alone():
 
 def do(*words):
     """Runs a command that has to end well."""
-    done = subprocess.run(words, stdin=subprocess.DEVNULL, stdout=subprocess.DEVNULL, stderr=subprocess.PIPE, check=False)
+    done = subprocess.run(words, stdin=subprocess.DEVNULL, stdout=subprocess.DEVNULL, stderr=subprocess.PIPE,
+                          check=False)
     expect(done.returncode == 0, f"{' '.join(words)}: {done.stderr.decode().strip()}")
 
 
@@ -249,7 +250,8 @@ def start_pumps(stack, hosts, uplink, program, has_shares=True):
 
 def start_gateways(stack, hosts, uplink):
     """Starts a gateway on each host."""
-    tenants = {name: Tenant([amount], ports=[f"fd:{number}"]) for number, (name, amount) in enumerate(TICKETS.items(), 3)}
+    tenants = {name: Tenant([amount], ports=[f"fd:{number}"])
+               for number, (name, amount) in enumerate(TICKETS.items(), 3)}
     lines = [f"buffer = {hosts.wire.buffer()}"]
     if uplink.part:
         lines.append(f'rate = "{int(uplink.part * hosts.wire.bytes())} B/s"')

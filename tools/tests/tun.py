@@ -3,12 +3,14 @@
 device is set to, and what is said if leave is missing. A machine that gives no namespace or no device is not tried."""
 import json
 import os
+import re
 import subprocess
 import sys
 
-from trying import LIMIT, TOOLS, expect, expect_equal, try_cases
+from trying import LIMIT, TOOLS, TOP, expect, expect_equal, try_cases
 
 TUN = os.path.join(TOOLS, "tun")
+PAGE = os.path.join(TOP, "docs", "TUNNEL.md")
 ALONE = ("unshare", "--map-root-user", "--net", "--mount", "sh", "-ec")
 
 # Begins a command without capabilities.
@@ -104,7 +106,17 @@ def packets(_):
     expect_equal(text, "33 b'hello' ('10.1.0.2', 7)\n", "a packet to and fro")
 
 
+def page(_):
+    """The script of docs/TUNNEL.md makes devices, twice too, and the tool takes them with addresses and routes."""
+    with open(PAGE, encoding="utf-8") as file:
+        script = re.search(r"```sh\n(#!.*?)```", file.read(), re.DOTALL).group(1)
+    text = printed(f"{script}{script}{TUN} acme bond -- ip -json route")
+    found = {(route["dst"], route.get("gateway"), route["dev"]) for route in json.loads(text)}
+    expect_equal(found, {("10.0.1.0/30", None, "acme"), ("10.0.2.0/30", None, "bond"),
+                         ("10.2.1.0/24", "10.0.1.2", "acme"), ("10.2.2.0/24", "10.0.2.2", "bond")}, "routes")
+
+
 if alone("ip tuntap add acme mode tun")[0] != 0:
     print("tun.py: no leave to make a network namespace with a TUN device, and the tool is not tried", file=sys.stderr)
     sys.exit(0)
-try_cases(order, set_up, faults, packets)
+try_cases(order, set_up, faults, packets, page)

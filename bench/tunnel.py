@@ -27,7 +27,7 @@ import time
 from dataclasses import dataclass, field
 
 from bench import print_row
-from tunneling import (BUSY, IDLE, PATIENCE, TICKETS, WIRE, Counters, Failure, Flood, Pings, Uplink, Wire, alone, build,
+from tunneling import (BUSY, IDLE, TICKETS, WIRE, Counters, Failure, Flood, Pings, Uplink, Wire, alone, build,
                        hosts_with, part_of, start_classes, start_gateways, start_pumps, wait_for)
 
 SECONDS = float(os.environ.get("SECONDS", "20"))
@@ -99,12 +99,12 @@ class Measured:
             self.leave(self.case.leaver)
         for flood in self.floods.values():
             flood.client.expect_runs()
-            wait_for(lambda one=flood: one.counted_until() >= self.phases[-1][1], "what iperf3 counts", PATIENCE)
+            wait_for(lambda one=flood: one.counted_until() >= self.phases[-1][1], "what iperf3 counts")
 
     def leave(self, tenant):
         self.phase(SECONDS / 3)
         first = self.floods[tenant]
-        wait_for(lambda: first.counted_until() >= self.phases[-1][1], "what iperf3 counts", PATIENCE)
+        wait_for(lambda: first.counted_until() >= self.phases[-1][1], "what iperf3 counts")
         first.stop()
         time.sleep(DRAINED)
         self.phase(SECONDS / 3, tenant)

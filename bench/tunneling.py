@@ -16,7 +16,7 @@ from bench import TOP
 sys.dont_write_bytecode = True
 sys.path.insert(0, os.path.join(TOP, "examples"))
 from gatewaying import Gateway, Tenant, processor_seconds  # noqa: E402
-from serving import Failure, expect, wait_for  # noqa: E402
+from serving import PATIENCE, Failure, expect, wait_for  # noqa: E402
 
 PROGRAMS = ("unshare", "nsenter", "ip", "tc", "iperf3", "ping", "rustc")
 UNSHARE = ("unshare", "--map-root-user", "--net", "--mount", "--pid", "--fork", "--kill-child", "--mount-proc")
@@ -42,8 +42,8 @@ MTU = 1400
 # Bytes that a device of the plain program gives in its turn for each ticket: at least a packet.
 QUANTUM = MTU // min(TICKETS.values())
 
+# Seconds between two looks at the counters of a host.
 SAMPLED = 0.02
-PATIENCE = 20
 
 
 def why_not():
@@ -203,7 +203,7 @@ class Hosts:
         link = Program([TUN, "--mtu", "1500", *names, "--", program, *map(str, words)])
         stack.callback(link.close)
         for name in names:
-            wait_for(lambda device=name: is_up(device), "the devices of the link", PATIENCE)
+            wait_for(lambda device=name: is_up(device), "the devices of the link")
 
     def both(self):
         return self.near, self.far
@@ -226,7 +226,7 @@ def add_tenants(host, has_ended):
             expect(not has_ended(), f"no devices on the {host.name} host")
             return is_up(name, host.prefix)
 
-        wait_for(is_there, "the device of a tenant", PATIENCE)
+        wait_for(is_there, "the device of a tenant")
         host.add(tenant, address(host.name, tenant) + "/24")
 
 
@@ -302,7 +302,7 @@ class Flood:
         self.streams = streams
         self.server = hosts.far.start("iperf3", "-s", "-1", "-B", address("far", tenant), "-i", "0.25", "-f", "k",
                                       "--forceflush")
-        wait_for(lambda: any("listening" in line for _, line in list(self.server.lines)), "iperf3", PATIENCE)
+        wait_for(lambda: any("listening" in line for _, line in list(self.server.lines)), "iperf3")
         how = ("-u", "-b", str(int(datagrams))) if datagrams else ("-P", str(streams), "-C", "cubic")
         self.client = hosts.near.start("iperf3", "-c", address("far", tenant), "-B", address("near", tenant), "-t",
                                        "3600", *how)
@@ -405,6 +405,6 @@ def hosts_with(wire, link=None):
         yield Hosts(stack, wire, link), stack
 
 
-__all__ = ["BUSY", "Counters", "Failure", "Flood", "IDLE", "PATIENCE", "Pings", "TICKETS", "Uplink", "WIRE", "Wire",
+__all__ = ["BUSY", "Counters", "Failure", "Flood", "IDLE", "Pings", "TICKETS", "Uplink", "WIRE", "Wire",
            "alone", "build", "expect", "hosts_with", "part_of", "processor_seconds", "start_classes", "start_gateways",
            "start_pumps", "wait_for"]

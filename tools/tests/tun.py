@@ -71,11 +71,14 @@ def printed(script, *words):
 
 
 def order(_):
-    """The devices are the descriptors from 3 on, in the order of the words, and the command has the same process."""
+    """The devices are the descriptors from 3 on, in the order of the words. The command is in the same process, and no
+    signal is ignored there."""
     for words, wanted in ORDERS:
         expect_equal(printed(f"{TUN} {words} -- sh -c '{WHICH}'"), wanted, words)
     text = printed(f"echo $$; exec {TUN} acme -- sh -c 'echo $$'")
     expect_equal(len(set(text.split())), 1, f"processes: {text}")
+    text = printed(f"exec {TUN} acme -- sed -n 's/^SigIgn:.//p' /proc/self/status")
+    expect_equal(int(text, 16), 0, "signals that the command ignores")
 
 
 def set_up(_):

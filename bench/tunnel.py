@@ -170,9 +170,9 @@ def start_subject(subject, hosts, stack, uplink, programs):
         list(start_pumps(stack, hosts, uplink, programs["pump"], subject == "pump"))
 
 
-def most(value, text, bound):
-    """A value, with its bound if it exceeds it."""
-    return text if value <= bound else f"{text} (bound {bound:g})"
+def bounded(text, holds, bound):
+    """What is printed of a value: with its bound if it does not hold."""
+    return text if holds else f"{text} (bound {bound:g})"
 
 
 def row(measured, uplink, is_judged):
@@ -183,9 +183,9 @@ def row(measured, uplink, is_judged):
              f"{late:.1f}"]
     if not is_judged:
         return texts
-    return [most(error, texts[0], MOST_IP), most(goodput, texts[1], MOST_GOODPUT),
-            most(-used, texts[2], -LEAST_USED), texts[3],
-            most(late, texts[4], MOST_WAIT if uplink.part else float("inf"))]
+    return [bounded(texts[0], error <= MOST_IP, MOST_IP), bounded(texts[1], goodput <= MOST_GOODPUT, MOST_GOODPUT),
+            bounded(texts[2], used >= LEAST_USED, LEAST_USED), texts[3],
+            bounded(texts[4], not uplink.part or late <= MOST_WAIT, MOST_WAIT)]
 
 
 def measure(subject, wire, uplink, case, programs):

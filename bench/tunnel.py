@@ -27,7 +27,7 @@ import time
 from dataclasses import dataclass, field
 
 from bench import print_row
-from tunneling import (BUSY, IDLE, TICKETS, WIRE, Counters, Failure, Flood, Pings, Uplink, Wire, alone, build,
+from tunneling import (BUSY, IDLE, TICKETS, WIRE, Counters, Failure, Flood, Pings, Uplink, Wire, alone, build, expect,
                        hosts_with, part_of, start_classes, start_gateways, start_pumps, wait_for)
 
 SECONDS = float(os.environ.get("SECONDS", "20"))
@@ -40,7 +40,7 @@ MOST_IP, MOST_GOODPUT, LEAST_USED, MOST_WAIT = 0.002, 0.01, 0.93, 12
 
 # How long streams take to grow, what is left of one that ends is on its way, and one that is back has to get its share.
 WARM, DRAINED, BACK = 3, 1, 1
-EMPTY = 1.5
+ECHOES = 30
 FLOOD = 1.5
 LEAVER = "b"
 LAST = "d"
@@ -72,14 +72,18 @@ class Measured:
         self.hosts = hosts
         self.case = case
         self.counters = Counters(stack, hosts.far)
-        empty = Pings(hosts, IDLE, 0.05)
-        time.sleep(EMPTY)
-        empty.stop()
-        self.empty = part_of(empty.times(), 0.5)
+        self.empty = part_of(self.empty_times(), 0.5)
         self.floods = {tenant: self.flood(tenant) for tenant in BUSY}
         self.pings = Pings(hosts, IDLE, 0.1)
         self.phases = []
         self.firsts = {}
+
+    def empty_times(self):
+        """The milliseconds of echoes over the empty link."""
+        empty = Pings(self.hosts, IDLE, 0.05)
+        wait_for(lambda: empty.count() >= ECHOES, "echoes over the empty link")
+        empty.stop()
+        return empty.times()
 
     def flood(self, tenant):
         datagrams = FLOOD * 8 * self.hosts.wire.bytes() if tenant == self.case.datagrams else None
@@ -133,6 +137,7 @@ class Measured:
         for number, (start, end, tenants) in enumerate(self.phases):
             found = came(number, start, end)
             tickets, total = sum(TICKETS[tenant] for tenant in tenants), sum(found[tenant] for tenant in tenants)
+            expect(total > 0, "nothing comes")
             worst = max([worst, *(abs(found[tenant] / total - TICKETS[tenant] / tickets) for tenant in tenants)])
         return worst
 

@@ -351,6 +351,10 @@ class Pings:
         self.interval = interval
         self.program = hosts.near.start("ping", "-n", "-i", str(interval), address("far", tenant))
 
+    def count(self):
+        """How many echoes came."""
+        return sum(1 for _, line in list(self.program.lines) if REPLY.search(line))
+
     def times(self, start=0.0, end=float("inf")):
         """The milliseconds of echoes that came between two times, in ascending order."""
         found = {}

@@ -1,17 +1,19 @@
 #!/usr/bin/env python3
-"""Tries the tool that opens TUN devices, in a network namespace of its own: which device is which descriptor, what a
-device is set to, and what is said if leave is missing. A machine that gives no namespace or no device is not tried."""
+"""Tries the tool that opens TUN devices, in namespaces of its own: which device is which descriptor, what a device is
+set to, and what is said if leave is missing. What docs/TUNNEL.md shows is done, and its tunnel carries echoes if the
+program of gateways is there. A machine that gives no namespace or no device is not tried."""
 import json
 import os
 import re
 import subprocess
 import sys
 
-from trying import LIMIT, TOOLS, TOP, expect, expect_equal, try_cases
+from trying import GATEWAY, LIMIT, TOOLS, TOP, expect, expect_equal, try_cases
 
 TUN = os.path.join(TOOLS, "tun")
 PAGE = os.path.join(TOP, "docs", "TUNNEL.md")
-ALONE = ("unshare", "--map-root-user", "--net", "--mount", "sh", "-ec")
+ALONE = ("unshare", "--map-root-user", "--net", "--mount", "--pid", "--fork", "--kill-child", "--mount-proc", "sh",
+         "-ec")
 
 # Begins a command without capabilities.
 BARE = "setpriv --bounding-set=-all --inh-caps=-all "
@@ -109,17 +111,70 @@ def packets(_):
     expect_equal(text, "33 b'hello' ('10.1.0.2', 7)\n", "a packet to and fro")
 
 
+def blocks(kind):
+    """The blocks of docs/TUNNEL.md of a kind."""
+    with open(PAGE, encoding="utf-8") as file:
+        return re.findall(rf"```{kind}\n(.*?)```", file.read(), re.DOTALL)
+
+
 def page(_):
     """The script of docs/TUNNEL.md makes devices, twice too, and the tool takes them with addresses and routes."""
-    with open(PAGE, encoding="utf-8") as file:
-        script = re.search(r"```sh\n(#!.*?)```", file.read(), re.DOTALL).group(1)
+    script = blocks("sh")[0]
     text = printed(f"{script}{script}{TUN} acme bond -- ip -json route")
     found = {(route["dst"], route.get("gateway"), route["dev"]) for route in json.loads(text)}
     expect_equal(found, {("10.0.1.0/30", None, "acme"), ("10.0.2.0/30", None, "bond"),
                          ("10.2.1.0/24", "10.0.1.2", "acme"), ("10.2.2.0/24", "10.0.2.2", "bond")}, "routes")
 
 
+# What differs in the script of the other host.
+SOUTH = (("10.0.1.1/30", "10.0.1.2/30"), ("10.0.2.1/30", "10.0.2.2/30"),
+         ("10.2.1.0/24 via 10.0.1.2", "10.1.1.0/24 via 10.0.1.1"),
+         ("10.2.2.0/24 via 10.0.2.2", "10.1.2.0/24 via 10.0.2.1"))
+
+# The two hosts of the page: $1 and $2 are their scripts, $3 and $4 their files, $5 the tool and $6 the gateway. Each
+# has its own network, /run and /var/lib. An echo goes to each tenant, and then both hosts say what they sent.
+TWO_HOSTS = """
+host='ip link set dev lo up; mount -t tmpfs none /run; mount -t tmpfs none /var/lib
+    mkdir -p /run/stridelink /var/lib/stridelink/tunnel; echo "$2" > /run/tunnel.toml; read _ < "$5"
+    sh -ec "$1"; exec "$3" acme bond -- "$4" gateway /run/tunnel.toml'
+folder=$(mktemp -d); trap 'rm -r "$folder"' EXIT
+mkfifo "$folder/north" "$folder/south"
+unshare --net --mount sh -ec "$host" sh "$1" "$3" "$5" "$6" "$folder/north" & north=$!
+unshare --net --mount sh -ec "$host" sh "$2" "$4" "$5" "$6" "$folder/south" & south=$!
+for side in $north $south; do
+    while [ "$(readlink /proc/$side/ns/net)" = "$(readlink /proc/$$/ns/net)" ]; do sleep 0.1; done
+done
+ip link add name wire netns $north type veth peer name wire netns $south
+nsenter -t $north --net sh -ec 'ip address add 192.0.2.1/24 dev wire; ip link set dev wire up'
+nsenter -t $south --net sh -ec 'ip address add 192.0.2.2/24 dev wire; ip link set dev wire up'
+echo > "$folder/north"; echo > "$folder/south"
+for tenant in 1 2; do
+    nsenter -t $north --net sh -c "until ping -n -q -c 1 -W 1 10.0.$tenant.2; do sleep 0.2; done" > /dev/null 2>&1
+done
+for side in $north $south; do nsenter -t $side --net --mount "$6" ask unix:/run/stridelink/tunnel status end; done
+wait
+"""
+
+
+def tunnel(_):
+    """The two hosts of docs/TUNNEL.md: an echo of each tenant passes, and the status of both gateways has it."""
+    if not os.path.exists(GATEWAY):
+        print("tun.py: no program of gateways, and the tunnel of the page is not tried", file=sys.stderr)
+        return
+    script = blocks("sh")[0]
+    south = script
+    for old, new in SOUTH:
+        expect(old in south, f"{old} in docs/TUNNEL.md")
+        south = south.replace(old, new)
+    status, text, said = alone(TWO_HOSTS, script, south, *blocks("toml"), TUN, GATEWAY)
+    lines = text.splitlines()
+    expect_equal((status, lines[1::2]), (0, ["ok", "ok"]), f"the end of the tunnel: {said}")
+    for line in lines[0::2]:
+        for tenant in json.loads(line)["tenants"]:
+            expect(tenant["sent_packets"] >= 1, f"{tenant['name']} has sent nothing")
+
+
 if alone("ip tuntap add acme mode tun")[0] != 0:
     print("tun.py: no leave to make a network namespace with a TUN device, and the tool is not tried", file=sys.stderr)
     sys.exit(0)
-try_cases(order, set_up, faults, packets, page)
+try_cases(order, set_up, faults, packets, page, tunnel)

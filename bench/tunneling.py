@@ -162,8 +162,8 @@ class Wire:
         return int(self.megabits * 125000)
 
     def queue(self):
-        """The bytes that wait before the link at most: those of 50 ms."""
-        return self.bytes() // 20
+        """The bytes that wait before the link at most: those of 50 ms, and at least 20 packets."""
+        return max(30000, self.bytes() // 20)
 
     def buffer(self):
         """A send buffer: the rate times the round trip, and at least 64 KiB."""

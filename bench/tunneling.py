@@ -1,6 +1,7 @@
 """Tunnels between two hosts for the benches: network namespaces with a link between them, the devices of tenants, what
 carries their packets, and loads. `alone` makes namespaces in which all of it ends with the program, however it ends."""
 import contextlib
+import ctypes
 import os
 import re
 import shutil
@@ -22,6 +23,7 @@ PROGRAMS = ("unshare", "nsenter", "ip", "tc", "iperf3", "ping", "rustc")
 UNSHARE = ("unshare", "--map-root-user", "--net", "--mount", "--pid", "--fork", "--kill-child", "--mount-proc")
 MAY = "ip tuntap add probe mode tun && mount -t tmpfs none /run && ip netns add probe"
 INSIDE = "STRIDELINK_TUNNEL"
+PR_SET_PDEATHSIG = 1
 FOLDER = "/run/tunnel"
 TUN = os.path.join(TOP, "tools", "tun")
 
@@ -55,17 +57,27 @@ def why_not():
     return "no network namespace with a TUN device" if done.returncode else None
 
 
+def die_with_parent():
+    """Lets the kernel kill this process when the one that began it has ended."""
+    ctypes.CDLL(None).prctl(PR_SET_PDEATHSIG, signal.SIGKILL)
+
+
 def alone():
-    """Goes on in namespaces of its own, or ends if there are none."""
+    """Goes on in namespaces of its own, or ends if there are none. The first process of a namespace of processes takes
+    all others with it, and it ends when this one does, by whatever signal."""
     if INSIDE not in os.environ:
         why = why_not()
         if why:
             print(f"{os.path.basename(sys.argv[0])} is skipped: {why}")
             sys.exit(0)
-        os.environ[INSIDE] = ""
-        os.execvp(UNSHARE[0], [*UNSHARE, sys.executable, *sys.argv])
-    # The first process of a namespace ends at no signal that it does not handle.
-    signal.signal(signal.SIGTERM, lambda *_: sys.exit("ended by a signal"))
+        for number in (signal.SIGTERM, signal.SIGHUP, signal.SIGINT):
+            signal.signal(number, lambda *_: sys.exit("ended by a signal"))
+        words, settings = [*UNSHARE, sys.executable, *sys.argv], {**os.environ, INSIDE: ""}
+        with subprocess.Popen(words, env=settings, preexec_fn=die_with_parent) as inside:
+            try:
+                sys.exit(inside.wait())
+            finally:
+                inside.kill()
     do("mount", "-t", "tmpfs", "none", "/run")
     do("ip", "link", "set", "dev", "lo", "up")
     os.mkdir(FOLDER)

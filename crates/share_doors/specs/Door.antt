@@ -2,16 +2,28 @@
 use Rattle.std.specs.Prelude.{ℕ, ◌+◌, ◌-◌, ◌^◌, min}
 use Rattle.share_model.specs.funding.Graph.{NameBytes}
 
--- the tenant's name, and the number of its flow; how many packets were taken, and how many bytes their payloads have
+-- the tenant's name, and the number of its flow; how many packets were taken, and how many bytes their payloads have; how
+-- many packets of packet ports were read; and how many packets were dropped
 pub record DoorView : Type 0 where
   pub tenant : NameBytes
   pub flow : ℕ
   pub packets : ℕ
   pub bytes : ℕ
+  pub read : ℕ
+  pub dropped : ℕ
 
--- a packet was taken whose payload has n bytes; counts stay at the greatest one
+-- counts stay at the greatest one
+abbrev pub one_more : ℕ → ℕ
+one_more n = min (n + 1) (2 ^ 64 - 1)
+
+-- a packet was taken whose payload has n bytes
 abbrev pub counted : ℕ → DoorView → DoorView
-counted n d = record d {
-  packets = min (d.packets + 1) (2 ^ 64 - 1);
-  bytes = min (d.bytes + n) (2 ^ 64 - 1);
-}
+counted n d = record d { packets = one_more d.packets; bytes = min (d.bytes + n) (2 ^ 64 - 1) }
+
+-- a packet of a packet port was read
+abbrev pub read_one : DoorView → DoorView
+read_one d = record d { read = one_more d.read }
+
+-- a packet was dropped
+abbrev pub dropped_one : DoorView → DoorView
+dropped_one d = record d { dropped = one_more d.dropped }

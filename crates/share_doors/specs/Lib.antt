@@ -1,3 +1,4 @@
 pub mod Door
 pub mod Fills
+pub mod Packets
 pub mod Takes

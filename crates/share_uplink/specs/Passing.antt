@@ -1,6 +1,6 @@
 -- What the wire takes of the frames on their way to it.
 use Rattle.std.specs.Prelude.{◌≡◌, ◌≤◌, ℕ, length}
-use Rattle.share_gateway.specs.Outbox.{begun_again, ready_of, send_more}
+use Rattle.share_gateway.specs.Outbox.{begun_again, ready_frame, ready_of, send_more}
 use Rattle.share_transit.specs.Transit.{TransitView}
 use Rattle.share_uplink.specs.declared.state.Work.{Work}
 use Rattle.share_uplink.specs.declared.state.Work.TheVariants.{Rests, Busy, Connected, Lost, Unreachable}
@@ -10,6 +10,12 @@ pub data WireTakes : TransitView → TransitView → Type 0 where
   nothing : (t : TransitView) → WireTakes t t
   piece : (s t : TransitView) → WireTakes s t → (n : ℕ) → n ≤ length (ready_of t.outbox)
       → WireTakes s (record t { outbox = send_more n t.outbox })
+
+-- the wire took whole frames, one after the other, each as the frame that may go next
+pub data SendsFrames : TransitView → TransitView → Type 0 where
+  no_frame : (t : TransitView) → SendsFrames t t
+  frame : (s t : TransitView) → SendsFrames s t
+      → SendsFrames s (record t { outbox = send_more (length (ready_frame t.outbox)) t.outbox })
 
 -- on a new connection the outbox begins again, and a dial that failed changes nothing; else the wire took bytes
 abbrev pub UplinkWorks : TransitView → Work → TransitView → Type 0

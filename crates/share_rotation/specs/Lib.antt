@@ -1,0 +1,4 @@
+pub mod Closing
+pub mod Pace
+pub mod Sent
+pub mod Turning

@@ -1,4 +1,8 @@
 //! The open book, and the turns that it makes.
+ghost use Rattle.std.specs.Prelude.{◌≡◌};
+ghost use Rattle.share_catalog.specs.declared.kinds.Closing.TheVariants.{Reload};
+ghost use Rattle.share_rotation.specs.Pace.{is_allowed};
+ghost use Rattle.share_rotation.specs.Turning.{Credits, TurnsBooks, closed_for, outbox_of, planned_with};
 
 use crate::moments::{end_of_period, time_now};
 use crate::pace::Pace;
@@ -199,22 +203,30 @@ impl Books {
     }
 
     /// Adds the time that has passed to the allowance.
-    pub fn credit(&mut self, now: Instant) {
+    pub fn credit(&mut self, now: Instant)
+        ensures { Credits self.old self.new }
+    {
         self.pace.credit(now);
     }
 
     /// How many bytes of frames the wire has not taken.
-    pub fn outbox(&self) -> u64 {
+    pub fn outbox(&self) -> u64
+        ensures { result ≡ outbox_of self.now }
+    {
         self.transit.waiting() as u64
     }
 
     /// Whether the rate lets a frame go.
-    pub fn is_allowed(&self) -> bool {
+    pub fn is_allowed(&self) -> bool
+        ensures { result ≡ is_allowed self.now.pace.allowance }
+    {
         self.pace.is_allowed()
     }
 
     /// Makes a turn, if one can be made.
-    pub fn turn(&mut self) -> Made {
+    pub fn turn(&mut self) -> Made
+        ensures { TurnsBooks self.old result self.new }
+    {
         if !self.pace.is_allowed() {
             return Made::Paced;
         }
@@ -230,7 +242,9 @@ impl Books {
     }
 
     /// Has the next book begin with this plan, and the open one closed.
-    pub fn reload(&mut self, next: NextPlan) {
+    pub fn reload(&mut self, next: NextPlan)
+        ensures { self.new ≡ planned_with next (closed_for Reload self.old) }
+    {
         self.succession.begin(Closing::Reload);
         self.life.plan_next(next);
     }

@@ -1,4 +1,7 @@
 //! How a book is closed, and the next one begins.
+ghost use Rattle.std.specs.Prelude.{◌≡◌, IfOk, IfErr, MatchBool};
+ghost use Rattle.share_rotation.specs.Turning.{CarriesOn, FollowedBy, Follows, GivesWay, GoesOn, NotesDue, WaitsOn};
+ghost use Rattle.share_rotation.specs.Turning.{closed_for, is_between};
 
 use crate::books::Books;
 use crate::moments::{end_of_period, is_past, time_now};
@@ -17,17 +20,23 @@ use std::time::{Clock, Instant};
 
 impl Books {
     /// Has the open book closed for a reason, and the next one opened.
-    pub fn close(&mut self, why: Closing) {
+    pub fn close(&mut self, why: Closing)
+        ensures { self.new ≡ closed_for why self.old }
+    {
         self.succession.begin(why);
     }
 
     /// Whether one book gives way to another: the open one is being closed, or packets are carried over.
-    pub fn is_between(&self) -> bool {
+    pub fn is_between(&self) -> bool
+        ensures { result ≡ is_between self.now }
+    {
         !self.life.is_open() || self.succession.why_next().is_some()
     }
 
     /// Has a book closed whose life is spent, or whose period is over.
-    pub fn note_due(&mut self, now: Instant) {
+    pub fn note_due(&mut self, now: Instant)
+        ensures { NotesDue self.old self.new }
+    {
         if !self.life.is_open() {
             return;
         }
@@ -40,7 +49,9 @@ impl Books {
 
     /// Goes on with the close of a book, as far as its text is on its way to the disk. Returns true if more can be done
     /// at once.
-    pub fn go_on<R: Clock + Wait>(&mut self, rt: &R, now: Instant) -> bool {
+    pub fn go_on<R: Clock + Wait>(&mut self, rt: &R, now: Instant) -> bool
+        ensures { GoesOn self.old result self.new }
+    {
         if self.life.is_open() {
             return self.follow_if_due(rt, now);
         }
@@ -48,30 +59,36 @@ impl Books {
     }
 
     // Opens the next book if the open one is being closed, and all its text is on its way.
-    fn follow_if_due<R: Clock + Wait>(&mut self, rt: &R, now: Instant) -> bool {
+    fn follow_if_due<R: Clock + Wait>(&mut self, rt: &R, now: Instant) -> bool
+        ensures { MatchBool result (GivesWay self.old self.new) (WaitsOn self.old self.new) }
+    {
         let Some(why) = self.succession.why_next() else {
             return false;
         };
         if self.life.has_text() || !self.queue.can_begin() || self.succession.is_waiting(now) {
             return false;
         }
-        if self.follow(rt, why, now).is_err() {
-            self.succession.fail(now);
-            return false;
+        match self.follow(rt, why, now) {
+            Ok(is_followed) => is_followed,
+            Err(_) => {
+                self.succession.fail(now);
+                false
+            }
         }
-        true
     }
 
-    // Closes the open book, and has the next one take over what waits in it. Nothing happens if memory is refused.
-    fn follow<R: Clock + Wait>(&mut self, rt: &R, why: Closing, now: Instant) -> io::Result<()> {
+    // Closes the open book, and has the next one take over what waits in it. Nothing happens if memory is refused, which
+    // is an error, or if too many books are to be closed.
+    fn follow<R: Clock + Wait>(&mut self, rt: &R, why: Closing, now: Instant) -> io::Result<bool>
+        ensures ok { IfOk result (λ is_followed.
+            MatchBool is_followed (Follows self.old self.new) (self.new ≡ self.old)) }
+        ensures err { IfErr result (λ fault. self.new ≡ self.old) }
+    {
         let opened = time_now(rt)?;
         let tariffs = self.life.next_tariffs()?;
         let close = self.close_at(why, opened)?;
         match self.life.next_book() {
-            Ok(next) => {
-                self.give_way(rt, next, tariffs, close, now);
-                Ok(())
-            }
+            Ok(next) => { Ok(self.give_way(rt, next, tariffs, close, now)) }
             Err(fault) => {
                 drop(close);
                 Err(fault)
@@ -108,7 +125,8 @@ impl Books {
         })
     }
 
-    // The next book begins, in the second in which the open one is closed. Nothing here can fail.
+    // The next book begins, in the second in which the open one is closed. Returns false, and does nothing, if too many
+    // books are to be closed.
     fn give_way<R: Wait>(
         &mut self,
         rt: &R,
@@ -116,18 +134,28 @@ impl Books {
         tariffs: Tariffs,
         close: BookClose,
         now: Instant,
-    ) {
-        self.number = self.number.saturating_add(1);
-        self.opened = close.closed;
-        let _ = self.queue.begin_next(rt, self.number, tariffs, close);
+    ) -> bool
+        ensures { MatchBool result (FollowedBy next self.old self.new) (self.new ≡ self.old) }
+    {
+        let number = self.number.saturating_add(1);
+        let opened = close.closed;
+        if !self.queue.begin_next(rt, number, tariffs, close) {
+            drop(next);
+            return false;
+        }
+        self.number = number;
+        self.opened = opened;
         self.life.follow(next);
         self.period_end = end_of_period(self.period, now);
         self.succession = Succession::none();
+        true
     }
 
-    // Carries packets over. When all are, the book begins, and the packets that found no room are dropped. Returns false
-    // if more can be carried only when the disk has written.
-    fn carry(&mut self) -> bool {
+    // Carries packets over. When all are, the book begins, and the packets that found no room are dropped. Returns
+    // false if more can be carried only when the disk has written.
+    fn carry(&mut self) -> bool
+        ensures { CarriesOn self.old result self.new }
+    {
         if !self.life.carry() {
             return self.queue.has_page();
         }

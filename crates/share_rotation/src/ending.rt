@@ -1,4 +1,8 @@
 //! How the last book is closed.
+ghost use Rattle.std.specs.Prelude.{◌≡◌, ◌∷◌, ◌++◌, [], min, sum_by, MatchBool, MatchOption};
+ghost use Rattle.share_lives.specs.Lives.{lacks_text_at};
+ghost use Rattle.share_lives.specs.declared.remainder.Remainder.{Remainder};
+ghost use Rattle.share_rotation.specs.Turning.{Finishes, Leaves, can_turn, outbox_of, still_sends};
 
 use crate::books::Books;
 use crate::moments::time_now;
@@ -23,7 +27,9 @@ pub struct Left {
 
 impl Books {
     /// Whether a frame can be scheduled, or is on its way to the wire.
-    pub fn sends(&self) -> bool {
+    pub fn sends(&self) -> bool
+        ensures { result ≡ still_sends self.now }
+    {
         if self.life.is_carrying() {
             return true;
         }
@@ -31,7 +37,9 @@ impl Books {
     }
 
     /// Whether another turn can be made, but for the rate.
-    pub fn can_turn(&self) -> bool {
+    pub fn can_turn(&self) -> bool
+        ensures { result ≡ can_turn self.now }
+    {
         if self.is_stalled || self.succession.is_begun() {
             return false;
         }
@@ -42,12 +50,16 @@ impl Books {
     }
 
     /// Whether the open book makes no event before some of its text is given to the disk.
-    pub fn lacks_text(&self) -> bool {
+    pub fn lacks_text(&self) -> bool
+        ensures { result ≡ lacks_text_at self.now.life.stage }
+    {
         self.life.lacks_text()
     }
 
     /// Has the last book closed, if all its text is on its way to the disk. Returns true once that was asked for.
-    pub fn finish<R: Clock + Wait>(&mut self, rt: &R) -> bool {
+    pub fn finish<R: Clock + Wait>(&mut self, rt: &R) -> bool
+        ensures { MatchBool result (Finishes self.old self.new) (self.new ≡ self.old) }
+    {
         if self.life.has_text() {
             return false;
         }
@@ -67,7 +79,9 @@ impl Books {
     }
 
     /// Drops the open book, and counts the packets that wait in it.
-    pub fn leave(&mut self) {
+    pub fn leave(&mut self)
+        ensures { Leaves self.old self.new }
+    {
         self.life.leave(&mut self.remainders);
     }
 
@@ -82,7 +96,10 @@ impl Books {
     }
 
     /// What was left, once the last book was closed or left.
-    pub fn left(&self) -> Left {
+    pub fn left(&self) -> Left
+        ensures packets { result.packets ≡ min u64.MAX (sum_by (λ (r : Remainder). r.packets) self.now.remainders) }
+        ensures bytes { result.bytes ≡ outbox_of self.now }
+    {
         Left {
             packets: self.remainders.packets(),
             bytes: self.transit.waiting() as u64,
@@ -91,7 +108,11 @@ impl Books {
     }
 
     /// Removes and returns packets of a tenant that were dropped or left and not told yet.
-    pub fn next_remainder(&mut self) -> Option<Remainder> {
+    pub fn next_remainder(&mut self) -> Option<Remainder>
+        ensures remainder { MatchOption result ((self.old.remainders ≡ []) × (self.new.remainders ≡ []))
+            (λ r. self.old.remainders ≡ self.new.remainders ++ r ∷ []) }
+        ensures rest { self.new ≡ record self.old { remainders = self.new.remainders } }
+    {
         self.remainders.pop()
     }
 }

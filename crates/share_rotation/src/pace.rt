@@ -1,4 +1,6 @@
 //! The rate of the uplink.
+ghost use Rattle.std.specs.Prelude.{◌≡◌, ℕ};
+ghost use Rattle.share_rotation.specs.Pace.{after_frame, after_pause, allowance_of, is_allowed};
 
 use share_timing::Allowance;
 use std::time::Instant;
@@ -17,7 +19,9 @@ pub(crate) struct Pace {
 
 impl Pace {
     /// A rate in bytes a second, whose time is counted from this moment on. A rate of 0 is none.
-    pub(crate) fn new(rate: Option<u64>, now: Instant) -> Pace {
+    pub(crate) fn new(rate: Option<u64>, now: Instant) -> Pace
+        ensures { result.allowance ≡ allowance_of rate }
+    {
         Pace {
             allowance: allowance_of(rate),
             counted: now,
@@ -25,7 +29,9 @@ impl Pace {
     }
 
     /// Adds the time that has passed.
-    pub(crate) fn credit(&mut self, now: Instant) {
+    pub(crate) fn credit(&mut self, now: Instant)
+        ensures { (passed : ℕ) × (self.new.allowance ≡ after_pause passed self.old.allowance) }
+    {
         let passed = now.saturating_duration_since(self.counted);
         self.counted = now;
         if let Some(allowance) = &mut self.allowance {
@@ -35,7 +41,9 @@ impl Pace {
     }
 
     /// Whether the rate lets a frame go.
-    pub(crate) fn is_allowed(&self) -> bool {
+    pub(crate) fn is_allowed(&self) -> bool
+        ensures { result ≡ is_allowed self.now.allowance }
+    {
         match &self.allowance {
             None => true,
             Some(allowance) => allowance.is_left(),
@@ -43,7 +51,9 @@ impl Pace {
     }
 
     /// Takes a frame of this many bytes away.
-    pub(crate) fn spend(&mut self, count: u32) {
+    pub(crate) fn spend(&mut self, count: u32)
+        ensures { self.new ≡ record self.old { allowance = after_frame count self.old.allowance } }
+    {
         if let Some(allowance) = &mut self.allowance {
             if allowance.is_left() {
                 allowance.spend(count.min(LONGEST_FRAME));
@@ -52,7 +62,9 @@ impl Pace {
     }
 }
 
-fn allowance_of(rate: Option<u64>) -> Option<Allowance> {
+fn allowance_of(rate: Option<u64>) -> Option<Allowance>
+    ensures { result ≡ allowance_of rate }
+{
     let rate = rate?;
     if rate < 1 {
         return None;

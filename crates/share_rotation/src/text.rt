@@ -1,4 +1,6 @@
 //! The text of the open book on its way to the disk.
+ghost use Rattle.std.specs.Prelude.{◌≡◌, ◌-◌};
+ghost use Rattle.share_rotation.specs.Turning.{GivesText, Syncs, WritesText};
 
 use crate::books::Books;
 use crate::moments::is_past;
@@ -14,19 +16,30 @@ const SYNC_SECONDS: u64 = 1;
 
 impl Books {
     /// Gives text to the disk, as long as there are pages for it, and learns how much of it is written.
-    pub fn write_text<R: Wait>(&mut self, rt: &R, now: Instant) {
-        for _ in 0..PAGES {
-            if !self.life.has_text() || !self.give_page(rt) {
-                break;
-            }
-        }
+    pub fn write_text<R: Wait>(&mut self, rt: &R, now: Instant)
+        ensures { WritesText self.old self.new }
+    {
+        self.give_pages(rt);
         self.transit.written(self.queue.written());
         self.is_stalled = self.queue.fault().is_some();
         self.note_sync(rt, now);
     }
 
+    // Gives text to the disk, as long as there are pages for it.
+    fn give_pages<R: Wait>(&mut self, rt: &R)
+        ensures { GivesText self.old self.new }
+    {
+        'pages: for _ in 0..PAGES {
+            if !self.life.has_text() || !self.give_page(rt) {
+                break;
+            }
+        }
+    }
+
     // Fills a page and gives it to the disk. Returns false if all pages are on their way.
-    fn give_page<R: Wait>(&mut self, rt: &R) -> bool {
+    fn give_page<R: Wait>(&mut self, rt: &R) -> bool
+        ensures { GivesText self.old self.new }
+    {
         let Some(page) = self.queue.page(rt) else {
             return false;
         };
@@ -41,7 +54,9 @@ impl Books {
     }
 
     // Has what is written made durable, a second after the first byte of it was.
-    fn note_sync<R: Wait>(&mut self, rt: &R, now: Instant) {
+    fn note_sync<R: Wait>(&mut self, rt: &R, now: Instant)
+        ensures { Syncs self.old self.new }
+    {
         if self.sync_at.is_none() {
             if self.queue.has_unsynced() {
                 self.sync_at = now.checked_add(Duration::from_secs(SYNC_SECONDS));
@@ -53,7 +68,9 @@ impl Books {
     }
 
     /// How many bytes of text were not written.
-    pub fn unwritten(&self) -> u64 {
+    pub fn unwritten(&self) -> u64
+        ensures { result ≡ self.now.transit.handed - self.now.transit.written }
+    {
         self.transit.unwritten()
     }
 
@@ -63,7 +80,9 @@ impl Books {
     }
 
     /// Whether the disk fails: then no event is made.
-    pub fn is_stalled(&self) -> bool {
+    pub fn is_stalled(&self) -> bool
+        ensures { result ≡ self.now.is_stalled }
+    {
         self.is_stalled
     }
 }

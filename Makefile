@@ -35,6 +35,8 @@ examples/hostile.py
 examples/bill.py
 examples/fuzz.py
 examples/gateway.py
+examples/datagrams.py
+examples/downlink.py
 examples/ask.py
 STRIDELINK=bin/stridelink-script examples/bill.py
 examples/books.py
@@ -103,6 +105,7 @@ bin/stridelink-gateway: $(SOURCES)
 test:
 	@echo 'the gate: every proof from nothing, the edits that must fail, the tests and the program; more than an hour' >&2
 	.ci/layers
+	.ci/kit
 	.ci/costs record rt ci
 	.ci/costs record --more .ci/edits --named --built
 	.ci/memory

@@ -1,13 +1,13 @@
 //! The ports of all tenants, and the connections that came by them.
 
 use crate::news::News;
-use crate::ports::{Port, PortPlace, remove_file};
+use crate::ports::{Opening, Port, PortPlace, remove_file};
 use crate::sources::{Source, Sources};
 use mio::{Interest, Registry, Token};
 use share_base::{FlowNo, Name};
 use share_book::Book;
-use share_doors::{ClosedSender, Door, Filled, MAX_SENDERS, Sender};
-use share_sockets::Stream;
+use share_doors::{ClosedPort, ClosedSender, Door, Filled, MAX_SENDERS, PacketPort, Sender};
+use share_sockets::{PacketSocket, Stream};
 use share_tariff::PlainShelf;
 use slab::Slab;
 use std::alloc::{AllocError, Global};
@@ -79,6 +79,31 @@ impl Doorways {
         self.ports.insert(port).ok()
     }
 
+    /// Adds a socket to the door of a port that has nothing. Returns the port, or `None` without memory for that, and then
+    /// the port is removed.
+    pub(crate) fn add_socket(
+        &mut self,
+        alloc: Global,
+        port: usize,
+        socket: PacketSocket,
+    ) -> Option<usize> {
+        let door = self.ports.get(port)?.door;
+        let added = self
+            .doors
+            .get_mut(door)?
+            .add_port(alloc, PacketPort::new(socket, port));
+        match added {
+            None => {
+                drop(self.ports.try_remove(port));
+                None
+            }
+            Some(key) => {
+                self.ports.get_mut(port)?.opening = Opening::Packets(key);
+                Some(port)
+            }
+        }
+    }
+
     /// Removes the files of Unix sockets.
     pub(crate) fn remove_files<R: Files>(&self, rt: &R) {
         for key in 0..self.ports.capacity() {
@@ -96,10 +121,35 @@ impl Doorways {
         }
     }
 
-    /// Connections may wait at a port.
+    /// How many packets the ports of the tenant of a flow dropped.
+    pub fn dropped(&self, flow: FlowNo) -> u64 {
+        match self.door(flow) {
+            Some(door) => door.dropped(),
+            None => 0,
+        }
+    }
+
+    /// How many packets that were delivered they lost.
+    pub fn lost(&self, flow: FlowNo) -> u64 {
+        match self.door(flow) {
+            Some(door) => door.lost(),
+            None => 0,
+        }
+    }
+
+    /// Connections or packets may wait at a port.
     pub fn note_port(&mut self, port: usize) {
-        if let Some(port) = self.ports.get_mut(port) {
-            port.is_ready = true;
+        let Some(port) = self.ports.get_mut(port) else {
+            return;
+        };
+        match &mut port.opening {
+            Opening::Listener { is_ready, .. } => *is_ready = true,
+            Opening::Packets(key) => {
+                if let Some(door) = self.doors.get_mut(port.door) {
+                    door.note_port(*key);
+                }
+            }
+            Opening::Closed => (),
         }
     }
 
@@ -178,16 +228,19 @@ impl Doorways {
         port: usize,
     ) -> Option<Stream> {
         let found = self.ports.get_mut(port)?;
-        if !found.is_ready {
+        let Opening::Listener { listener, is_ready } = &mut found.opening else {
+            return None;
+        };
+        if !*is_ready {
             return None;
         }
-        match found.listener.accept() {
+        match listener.accept() {
             Ok(stream) => Some(stream),
             Err(fault) => {
                 if fault.kind() == ErrorKind::WouldBlock {
-                    found.is_ready = false;
+                    *is_ready = false;
                 } else if !is_passing(fault.kind()) {
-                    found.is_ready = false;
+                    *is_ready = false;
                     self.retry = now.checked_add(Duration::from_secs(RETRY_SECONDS));
                     news.tell_not_accepted(rt, &fault);
                 }
@@ -247,10 +300,36 @@ impl Doorways {
         }
     }
 
-    /// Closes the connections that are over, and tells why.
+    /// Reads what is at hand of all connections and ports, and drops it. Returns true if more is at hand.
+    pub fn discard(&mut self) -> bool {
+        let mut is_busy = false;
+        for key in 0..self.doors.capacity() {
+            if let Some(door) = self.doors.get_mut(key) {
+                is_busy |= door.discard() == Filled::More;
+            }
+        }
+        is_busy
+    }
+
+    /// Gives a packet to the ports of the tenant of a flow. Returns whether a tenant has it.
+    pub fn deliver(&mut self, flow: FlowNo, payload: &[u8]) -> bool {
+        let Some(key) = self.door_of(flow) else {
+            return false;
+        };
+        match self.doors.get_mut(key) {
+            None => false,
+            Some(door) => {
+                door.deliver(payload);
+                true
+            }
+        }
+    }
+
+    /// Closes the connections and the packet ports that are over, and tells why.
     pub fn close_over<R: Clock + Eprint>(
         &mut self,
         rt: &R,
+        registry: &Registry,
         sources: &mut Sources,
         news: &mut News,
     ) {
@@ -260,7 +339,38 @@ impl Doorways {
                     break;
                 }
             }
+            for _ in 0..self.ports.capacity() {
+                if !self.close_port_of(rt, registry, sources, news, key) {
+                    break;
+                }
+            }
         }
+    }
+
+    // Closes a packet port of a door that is over. Returns false if none is.
+    fn close_port_of<R: Clock + Eprint>(
+        &mut self,
+        rt: &R,
+        registry: &Registry,
+        sources: &mut Sources,
+        news: &mut News,
+        key: usize,
+    ) -> bool {
+        let Some(door) = self.doors.get_mut(key) else {
+            return false;
+        };
+        let Some(ClosedPort { port, socket, why }) = door.close_port_over() else {
+            return false;
+        };
+        let mut socket = socket;
+        let _ = socket.deregister(registry);
+        drop(socket);
+        if let Some(port) = self.ports.get_mut(port) {
+            port.opening = Opening::Closed;
+            drop(sources.remove(port.token));
+            news.tell_port_closed(rt, door.tenant(), &port.place, &why);
+        }
+        true
     }
 
     // Closes a connection of a door that is over. Returns false if none is.
@@ -317,12 +427,12 @@ fn join(
     stream: Stream,
 ) -> Option<usize> {
     let mut stream = stream;
-    if stream
-        .register(registry, token, Interest::READABLE)
-        .is_err()
-    {
+    let both = Interest::READABLE | Interest::WRITABLE;
+    if stream.register(registry, token, both).is_err() {
         return None;
     }
+    // Records that it is given are small.
+    let _ = stream.set_nodelay(true);
     match Sender::new(alloc, stream, door.tenant(), token.0, port) {
         Err(_) => None,
         Ok(sender) => door.add(sender),

@@ -9,7 +9,7 @@ use std::{fmt, io};
 pub enum NotRun {
     /// Memory was refused.
     NoMemory,
-    /// A port or the control listener could not be listened at.
+    /// A port or the control listener could not be opened.
     Place {
         port: Port,
         fault: io::Error,
@@ -29,9 +29,8 @@ impl fmt::Display for NotRun {
         match self {
             NotRun::NoMemory => f.write_str("out of memory"),
             NotRun::Place { port, fault } => {
-                f.write_str("cannot listen on ")?;
-                write_port(f, port)?;
-                write!(f, ": {fault}")
+                f.write_str(not_opened(port))?;
+                write!(f, "{}: {fault}", PortName(port))
             }
             NotRun::Book {
                 folder,
@@ -46,17 +45,27 @@ impl fmt::Display for NotRun {
     }
 }
 
-// Writes a port as the file of a gateway spells it.
-fn write_port<W: fmt::Write>(f: &mut fmt::Formatter<W>, port: &Port) -> fmt::Result {
+// What could not be done at a port.
+fn not_opened(port: &Port) -> &'static str {
     match port {
-        Port::Tcp(address) => write!(f, "{address}"),
-        Port::Unix(path) => {
-            f.write_str("unix:")?;
-            f.write_str(path.as_str())
+        Port::Tcp(_) | Port::Unix(_) | Port::Udp(_) => "cannot listen on ",
+        Port::UdpTo(_) | Port::Descriptor(_) => "cannot open ",
+    }
+}
+
+/// A port, which prints as the file of a gateway spells it.
+#[derive(Drop)]
+pub(crate) struct PortName<'a>(pub(crate) &'a Port);
+
+impl fmt::Display for PortName<'_> {
+    fn fmt<W: fmt::Write>(&self, f: &mut fmt::Formatter<W>) -> fmt::Result {
+        match self.0 {
+            Port::Tcp(address) => write!(f, "{address}"),
+            Port::Unix(path) => write!(f, "unix:{path}"),
+            Port::Udp(address) => write!(f, "udp:{address}"),
+            Port::UdpTo(address) => write!(f, "udp-to:{address}"),
+            Port::Descriptor(number) => write!(f, "fd:{number}"),
         }
-        Port::Udp(address) => write!(f, "udp:{address}"),
-        Port::UdpTo(address) => write!(f, "udp-to:{address}"),
-        Port::Descriptor(number) => write!(f, "fd:{number}"),
     }
 }
 

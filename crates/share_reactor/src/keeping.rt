@@ -1,14 +1,15 @@
 //! What becomes of ports and doors when the file was read anew.
 
 use crate::doorways::Doorways;
-use crate::ports::{PortPlace, remove_file};
+use crate::ports::{Opening, PortPlace, remove_file};
 use crate::sources::Sources;
-use mio::Token;
+use mio::{Registry, Token};
 use share_base::FlowNo;
 use share_doors::{ClosedSender, MAX_SENDERS};
 use share_gateway::Tenant;
 use share_settings::{Settings, TenantPorts};
-use share_sockets::Listener;
+use share_sockets::{Listener, PacketSocket};
+use std::alloc::Global;
 use std::fs::Files;
 
 /// The flow that a port belongs to, and the mode of its file.
@@ -50,10 +51,12 @@ fn has_flow(tenants: &[Tenant], flow: FlowNo) -> bool {
 
 impl Doorways {
     /// Gives each port to its tenant in new settings, for whose tenants there are doors. A port that is gone is removed.
-    /// The connections of a port that goes to another tenant are closed.
+    /// The connections of a port that goes to another tenant are closed, and what waits in its socket is dropped.
     pub(crate) fn keep_ports<R: Files>(
         &mut self,
         rt: &R,
+        alloc: Global,
+        registry: &Registry,
         sources: &mut Sources,
         settings: &Settings,
     ) {
@@ -62,30 +65,57 @@ impl Doorways {
                 continue;
             };
             match owner_of(settings, &port.place) {
-                None => self.remove_port(rt, sources, key),
-                Some(owner) => self.give_port(rt, key, owner),
+                None => self.remove_port(rt, registry, sources, key),
+                Some(owner) => self.give_port(rt, alloc, key, owner),
             }
         }
     }
 
     // Gives a port to its owner.
-    fn give_port<R: Files>(&mut self, rt: &R, key: usize, owner: Owner) {
+    fn give_port<R: Files>(&mut self, rt: &R, alloc: Global, key: usize, owner: Owner) {
         let Some(door) = self.door_of(owner.flow) else {
             return;
         };
-        let Some(port) = self.ports.get_mut(key) else {
+        let Some(port) = self.ports.get(key) else {
             return;
         };
         if let PortPlace::Unix(path) = &port.place {
             let _ = Listener::set_mode(rt, path.as_str(), owner.mode);
         }
-        if port.door == door {
-            return;
+        if port.door != door {
+            self.move_port(alloc, key, door);
         }
+    }
+
+    // Gives a port to another door.
+    fn move_port(&mut self, alloc: Global, key: usize, door: usize) {
+        let socket = self.take_socket(key);
+        let Some(port) = self.ports.get_mut(key) else {
+            return;
+        };
         let before = port.door;
         port.door = door;
-        if let Some(door) = self.doors.get_mut(before) {
-            door.close_port(key);
+        match socket {
+            Some(socket) => drop(self.add_socket(alloc, key, socket)),
+            None => self.close_port(before, key),
+        }
+    }
+
+    // Takes the socket of a packet port away from its door.
+    fn take_socket(&mut self, key: usize) -> Option<PacketSocket> {
+        let port = self.ports.get_mut(key)?;
+        let Opening::Packets(place) = port.opening else {
+            return None;
+        };
+        port.opening = Opening::Closed;
+        let taken = self.doors.get_mut(port.door)?.remove_port(place)?;
+        Some(taken.into_socket())
+    }
+
+    // Closes the connections of a door that came by a port.
+    fn close_port(&mut self, door: usize, port: usize) {
+        if let Some(door) = self.doors.get_mut(door) {
+            door.close_port(port);
         }
     }
 
@@ -118,14 +148,22 @@ impl Doorways {
         self.set_flow(flow, None);
     }
 
-    /// Removes a port: nobody listens there any more, and its connections are closed.
-    pub(crate) fn remove_port<R: Files>(&mut self, rt: &R, sources: &mut Sources, key: usize) {
+    /// Removes a port: nothing comes by it any more, and its connections are closed.
+    pub(crate) fn remove_port<R: Files>(
+        &mut self,
+        rt: &R,
+        registry: &Registry,
+        sources: &mut Sources,
+        key: usize,
+    ) {
+        if let Some(socket) = self.take_socket(key) {
+            let mut socket = socket;
+            let _ = socket.deregister(registry);
+        }
         let Some(port) = self.ports.try_remove(key) else {
             return;
         };
-        if let Some(door) = self.doors.get_mut(port.door) {
-            door.close_port(key);
-        }
+        self.close_port(port.door, key);
         remove_file(rt, &port.place);
         drop(sources.remove(port.token));
     }

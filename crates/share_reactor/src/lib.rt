@@ -4,6 +4,7 @@
 
 mod controls;
 mod doorways;
+mod far_end;
 mod faults;
 mod input;
 mod keeping;

@@ -1,12 +1,17 @@
 //! What a gateway prints of what happens.
 
+use crate::faults::PortName;
+use crate::ports::PortPlace;
 use share_base::Name;
-use share_doors::ClosedWhy;
+use share_doors::{ClosedWhy, PortEnd};
+use share_downlink::{ClosedConnection, ClosedWhy as DownlinkClosed};
+use share_gateway::Field;
 use share_messages::{Kind, Messages};
 use share_rotation::Books;
 use share_uplink::{Uplink, Work};
 use std::io;
 use std::io::Eprint;
+use std::net::SocketAddr;
 use std::time::Clock;
 
 /// The messages of a gateway.
@@ -65,6 +70,84 @@ impl News {
         }
     }
 
+    /// Prints that a connection came to the downlink.
+    pub(crate) fn tell_downlink<R: Clock + Eprint>(&mut self, rt: &R, from: SocketAddr) {
+        self.messages.say(rt, Kind::Downlink, None, format_args!("{from}: connected"));
+    }
+
+    /// Prints that a connection to the downlink was closed at once, since it comes from another address.
+    pub(crate) fn tell_stranger<R: Clock + Eprint>(&mut self, rt: &R, from: SocketAddr) {
+        self.messages.say(
+            rt,
+            Kind::Downlink,
+            None,
+            format_args!("{from}: closed at once, not from the address that is set"),
+        );
+    }
+
+    /// Prints how many datagrams of the downlink were dropped since the start.
+    pub(crate) fn tell_dropped_datagrams<R: Clock + Eprint>(&mut self, rt: &R, dropped: u64) {
+        self.messages.say(
+            rt,
+            Kind::Downlink,
+            None,
+            format_args!("{dropped} datagrams dropped since the start"),
+        );
+    }
+
+    /// Prints why a connection of the downlink was closed. The current one is another.
+    pub(crate) fn tell_downlink_closed<R: Clock + Eprint>(
+        &mut self,
+        rt: &R,
+        closed: &ClosedConnection,
+        current: Option<SocketAddr>,
+    ) {
+        let from = closed.from;
+        match closed.why {
+            DownlinkClosed::BadFrame { offset, field } => {
+                let field = field_text(field);
+                self.messages.say(
+                    rt,
+                    Kind::Downlink,
+                    None,
+                    format_args!("{from}: no frame at byte {offset}: {field}"),
+                );
+            }
+            DownlinkClosed::Failed(kind) => {
+                self.messages
+                    .say(rt, Kind::Downlink, None, format_args!("{from}: {kind}"));
+            }
+            DownlinkClosed::Replaced => self.tell_replaced(rt, from, current),
+            DownlinkClosed::Ended => self.tell_far_end(rt, from, "closed by the far end"),
+            DownlinkClosed::CutShort => self.tell_far_end(rt, from, "a frame was cut short"),
+            DownlinkClosed::Crowded => {
+                self.tell_far_end(rt, from, "too many connections wait for their first frame");
+            }
+        }
+    }
+
+    fn tell_far_end<R: Clock + Eprint>(&mut self, rt: &R, from: SocketAddr, why: &str) {
+        self.messages
+            .say(rt, Kind::Downlink, None, format_args!("{from}: {why}"));
+    }
+
+    fn tell_replaced<R: Clock + Eprint>(
+        &mut self,
+        rt: &R,
+        from: SocketAddr,
+        current: Option<SocketAddr>,
+    ) {
+        match current {
+            None => self.tell_far_end(rt, from, "replaced"),
+            Some(current) => self.messages.say(
+                rt,
+                Kind::Downlink,
+                None,
+                format_args!("{from}: replaced by {current}"),
+            ),
+        }
+    }
+
     /// Prints why a connection of a tenant was closed, unless its far end ended it.
     pub(crate) fn tell_closed<R: Clock + Eprint>(&mut self, rt: &R, tenant: Name, why: ClosedWhy) {
         let said = match why {
@@ -80,6 +163,33 @@ impl News {
         };
         self.messages
             .say(rt, Kind::Closed, Some(tenant), format_args!("{said}"));
+    }
+
+    /// Prints why a packet port of a tenant was closed.
+    pub(crate) fn tell_port_closed<R: Clock + Eprint>(
+        &mut self,
+        rt: &R,
+        tenant: Name,
+        place: &PortPlace,
+        why: &PortEnd,
+    ) {
+        let port = PortName(place);
+        match why {
+            PortEnd::Ended => self.messages.say(
+                rt,
+                Kind::Closed,
+                Some(tenant),
+                format_args!("{port}: the far end closed it"),
+            ),
+            PortEnd::Failed(fault) => {
+                self.messages.say(
+                    rt,
+                    Kind::Closed,
+                    Some(tenant),
+                    format_args!("{port}: {fault}"),
+                )
+            }
+        }
     }
 
     /// Prints that a connection of a tenant was closed at once.
@@ -164,5 +274,17 @@ impl News {
                 format_args!("{packets} packets"),
             );
         }
+    }
+}
+
+// What the first field is called that no frame has.
+fn field_text(field: Field) -> &'static str {
+    match field {
+        Field::Magic => "its mark",
+        Field::Version => "its version",
+        Field::Tariff => "its tariff",
+        Field::Flow => "its flow number",
+        Field::Seq => "its sequence number",
+        Field::Len => "its length",
     }
 }

@@ -89,7 +89,7 @@ impl Reactor<'_> {
         }
     }
 
-    // Takes settings over. If a port cannot be listened at, or memory is refused, nothing changes.
+    // Takes settings over. If a port cannot be opened, or memory is refused, nothing changes.
     fn take_over<R: Files<File = File> + Net>(
         &mut self,
         rt: &R,
@@ -152,7 +152,7 @@ impl Reactor<'_> {
         }
     }
 
-    // Listens at the ports of a tenant at which nobody listens yet.
+    // Opens the ports of a tenant that are not open yet.
     fn add_ports<R: Files + Net>(
         &mut self,
         rt: &R,
@@ -173,9 +173,10 @@ impl Reactor<'_> {
 
     // Removes what a reload has added.
     fn undo<R: Files>(&mut self, rt: &R, added: &Added) {
+        let registry = self.poll.registry();
         for index in 0..added.ports.len() {
             self.doorways
-                .remove_port(rt, &mut self.sources, added.ports[index]);
+                .remove_port(rt, registry, &mut self.sources, added.ports[index]);
         }
         for index in 0..added.doors.len() {
             self.doorways
@@ -185,7 +186,9 @@ impl Reactor<'_> {
 
     // Gives each port to its tenant, and closes the ports and the doors that are gone. The next book begins with the plan.
     fn commit<R: Files>(&mut self, rt: &R, settings: Settings, holds: ControlHolds) {
-        self.doorways.keep_ports(rt, &mut self.sources, &settings);
+        let registry = self.poll.registry();
+        self.doorways
+            .keep_ports(rt, self.alloc, registry, &mut self.sources, &settings);
         self.doorways
             .keep_doors(&mut self.sources, settings.plan.tenants());
         let mut settings = settings;

@@ -146,6 +146,7 @@ fn reactor_of<'b>(
         control_place,
         uplink,
         uplink_token,
+        far_end,
         input,
     } = ground;
     Ok(Reactor {
@@ -157,6 +158,7 @@ fn reactor_of<'b>(
         control_place,
         uplink,
         uplink_token,
+        far_end,
         input,
         books,
         news: News::new(Messages::new(alloc, options.is_quiet)),

@@ -8,6 +8,10 @@ use std::alloc::Global;
 #[derive(Clone, Copy, Debug, PartialEq, Eq)]
 pub enum Source {
     Uplink,
+    /// The listener or the datagram socket of the downlink.
+    Downlink,
+    /// A connection of the downlink.
+    DownlinkConnection,
     /// The disk has written text, or has closed a book.
     Disk,
     /// Standard input.

@@ -2,9 +2,12 @@
 
 use crate::controls::Controls;
 use crate::doorways::Doorways;
+use crate::far_end::FarEnd;
 use crate::faults::NotRun;
 use crate::input::Input;
-use crate::ports::{Port, PortPlace, listen, place_of_control, remove_file};
+use crate::ports::{
+    Opened, Opening, Port, PortPlace, listen, open_at, place_of_control, remove_file,
+};
 use crate::reactor::Reactor;
 use crate::sources::{Source, Sources};
 use mio::{Poll, Registry, Token, Waker};
@@ -12,10 +15,10 @@ use share_base::FlowNo;
 use share_doors::Door;
 use share_settings::{Control, Peer, Settings, TenantPorts};
 use share_sockets::Listener;
-use share_uplink::Uplink;
+use share_uplink::{Transport, Uplink};
 use std::alloc::Global;
 use std::fs::Files;
-use std::io::{Error, ErrorKind};
+use std::io::Error;
 use std::net::Net;
 use std::time::{Clock, Instant};
 
@@ -27,8 +30,9 @@ pub(crate) struct Ground {
     pub(crate) doorways: Doorways,
     pub(crate) controls: Controls,
     pub(crate) control_place: PortPlace,
-    pub(crate) uplink: Uplink,
+    pub(crate) uplink: Option<Uplink>,
     pub(crate) uplink_token: Token,
+    pub(crate) far_end: Option<FarEnd>,
     pub(crate) input: Input,
 }
 
@@ -40,15 +44,15 @@ fn token_of(sources: &mut Sources, source: Source) -> Result<Token, NotRun> {
     }
 }
 
-// What is said of a place that cannot be listened at.
-fn not_listened(alloc: Global, place: &PortPlace, fault: Error) -> NotRun {
+// What is said of a place that cannot be opened.
+fn not_opened(alloc: Global, place: &PortPlace, fault: Error) -> NotRun {
     match place.copy(alloc) {
         Ok(port) => NotRun::Place { port, fault },
         Err(_) => NotRun::NoMemory,
     }
 }
 
-/// Listens at a port of the tenant with this door, and adds it.
+/// Opens a port of the tenant with this door, and adds it.
 pub(crate) fn open_port<R: Files + Net>(
     rt: &R,
     alloc: Global,
@@ -60,22 +64,15 @@ pub(crate) fn open_port<R: Files + Net>(
     mode: u32,
 ) -> Result<usize, NotRun> {
     let token = token_of(sources, Source::ControlListener)?;
-    let listener = match listen(rt, registry, token, place, mode) {
-        Ok(listener) => listener,
+    let opened = match open_at(rt, registry, token, place, mode) {
+        Ok(opened) => opened,
         Err(fault) => {
             drop(sources.remove(token));
-            return Err(not_listened(alloc, place, fault));
+            return Err(not_opened(alloc, place, fault));
         }
     };
     let place = place.copy(alloc)?;
-    let added = doorways.add_port(Port {
-        place,
-        listener,
-        token,
-        door,
-        is_ready: true,
-    });
-    match added {
+    match add_port(alloc, doorways, opened, place, token, door) {
         Some(port) => {
             sources.set(token, Source::Port(port));
             Ok(port)
@@ -84,7 +81,38 @@ pub(crate) fn open_port<R: Files + Net>(
     }
 }
 
-// Listens at the ports of a tenant.
+// Adds what was opened at a place. Returns its key.
+fn add_port(
+    alloc: Global,
+    doorways: &mut Doorways,
+    opened: Opened,
+    place: PortPlace,
+    token: Token,
+    door: usize,
+) -> Option<usize> {
+    match opened {
+        Opened::Listener(listener) => doorways.add_port(Port {
+            place,
+            opening: Opening::Listener {
+                listener,
+                is_ready: true,
+            },
+            token,
+            door,
+        }),
+        Opened::Packets(socket) => {
+            let port = doorways.add_port(Port {
+                place,
+                opening: Opening::Closed,
+                token,
+                door,
+            })?;
+            doorways.add_socket(alloc, port, socket)
+        }
+    }
+}
+
+// Opens the ports of a tenant.
 fn open_ports<R: Files + Net>(
     rt: &R,
     alloc: Global,
@@ -103,7 +131,7 @@ fn open_ports<R: Files + Net>(
     Ok(())
 }
 
-// Adds the door of a tenant, and listens at its ports.
+// Adds the door of a tenant, and opens its ports.
 fn open_door<R: Files + Net>(
     rt: &R,
     alloc: Global,
@@ -125,7 +153,7 @@ fn open_door<R: Files + Net>(
     open_ports(rt, alloc, registry, sources, doorways, door, ports)
 }
 
-// Adds the doors of all tenants, and listens at their ports.
+// Adds the doors of all tenants, and opens their ports.
 fn open_doors<R: Files + Net>(
     rt: &R,
     alloc: Global,
@@ -152,18 +180,31 @@ fn open_control<R: Files + Net>(
     let token = token_of(sources, Source::ControlListener)?;
     match listen(rt, registry, token, place, control.mode) {
         Ok(listener) => Ok(listener),
-        Err(fault) => Err(not_listened(alloc, place, fault)),
+        Err(fault) => Err(not_opened(alloc, place, fault)),
     }
 }
 
-// The uplink over TCP. Another one, and a gateway without one, are not supported.
-fn uplink_of(settings: &Settings, now: Instant) -> Result<Uplink, NotRun> {
-    match settings.uplink {
-        Some(uplink) => match uplink.to {
-            Peer::Tcp(address) => Ok(Uplink::new(address, uplink.buffer, now)),
-            Peer::Udp(_) => Err(NotRun::System(Error::from(ErrorKind::Unsupported))),
-        },
-        None => Err(NotRun::System(Error::from(ErrorKind::Unsupported))),
+// The uplink, if there is one.
+fn uplink_of(settings: &Settings, now: Instant) -> Option<Uplink> {
+    let uplink = settings.uplink?;
+    let (address, transport) = match uplink.to {
+        Peer::Tcp(address) => (address, Transport::Stream),
+        Peer::Udp(address) => (address, Transport::Datagrams),
+    };
+    Some(Uplink::new(address, transport, uplink.buffer, now))
+}
+
+// The downlink, if there is one.
+fn open_far_end(
+    net: &impl Net,
+    alloc: Global,
+    registry: &Registry,
+    sources: &mut Sources,
+    settings: &Settings,
+) -> Result<Option<FarEnd>, NotRun> {
+    match &settings.downlink {
+        None => Ok(None),
+        Some(downlink) => Ok(Some(FarEnd::open(net, alloc, registry, sources, downlink)?)),
     }
 }
 
@@ -186,11 +227,12 @@ impl Ground {
     ) -> Result<Ground, NotRun> {
         let mut sources = Sources::new(alloc);
         let mut doorways = Doorways::new(alloc)?;
-        let uplink = uplink_of(settings, Instant::now(rt)?)?;
+        let uplink = uplink_of(settings, Instant::now(rt)?);
         let uplink_token = token_of(&mut sources, Source::Uplink)?;
         let poll = Poll::new(rt)?;
         let input = open_input(&poll, &mut sources, until_eof)?;
         let control_place = place_of_control(alloc, &settings.control.listen)?;
+        let far_end = open_far_end(rt, alloc, poll.registry(), &mut sources, settings)?;
         match open_all(
             rt,
             alloc,
@@ -208,6 +250,7 @@ impl Ground {
                 control_place,
                 uplink,
                 uplink_token,
+                far_end,
                 input,
             }),
             Err(fault) => {
@@ -230,7 +273,7 @@ impl Ground {
     }
 }
 
-// Listens at all ports, and for control connections.
+// Opens all ports, and listens for control connections.
 fn open_all<R: Files + Net>(
     rt: &R,
     alloc: Global,
@@ -254,7 +297,7 @@ fn open_all<R: Files + Net>(
 }
 
 impl Reactor<'_> {
-    /// Listens at a port of the tenant with this door while the gateway runs. Returns the key of the port.
+    /// Opens a port of the tenant with this door while the gateway runs. Returns the key of the port.
     pub(crate) fn open_port<R: Files + Net>(
         &mut self,
         rt: &R,

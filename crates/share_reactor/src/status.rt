@@ -15,7 +15,7 @@ use std::alloc::AllocError;
 /// The version of the program, and what it is proved with.
 const VERSION: &str = "0.1.0";
 
-const PROVED: &str = "rattle-kit-13b logic dac8208d650f15bf";
+const PROVED: &str = "rattle-kit-13f logic dac8208d650f15bf";
 
 impl Reactor<'_> {
     /// The line that answers `status`, while a book is open.
@@ -47,7 +47,7 @@ impl Reactor<'_> {
                     fault: fault.as_deref(),
                 },
                 tenants: tenants.as_slice(),
-                downlink: None,
+                downlink: self.far_end.as_ref().map(|far_end| far_end.status()),
             },
         )
     }
@@ -80,16 +80,17 @@ impl Reactor<'_> {
     }
 
     fn uplink_status(&self) -> Option<UplinkStatus> {
-        let state = match self.uplink.state() {
+        let uplink = self.uplink.as_ref()?;
+        let state = match uplink.state() {
             UplinkState::Up => Shown::Up,
             UplinkState::Dialling => Shown::Dialling,
         };
         Some(UplinkStatus {
             state,
-            address: self.uplink.address(),
-            sent: self.uplink.sent(),
+            address: uplink.address(),
+            sent: uplink.sent(),
             outbox: self.books.outbox(),
-            lost: self.uplink.lost(),
+            lost: uplink.lost(),
         })
     }
 
@@ -122,8 +123,8 @@ impl Reactor<'_> {
             sent_bytes,
             amount: engine.account(flow).unwrap_or(0),
             connections: self.doorways.connections(flow),
-            dropped: 0,
-            lost: 0,
+            dropped: self.doorways.dropped(flow),
+            lost: self.doorways.lost(flow),
         }
     }
 }

@@ -1,6 +1,6 @@
 //! Packets that are given to the ports and the connections of a tenant.
 ghost use Rattle.std.specs.Prelude.{◌≡◌, if◌then◌else◌};
-ghost use Rattle.share_doors.specs.Deliveries.{DeliveriesView, EachPortIsGiven, EachSenderIsGiven};
+ghost use Rattle.share_doors.specs.Deliveries.{EachPortIsGiven, EachSenderIsGiven, PortIsGivenAt, SenderIsGivenAt};
 ghost use Rattle.share_doors.specs.Door.{one_more};
 
 use crate::packet_port::PacketPort;
@@ -74,9 +74,17 @@ impl Deliveries {
         ensures each { EachPortIsGiven ports.old ports.new }
     {
         'keys: for key in 0..ports.capacity() {
-            if let Some(port) = ports.get_mut(key) {
-                self.count(port.deliver(payload));
-            }
+            self.give_to_port(ports, key, payload);
+        }
+    }
+
+    fn give_to_port(&mut self, ports: &mut Slab<PacketPort>, key: usize, payload: &[u8])
+        ensures same { self.new.given ≡ self.old.given }
+        ensures one { PortIsGivenAt key ports.old ports.new }
+        ensures capacity { ports.new.capacity ≡ ports.old.capacity }
+    {
+        if let Some(port) = ports.get_mut(key) {
+            self.count(port.deliver(payload));
         }
     }
 
@@ -85,9 +93,23 @@ impl Deliveries {
         ensures each { EachSenderIsGiven senders.old senders.new }
     {
         'keys: for key in 0..senders.capacity() {
-            if let Some(sender) = senders.get_mut(key) {
-                self.count(sender.deliver(tenant, payload));
-            }
+            self.give_to_sender(senders, key, tenant, payload);
+        }
+    }
+
+    fn give_to_sender(
+        &mut self,
+        senders: &mut Slab<Sender>,
+        key: usize,
+        tenant: Name,
+        payload: &[u8],
+    )
+        ensures same { self.new.given ≡ self.old.given }
+        ensures one { SenderIsGivenAt key senders.old senders.new }
+        ensures capacity { senders.new.capacity ≡ senders.old.capacity }
+    {
+        if let Some(sender) = senders.get_mut(key) {
+            self.count(sender.deliver(tenant, payload));
         }
     }
 }

@@ -38,7 +38,8 @@ pub enum Filled {
 }
 
 /// The door of a tenant: its connections and its packet ports. A contract sees the tenant and its flow, how much was
-/// taken, how many packets of packet ports were read, and how many were dropped.
+/// taken, how many packets of packet ports were read and how many were dropped, and how many were given to deliver and
+/// how often one was lost.
 pub struct Door {
     tenant: Name,
     flow: FlowNo,

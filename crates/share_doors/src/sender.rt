@@ -101,9 +101,13 @@ impl Drop for Sender {
             is_read_closed: _,
             may_have_hung_up: _,
             over: _,
+            outgoing,
+            takes_records: _,
+            given: _,
         } = self;
         drop(stream);
         drop(records);
+        drop(outgoing);
     }
 }
 

@@ -1,16 +1,12 @@
 //! The loop of a gateway.
 
-use crate::controls::Controls;
-use crate::doorways::Doorways;
-use crate::far_end::FarEnd;
-use crate::input::Input;
-use crate::news::News;
-use crate::ports::{PortPlace, remove_file};
-use crate::sources::{Source, Sources};
 use mio::event::Event;
 use mio::{Events, Poll, Token};
 use share_base::FlowNo;
 use share_catalog::Closing;
+use share_doorways::{Doorways, PortPlace, Source, Sources, remove_file};
+use share_listeners::{Controls, FarEnd, Input};
+use share_news::News;
 use share_reload::{ControlHolds, Roster};
 use share_rotation::{Books, Frame, Left, Made};
 use share_settings::Settings;

@@ -1,11 +1,11 @@
 //! How the file is read anew while a gateway runs.
 
-use crate::faults::NotRun;
 use crate::reactor::Reactor;
 use share_base::FlowNo;
 use share_doors::Door;
 use share_gateway::{Plan, Tenant};
 use share_loading::{Refused, read_file};
+use share_news::NotRun;
 use share_orders::fault_text;
 use share_reload::{ControlHolds, reload_fault};
 use share_rotation::NextPlan;

@@ -1,11 +1,10 @@
 //! How a gateway is run, from its sockets to what was left.
 
-use crate::faults::NotRun;
-use crate::news::News;
 use crate::reactor::{Ending, Options, Reactor};
 use crate::start::Ground;
 use share_disk::{Folder, OpenText};
 use share_messages::Messages;
+use share_news::{News, NotRun};
 use share_reload::{ControlHolds, Roster};
 use share_rotation::{Books, Left, UseBooks, tariffs_of, with_books};
 use share_settings::{Settings, Text};

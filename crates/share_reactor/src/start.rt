@@ -1,24 +1,18 @@
 //! The sockets of a gateway: how they are opened, and how their files are removed.
 
-use crate::controls::Controls;
-use crate::doorways::Doorways;
-use crate::far_end::FarEnd;
-use crate::faults::NotRun;
-use crate::input::Input;
-use crate::ports::{
-    Opened, Opening, Port, PortPlace, listen, open_at, place_of_control, remove_file,
-};
 use crate::reactor::Reactor;
-use crate::sources::{Source, Sources};
 use mio::{Poll, Registry, Token, Waker};
-use share_base::FlowNo;
-use share_doors::Door;
-use share_settings::{Control, Peer, Settings, TenantPorts};
+use share_doorways::{
+    Doorways, PortPlace, Source, Sources, listen, not_opened, open_doors, open_port,
+    place_of_control, remove_file, token_of,
+};
+use share_listeners::{Controls, FarEnd, Input};
+use share_news::NotRun;
+use share_settings::{Control, Peer, Settings};
 use share_sockets::Listener;
 use share_uplink::{Transport, Uplink};
 use std::alloc::Global;
 use std::fs::Files;
-use std::io::Error;
 use std::net::Net;
 use std::time::{Clock, Instant};
 
@@ -34,138 +28,6 @@ pub(crate) struct Ground {
     pub(crate) uplink_token: Token,
     pub(crate) far_end: Option<FarEnd>,
     pub(crate) input: Input,
-}
-
-// Adds a source and returns its token.
-fn token_of(sources: &mut Sources, source: Source) -> Result<Token, NotRun> {
-    match sources.add(source) {
-        Some(token) => Ok(token),
-        None => Err(NotRun::NoMemory),
-    }
-}
-
-// What is said of a place that cannot be opened.
-fn not_opened(alloc: Global, place: &PortPlace, fault: Error) -> NotRun {
-    match place.copy(alloc) {
-        Ok(port) => NotRun::Place { port, fault },
-        Err(_) => NotRun::NoMemory,
-    }
-}
-
-/// Opens a port of the tenant with this door, and adds it.
-pub(crate) fn open_port<R: Files + Net>(
-    rt: &R,
-    alloc: Global,
-    registry: &Registry,
-    sources: &mut Sources,
-    doorways: &mut Doorways,
-    door: usize,
-    place: &PortPlace,
-    mode: u32,
-) -> Result<usize, NotRun> {
-    let token = token_of(sources, Source::ControlListener)?;
-    let opened = match open_at(rt, registry, token, place, mode) {
-        Ok(opened) => opened,
-        Err(fault) => {
-            drop(sources.remove(token));
-            return Err(not_opened(alloc, place, fault));
-        }
-    };
-    let place = place.copy(alloc)?;
-    match add_port(alloc, doorways, opened, place, token, door) {
-        Some(port) => {
-            sources.set(token, Source::Port(port));
-            Ok(port)
-        }
-        None => Err(NotRun::NoMemory),
-    }
-}
-
-// Adds what was opened at a place. Returns its key.
-fn add_port(
-    alloc: Global,
-    doorways: &mut Doorways,
-    opened: Opened,
-    place: PortPlace,
-    token: Token,
-    door: usize,
-) -> Option<usize> {
-    match opened {
-        Opened::Listener(listener) => doorways.add_port(Port {
-            place,
-            opening: Opening::Listener {
-                listener,
-                is_ready: true,
-            },
-            token,
-            door,
-        }),
-        Opened::Packets(socket) => {
-            let port = doorways.add_port(Port {
-                place,
-                opening: Opening::Closed,
-                token,
-                door,
-            })?;
-            doorways.add_socket(alloc, port, socket)
-        }
-    }
-}
-
-// Opens the ports of a tenant.
-fn open_ports<R: Files + Net>(
-    rt: &R,
-    alloc: Global,
-    registry: &Registry,
-    sources: &mut Sources,
-    doorways: &mut Doorways,
-    door: usize,
-    ports: &TenantPorts,
-) -> Result<(), NotRun> {
-    for index in 0..ports.ports.len() {
-        let place = &ports.ports[index];
-        open_port(
-            rt, alloc, registry, sources, doorways, door, place, ports.mode,
-        )?;
-    }
-    Ok(())
-}
-
-// Adds the door of a tenant, and opens its ports.
-fn open_door<R: Files + Net>(
-    rt: &R,
-    alloc: Global,
-    registry: &Registry,
-    sources: &mut Sources,
-    doorways: &mut Doorways,
-    settings: &Settings,
-    index: usize,
-) -> Result<(), NotRun> {
-    let Some(tenant) = settings.plan.tenants().get(index) else {
-        return Ok(());
-    };
-    let Some(ports) = settings.ports.get(index) else {
-        return Ok(());
-    };
-    let Some(door) = doorways.add_door(Door::new(alloc, tenant.name, FlowNo(tenant.flow))) else {
-        return Err(NotRun::NoMemory);
-    };
-    open_ports(rt, alloc, registry, sources, doorways, door, ports)
-}
-
-// Adds the doors of all tenants, and opens their ports.
-fn open_doors<R: Files + Net>(
-    rt: &R,
-    alloc: Global,
-    registry: &Registry,
-    sources: &mut Sources,
-    doorways: &mut Doorways,
-    settings: &Settings,
-) -> Result<(), NotRun> {
-    for index in 0..settings.plan.tenants().len() {
-        open_door(rt, alloc, registry, sources, doorways, settings, index)?;
-    }
-    Ok(())
 }
 
 // Listens for control connections.

@@ -1,12 +1,12 @@
 //! The ports of all tenants, and the connections that came by them.
 
-use crate::news::News;
 use crate::ports::{Opening, Port, PortPlace, remove_file};
 use crate::sources::{Source, Sources};
 use mio::{Interest, Registry, Token};
 use share_base::{FlowNo, Name};
 use share_book::Book;
 use share_doors::{ClosedPort, ClosedSender, Door, Filled, MAX_SENDERS, PacketPort, Sender};
+use share_news::News;
 use share_sockets::{PacketSocket, Stream};
 use share_tariff::PlainShelf;
 use slab::Slab;
@@ -65,7 +65,7 @@ impl Doorways {
     }
 
     /// The key of the door of a flow.
-    pub(crate) fn door_of(&self, flow: FlowNo) -> Option<usize> {
+    pub fn door_of(&self, flow: FlowNo) -> Option<usize> {
         self.by_flow.get(place_of(flow)).copied().flatten()
     }
 
@@ -105,7 +105,7 @@ impl Doorways {
     }
 
     /// Removes the files of Unix sockets.
-    pub(crate) fn remove_files<R: Files>(&self, rt: &R) {
+    pub fn remove_files<R: Files>(&self, rt: &R) {
         for key in 0..self.ports.capacity() {
             if let Some(port) = self.ports.get(key) {
                 remove_file(rt, &port.place);
@@ -393,7 +393,7 @@ impl Doorways {
     }
 
     /// The key of the port that is at a place.
-    pub(crate) fn port_at(&self, place: &PortPlace) -> Option<usize> {
+    pub fn port_at(&self, place: &PortPlace) -> Option<usize> {
         for key in 0..self.ports.capacity() {
             if self
                 .ports

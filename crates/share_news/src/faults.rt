@@ -55,7 +55,7 @@ fn not_opened(port: &Port) -> &'static str {
 
 /// A port, which prints as the file of a gateway spells it.
 #[derive(Drop)]
-pub(crate) struct PortName<'a>(pub(crate) &'a Port);
+pub struct PortName<'a>(pub &'a Port);
 
 impl fmt::Display for PortName<'_> {
     fn fmt<W: fmt::Write>(&self, f: &mut fmt::Formatter<W>) -> fmt::Result {

@@ -52,7 +52,7 @@ fn has_flow(tenants: &[Tenant], flow: FlowNo) -> bool {
 impl Doorways {
     /// Gives each port to its tenant in new settings, for whose tenants there are doors. A port that is gone is removed.
     /// The connections of a port that goes to another tenant are closed, and what waits in its socket is dropped.
-    pub(crate) fn keep_ports<R: Files>(
+    pub fn keep_ports<R: Files>(
         &mut self,
         rt: &R,
         alloc: Global,
@@ -120,7 +120,7 @@ impl Doorways {
     }
 
     /// Removes the doors of flows that no tenant has.
-    pub(crate) fn keep_doors(&mut self, sources: &mut Sources, tenants: &[Tenant]) {
+    pub fn keep_doors(&mut self, sources: &mut Sources, tenants: &[Tenant]) {
         for key in 0..self.doors.capacity() {
             let Some(door) = self.doors.get(key) else {
                 continue;
@@ -132,7 +132,7 @@ impl Doorways {
     }
 
     /// Removes a door, whose connections are closed.
-    pub(crate) fn remove_door(&mut self, sources: &mut Sources, key: usize) {
+    pub fn remove_door(&mut self, sources: &mut Sources, key: usize) {
         let Some(door) = self.doors.get_mut(key) else {
             return;
         };
@@ -149,7 +149,7 @@ impl Doorways {
     }
 
     /// Removes a port: nothing comes by it any more, and its connections are closed.
-    pub(crate) fn remove_port<R: Files>(
+    pub fn remove_port<R: Files>(
         &mut self,
         rt: &R,
         registry: &Registry,

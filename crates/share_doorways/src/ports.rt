@@ -10,7 +10,7 @@ use std::net::Net;
 use std::{fs, io};
 
 /// Where something is listened to, or packets are moved.
-pub(crate) type PortPlace = Setting;
+pub type PortPlace = Setting;
 
 /// What a port has.
 #[derive(Drop)]
@@ -69,7 +69,7 @@ fn open_descriptor(registry: &Registry, token: Token, number: u32) -> io::Result
 }
 
 /// Listens at a place.
-pub(crate) fn listen<R: Files + Net>(
+pub fn listen<R: Files + Net>(
     rt: &R,
     registry: &Registry,
     token: Token,
@@ -88,13 +88,13 @@ pub(crate) fn listen<R: Files + Net>(
 }
 
 /// Removes the file of a Unix socket.
-pub(crate) fn remove_file<R: Files>(rt: &R, place: &PortPlace) {
+pub fn remove_file<R: Files>(rt: &R, place: &PortPlace) {
     if let Setting::Unix(path) = place {
         let _ = fs::remove_file(rt, path.as_str());
     }
 }
 
 /// The place of a control listener, as that of a port.
-pub(crate) fn place_of_control(alloc: Global, listener: &ListenerPlace) -> io::Result<PortPlace> {
+pub fn place_of_control(alloc: Global, listener: &ListenerPlace) -> io::Result<PortPlace> {
     Ok(listener.port(alloc)?)
 }

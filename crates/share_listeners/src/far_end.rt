@@ -1,13 +1,10 @@
 //! The downlink: where the frames of another gateway come in.
 
-use crate::doorways::Doorways;
-use crate::faults::NotRun;
-use crate::news::News;
-use crate::ports::PortPlace;
-use crate::sources::{Source, Sources};
 use mio::{Interest, Registry, Token};
 use share_base::FlowNo;
+use share_doorways::{Doorways, PortPlace, Source, Sources};
 use share_downlink::{Datagrams, Deliver, Downlink, takes_address};
+use share_news::{News, NotRun};
 use share_settings::{Downlink as Setting, Peer};
 use share_sockets::{Listener, PacketSocket, Stream};
 use share_status::{DownlinkState, DownlinkStatus};
@@ -28,7 +25,7 @@ const RETRY_SECONDS: u64 = 1;
 
 /// Where the frames of another gateway come in.
 #[derive(Drop)]
-pub(crate) struct FarEnd {
+pub struct FarEnd {
     address: SocketAddr,
     // The address from which alone frames are taken, if they are limited.
     from: Option<IpAddr>,
@@ -68,7 +65,7 @@ impl Deliver for ToDoors<'_> {
 
 impl FarEnd {
     /// Listens at the address of a downlink, or opens its datagram socket.
-    pub(crate) fn open(
+    pub fn open(
         net: &impl Net,
         alloc: Global,
         registry: &Registry,
@@ -96,7 +93,7 @@ impl FarEnd {
     }
 
     /// The listener or the datagram socket was reported ready.
-    pub(crate) fn note(&mut self) {
+    pub fn note(&mut self) {
         match &mut self.way {
             Way::Connections(connections) => connections.is_ready = true,
             Way::Datagrams(datagrams) => datagrams.note(),
@@ -104,7 +101,7 @@ impl FarEnd {
     }
 
     /// The connection whose events carry this token was reported ready.
-    pub(crate) fn note_connection(&mut self, token: Token) {
+    pub fn note_connection(&mut self, token: Token) {
         match &mut self.way {
             Way::Connections(connections) => connections.downlink.note(token.0),
             Way::Datagrams(_) => (),
@@ -112,7 +109,7 @@ impl FarEnd {
     }
 
     /// When the listener is tried again.
-    pub(crate) fn due(&self) -> Option<Instant> {
+    pub fn due(&self) -> Option<Instant> {
         match &self.way {
             Way::Connections(connections) => connections.retry,
             Way::Datagrams(_) => None,
@@ -120,7 +117,7 @@ impl FarEnd {
     }
 
     /// How it stands.
-    pub(crate) fn status(&self) -> DownlinkStatus {
+    pub fn status(&self) -> DownlinkStatus {
         let (state, counts) = match &self.way {
             Way::Connections(connections) => {
                 let downlink = &connections.downlink;
@@ -138,7 +135,7 @@ impl FarEnd {
     }
 
     /// Accepts the connections that wait. Returns true if more may.
-    pub(crate) fn accept<R: Clock + Eprint>(
+    pub fn accept<R: Clock + Eprint>(
         &mut self,
         rt: &R,
         alloc: Global,
@@ -158,7 +155,7 @@ impl FarEnd {
 
     /// Gives the packets of the frames that came to their tenants, and closes the connections that are over. Returns
     /// true if more may be at hand.
-    pub(crate) fn take<R: Clock + Eprint>(
+    pub fn take<R: Clock + Eprint>(
         &mut self,
         rt: &R,
         doorways: &mut Doorways,

@@ -1,13 +1,13 @@
 //! What a gateway prints of what happens.
 
 use crate::faults::PortName;
-use crate::ports::PortPlace;
 use share_base::Name;
 use share_doors::{ClosedWhy, PortEnd};
 use share_downlink::{ClosedConnection, ClosedWhy as DownlinkClosed};
 use share_gateway::Field;
 use share_messages::{Kind, Messages};
 use share_rotation::Books;
+use share_settings::Port;
 use share_uplink::{Uplink, Work};
 use std::io;
 use std::io::Eprint;
@@ -27,7 +27,7 @@ impl News {
     }
 
     /// Prints what became of the uplink.
-    pub(crate) fn tell_uplink<R: Clock + Eprint>(&mut self, rt: &R, work: Work, uplink: &Uplink) {
+    pub fn tell_uplink<R: Clock + Eprint>(&mut self, rt: &R, work: Work, uplink: &Uplink) {
         match work {
             Work::Rests | Work::Busy => (),
             Work::Connected => {
@@ -71,12 +71,12 @@ impl News {
     }
 
     /// Prints that a connection came to the downlink.
-    pub(crate) fn tell_downlink<R: Clock + Eprint>(&mut self, rt: &R, from: SocketAddr) {
+    pub fn tell_downlink<R: Clock + Eprint>(&mut self, rt: &R, from: SocketAddr) {
         self.messages.say(rt, Kind::Downlink, None, format_args!("{from}: connected"));
     }
 
     /// Prints that a connection to the downlink was closed at once, since it comes from another address.
-    pub(crate) fn tell_stranger<R: Clock + Eprint>(&mut self, rt: &R, from: SocketAddr) {
+    pub fn tell_stranger<R: Clock + Eprint>(&mut self, rt: &R, from: SocketAddr) {
         self.messages.say(
             rt,
             Kind::Downlink,
@@ -86,7 +86,7 @@ impl News {
     }
 
     /// Prints how many datagrams of the downlink were dropped since the start.
-    pub(crate) fn tell_dropped_datagrams<R: Clock + Eprint>(&mut self, rt: &R, dropped: u64) {
+    pub fn tell_dropped_datagrams<R: Clock + Eprint>(&mut self, rt: &R, dropped: u64) {
         self.messages.say(
             rt,
             Kind::Downlink,
@@ -96,7 +96,7 @@ impl News {
     }
 
     /// Prints why a connection of the downlink was closed. The current one is another.
-    pub(crate) fn tell_downlink_closed<R: Clock + Eprint>(
+    pub fn tell_downlink_closed<R: Clock + Eprint>(
         &mut self,
         rt: &R,
         closed: &ClosedConnection,
@@ -149,7 +149,7 @@ impl News {
     }
 
     /// Prints why a connection of a tenant was closed, unless its far end ended it.
-    pub(crate) fn tell_closed<R: Clock + Eprint>(&mut self, rt: &R, tenant: Name, why: ClosedWhy) {
+    pub fn tell_closed<R: Clock + Eprint>(&mut self, rt: &R, tenant: Name, why: ClosedWhy) {
         let said = match why {
             ClosedWhy::Ended | ClosedWhy::HungUp | ClosedWhy::Asked => return,
             ClosedWhy::Failed(kind) => {
@@ -166,11 +166,11 @@ impl News {
     }
 
     /// Prints why a packet port of a tenant was closed.
-    pub(crate) fn tell_port_closed<R: Clock + Eprint>(
+    pub fn tell_port_closed<R: Clock + Eprint>(
         &mut self,
         rt: &R,
         tenant: Name,
-        place: &PortPlace,
+        place: &Port,
         why: &PortEnd,
     ) {
         let port = PortName(place);
@@ -193,7 +193,7 @@ impl News {
     }
 
     /// Prints that a connection of a tenant was closed at once.
-    pub(crate) fn tell_too_many<R: Clock + Eprint>(&mut self, rt: &R, tenant: Name) {
+    pub fn tell_too_many<R: Clock + Eprint>(&mut self, rt: &R, tenant: Name) {
         self.messages.say(
             rt,
             Kind::Refused,
@@ -203,7 +203,7 @@ impl News {
     }
 
     /// Prints that a control connection was closed for another one.
-    pub(crate) fn tell_control_closed<R: Clock + Eprint>(&mut self, rt: &R) {
+    pub fn tell_control_closed<R: Clock + Eprint>(&mut self, rt: &R) {
         self.messages.say(
             rt,
             Kind::Control,
@@ -213,7 +213,7 @@ impl News {
     }
 
     /// Prints that a connection could not be accepted.
-    pub(crate) fn tell_not_accepted<R: Clock + Eprint>(&mut self, rt: &R, fault: &io::Error) {
+    pub fn tell_not_accepted<R: Clock + Eprint>(&mut self, rt: &R, fault: &io::Error) {
         self.messages.say(
             rt,
             Kind::Refused,
@@ -223,7 +223,7 @@ impl News {
     }
 
     /// Prints that the disk fails, or that it writes again.
-    pub(crate) fn tell_disk<R: Clock + Eprint>(&mut self, rt: &R, books: &Books) {
+    pub fn tell_disk<R: Clock + Eprint>(&mut self, rt: &R, books: &Books) {
         match books.disk_fault() {
             Some(fault) => self
                 .messages
@@ -235,18 +235,18 @@ impl News {
     }
 
     /// Prints that the plan was read anew.
-    pub(crate) fn tell_reload<R: Clock + Eprint>(&mut self, rt: &R, path: &str) {
+    pub fn tell_reload<R: Clock + Eprint>(&mut self, rt: &R, path: &str) {
         self.messages
             .say(rt, Kind::Reload, None, format_args!("{path}"));
     }
 
     /// Prints which packets were dropped when a book followed another.
-    pub(crate) fn tell_remainders<R: Clock + Eprint>(&mut self, rt: &R, books: &mut Books) {
+    pub fn tell_remainders<R: Clock + Eprint>(&mut self, rt: &R, books: &mut Books) {
         self.tell_packets(rt, Kind::Dropped, books);
     }
 
     /// Prints what was left at the end.
-    pub(crate) fn tell_left<R: Clock + Eprint>(&mut self, rt: &R, books: &mut Books) {
+    pub fn tell_left<R: Clock + Eprint>(&mut self, rt: &R, books: &mut Books) {
         let bytes = books.left().bytes;
         self.tell_packets(rt, Kind::Left, books);
         if bytes > 0 {

@@ -1,9 +1,9 @@
 //! The control connections.
 
-use crate::news::News;
-use crate::sources::{Source, Sources};
 use mio::{Interest, Registry, Token};
 use share_controls::ControlConnection;
+use share_doorways::{Source, Sources};
+use share_news::News;
 use share_sockets::{Listener, Stream};
 use slab::Slab;
 use std::alloc::Global;

@@ -1,0 +1,11 @@
+//! What comes to a gateway besides the packets of its tenants: control connections, the frames of another gateway, and the
+//! end of standard input.
+#![tactic(auto)]
+
+mod controls;
+mod far_end;
+mod input;
+
+pub use controls::Controls;
+pub use far_end::FarEnd;
+pub use input::Input;

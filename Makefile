@@ -14,7 +14,7 @@ SOURCES := crates.txt $(shell find crates -name '*.rt' -o -name '*.antt' | grep 
 PREFIX ?= /usr/local
 
 TOOL_PACKAGES := mandoc man-db tshark gnuplot-nox python3 python3-prometheus-client postgresql systemd bash-completion \
-    binutils dpkg-dev lintian zstd socat iproute2
+    binutils dpkg-dev lintian zstd socat iproute2 iperf3 iputils-ping
 
 # The proved programs go to bin/ with their command, and the scripts of examples/ play them.
 define examples
@@ -53,7 +53,8 @@ help:
 	@echo 'make test        passes the gate: docs/GATE.md'
 	@echo 'make edits       tries the wrong bodies that the gate leaves out'
 	@echo 'make bench       measures the program'
-	@echo 'make soak        puts long loads on a server and a gateway, and counts shares at the far end of the uplink'
+	@echo 'make soak        puts long loads on a server and a gateway, and counts shares at the far ends of uplinks and'
+	@echo '                 tunnels'
 	@echo 'make fuzz        compares the program with plain models for MINUTES minutes (10)'
 	@echo 'make tools       installs what the tools around a server use (apt-get)'
 	@echo 'make tools-test  tries these tools with the programs in bin/, or with the command that STRIDELINK names'
@@ -124,12 +125,14 @@ bench: build gateway
 	python3 bench/gateway.py
 	python3 bench/serve.py
 	python3 bench/gateway_speed.py
+	python3 bench/tunnel_speed.py
 
 soak: build gateway
 	python3 bench/soak.py
 	python3 bench/shares.py
 	python3 bench/gateway_shares.py
 	python3 bench/gateway_soak.py
+	python3 bench/tunnel.py
 
 fuzz: build
 	examples/fuzz.py --minutes $(or $(MINUTES),10)
@@ -161,6 +164,7 @@ tools-test:
 	tools/tests/unit.py
 	tools/tests/links.py
 	tools/tests/statement.py
+	tools/tests/tun.py
 	tools/tests/command.py
 	tools/tests/package.py
 	tools/tests/day.py

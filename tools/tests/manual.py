@@ -114,10 +114,10 @@ def tool_options(run):
     paragraph."""
     text = page(TOOL_PAGE)
     synopsis, paragraphs = section(text, "SYNOPSIS"), section(text, "DESCRIPTION")
-    for name in ("bill", "verify", "shares", "exporter", "statement", "age"):
+    for name in ("bill", "verify", "shares", "exporter", "statement", "age", "tun"):
         usage = re.search(r"usage: (.*?)\n\n", expect_works(name, "--help"), re.DOTALL).group(1)
         own = " ".join(re.findall(r"^     stridelink-%s (.*)$" % name, synopsis, re.MULTILINE))
-        options = re.findall(r"--[a-z]+(?: [A-Z]+)?", usage)
+        options = re.findall(r"--[a-z][a-z0-9]*(?: [A-Z]+)?", usage)
         expect_all(options + re.findall(r"(?<![-A-Z])[A-Z]{2,}", usage), 2, own, "words of " + name)
         missing = [each for each in options if not re.search("^     %s( |$)" % each, paragraphs, re.MULTILINE)]
         expect(not missing, "options of %s without a paragraph: %s" % (name, missing))
@@ -218,6 +218,18 @@ def example_file(run):
     expect_equal((done.returncode, done.stdout.decode()), (0, path + ": ok\n"), "the example of stridelink-gateway(5)")
 
 
+def tunnel_files(run):
+    """The files of docs/TUNNEL.md have no fault, as the program says."""
+    with open(os.path.join(TOP, "docs", "TUNNEL.md"), encoding="utf-8") as file:
+        texts = re.findall(r"```toml\n(.*?)```", file.read(), re.DOTALL)
+    expect_equal(len(texts), 2, "files of docs/TUNNEL.md")
+    for text in texts:
+        path = write(run.folder(), "tunnel.toml", text)
+        done = subprocess.run([GATEWAY, "gateway", "--check", path], stdout=subprocess.PIPE, stderr=subprocess.STDOUT,
+                              timeout=LIMIT, check=False)
+        expect_equal((done.returncode, done.stdout.decode()), (0, path + ": ok\n"), "a file of docs/TUNNEL.md")
+
+
 def told(run):
     """Each line of --verbose stands in the page, with capital letters for what is put in, and each word for an end."""
     texts = set()
@@ -306,4 +318,4 @@ def answered(run, script):
 
 
 try_cases(lint, options, gateway_options, tool_options, numbers, faults, gateway_faults, gateway_lines, settings,
-          example_file, told, statuses, refusals, lines_and_answers, examples)
+          example_file, tunnel_files, told, statuses, refusals, lines_and_answers, examples)

@@ -24,7 +24,7 @@ EXAMPLES = "/usr/share/doc/stridelink/examples"
 COMPLETION = "/usr/share/bash-completion/completions/stridelink"
 ONE_PACKET = ("open acme 16 1", "mktkt 300 base", "fund 1 flow acme", "send acme 68656c6c6f", "turn 17")
 UNITS = "/lib/systemd/system/"
-TOOL_NAMES = ("bill", "verify", "shares", "exporter", "statement", "age")
+TOOL_NAMES = ("bill", "verify", "shares", "exporter", "statement", "age", "tun")
 SETTINGS = {"PATH": "/usr/sbin:/usr/bin:/sbin:/bin", "HOME": "/tmp", "TERM": "dumb", "LC_ALL": "C.UTF-8"}
 
 # Makes the mounts of a root in the folder $1, which end with the command that then runs in it. Its /usr, /etc and /var

@@ -14,7 +14,7 @@ SOURCES := crates.txt $(shell find crates -name '*.rt' -o -name '*.antt' | grep 
 PREFIX ?= /usr/local
 
 TOOL_PACKAGES := mandoc man-db tshark gnuplot-nox python3 python3-prometheus-client postgresql systemd bash-completion \
-    binutils dpkg-dev lintian zstd socat iproute2 iperf3 iputils-ping
+    binutils dpkg-dev lintian zstd socat iproute2 iperf3 iputils-ping chromium prometheus curl
 
 # The proved programs go to bin/ with their command, and the scripts of examples/ play them.
 define examples
@@ -38,6 +38,7 @@ examples/gateway.py
 examples/datagrams.py
 examples/downlink.py
 examples/ask.py
+examples/web.py
 STRIDELINK=bin/stridelink-script examples/bill.py
 examples/books.py
 endef
@@ -161,6 +162,7 @@ tools-test:
 	tools/tests/manual.py
 	tools/tests/exporter.py
 	tools/tests/shares.py
+	tools/tests/page.py
 	tools/tests/unit.py
 	tools/tests/links.py
 	tools/tests/statement.py

@@ -24,6 +24,10 @@ pub enum Source {
     Sender { port: usize, key: usize },
     /// A control connection, by its key.
     Control(usize),
+    /// The web listener.
+    WebListener,
+    /// A web connection, by its key.
+    WebClient(usize),
 }
 
 /// The sources of events. A token is the key of its source.

@@ -2,10 +2,12 @@
 //! write books to disk.
 #![tactic(auto)]
 
+mod last_books;
 mod obeying;
 mod reactor;
 mod reloading;
 mod running;
+mod serving;
 mod start;
 mod status;
 

@@ -5,7 +5,7 @@ use mio::{Events, Poll, Token};
 use share_base::FlowNo;
 use share_catalog::Closing;
 use share_doorways::{Doorways, PortPlace, Source, Sources, remove_file};
-use share_listeners::{Controls, FarEnd, Input};
+use share_listeners::{Controls, FarEnd, Input, Web};
 use share_news::News;
 use share_reload::{ControlHolds, Roster};
 use share_rotation::{Books, Frame, Left, Made};
@@ -70,6 +70,7 @@ pub struct Reactor<'b> {
     pub(crate) doorways: Doorways,
     pub(crate) controls: Controls,
     pub(crate) control_place: PortPlace,
+    pub(crate) web: Option<Web>,
     pub(crate) uplink: Option<Uplink>,
     pub(crate) uplink_token: Token,
     pub(crate) far_end: Option<FarEnd>,
@@ -136,6 +137,20 @@ impl Reactor<'_> {
                 self.controls
                     .note(key, event.is_readable(), event.is_writable())
             }
+            Some(Source::WebListener) => self.note_web_listener(),
+            Some(Source::WebClient(key)) => self.note_web(key, event),
+        }
+    }
+
+    fn note_web_listener(&mut self) {
+        if let Some(web) = &mut self.web {
+            web.note_listener();
+        }
+    }
+
+    fn note_web(&mut self, key: usize, event: &Event) {
+        if let Some(web) = &mut self.web {
+            web.note(key, event.is_readable(), event.is_writable());
         }
     }
 
@@ -175,6 +190,7 @@ impl Reactor<'_> {
         is_busy |= self.send(rt, now);
         is_busy |= self.receive(rt);
         is_busy |= self.obey(rt, path, now);
+        is_busy |= self.serve_web(rt, now);
         is_busy |= self.go_on(rt, now);
         if !matches!(self.ending, Ending::Closing(_)) {
             self.news.tell_remainders(rt, self.books);
@@ -405,6 +421,9 @@ impl Reactor<'_> {
             if let Some(at) = at {
                 pause = shorter(pause, at.saturating_duration_since(now));
             }
+        }
+        if let Some(left) = self.web_pause(now) {
+            pause = shorter(pause, left);
         }
         self.pause_at_end(pause, now)
     }

@@ -125,6 +125,14 @@ impl<R: Files<File = File> + Net + Clock + Wait + Eprint> UseBooks<R, Result<Lef
     }
 }
 
+// The names and the numbers of the first tenants.
+fn roster_of(alloc: Global, settings: &Settings) -> Result<Roster, NotRun> {
+    match Roster::of(alloc, &settings.plan) {
+        Ok(roster) => Ok(roster),
+        Err(_) => Err(NotRun::NoMemory),
+    }
+}
+
 // A gateway that is ready to run.
 fn reactor_of<'b>(
     alloc: Global,
@@ -133,9 +141,7 @@ fn reactor_of<'b>(
     ground: Ground,
     options: Options,
 ) -> Result<Reactor<'b>, NotRun> {
-    let Ok(roster) = Roster::of(alloc, &settings.plan) else {
-        return Err(NotRun::NoMemory);
-    };
+    let roster = roster_of(alloc, &settings)?;
     let holds = ControlHolds::new(alloc, &settings.plan)?;
     let Ground {
         poll,
@@ -143,6 +149,7 @@ fn reactor_of<'b>(
         doorways,
         controls,
         control_place,
+        web,
         uplink,
         uplink_token,
         far_end,
@@ -155,6 +162,7 @@ fn reactor_of<'b>(
         doorways,
         controls,
         control_place,
+        web,
         uplink,
         uplink_token,
         far_end,

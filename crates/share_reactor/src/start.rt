@@ -6,9 +6,9 @@ use share_doorways::{
     Doorways, PortPlace, Source, Sources, listen, not_opened, open_doors, open_port,
     place_of_control, remove_file, token_of,
 };
-use share_listeners::{Controls, FarEnd, Input};
+use share_listeners::{Controls, FarEnd, Input, Web};
 use share_news::NotRun;
-use share_settings::{Control, Peer, Settings};
+use share_settings::{Control, Peer, Settings, Web as WebSettings};
 use share_sockets::Listener;
 use share_uplink::{Transport, Uplink};
 use std::alloc::Global;
@@ -24,6 +24,7 @@ pub(crate) struct Ground {
     pub(crate) doorways: Doorways,
     pub(crate) controls: Controls,
     pub(crate) control_place: PortPlace,
+    pub(crate) web: Option<Web>,
     pub(crate) uplink: Option<Uplink>,
     pub(crate) uplink_token: Token,
     pub(crate) far_end: Option<FarEnd>,
@@ -54,6 +55,25 @@ fn uplink_of(settings: &Settings, now: Instant) -> Option<Uplink> {
         Peer::Udp(address) => (address, Transport::Datagrams),
     };
     Some(Uplink::new(address, transport, uplink.buffer, now))
+}
+
+// Listens for web connections, if the settings ask for it.
+fn open_web<R: Files + Net>(
+    rt: &R,
+    alloc: Global,
+    registry: &Registry,
+    sources: &mut Sources,
+    web: Option<WebSettings>,
+) -> Result<Option<Web>, NotRun> {
+    let Some(web) = web else {
+        return Ok(None);
+    };
+    let token = token_of(sources, Source::WebListener)?;
+    let place = PortPlace::Tcp(web.listen);
+    match listen(rt, registry, token, &place, 0) {
+        Ok(listener) => Ok(Some(Web::new(alloc, listener, web.listen)?)),
+        Err(fault) => Err(not_opened(alloc, &place, fault)),
+    }
 }
 
 // The downlink, if there is one.
@@ -104,12 +124,13 @@ impl Ground {
             settings,
             &control_place,
         ) {
-            Ok(controls) => Ok(Ground {
+            Ok((controls, web)) => Ok(Ground {
                 poll,
                 sources,
                 doorways,
                 controls,
                 control_place,
+                web,
                 uplink,
                 uplink_token,
                 far_end,
@@ -135,7 +156,8 @@ impl Ground {
     }
 }
 
-// Opens all ports, and listens for control connections.
+// Opens all ports, and listens for control connections and for web connections. The web listener comes before the
+// control listener, whose file is not removed if a later listener fails.
 fn open_all<R: Files + Net>(
     rt: &R,
     alloc: Global,
@@ -144,18 +166,24 @@ fn open_all<R: Files + Net>(
     doorways: &mut Doorways,
     settings: &Settings,
     control_place: &PortPlace,
-) -> Result<Controls, NotRun> {
+) -> Result<(Controls, Option<Web>), NotRun> {
     let registry = poll.registry();
     open_doors(rt, alloc, registry, sources, doorways, settings)?;
-    let listener = open_control(
+    let web = open_web(rt, alloc, registry, sources, settings.web)?;
+    match open_control(
         rt,
         alloc,
         registry,
         sources,
         &settings.control,
         control_place,
-    )?;
-    Ok(Controls::new(alloc, listener))
+    ) {
+        Ok(listener) => Ok((Controls::new(alloc, listener), web)),
+        Err(fault) => {
+            drop(web);
+            Err(fault)
+        }
+    }
 }
 
 impl Reactor<'_> {

@@ -5,33 +5,57 @@ use share_base::FlowNo;
 use share_book::Book;
 use share_gateway::Tenant;
 use share_rotation::Sent;
+use share_metrics::metrics_text;
 use share_status::{
     DiskStatus, Status, TenantStatus, UplinkState as Shown, UplinkStatus, status_text,
 };
+use share_web::Exposition;
 use share_tariff::PlainShelf;
 use share_uplink::UplinkState;
-use std::alloc::AllocError;
+use std::alloc::{AllocError, Global};
 
 /// The version of the program, and what it is proved with.
 const VERSION: &str = "0.1.0";
 
 const PROVED: &str = "rattle-kit-13f logic dac8208d650f15bf";
 
+/// The form of a status.
+#[derive(Clone, Copy, Debug, PartialEq, Eq)]
+pub(crate) enum Form {
+    /// The line that answers `status`.
+    Line,
+    Metrics(Exposition),
+}
+
+impl Form {
+    fn text(self, alloc: Global, status: &Status<'_>) -> Result<Vec<u8>, AllocError> {
+        match self {
+            Form::Line => status_text(alloc, status),
+            Form::Metrics(exposition) => metrics_text(alloc, exposition, status),
+        }
+    }
+}
+
 impl Reactor<'_> {
     /// The line that answers `status`, while a book is open.
     pub(crate) fn status(&self) -> Result<Vec<u8>, AllocError> {
+        self.status_in(Form::Line)
+    }
+
+    /// The status in a form, while a book is open.
+    pub(crate) fn status_in(&self, form: Form) -> Result<Vec<u8>, AllocError> {
         match self.books.open_book() {
-            Some(book) => self.status_of(book),
+            Some(book) => self.status_of(book, form),
             None => Ok(Vec::new(self.alloc)),
         }
     }
 
-    fn status_of(&self, book: &Book<PlainShelf>) -> Result<Vec<u8>, AllocError> {
+    fn status_of(&self, book: &Book<PlainShelf>, form: Form) -> Result<Vec<u8>, AllocError> {
         let fault = self.fault_text()?;
         let mut tenants = Vec::with_capacity(self.alloc, book.plan().tenants().len())?;
         self.add_tenants(book, &mut tenants)?;
         let events = book.engine().events();
-        status_text(
+        form.text(
             self.alloc,
             &Status {
                 version: VERSION,

@@ -17,7 +17,7 @@ use std::alloc::{AllocError, Global};
 /// The version of the program, and what it is proved with.
 const VERSION: &str = "0.1.0";
 
-const PROVED: &str = "rattle-kit-13f logic dac8208d650f15bf";
+const PROVED: &str = "rattle-kit-13b logic dac8208d650f15bf";
 
 /// The form of a status.
 #[derive(Clone, Copy, Debug, PartialEq, Eq)]

@@ -5,11 +5,11 @@ use Rattle.std.proofs.Common.{List, [], ◌∷◌, ◌++◌, length, take, drop,
 use Rattle.std.proofs.lemmas.Bool.{le-leb, lt-leb, le-ltb, lt-ltb}
 use Rattle.std.proofs.lemmas.Bool.Decides.{nat_tests}
 use Rattle.std.proofs.lemmas.List.{take-append-drop, take-append-le, drop-append-le, length-drop, length-take-le}
-use Rattle.std.proofs.lemmas.List.{nil_from_length, take_all, take_at, length-append}
+use Rattle.std.proofs.lemmas.List.{nil_from_length, take_all}
 use Rattle.std.proofs.lemmas.List.Sums.{sum_by-cons}
 use Rattle.std.specs.List.{concat}
 use Rattle.share_gateway.specs.Outbox.{OutboxView, frame_bytes, takes, room_of, with_frame, allow_more, ready_of, passed}
-use Rattle.share_gateway.specs.Outbox.{without_whole, frames_in, first_whole, goes_whole, ready_frame}
+use Rattle.share_gateway.specs.Outbox.{without_whole, frames_in}
 
 sum-cons : (n : ℕ) (ns : List ℕ) → sum (n ∷ ns) ≡ n + sum ns
 sum-cons n ns = sum_by-cons (λ x. x) n ns
@@ -95,44 +95,6 @@ goes_by : (n : ℕ) (ms bs : List ℕ) (out allowed : ℕ) (ns rest cs : List �
 goes_by n ms bs out allowed ns rest cs is long past rest_is cs_is =
     rw (is, rest_is, cs_is) (passed_one n ms bs out allowed (subst (λ t. sum t ≡ length bs) is long) past)
 
--- The first frame, as one piece or not at all
-
-choice_long : (b : Bool) (frame : List ℕ) (n : ℕ) → length frame ≡ n
-    → (if b then n else 0) ≡ length (if b then frame else [])
-choice_long true frame n is = sym is
-choice_long false frame n is = refl
-
-choice_first : (b : Bool) (frame others : List ℕ)
-    → take (length (if b then frame else [])) (frame ++ others) ≡ (if b then frame else [])
-choice_first true frame others = take_at frame others (length frame) refl
-choice_first false frame others = refl
-
-choice_few : (b : Bool) (frame others : List ℕ) → length (if b then frame else []) ≤ length (frame ++ others)
-choice_few true frame others = omega (arith, length-append frame others)
-choice_few false frame others = omega arith
-
-whole_first : (frames : List (List ℕ)) (out allowed : ℕ)
-    → take (length (first_whole frames out allowed)) (concat frames) ≡ first_whole frames out allowed
-whole_first [] out allowed = refl
-whole_first (frame ∷ frames) out allowed =
-    choice_first (goes_whole (length frame) out allowed) frame (concat frames)
-
-whole_few : (frames : List (List ℕ)) (out allowed : ℕ)
-    → length (first_whole frames out allowed) ≤ length (concat frames)
-whole_few [] out allowed = omega arith
-whole_few (frame ∷ frames) out allowed =
-    choice_few (goes_whole (length frame) out allowed) frame (concat frames)
-
-whole_by : (n : ℕ) (ms bs : List ℕ) (out allowed count : ℕ) (ns : List ℕ) → ns ≡ n ∷ ms → sum ns ≡ length bs
-    → count ≡ (if goes_whole n out allowed then n else 0)
-    → count ≡ length (first_whole (frames_in ns bs) out allowed)
-whole_by n ms bs out allowed count ns is long count_is =
-    let size : length (take n bs) ≡ n =
-    length-take-le n bs (rest_long n ms bs (subst (λ t. sum t ≡ length bs) is long)).0 in
-    rw is
-    (count_is ∙ choice_long (goes_whole n out allowed) (take n bs) n size
-    ∙ (λ k. length (if goes_whole (sym size k) out allowed then take n bs else [])))
-
 -- The calls, on an outbox whose bytes consist of frames of these lengths
 
 module _ (ns bs : List ℕ) (out allowed : ℕ) (long : sum ns ≡ length bs) where
@@ -165,22 +127,6 @@ module _ (ns bs : List ℕ) (out allowed : ℕ) (long : sum ns ≡ length bs) wh
 
   pub ready_same : (slice : List ℕ) → slice ≡ bs → take (allowed - out) (drop out slice) ≡ ready_of seen
   ready_same slice is = ap (λ t. take (allowed - out) (drop out t)) (is ∙ sym (frames-bytes ns bs long))
-
-  pub no_frame_is : length ns ≡ 0 → 0 ≡ length (ready_frame seen)
-  no_frame_is none = rw (nil_from_length ns none) refl
-
-  pub whole_is : (n count : ℕ) → ns ≡ n ∷ drop 1 ns → count ≡ (if goes_whole n out allowed then n else 0)
-      → count ≡ length (ready_frame seen)
-  whole_is n count is count_is = whole_by n (drop 1 ns) bs out allowed count ns is long count_is
-
-  pub frame_few : (count held : ℕ) → count ≡ length (ready_frame seen) → held ≡ length bs → count ≤ held
-  frame_few count held is held_is = omega (arith, is, held_is, bytes_long, whole_few (frames_in ns bs) out allowed)
-
-  pub frame_same : (slice : List ℕ) (count : ℕ) → slice ≡ bs → count ≡ length (ready_frame seen)
-      → take count slice ≡ ready_frame seen
-  frame_same slice count slice_is is =
-      (λ k. take (is k) ((slice_is ∙ sym (frames-bytes ns bs long)) k))
-      ∙ whole_first (frames_in ns bs) out allowed
 
   pub not_taken : (n : ℕ) → (4096 ≤ length ns) ⊎ (65536 - length bs < n) → takes seen n ≡ false
   not_taken n h = not_taken_by (length (frames_in ns bs)) (length (concat (frames_in ns bs))) n (not_there h)

@@ -121,18 +121,11 @@ impl Outbox {
     pub fn frame(&self) -> &[u8]
         ensures { result.now ≡ ready_frame self.now }
     {
-        let length = self.ready_length();
-        &self.bytes.as_slice()[..length]
-    }
-
-    // The length of that frame, or 0.
-    fn ready_length(&self) -> usize
-        ensures { result ≡ length (ready_frame self.now) }
-    {
-        match self.lengths.front() {
+        let length = match self.lengths.front() {
             None => 0,
             Some(length) => whole_length(*length as usize, self.out, self.allowed),
-        }
+        };
+        &self.bytes.as_slice()[..length]
     }
 
     /// Says that so many bytes more are out, the first of those that are ready. A frame that is out whole is gone.

@@ -2,14 +2,26 @@
 use Rattle.std.proofs.Common.{◌≡◌, ◌<◌, ℕ, ◌+◌, Bool, List, [], ◌∷◌, ◌++◌, length, arith, refl, ◌∙◌, ap, sym, subst}
 use Rattle.std.proofs.lemmas.List.{append_assoc, append-nil, length-append}
 use Rattle.share_base.specs.declared.version.Version.TheVariants.{Two}
-use Rattle.share_gateway.specs.Frames.{Framed, framed_bytes}
+use Rattle.share_frame.specs.Reading.{IsFirstBad}
+use Rattle.share_frame.specs.declared.reading.Field.{Field}
+use Rattle.share_gateway.specs.Frames.{Framed, GivesFrame, framed_bytes}
 use Rattle.share_model.proofs.lemmas.link.FrameLaws.{length-frame}
 use Rattle.share_model.proofs.lemmas.lists.Laws.{each-append, each-one}
 use Rattle.share_model.specs.link.Frame.{FitsFrame, Packet, frame}
-use Rattle.share_downlink.specs.Connection.{ComesMore}
+use Rattle.share_model.specs.run.History.{IsBeginning}
+use Rattle.share_downlink.specs.Connection.{ComesMore, EndsPieces, EndsRead, FirstNone, FirstOne}
 use Rattle.share_downlink.specs.Given.{CutsOff, Gives, IncomingView, Passes, capped, counted, fed, frame_size}
 use Rattle.share_downlink.specs.Given.{no_packet, offset_after, packet}
 use Rattle.share_downlink.specs.Steps.{GivesOne, Stays}
+use Rattle.share_downlink.specs.declared.connection.ClosedWhy.{ClosedWhy}
+use Rattle.share_downlink.specs.declared.connection.ClosedWhy.TheVariants.{
+  Ended,
+  CutShort,
+  Failed,
+  BadFrame,
+  Replaced,
+  Crowded,
+}
 use Rattle.share_downlink.specs.declared.counts.Counts.{Counts}
 
 framed-one : (packets : List Framed) (f : Framed)
@@ -62,14 +74,15 @@ cuts_one {T} delivers t u v c d e old mid new flow seq tariff cuts gives =
     })
 
 -- packets were given after others
-gives_more : {T : Type 0} (delivers : T → ℕ → List ℕ → Bool → T → Type 0) (t u v : T) (c d e : Counts)
-    (ps qs : List Framed) → Gives delivers t c ps u d → Gives delivers u d qs v e → Gives delivers t c (ps ++ qs) v e
-gives_more {T} delivers t u _ c d _ ps _ first no_packet =
+gives_more : {T : Type 0} (delivers : T → ℕ → List ℕ → Bool → T → Type 0) (t u : T) (c d : Counts)
+    (ps : List Framed) → Gives delivers t c ps u d → (v : T) (e : Counts) (qs : List Framed)
+    → Gives delivers u d qs v e → Gives delivers t c (ps ++ qs) v e
+gives_more {T} delivers t u c d ps first _ _ _ no_packet =
     subst (λ (x : List Framed). Gives delivers t c x u d) (sym (append-nil ps)) first
-gives_more {T} delivers t u _ c d _ ps _ first (packet qs before b given f is_known after delivered) =
+gives_more {T} delivers t u c d ps first _ _ _ (packet qs before b given f is_known after delivered) =
     subst (λ (x : List Framed). Gives delivers t c x after (counted is_known (frame_size f.packet.payload) b))
     (append_assoc ps qs (f ∷ []))
-    (packet (ps ++ qs) before b (gives_more delivers t u before c d b ps qs first given) f is_known after delivered)
+    (packet (ps ++ qs) before b (gives_more delivers t u c d ps first before b qs given) f is_known after delivered)
 
 -- no byte came, and nothing was given
 pub passes_nothing : {T : Type 0} (delivers : T → ℕ → List ℕ → Bool → T → Type 0) (t : T) (c : Counts)
@@ -84,7 +97,7 @@ passes_cut {T} delivers t u v c d e i j k passes cuts = record {
   came = passes.came;
   packets = passes.packets ++ cuts.packets;
   good = each-append (λ (g : Framed). FitsFrame Two g.tariff g.packet) passes.packets cuts.packets passes.good cuts.good;
-  given = gives_more delivers t u v c d e passes.packets cuts.packets passes.given cuts.given;
+  given = gives_more delivers t u c d passes.packets passes.given v e cuts.packets cuts.given;
   bytes = passes.bytes ∙ ap (λ (x : List ℕ). framed_bytes passes.packets ++ x) cuts.bytes
       ∙ sym (append_assoc (framed_bytes passes.packets) (framed_bytes cuts.packets) k.bytes)
       ∙ ap (λ (x : List ℕ). x ++ k.bytes) (sym (framed-more passes.packets cuts.packets));
@@ -160,3 +173,73 @@ gives_less {T} delivers t u c d old new flow seq tariff gives =
     ∙ length-append (frame Two tariff head) new.bytes in
     let long = length-frame Two tariff head in
     omega (arith, all, long)
+
+-- it takes its own bytes away
+pub frame_left : (old new given payload : List ℕ) (flow seq tariff held : ℕ)
+    → GivesFrame old tariff (record { flow = flow; seq = seq; payload = given }) new → payload ≡ given
+    → held ≡ length old → held ≡ 17 + length payload + length new
+frame_left old new given payload flow seq tariff held gives same held_is =
+    let head : Packet = record { flow = flow; seq = seq; payload = given } in
+    let all = ap (λ (x : List ℕ). length x) gives.bytes ∙ length-append (frame Two tariff head) new in
+    let long = length-frame Two tariff head in
+    let size = ap (λ (x : List ℕ). length x) same in
+    omega (arith, all, long, size, held_is)
+
+-- ---- Why nothing more comes
+
+ends_same : (why : ClosedWhy) (i : IncomingView) → EndsRead why i → IsBeginning Two i.bytes → EndsPieces why i
+ends_same Ended i ends begins = ends
+ends_same CutShort i ends begins = (ends, begins)
+ends_same (Failed kind) i ends begins = begins
+ends_same (BadFrame offset field) i ends begins = absurd ends
+ends_same Replaced i ends begins = absurd ends
+ends_same Crowded i ends begins = absurd ends
+
+-- a read ended after the beginning of a frame
+pub ends_read : (why : ClosedWhy) (i j : IncomingView) → EndsRead why i → IsBeginning Two i.bytes → j ≡ i
+    → EndsPieces why j
+ends_read why i j ends begins same =
+    subst (λ (x : IncomingView). EndsPieces why x) (sym same) (ends_same why i ends begins)
+
+-- no frame begins here
+pub ends_bad : (why : ClosedWhy) (offset : ℕ) (field : Field) (i : IncomingView) → why ≡ BadFrame offset field
+    → offset ≡ i.offset → IsFirstBad Two field i.bytes → EndsPieces why i
+ends_bad why offset field i is here bad =
+    subst (λ (x : ClosedWhy). EndsPieces x i) (sym is) (here, bad)
+
+-- ---- The first frame of a connection
+
+pub first_nothing : {T : Type 0} (t : T) (c : Counts) (i : IncomingView) → FirstNone t c i t c i
+first_nothing t c i = record { taker = refl; counts = refl; comes = comes_nothing i }
+
+pub first_stays : {T : Type 0} (t u v : T) (c d e : Counts) (i j k : IncomingView) → FirstNone t c i u d j
+    → Stays u d j v e k → FirstNone t c i v e k
+first_stays t u v c d e i j k none stays = record {
+  taker = stays.taker ∙ none.taker;
+  counts = stays.counts ∙ none.counts;
+  comes = comes_same i j k none.comes stays.bytes;
+}
+
+pub first_comes : {T : Type 0} (t u : T) (c d : Counts) (i j k : IncomingView) → FirstNone t c i u d j
+    → ComesMore j k → FirstNone t c i u d k
+first_comes t u c d i j k none comes =
+    record { taker = none.taker; counts = none.counts; comes = comes_then i j k none.comes comes }
+
+pub first_same : {T : Type 0} (t u : T) (c d : Counts) (i j k : IncomingView) → FirstNone t c i u d j
+    → k ≡ j → FirstNone t c i u d k
+first_same t u c d i j k none same =
+    record { taker = none.taker; counts = none.counts; comes = comes_same i j k none.comes same }
+
+pub first_one : {T : Type 0} (delivers : T → ℕ → List ℕ → Bool → T → Type 0) (t u v : T) (c d e : Counts)
+    (i j k : IncomingView) (flow seq tariff : ℕ) → FirstNone t c i u d j
+    → GivesOne delivers u d j flow seq tariff v e k → FirstOne delivers t c i v e k
+first_one {T} delivers t u v c d e i j k flow seq tariff none gives = record {
+  held = j;
+  comes = none.comes;
+  flow = flow;
+  seq = seq;
+  tariff = tariff;
+  gives =
+      subst (λ (x : T). GivesOne delivers x c j flow seq tariff v e k) none.taker
+      (subst (λ (x : Counts). GivesOne delivers u x j flow seq tariff v e k) none.counts gives);
+}

@@ -1,5 +1,5 @@
 //! One connection on which the frames of another gateway come in.
-ghost use Rattle.std.specs.Prelude.{◌≡◌, ◌≢◌, ◌≤◌, ◌<◌, [], None, Some, IfOk, IfErr, MatchResult, length};
+ghost use Rattle.std.specs.Prelude.{◌≡◌, ◌≢◌, ◌≤◌, ◌<◌, [], true, false, None, Some, IfOk, IfErr, MatchResult, length};
 ghost use Rattle.share_base.specs.declared.version.Version.TheVariants.{Two};
 ghost use Rattle.share_model.specs.run.History.{IsBeginning};
 ghost use Rattle.share_downlink.specs.Connection.{EndsFirst, EndsPieces, FirstGives, IsEndOf, PiecesGive, Reads};
@@ -60,7 +60,6 @@ pub(crate) enum First {
 }
 
 /// A connection of another gateway.
-#[derive(Drop)]
 pub(crate) struct Connection {
     stream: Stream,
     incoming: Incoming,
@@ -71,6 +70,21 @@ pub(crate) struct Connection {
     is_readable: bool,
     // Why nothing more is taken of it, if so.
     over: Option<ClosedWhy>,
+}
+
+impl Drop for Connection {
+    fn drop(self) {
+        let Connection {
+            stream,
+            incoming,
+            token: _,
+            from: _,
+            is_readable: _,
+            over: _,
+        } = self;
+        drop(stream);
+        drop(incoming);
+    }
 }
 
 impl Connection {

@@ -13,12 +13,22 @@ pub const MAX_WAITING: usize = 16;
 
 /// The connections of a downlink, the oldest first. The first one is the current one, and gives its packets. If the
 /// first frame of another one is whole, that one becomes the current one: all that are older are over.
-#[derive(Drop)]
 pub struct Downlink {
     connections: Vec<Connection>,
     counts: Counts,
     // Whether connections may be over that were not closed.
     may_be_over: bool,
+}
+
+impl Drop for Downlink {
+    fn drop(self) {
+        let Downlink {
+            connections,
+            counts: _,
+            may_be_over: _,
+        } = self;
+        drop(connections);
+    }
 }
 
 impl Downlink {

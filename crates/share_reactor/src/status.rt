@@ -4,14 +4,14 @@ use crate::reactor::Reactor;
 use share_base::FlowNo;
 use share_book::Book;
 use share_gateway::Tenant;
-use share_rotation::Sent;
 use share_metrics::metrics_text;
+use share_rotation::Sent;
 use share_status::{
     DiskStatus, Status, TenantStatus, UplinkState as Shown, UplinkStatus, status_text,
 };
-use share_web::Exposition;
 use share_tariff::PlainShelf;
 use share_uplink::UplinkState;
+use share_web::Exposition;
 use std::alloc::{AllocError, Global};
 
 /// The version of the program, and what it is proved with.

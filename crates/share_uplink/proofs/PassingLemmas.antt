@@ -32,9 +32,12 @@ whole_by : (b : Bool) (first others : List ℕ) (out allowed : ℕ)
 whole_by true first others out allowed fit =
     let none : out ≡ 0 = (fit refl).0 in
     let few : length first ≤ allowed = (fit refl).1 in
-    omega
-    (arith, length-take (allowed - out) (drop out (first ++ others)), length-drop out (first ++ others),
-    length-append first others)
+    omega (
+      arith,
+      length-take (allowed - out) (drop out (first ++ others)),
+      length-drop out (first ++ others),
+      length-append first others,
+    )
 whole_by false first others out allowed fit = omega arith
 
 whole_few : (frames : List (List ℕ)) (out allowed : ℕ)

@@ -12,7 +12,7 @@ datagrams-init g c = no_datagram
 pub datagrams-preserved : goal.datagrams-preserved
 datagrams-preserved g c =
     elim c.match-receive-2.branch [
-    in-Ok-Packet w ↦ takes_same g.D.Deliver.delivers _ _ _ _ _ _
-        (takes_more g.D.Deliver.delivers _ _ _ _ c.datagrams.invariant _ _ w.give.ensures) w.taker-is w.self-is
-    | in-Ok-Again w ↦ takes_same g.D.Deliver.delivers _ _ _ _ _ _ c.datagrams.invariant w.taker-is w.self-is
+      | in-Ok-Packet w ↦ takes_same g.D.Deliver.delivers _ _ _ _ _ _
+          (takes_more g.D.Deliver.delivers _ _ _ _ c.datagrams.invariant _ _ w.give.ensures) w.taker-is w.self-is
+      | in-Ok-Again w ↦ takes_same g.D.Deliver.delivers _ _ _ _ _ _ c.datagrams.invariant w.taker-is w.self-is
     ]

@@ -5,8 +5,6 @@ use Rattle.std.proofs.lemmas.List.{take_all}
 use Rattle.share_model.specs.funding.Graph.{NameBytes}
 use Rattle.share_model.specs.ingress.Records.{record_of}
 use Rattle.share_book.specs.Audited.{Audited}
-use Rattle.share_book.specs.Book.{TakesPacket}
-use Rattle.share_book.specs.declared.book.Taken.{Taken}
 use Rattle.share_ingress.specs.Found.{NeedsMore}
 use Rattle.share_gateway.specs.Records.{CutsRecord, GivesItem, NamesOnly, RecordsView, item_for}
 use Rattle.share_gateway.specs.declared.records.Cut.TheVariants.{More as MoreCut, Bad}

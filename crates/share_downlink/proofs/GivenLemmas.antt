@@ -1,4 +1,5 @@
 -- What is given of the frames of a connection, call by call.
+use Rattle.std.proofs.Common.{◌⊎◌, inl, inr, true, false, Option}
 use Rattle.std.proofs.Common.{◌≡◌, ◌<◌, ℕ, ◌+◌, Bool, List, [], ◌∷◌, ◌++◌, length, arith, refl, ◌∙◌, ap, sym, subst}
 use Rattle.std.proofs.lemmas.List.{append_assoc, append-nil, length-append}
 use Rattle.share_base.specs.declared.version.Version.TheVariants.{Two}
@@ -9,8 +10,11 @@ use Rattle.share_model.proofs.lemmas.link.FrameLaws.{length-frame}
 use Rattle.share_model.proofs.lemmas.lists.Laws.{each-append, each-one}
 use Rattle.share_model.specs.link.Frame.{FitsFrame, Packet, frame}
 use Rattle.share_model.specs.run.History.{IsBeginning}
-use Rattle.share_downlink.specs.Connection.{ComesMore, EndsPieces, EndsRead, FirstNone, FirstOne}
-use Rattle.share_downlink.specs.Given.{CutsOff, Gives, IncomingView, Passes, capped, counted, fed, frame_size}
+use Rattle.share_downlink.specs.Connection.{ComesMore, EndsOrStays, EndsPieces, EndsRead, FirstGives, FirstMayEnd}
+use Rattle.share_downlink.specs.Connection.{FirstNone, FirstOne, MayEnd, ended}
+use Rattle.share_downlink.specs.declared.connection.First.{First}
+use Rattle.share_downlink.specs.declared.connection.First.TheVariants.{Given, Waits, More}
+use Rattle.share_downlink.specs.Given.{CutsOff, Gives, GivesFrames, IncomingView, Passes, capped, counted, fed, frame_size}
 use Rattle.share_downlink.specs.Given.{no_packet, offset_after, packet}
 use Rattle.share_downlink.specs.Steps.{GivesOne, Stays}
 use Rattle.share_downlink.specs.declared.connection.ClosedWhy.{ClosedWhy}
@@ -243,3 +247,71 @@ first_one {T} delivers t u v c d e i j k flow seq tariff none gives = record {
       subst (λ (x : T). GivesOne delivers x c j flow seq tariff v e k) none.taker
       (subst (λ (x : Counts). GivesOne delivers u x j flow seq tariff v e k) none.counts gives);
 }
+
+-- ---- Whether it is over
+
+pub may_stay : (is_more : Bool) (old new : Option ClosedWhy) (i : IncomingView) → new ≡ old → MayEnd is_more old new i
+may_stay true old new i same = same
+may_stay false old new i same = inl same
+
+pub first_may_stay : (first : First) (old new : Option ClosedWhy) (i : IncomingView) → new ≡ old
+    → FirstMayEnd first old new i
+first_may_stay Given old new i same = same
+first_may_stay More old new i same = same
+first_may_stay Waits old new i same = inl same
+
+-- it ended for this reason, from a state that was as before
+pub ends_now : (why : ClosedWhy) (old mid new : Option ClosedWhy) (i : IncomingView) → mid ≡ old → new ≡ ended why mid
+    → EndsPieces why i → EndsOrStays old new i
+ends_now why old mid new i same is ends =
+    inr (why, is ∙ ap (λ (x : Option ClosedWhy). ended why x) same, ends)
+
+-- ---- The connections of a downlink
+
+pub gives_none : {T : Type 0} (delivers : T → ℕ → List ℕ → Bool → T → Type 0) (t : T) (c : Counts)
+    → GivesFrames delivers t c t c
+gives_none {T} delivers t c = record { packets = []; good = tt; given = no_packet }
+
+pub gives_then : {T : Type 0} (delivers : T → ℕ → List ℕ → Bool → T → Type 0) (t u v : T) (c d e : Counts)
+    → GivesFrames delivers t c u d → GivesFrames delivers u d v e → GivesFrames delivers t c v e
+gives_then {T} delivers t u v c d e first more = record {
+  packets = first.packets ++ more.packets;
+  good = each-append (λ (g : Framed). FitsFrame Two g.tariff g.packet) first.packets more.packets first.good more.good;
+  given = gives_more delivers t u c d first.packets first.given v e more.packets more.given;
+}
+
+pub gives_same : {T : Type 0} (delivers : T → ℕ → List ℕ → Bool → T → Type 0) (t u v : T) (c d e : Counts)
+    → GivesFrames delivers t c u d → v ≡ u → e ≡ d → GivesFrames delivers t c v e
+gives_same {T} delivers t u v c d e gives same is =
+    subst (λ (x : T). GivesFrames delivers t c x e) (sym same)
+    (subst (λ (x : Counts). GivesFrames delivers t c u x) (sym is) gives)
+
+pub passes_give : {T : Type 0} (delivers : T → ℕ → List ℕ → Bool → T → Type 0) (t u : T) (c d : Counts)
+    (i j : IncomingView) → Passes delivers t c i u d j → GivesFrames delivers t c u d
+passes_give {T} delivers t u c d i j passes =
+    record { packets = passes.packets; good = passes.good; given = passes.given }
+
+one_gives : {T : Type 0} (delivers : T → ℕ → List ℕ → Bool → T → Type 0) (t u : T) (c d : Counts)
+    (i j : IncomingView) → FirstOne delivers t c i u d j → GivesFrames delivers t c u d
+one_gives {T} delivers t u c d i j one =
+    let f : Framed = record {
+      tariff = one.tariff;
+      packet = record { flow = one.flow; seq = one.seq; payload = j.payload };
+    } in
+    subst (λ (x : Counts). GivesFrames delivers t c u x) (sym one.gives.counts)
+    (record {
+      packets = f ∷ [];
+      good = each-one (λ (g : Framed). FitsFrame Two g.tariff g.packet) f one.gives.gives.fits;
+      given = packet [] t c no_packet f one.gives.is_known u one.gives.delivered;
+    })
+
+none_gives : {T : Type 0} (delivers : T → ℕ → List ℕ → Bool → T → Type 0) (t u : T) (c d : Counts)
+    (i j : IncomingView) → FirstNone t c i u d j → GivesFrames delivers t c u d
+none_gives {T} delivers t u c d i j none =
+    gives_same delivers t t u c c d (gives_none delivers t c) none.taker none.counts
+
+pub first_gives : {T : Type 0} (delivers : T → ℕ → List ℕ → Bool → T → Type 0) (first : First) (t u : T)
+    (c d : Counts) (i j : IncomingView) → FirstGives delivers t c i first u d j → GivesFrames delivers t c u d
+first_gives {T} delivers Given t u c d i j gives = one_gives delivers t u c d i j gives
+first_gives {T} delivers Waits t u c d i j gives = none_gives delivers t u c d i j gives
+first_gives {T} delivers More t u c d i j gives = none_gives delivers t u c d i j gives

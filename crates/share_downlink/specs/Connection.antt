@@ -3,7 +3,6 @@ use Rattle.std.specs.Prelude.{◌≡◌, ◌≢◌, ◌⊎◌, ℕ, Bool, true, 
 use Rattle.std.specs.declared.net.SocketAddr.{SocketAddr}
 use Rattle.share_base.specs.declared.version.Version.TheVariants.{Two}
 use Rattle.share_frame.specs.Reading.{IsFirstBad}
-use Rattle.share_gateway.specs.Frames.{Framed, framed_bytes}
 use Rattle.share_model.specs.run.History.{IsBeginning}
 use Rattle.share_downlink.specs.Given.{IncomingView, Passes}
 use Rattle.share_downlink.specs.Steps.{GivesOne}

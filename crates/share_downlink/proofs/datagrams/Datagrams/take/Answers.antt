@@ -1,4 +1,4 @@
-use Rattle.share_downlink.specs.Datagrams.{no_datagram, TakesDatagrams}
+use Rattle.share_downlink.specs.Datagrams.{no_datagram}
 use Rattle.share_downlink.proofs.DatagramsLemmas.{takes_more, takes_same}
 use Rattle.share_downlink.proofs.datagrams.Datagrams.take.Goals.{in-Ok-Packet, in-Ok-Again}
 use Rattle.share_downlink.proofs.datagrams.Datagrams.take.Goals as goal
@@ -12,7 +12,7 @@ datagrams-init g c = no_datagram
 pub datagrams-preserved : goal.datagrams-preserved
 datagrams-preserved g c =
     elim c.match-receive-2.branch [
-    in-Ok-Packet w ↦ takes_same g.D.Deliver.delivers _ _ _ _ _ _
-        (takes_more g.D.Deliver.delivers _ _ _ _ c.datagrams.invariant _ _ w.give.ensures) w.taker-is w.self-is
-    | in-Ok-Again w ↦ takes_same g.D.Deliver.delivers _ _ _ _ _ _ c.datagrams.invariant w.taker-is w.self-is
+      | in-Ok-Packet w ↦ takes_same g.D.Deliver.delivers _ _ _ _ _ _
+          (takes_more g.D.Deliver.delivers _ _ _ _ c.datagrams.invariant _ _ w.give.ensures) w.taker-is w.self-is
+      | in-Ok-Again w ↦ takes_same g.D.Deliver.delivers _ _ _ _ _ _ c.datagrams.invariant w.taker-is w.self-is
     ]

@@ -39,6 +39,7 @@ examples/datagrams.py
 examples/downlink.py
 examples/ask.py
 examples/web.py
+examples/hostile_gateway.py all_at_once
 STRIDELINK=bin/stridelink-script examples/bill.py
 examples/books.py
 endef
@@ -133,6 +134,7 @@ soak: build gateway
 	python3 bench/shares.py
 	python3 bench/gateway_shares.py
 	python3 bench/gateway_soak.py
+	examples/hostile_gateway.py
 	python3 bench/tunnel.py
 
 fuzz: build

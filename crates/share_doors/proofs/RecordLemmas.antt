@@ -40,12 +40,13 @@ holds_fed a b c n held fed = record {
 }
 
 -- the first record was cut
-pub cuts_first : (a b c : RecordsView) → HoldsMore a b → GivesItem b c → CutsFirst (length c.payload) a c
-cuts_first a b c held gives = record {
+pub cuts_first : (a b c : RecordsView) (lent : List ℕ) → lent ≡ c.payload → HoldsMore a b → GivesItem b c
+    → CutsFirst (length lent) a c
+cuts_first a b c lent same held gives = record {
   came = held.came;
   record_is = sym held.bytes ∙ gives.bytes
       ∙ ap (λ (x : List ℕ). record_of (item_for x c.payload) ++ c.bytes) held.name;
-  count = refl;
+  count = ap length (sym same);
 }
 
 -- what came of a payload that was cut

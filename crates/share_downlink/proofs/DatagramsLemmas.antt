@@ -1,5 +1,5 @@
 -- Datagrams that are exactly one frame.
-use Rattle.std.proofs.Common.{◌≡◌, ◌↔◌, ◌+◌, ◌≤◌, ℕ, Bool, List, [], ◌++◌, length, drop, arith, ◌⊎◌, inl, inr, refl, sym, ap, ◌∙◌}
+use Rattle.std.proofs.Common.{◌≡◌, ◌↔◌, ◌+◌, ℕ, Bool, List, [], ◌++◌, length, drop, arith, ◌⊎◌, inl, inr, refl, sym, ap, ◌∙◌}
 use Rattle.std.proofs.Common.{subst}
 use Rattle.std.proofs.lemmas.List.{append-nil, drop_at, length-append, nil_from_length}
 use Rattle.share_base.specs.declared.version.Version.TheVariants.{Two}

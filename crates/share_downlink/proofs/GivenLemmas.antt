@@ -2,26 +2,16 @@
 use Rattle.std.proofs.Common.{◌≡◌, ◌<◌, ℕ, ◌+◌, Bool, List, [], ◌∷◌, ◌++◌, length, arith, refl, ◌∙◌, ap, sym, subst}
 use Rattle.std.proofs.lemmas.List.{append_assoc, append-nil, length-append}
 use Rattle.share_base.specs.declared.version.Version.TheVariants.{Two}
-use Rattle.share_frame.specs.Reading.{IsFirstBad}
-use Rattle.share_frame.specs.declared.reading.Field.{Field}
 use Rattle.share_gateway.specs.Frames.{Framed, GivesFrame, framed_bytes}
 use Rattle.share_model.proofs.lemmas.link.FrameLaws.{length-frame}
 use Rattle.share_model.proofs.lemmas.lists.Laws.{each-append, each-one}
 use Rattle.share_model.specs.link.Frame.{FitsFrame, Packet, frame}
-use Rattle.share_model.specs.run.History.{IsBeginning}
-use Rattle.share_downlink.specs.Connection.{ComesMore, EndsPieces, EndsRead, FirstNone, FirstOne}
-use Rattle.share_downlink.specs.Given.{CutsOff, Gives, IncomingView, Passes, capped, counted, fed, frame_size}
+use Rattle.share_downlink.specs.Connection.{ComesMore, FirstGives, FirstNone, FirstOne}
+use Rattle.share_downlink.specs.declared.connection.First.{First}
+use Rattle.share_downlink.specs.declared.connection.First.TheVariants.{Given, Waits, More}
+use Rattle.share_downlink.specs.Given.{CutsOff, Gives, GivesFrames, IncomingView, Passes, capped, counted, frame_size}
 use Rattle.share_downlink.specs.Given.{no_packet, offset_after, packet}
 use Rattle.share_downlink.specs.Steps.{GivesOne, Stays}
-use Rattle.share_downlink.specs.declared.connection.ClosedWhy.{ClosedWhy}
-use Rattle.share_downlink.specs.declared.connection.ClosedWhy.TheVariants.{
-  Ended,
-  CutShort,
-  Failed,
-  BadFrame,
-  Replaced,
-  Crowded,
-}
 use Rattle.share_downlink.specs.declared.counts.Counts.{Counts}
 
 framed-one : (packets : List Framed) (f : Framed)
@@ -126,42 +116,10 @@ pub passes_same : {T : Type 0} (delivers : T → ℕ → List ℕ → Bool → T
 passes_same {T} delivers t u c d i j k passes same =
     subst (λ (x : IncomingView). Passes delivers t c i u d x) (sym same) passes
 
--- ---- A first frame
-
-pub comes_nothing : (i : IncomingView) → ComesMore i i
-comes_nothing i = record { came = []; bytes = sym (append-nil i.bytes); offset = refl }
-
-pub comes_then : (i j k : IncomingView) → ComesMore i j → ComesMore j k → ComesMore i k
-comes_then i j k first more = record {
-  came = first.came ++ more.came;
-  bytes = more.bytes ∙ ap (λ (x : List ℕ). x ++ more.came) first.bytes ∙ append_assoc i.bytes first.came more.came;
-  offset = more.offset ∙ first.offset;
-}
-
-pub comes_same : (i j k : IncomingView) → ComesMore i j → k ≡ j → ComesMore i k
-comes_same i j k comes same = subst (λ (x : IncomingView). ComesMore i x) (sym same) comes
-
--- a piece came
-pub comes_fed : (piece : List ℕ) (i j : IncomingView) → j ≡ fed piece i → ComesMore i j
-comes_fed piece i j is = record {
-  came = piece;
-  bytes = ap (λ (x : IncomingView). x.bytes) is;
-  offset = ap (λ (x : IncomingView). x.offset) is;
-}
-
 -- ---- One frame after the other
 
 pub stays_same : {T : Type 0} (t : T) (c : Counts) (i : IncomingView) → Stays t c i t c i
 stays_same t c i = record { taker = refl; counts = refl; bytes = refl }
-
--- nothing was given after that
-pub cuts_stay : {T : Type 0} (delivers : T → ℕ → List ℕ → Bool → T → Type 0) (t u v : T) (c d e : Counts)
-    (old mid new : IncomingView) → CutsOff delivers t c old u d mid → Stays u d mid v e new
-    → CutsOff delivers t c old v e new
-cuts_stay {T} delivers t u v c d e old mid new cuts stays =
-    subst (λ (x : T). CutsOff delivers t c old x e new) (sym stays.taker)
-    (subst (λ (x : Counts). CutsOff delivers t c old u x new) (sym stays.counts)
-    (subst (λ (x : IncomingView). CutsOff delivers t c old u d x) (sym stays.bytes) cuts))
 
 -- a frame that was given leaves fewer bytes
 pub gives_less : {T : Type 0} (delivers : T → ℕ → List ℕ → Bool → T → Type 0) (t u : T) (c d : Counts)
@@ -185,61 +143,47 @@ frame_left old new given payload flow seq tariff held gives same held_is =
     let size = ap (λ (x : List ℕ). length x) same in
     omega (arith, all, long, size, held_is)
 
--- ---- Why nothing more comes
+-- ---- The connections of a downlink
 
-ends_same : (why : ClosedWhy) (i : IncomingView) → EndsRead why i → IsBeginning Two i.bytes → EndsPieces why i
-ends_same Ended i ends begins = ends
-ends_same CutShort i ends begins = (ends, begins)
-ends_same (Failed kind) i ends begins = begins
-ends_same (BadFrame offset field) i ends begins = absurd ends
-ends_same Replaced i ends begins = absurd ends
-ends_same Crowded i ends begins = absurd ends
+pub gives_none : {T : Type 0} (delivers : T → ℕ → List ℕ → Bool → T → Type 0) (t : T) (c : Counts)
+    → GivesFrames delivers t c t c
+gives_none {T} delivers t c = record { packets = []; good = tt; given = no_packet }
 
--- a read ended after the beginning of a frame
-pub ends_read : (why : ClosedWhy) (i j : IncomingView) → EndsRead why i → IsBeginning Two i.bytes → j ≡ i
-    → EndsPieces why j
-ends_read why i j ends begins same =
-    subst (λ (x : IncomingView). EndsPieces why x) (sym same) (ends_same why i ends begins)
-
--- no frame begins here
-pub ends_bad : (why : ClosedWhy) (offset : ℕ) (field : Field) (i : IncomingView) → why ≡ BadFrame offset field
-    → offset ≡ i.offset → IsFirstBad Two field i.bytes → EndsPieces why i
-ends_bad why offset field i is here bad =
-    subst (λ (x : ClosedWhy). EndsPieces x i) (sym is) (here, bad)
-
--- ---- The first frame of a connection
-
-pub first_nothing : {T : Type 0} (t : T) (c : Counts) (i : IncomingView) → FirstNone t c i t c i
-first_nothing t c i = record { taker = refl; counts = refl; comes = comes_nothing i }
-
-pub first_stays : {T : Type 0} (t u v : T) (c d e : Counts) (i j k : IncomingView) → FirstNone t c i u d j
-    → Stays u d j v e k → FirstNone t c i v e k
-first_stays t u v c d e i j k none stays = record {
-  taker = stays.taker ∙ none.taker;
-  counts = stays.counts ∙ none.counts;
-  comes = comes_same i j k none.comes stays.bytes;
+pub gives_then : {T : Type 0} (delivers : T → ℕ → List ℕ → Bool → T → Type 0) (t u v : T) (c d e : Counts)
+    → GivesFrames delivers t c u d → GivesFrames delivers u d v e → GivesFrames delivers t c v e
+gives_then {T} delivers t u v c d e first more = record {
+  packets = first.packets ++ more.packets;
+  good = each-append (λ (g : Framed). FitsFrame Two g.tariff g.packet) first.packets more.packets first.good more.good;
+  given = gives_more delivers t u c d first.packets first.given v e more.packets more.given;
 }
 
-pub first_comes : {T : Type 0} (t u : T) (c d : Counts) (i j k : IncomingView) → FirstNone t c i u d j
-    → ComesMore j k → FirstNone t c i u d k
-first_comes t u c d i j k none comes =
-    record { taker = none.taker; counts = none.counts; comes = comes_then i j k none.comes comes }
+pub gives_same : {T : Type 0} (delivers : T → ℕ → List ℕ → Bool → T → Type 0) (t u v : T) (c d e : Counts)
+    → GivesFrames delivers t c u d → v ≡ u → e ≡ d → GivesFrames delivers t c v e
+gives_same {T} delivers t u v c d e gives same is =
+    subst (λ (x : T). GivesFrames delivers t c x e) (sym same)
+    (subst (λ (x : Counts). GivesFrames delivers t c u x) (sym is) gives)
 
-pub first_same : {T : Type 0} (t u : T) (c d : Counts) (i j k : IncomingView) → FirstNone t c i u d j
-    → k ≡ j → FirstNone t c i u d k
-first_same t u c d i j k none same =
-    record { taker = none.taker; counts = none.counts; comes = comes_same i j k none.comes same }
+one_gives : {T : Type 0} (delivers : T → ℕ → List ℕ → Bool → T → Type 0) (t u : T) (c d : Counts)
+    (i j : IncomingView) → FirstOne delivers t c i u d j → GivesFrames delivers t c u d
+one_gives {T} delivers t u c d i j one =
+    let f : Framed = record {
+      tariff = one.tariff;
+      packet = record { flow = one.flow; seq = one.seq; payload = j.payload };
+    } in
+    subst (λ (x : Counts). GivesFrames delivers t c u x) (sym one.gives.counts)
+    (record {
+      packets = f ∷ [];
+      good = each-one (λ (g : Framed). FitsFrame Two g.tariff g.packet) f one.gives.gives.fits;
+      given = packet [] t c no_packet f one.gives.is_known u one.gives.delivered;
+    })
 
-pub first_one : {T : Type 0} (delivers : T → ℕ → List ℕ → Bool → T → Type 0) (t u v : T) (c d e : Counts)
-    (i j k : IncomingView) (flow seq tariff : ℕ) → FirstNone t c i u d j
-    → GivesOne delivers u d j flow seq tariff v e k → FirstOne delivers t c i v e k
-first_one {T} delivers t u v c d e i j k flow seq tariff none gives = record {
-  held = j;
-  comes = none.comes;
-  flow = flow;
-  seq = seq;
-  tariff = tariff;
-  gives =
-      subst (λ (x : T). GivesOne delivers x c j flow seq tariff v e k) none.taker
-      (subst (λ (x : Counts). GivesOne delivers u x j flow seq tariff v e k) none.counts gives);
-}
+none_gives : {T : Type 0} (delivers : T → ℕ → List ℕ → Bool → T → Type 0) (t u : T) (c d : Counts)
+    (i j : IncomingView) → FirstNone t c i u d j → GivesFrames delivers t c u d
+none_gives {T} delivers t u c d i j none =
+    gives_same delivers t t u c c d (gives_none delivers t c) none.taker none.counts
+
+pub first_gives : {T : Type 0} (delivers : T → ℕ → List ℕ → Bool → T → Type 0) (first : First) (t u : T)
+    (c d : Counts) (i j : IncomingView) → FirstGives delivers t c i first u d j → GivesFrames delivers t c u d
+first_gives {T} delivers Given t u c d i j gives = one_gives delivers t u c d i j gives
+first_gives {T} delivers Waits t u c d i j gives = none_gives delivers t u c d i j gives
+first_gives {T} delivers More t u c d i j gives = none_gives delivers t u c d i j gives

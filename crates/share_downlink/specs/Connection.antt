@@ -1,11 +1,12 @@
 -- What comes of a connection.
-use Rattle.std.specs.Prelude.{◌≡◌, ◌≢◌, ℕ, Bool, List, [], ◌++◌, length, Result, Ok, Err}
+use Rattle.std.specs.Prelude.{◌≡◌, ◌≢◌, ◌⊎◌, ℕ, Bool, true, false, List, [], ◌++◌, Option, None, Some, Result, Ok, Err}
+use Rattle.std.specs.declared.net.SocketAddr.{SocketAddr}
 use Rattle.share_base.specs.declared.version.Version.TheVariants.{Two}
 use Rattle.share_frame.specs.Reading.{IsFirstBad}
-use Rattle.share_gateway.specs.Frames.{Framed, framed_bytes}
 use Rattle.share_model.specs.run.History.{IsBeginning}
 use Rattle.share_downlink.specs.Given.{IncomingView, Passes}
 use Rattle.share_downlink.specs.Steps.{GivesOne}
+use Rattle.share_downlink.specs.declared.connection.ClosedConnection.{ClosedConnection}
 use Rattle.share_downlink.specs.declared.connection.ClosedWhy.{ClosedWhy}
 use Rattle.share_downlink.specs.declared.connection.ClosedWhy.TheVariants.{
   Ended,
@@ -15,9 +16,20 @@ use Rattle.share_downlink.specs.declared.connection.ClosedWhy.TheVariants.{
   Replaced,
   Crowded,
 }
+use Rattle.share_downlink.specs.declared.connection.Connection.{Connection}
 use Rattle.share_downlink.specs.declared.connection.First.{First}
 use Rattle.share_downlink.specs.declared.connection.First.TheVariants.{Given, Waits, More}
 use Rattle.share_downlink.specs.declared.counts.Counts.{Counts}
+
+-- a connection is over for this reason, unless there was one before
+abbrev pub ended : ClosedWhy → Option ClosedWhy → Option ClosedWhy
+ended why None = Some why
+ended why (Some before) = Some before
+
+-- what is reported of a connection, if it is over
+abbrev pub closed_of : ℕ → SocketAddr → Option ClosedWhy → Option ClosedConnection
+closed_of token from None = None
+closed_of token from (Some why) = Some (record { token = token; from = from; why = why })
 
 -- bytes of the stream came
 pub record ComesMore (old new : IncomingView) : Type 0 where
@@ -65,6 +77,29 @@ EndsPieces Crowded i = ⊥
 
 abbrev pub EndsFirst : ClosedWhy → IncomingView → Type 0
 EndsFirst why i = EndsPieces why i
+
+-- its socket has no more bytes, or it is over for a reason that its bytes show
+abbrev pub EndsOrWaits : Option ClosedWhy → Connection → Type 0
+EndsOrWaits old c =
+    ((c.over ≡ old) × (c.is_readable ≡ false))
+    ⊎ ((why : ClosedWhy) × (c.over ≡ ended why old) × EndsPieces why c.incoming)
+
+-- more may be at hand if its socket may have bytes and it is not over
+abbrev pub MayEnd : Bool → Option ClosedWhy → Connection → Type 0
+MayEnd true old c = (c.over ≡ old) × (c.is_readable ≡ true)
+MayEnd false old c = EndsOrWaits old c
+
+-- whether its socket may have bytes, if its first frame is not whole
+abbrev pub IsReadyAfter : First → Bool → Type 0
+IsReadyAfter Given is_readable = Unit {0}
+IsReadyAfter Waits is_readable = is_readable ≡ false
+IsReadyAfter More is_readable = is_readable ≡ true
+
+-- the same while it waits for its first frame
+abbrev pub FirstMayEnd : First → Option ClosedWhy → Connection → Type 0
+FirstMayEnd Given old c = c.over ≡ old
+FirstMayEnd More old c = (c.over ≡ old) × (c.is_readable ≡ true)
+FirstMayEnd Waits old c = EndsOrWaits old c
 
 -- bytes of the stream came, and the packet of the frame in front of all that were there was given
 pub record FirstOne {T : Type 0} (delivers : T → ℕ → List ℕ → Bool → T → Type 0) (before : T) (c : Counts)

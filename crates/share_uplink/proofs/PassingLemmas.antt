@@ -1,6 +1,6 @@
 -- What the wire takes, call by call.
 use Rattle.std.proofs.Common.{◌≡◌, ◌≤◌, ◌-◌, ℕ, Bool, true, false, if◌then◌else◌, Result, Ok, Err, IfOk, IfErr}
-use Rattle.std.proofs.Common.{List, [], ◌∷◌, ◌++◌, length, take, drop, arith, refl, sym, ap, ◌∙◌, subst}
+use Rattle.std.proofs.Common.{List, [], ◌∷◌, ◌++◌, length, take, drop, arith, refl, sym, subst}
 use Rattle.std.proofs.lemmas.Bool.Decides.{nat_tests}
 use Rattle.std.proofs.lemmas.List.{length-append, length-drop, length-take}
 use Rattle.std.specs.List.{concat}
@@ -9,7 +9,7 @@ use Rattle.share_gateway.specs.Outbox.{OutboxView, first_whole, goes_whole, read
 use Rattle.share_sockets.specs.declared.progress.Progress.{Progress}
 use Rattle.share_sockets.specs.declared.progress.Progress.TheVariants.{Moved, Again, Waits, Over}
 use Rattle.share_transit.specs.Transit.{TransitView}
-use Rattle.share_uplink.specs.Passing.{WireTakes, SendsFrames, SendsOne, frame, frame_out, no_frame, nothing, piece}
+use Rattle.share_uplink.specs.Passing.{WireTakes, SendsFrames, SendsOne, frame, no_frame, nothing, piece}
 
 -- one piece
 pub takes_piece : (t : TransitView) (n : ℕ) (new : TransitView) → n ≤ length (ready_of t.outbox)

@@ -81,7 +81,7 @@ demo:
 
 check:
 	@echo 'proving what changed since the last check, then tests and examples: an hour where nothing is kept' >&2
-	RT_SECONDS=120 rt all test
+	RT_SECONDS=120 .ci/rt all test
 	$(examples)
 
 build: bin/stridelink bin/stridelink-script bin/stridelink-link
@@ -109,7 +109,7 @@ test:
 	@echo 'the gate: every proof from nothing, the edits that must fail, the tests and the program; more than an hour' >&2
 	.ci/layers
 	.ci/kit
-	.ci/costs record rt ci
+	.ci/costs record .ci/rt ci
 	.ci/costs record --more .ci/edits --named --built
 	.ci/memory
 	.ci/places

@@ -238,7 +238,7 @@ def told(run):
                  ("share_server", "refused.rt"), ("share_connections", "connections.rt"), ("link", "services.rt")):
         text = source(*path)
         texts |= set(re.findall(r'format_args!\("(.*?)"\)', text)) | set(re.findall(r'tell\(rt, "(.*?)"\)', text))
-        texts |= set(re.findall(r'format_args!\(\s*"(.*?)"', text)) | set(re.findall(r'write!\(f, "(.*?)"\)', text))
+        texts |= set(re.findall(r'format_args!\(\s*"(.*?)"', text)) | set(re.findall(r'write!\(\s*f,\s*"(.*?)"', text))
         texts |= set(re.findall(r'eprintln!\(rt; "(waiting .*?)"\)', text))
     letters = {"address": "ADDR", "number": "N", "how:?": "HOW", "text": "WHY", "count": "C", "tally": "T",
                "commands": "C", "arrivals": "A", "turns": "T", "reason": "REASON", "refused": "R", "last": "REFUSAL"}

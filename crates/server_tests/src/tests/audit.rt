@@ -121,6 +121,25 @@ fn leaves_other_files<R: Files + Eprint + Abort>(
     Ok(())
 }
 
+// Checks that without force a file that came meanwhile stays as it was, and the audit beside it.
+fn replaces_by_force_alone<R: Files + Eprint + Abort>(
+    rt: &R,
+    alloc: Global,
+    folder: &str,
+) -> Result<(), Fail> {
+    let (path, beside) = (
+        in_folder(alloc, folder, "i")?,
+        in_folder(alloc, folder, "i.1")?,
+    );
+    let journal = empty(alloc)?;
+    let audit = AuditFile::open(rt, alloc, path.as_str(), false)?;
+    fs::write(rt, path.as_str(), OLD)?;
+    assert!(rt; audit.write(&journal).is_err(), "the fault is not told");
+    assert!(rt; holds(rt, path.as_str(), Some(OLD)), "a file is lost");
+    assert!(rt; holds(rt, beside.as_str(), Some(AUDIT)), "no audit");
+    Ok(())
+}
+
 // Checks that a file behind a symbolic link is written in place, and a folder is refused.
 fn writes_in_place<R: Files + Eprint + Abort>(
     rt: &R,
@@ -323,6 +342,7 @@ fn files_of_audits(rt: HostRuntime) -> Result<(), Fail> {
     takes_the_name(&rt, alloc, folder.as_str(), Some(AUDIT))?;
     leaves_the_old(&rt, alloc, folder.as_str())?;
     leaves_other_files(&rt, alloc, folder.as_str())?;
+    replaces_by_force_alone(&rt, alloc, folder.as_str())?;
     writes_in_place(&rt, alloc, folder.as_str())?;
     faults_are_told(&rt, alloc, folder.as_str(), empty(alloc)?, &WRITES)?;
     faults_are_told(

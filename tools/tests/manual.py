@@ -138,8 +138,9 @@ def faults(run):
     texts = [text for path in (("share_served", "faults.rt"), ("link", "services.rt"),
                                ("share_script", "script.rt"))
              for text in re.findall(r'#\[error\("(.*?)"\)\]', source(*path)) if text != "{0}"]
-    names = [text.replace("{0}", "FILE" if "audit" in text else "ADDR") for text in texts]
-    expect_all(sorted(set(names)), 14, section(page(COMMANDS), "DIAGNOSTICS"), "faults")
+    names = [text.replace("{0}", "FILE" if "audit" in text or "exists" in text else "ADDR").replace("{1}", "REASON")
+             for text in texts]
+    expect_all(sorted(set(names)), 15, section(page(COMMANDS), "DIAGNOSTICS"), "faults")
 
 
 def fault_texts(text):
@@ -236,17 +237,18 @@ def told(run):
     """Each line of --verbose stands in the page, with capital letters for what is put in, and each word for an end."""
     texts = set()
     for path in (("share_served", "setup.rt"), ("share_server", "threads.rt"), ("share_served", "shutdown.rt"),
-                 ("share_connections", "connections.rt")):
+                 ("share_server", "refused.rt"), ("share_connections", "connections.rt"), ("link", "services.rt")):
         text = source(*path)
         texts |= set(re.findall(r'format_args!\("(.*?)"\)', text)) | set(re.findall(r'tell\(rt, "(.*?)"\)', text))
-        texts |= set(re.findall(r'format_args!\(\s*"(.*?)"', text))
+        texts |= set(re.findall(r'format_args!\(\s*"(.*?)"', text)) | set(re.findall(r'write!\(\s*f,\s*"(.*?)"', text))
+        texts |= set(re.findall(r'eprintln!\(rt; "(waiting .*?)"\)', text))
     letters = {"address": "ADDR", "number": "N", "how:?": "HOW", "text": "WHY", "count": "C", "tally": "T",
-               "commands": "C", "arrivals": "A", "turns": "T"}
+               "commands": "C", "arrivals": "A", "turns": "T", "reason": "REASON", "refused": "R", "last": "REFUSAL"}
     lines = set()
     for text in texts:
         for word in (("control", "ingress") if "{word}" in text else ("",)):
             lines.add(re.sub(r"\{(.*?)\}", lambda put: letters[put.group(1)], text.replace("{word}", word)))
-    expect_all(sorted(lines), 9, page(COMMANDS), "what --verbose tells")
+    expect_all(sorted(lines), 20, page(COMMANDS), "what --verbose tells")
     ends = re.findall(r'=> "([A-Z][A-Za-z]+)"', source("share_served", "ingress.rt"))
     how = re.search(r"enum How \{(.*?)\}", source("share_control", "attending.rt"), re.DOTALL).group(1)
     expect_all(ends + re.findall(r"^    ([A-Z]\w+),", how, re.MULTILINE), 12, page(COMMANDS), "how connections end")

@@ -31,9 +31,15 @@ pub enum Source {
 }
 
 /// The sources of events. A token is the key of its source.
-#[derive(Drop)]
 pub struct Sources {
     all: Slab<Source>,
+}
+
+impl Drop for Sources {
+    fn drop(self) {
+        let Sources { all } = self;
+        drop(all);
+    }
 }
 
 impl Sources {

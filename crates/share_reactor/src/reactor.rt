@@ -62,7 +62,6 @@ pub(crate) enum Ending {
 }
 
 /// A gateway that runs.
-#[derive(Drop)]
 pub struct Reactor<'b> {
     pub(crate) alloc: Global,
     pub(crate) poll: Poll,
@@ -83,6 +82,45 @@ pub struct Reactor<'b> {
     pub(crate) holds: ControlHolds,
     pub(crate) grace: u64,
     pub(crate) ending: Ending,
+}
+
+// This is written out so that functions that have a reactor do not prove how each part is dropped.
+impl<'b> Drop for Reactor<'b> {
+    fn drop(self) {
+        let Reactor {
+            alloc: _,
+            poll,
+            sources,
+            doorways,
+            controls,
+            control_place,
+            web,
+            uplink,
+            uplink_token: _,
+            far_end,
+            input,
+            books: _,
+            news,
+            settings,
+            roster,
+            holds,
+            grace: _,
+            ending: _,
+        } = self;
+        drop(poll);
+        drop(sources);
+        drop(doorways);
+        drop(controls);
+        drop(control_place);
+        drop(web);
+        drop(uplink);
+        drop(far_end);
+        drop(input);
+        drop(news);
+        drop(settings);
+        drop(roster);
+        drop(holds);
+    }
 }
 
 // The shorter of two pauses, of which one may be for ever.

@@ -17,7 +17,6 @@ use std::net::Net;
 use std::time::{Clock, Instant};
 
 /// What a gateway has before its first book begins: its sockets.
-#[derive(Drop)]
 pub(crate) struct Ground {
     pub(crate) poll: Poll,
     pub(crate) sources: Sources,
@@ -29,6 +28,33 @@ pub(crate) struct Ground {
     pub(crate) uplink_token: Token,
     pub(crate) far_end: Option<FarEnd>,
     pub(crate) input: Input,
+}
+
+// This is written out so that functions that have a ground do not prove how each part is dropped.
+impl Drop for Ground {
+    fn drop(self) {
+        let Ground {
+            poll,
+            sources,
+            doorways,
+            controls,
+            control_place,
+            web,
+            uplink,
+            uplink_token: _,
+            far_end,
+            input,
+        } = self;
+        drop(poll);
+        drop(sources);
+        drop(doorways);
+        drop(controls);
+        drop(control_place);
+        drop(web);
+        drop(uplink);
+        drop(far_end);
+        drop(input);
+    }
 }
 
 // Listens for control connections.

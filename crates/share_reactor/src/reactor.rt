@@ -1,4 +1,6 @@
 //! The loop of a gateway.
+ghost use Rattle.std.specs.Prelude.{◌≡◌, min, IfNone, IfSome, IsSome};
+ghost use Rattle.std.specs.Duration.{as_nanos};
 
 use mio::event::Event;
 use mio::{Events, Poll, Token};
@@ -124,7 +126,11 @@ impl<'b> Drop for Reactor<'b> {
 }
 
 // The shorter of two pauses, of which one may be for ever.
-fn shorter(pause: Option<Duration>, other: Duration) -> Option<Duration> {
+fn shorter(pause: Option<Duration>, other: Duration) -> Option<Duration>
+    ensures ends { IsSome result }
+    ensures both { IfSome pause (λ p. IfSome result (λ q. as_nanos q ≡ min (as_nanos p) (as_nanos other))) }
+    ensures alone { IfNone pause (IfSome result (λ q. as_nanos q ≡ as_nanos other)) }
+{
     match pause {
         Some(pause) if pause < other => Some(pause),
         _ => Some(other),

@@ -2,7 +2,7 @@
 use Rattle.std.proofs.Common.{◌≡◌, ℕ, Bool, true, false, refl, ◌∙◌, ap, sym, subst}
 use Rattle.share_model.specs.funding.Graph.{NameBytes}
 use Rattle.share_book.specs.Audited.{Audited}
-use Rattle.share_doors.specs.Door.{DoorView, counted, dropped_one, read_one}
+use Rattle.share_doors.specs.Door.{DoorView, counted, dropped_one, one_more, read_one}
 use Rattle.share_doors.specs.Fills.{Drops, Fills, nothing, packet, of_port, no_payload}
 use Rattle.share_doors.specs.Fills.{no_drop, packet_dropped, record_dropped}
 use Rattle.share_doors.specs.Takes.{TakesBytes, TakesOne, TakesOnly, can_take, nothing as takes_nothing, packet as takes_packet}
@@ -19,17 +19,29 @@ fills_one d e n a b door one =
     subst (λ (x : DoorView). Fills d a x b) (sym door) (packet d d a a b (nothing d a) n one)
 
 -- a packet of a port was read, taken, and counted
-pub fills_of_port : (d e : DoorView) (n : ℕ) (a b : Audited) → e ≡ counted n (read_one d) → TakesBytes d.tenant n a b
-    → Fills d a e b
-fills_of_port d e n a b door one =
-    subst (λ (x : DoorView). Fills d a x b) (sym door) (of_port d d a a b (nothing d a) n one)
+pub fills_of_port : (d v e : DoorView) (k n : ℕ) (a b : Audited) → v ≡ d → k ≡ one_more v.read
+    → e ≡ counted n (record v { read = k }) → TakesBytes v.tenant n a b → Fills d a e b
+fills_of_port d v e k n a b same count door one =
+    let read : e ≡ counted n (read_one v)
+    = door ∙ ap (λ (x : ℕ). counted n (record v { read = x })) count in
+    subst (λ (x : DoorView). Fills x a e b) same
+    (subst (λ (x : DoorView). Fills v a x b) (sym read) (of_port v v a a b (nothing v a) n one))
 
 -- a packet of a port was read, and dropped
-pub fills_no_payload : (d e : DoorView) (a b : Audited) → e ≡ dropped_one (read_one d) → b ≡ a → Fills d a e b
-fills_no_payload d e a b door book =
-    subst (λ (x : DoorView). Fills d a x b) (sym door)
-    (subst (λ (x : Audited). Fills d a (dropped_one (read_one d)) x) (sym book)
-    (no_payload d d a a (nothing d a)))
+pub fills_no_payload : (d v e : DoorView) (k : ℕ) (a b : Audited) → v ≡ d → k ≡ one_more v.read
+    → e ≡ dropped_one (record v { read = k }) → b ≡ a → Fills d a e b
+fills_no_payload d v e k a b same count door book =
+    let read : e ≡ dropped_one (read_one v)
+    = door ∙ ap (λ (x : ℕ). dropped_one (record v { read = x })) count in
+    subst (λ (x : DoorView). Fills x a e b) same
+    (subst (λ (x : DoorView). Fills v a x b) (sym read)
+    (subst (λ (x : Audited). Fills v a (dropped_one (read_one v)) x) (sym book) (no_payload v v a a (nothing v a))))
+
+-- no packet of a port was read
+pub fills_unread : (d v : DoorView) (k : ℕ) (a b : Audited) → v ≡ d → k ≡ v.read → b ≡ a
+    → Fills d a (record v { read = k }) b
+fills_unread d v k a b same count book =
+    fills_nothing d (record v { read = k }) a b (ap (λ (x : ℕ). record v { read = x }) count ∙ same) book
 
 -- one call after others
 pub fills_then : (d e f : DoorView) (a b c : Audited) → Fills d a e b → Fills e b f c → Fills d a f c
@@ -88,6 +100,37 @@ is_room room a b name tenant is some same book none =
     let here : can_take b tenant ≡ true
     = subst (λ (x : Audited). can_take x tenant ≡ true) book (has_room room a name tenant is some same) in
     let both : true ≡ false = sym here ∙ none in absurd (cc)
+
+-- nothing was dropped
+pub drops_none : (d e : DoorView) → e ≡ d → Drops d e
+drops_none d e same = subst (λ (x : DoorView). Drops d x) (sym same) (no_drop d)
+
+-- a record of a connection was dropped
+pub drops_record : (d v e : DoorView) → v ≡ d → e ≡ dropped_one v → Drops d e
+drops_record d v e same door =
+    subst (λ (x : DoorView). Drops x e) same
+    (subst (λ (x : DoorView). Drops v x) (sym door) (record_dropped v v (no_drop v)))
+
+-- a packet of a port was read, and dropped
+pub drops_packet : (d v e : DoorView) (k : ℕ) → v ≡ d → k ≡ one_more v.read
+    → e ≡ dropped_one (record v { read = k }) → Drops d e
+drops_packet d v e k same count door =
+    let read : e ≡ dropped_one (read_one v)
+    = door ∙ ap (λ (x : ℕ). dropped_one (record v { read = x })) count in
+    subst (λ (x : DoorView). Drops x e) same
+    (subst (λ (x : DoorView). Drops v x) (sym read) (packet_dropped v v (no_drop v)))
+
+-- no packet of a port was read
+pub drops_unread : (d v : DoorView) (k : ℕ) → v ≡ d → k ≡ v.read → Drops d (record v { read = k })
+drops_unread d v k same count =
+    drops_none d (record v { read = k }) (ap (λ (x : ℕ). record v { read = x }) count ∙ same)
+
+-- a packet was given to deliver
+pub given_one : (d v : DoorView) (k n : ℕ) → v ≡ d → k ≡ one_more v.given
+    → record v { given = k; lost = n } ≡ record d { given = one_more d.given; lost = n }
+given_one d v k n same count =
+    ap (λ (x : ℕ). record v { given = x; lost = n }) count
+    ∙ ap (λ (x : DoorView). record x { given = one_more x.given; lost = n }) same
 
 -- one drop after others
 pub drops_then : (d e f : DoorView) → Drops d e → Drops e f → Drops d f

@@ -1,5 +1,5 @@
 -- What is left of the records that a connection is given, call by call.
-use Rattle.std.proofs.Common.{◌≡◌, ◌+◌, ◌<◌, ◌≤◌, ℕ, zero, suc, List, [], true, false, drop, length, refl, ◌∙◌, ap, sym}
+use Rattle.std.proofs.Common.{◌≡◌, ◌+◌, ◌<◌, ℕ, zero, suc, List, [], true, drop, length, ◌∙◌, ap, sym}
 use Rattle.std.proofs.Common.{arith}
 use Rattle.std.proofs.lemmas.List.{drop-drop, drop_all}
 use Rattle.share_model.specs.funding.Graph.{NameBytes}

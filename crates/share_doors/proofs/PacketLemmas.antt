@@ -1,5 +1,5 @@
 -- What becomes of the packets of a packet port, call by call.
-use Rattle.std.proofs.Common.{◌≡◌, ℕ, List, Bool, true, false, length, refl, ◌∙◌, ap, sym, subst, if◌then◌else◌}
+use Rattle.std.proofs.Common.{◌≡◌, ℕ, Bool, true, false, length, refl, ◌∙◌, ap, sym, subst, if◌then◌else◌}
 use Rattle.share_base.specs.Body.{is_payload_length}
 use Rattle.share_model.specs.funding.Graph.{NameBytes}
 use Rattle.share_book.specs.Audited.{Audited}

@@ -5,8 +5,6 @@ use Rattle.std.proofs.lemmas.List.{take_all}
 use Rattle.share_model.specs.funding.Graph.{NameBytes}
 use Rattle.share_model.specs.ingress.Records.{record_of}
 use Rattle.share_book.specs.Audited.{Audited}
-use Rattle.share_book.specs.Book.{TakesPacket}
-use Rattle.share_book.specs.declared.book.Taken.{Taken}
 use Rattle.share_ingress.specs.Found.{NeedsMore}
 use Rattle.share_gateway.specs.Records.{CutsRecord, GivesItem, NamesOnly, RecordsView, item_for}
 use Rattle.share_gateway.specs.declared.records.Cut.TheVariants.{More as MoreCut, Bad}
@@ -40,12 +38,13 @@ holds_fed a b c n held fed = record {
 }
 
 -- the first record was cut
-pub cuts_first : (a b c : RecordsView) → HoldsMore a b → GivesItem b c → CutsFirst (length c.payload) a c
-cuts_first a b c held gives = record {
+pub cuts_first : (a b c : RecordsView) (lent : List ℕ) → lent ≡ c.payload → HoldsMore a b → GivesItem b c
+    → CutsFirst (length lent) a c
+cuts_first a b c lent same held gives = record {
   came = held.came;
   record_is = sym held.bytes ∙ gives.bytes
       ∙ ap (λ (x : List ℕ). record_of (item_for x c.payload) ++ c.bytes) held.name;
-  count = refl;
+  count = ap length (sym same);
 }
 
 -- what came of a payload that was cut

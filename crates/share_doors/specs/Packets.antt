@@ -44,6 +44,14 @@ ReadsOne old Nothing new = ReadsNone old new
 ReadsOne old More new = ReadsNone old new
 ReadsOne old (Over why) new = ReadsNone old new
 
+-- one packet was read, and is dropped; or none was read
+abbrev pub DropsOne : ReaderView → Came → ReaderView → Type 0
+DropsOne old (Packet n) new = ⊥
+DropsOne old Dropped new = ReadsMore old new
+DropsOne old Nothing new = ReadsNone old new
+DropsOne old More new = ReadsNone old new
+DropsOne old (Over why) new = ReadsNone old new
+
 -- this packet went into the book, and has n bytes; or it is dropped without memory, and no other answer comes
 abbrev pub PortTakes : NameBytes → List ℕ → Audited → Came → Audited → Type 0
 PortTakes name packet before (Packet n) after =

@@ -342,8 +342,8 @@ impl Door {
                 self.count(bytes);
                 true
             }
+            Came::Dropped => unreachable!(),
             Came::More => true,
-            Came::Dropped => false,
             Came::Nothing => false,
             Came::Over(_) => false,
         }
@@ -395,8 +395,9 @@ impl Door {
         if port.is_over() {
             return false;
         }
-        match port.receive(&mut self.reader) {
-            Came::Packet(_) | Came::Dropped => {
+        match port.discard(&mut self.reader) {
+            Came::Packet(_) => unreachable!(),
+            Came::Dropped => {
                 self.count_dropped();
                 true
             }
@@ -421,12 +422,14 @@ impl Door {
         let came = sender.discard();
         self.may_be_over |= sender.may_be_over();
         match came {
-            Came::Packet(_) | Came::Dropped => {
+            Came::Packet(_) => unreachable!(),
+            Came::Dropped => {
                 self.count_dropped();
                 true
             }
             Came::More => true,
-            Came::Nothing | Came::Over(_) => false,
+            Came::Nothing => false,
+            Came::Over(_) => false,
         }
     }
 
@@ -466,13 +469,15 @@ impl Door {
     fn drop_packet(&mut self, port: &mut PacketPort) -> bool
         ensures { Drops self.old self.new }
     {
-        match port.receive(&mut self.reader) {
-            Came::Packet(_) | Came::Dropped => {
+        match port.discard(&mut self.reader) {
+            Came::Packet(_) => unreachable!(),
+            Came::Dropped => {
                 self.count_dropped();
                 true
             }
             Came::More => true,
-            Came::Nothing | Came::Over(_) => false,
+            Came::Nothing => false,
+            Came::Over(_) => false,
         }
     }
 

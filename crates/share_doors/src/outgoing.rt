@@ -46,10 +46,11 @@ impl Outgoing {
         ensures ok { OnOk result (self.new ≡ record_of (item_for tenant payload.now)) }
         ensures refused { OnErr result (self.new ≡ []) }
     {
-        self.clear();
+        self.record.clear();
+        self.taken = 0;
         let outcome = push_record(&mut self.record, tenant, payload);
         if outcome.is_err() {
-            self.clear();
+            self.record.clear();
         }
         outcome
     }

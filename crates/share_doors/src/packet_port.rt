@@ -3,7 +3,7 @@ ghost use Rattle.std.specs.Prelude.{◌≡◌, true, length};
 ghost use Rattle.std.specs.IoError.{error_kind};
 ghost use Rattle.share_base.specs.Body.{is_payload_length};
 ghost use Rattle.share_doors.specs.Door.{one_more};
-ghost use Rattle.share_doors.specs.Packets.{PortGives, PortTakes, ReadsOne, came_of};
+ghost use Rattle.share_doors.specs.Packets.{DropsOne, PortGives, PortTakes, ReadsOne, came_of};
 ghost use Rattle.share_doors.specs.Takes.{can_take};
 
 use crate::packet_reader::PacketReader;
@@ -134,6 +134,16 @@ impl PacketPort {
         }
     }
 
+    /// Reads its next packet, and drops it. Returns `Dropped` if it has one.
+    pub(crate) fn discard(&mut self, reader: &mut PacketReader) -> Came
+        ensures { DropsOne reader.old result reader.new }
+    {
+        match self.receive(reader) {
+            Came::Packet(_) => Came::Dropped,
+            came => came,
+        }
+    }
+
     fn note_sender(&mut self, sender: Option<SocketAddr>) {
         if sender.is_some() {
             self.sender = sender;
@@ -150,7 +160,8 @@ impl PacketPort {
 
     // Nothing more comes of it: its descriptor has failed.
     fn failed(&mut self, fault: io::Error) -> Came
-        ensures { result ≡ Came.Over (ClosedWhy.Failed (error_kind fault)) }
+        ensures came { result ≡ Came.Over (ClosedWhy.Failed (error_kind fault)) }
+        ensures given { self.new.given ≡ self.old.given }
     {
         let kind = fault.kind();
         self.end = Some(PortEnd::Failed(fault));

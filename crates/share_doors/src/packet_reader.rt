@@ -16,7 +16,7 @@ const ROOM: usize = MAX_PAYLOAD + 1;
 pub(crate) struct PacketReader {
     buffer: Vec<u8>,
     // How many bytes the last packet fills.
-    length: usize,
+    filled: usize,
     // How many packets were read.
     count: u64,
 }
@@ -27,9 +27,9 @@ impl Model for PacketReader {
 
     ghost Value = { ReaderView };
 
-    ghost view = { λ r. record { packet = take r.length r.buffer.items; count = r.count } };
+    ghost view = { λ r. record { packet = take r.filled r.buffer.items; count = r.count } };
 
-    ghost invariant = { λ r. r.length ≤ length r.buffer.items };
+    ghost invariant = { λ r. r.filled ≤ length r.buffer.items };
 }
 
 impl PacketReader {
@@ -39,7 +39,7 @@ impl PacketReader {
     {
         PacketReader {
             buffer: Vec::new(alloc),
-            length: 0,
+            filled: 0,
             count: 0,
         }
     }
@@ -49,7 +49,7 @@ impl PacketReader {
         ensures { self.new.count ≡ self.old.count }
     {
         if self.buffer.is_empty() {
-            self.length = 0;
+            self.filled = 0;
             self.buffer = vec![in alloc; 0u8; ROOM]?;
         }
         Ok(())
@@ -60,10 +60,10 @@ impl PacketReader {
         ensures read { IfOk result (λ came. ReadsPacket self.old came self.new) }
         ensures same { IfErr result (λ _. self.new.count ≡ self.old.count) }
     {
-        self.length = 0;
+        self.filled = 0;
         let outcome = socket.receive(self.buffer.as_mut_slice());
         if let Ok(Received::Packet(length, _)) = outcome {
-            self.length = length;
+            self.filled = length;
             self.count = self.count.saturating_add(1);
         }
         outcome
@@ -73,6 +73,6 @@ impl PacketReader {
     pub(crate) fn packet(&self) -> &[u8]
         ensures { result.now ≡ self.now.packet }
     {
-        &self.buffer[..self.length]
+        &self.buffer[..self.filled]
     }
 }

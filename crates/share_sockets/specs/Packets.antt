@@ -1,5 +1,5 @@
 -- What a call came to that moves one packet.
-use Rattle.std.specs.Prelude.{ℕ, Bool, true, false, ◌||◌, ◌==◌, ℤ, pos, negsuc, Option, None, Some}
+use Rattle.std.specs.Prelude.{ℕ, Bool, false, ◌||◌, ◌==◌, ℤ, pos, negsuc, Option, None, Some}
 use Rattle.share_sockets.specs.declared.received.Received.{Received}
 use Rattle.share_sockets.specs.declared.received.Received.TheVariants.{Packet, Again, Waits, Over}
 

@@ -1,8 +1,10 @@
 //! Sockets by which much is sent as datagrams.
-ghost use Rattle.std.specs.Prelude.{◌≤◌, length, IfOk, IfErr};
-ghost use Rattle.share_sockets.specs.Failure.{IsFailure};
+ghost use Rattle.std.specs.Prelude.{◌≡◌, ◌≤◌, ◌≢◌, true, false, length, IfOk, IfErr};
+ghost use Rattle.std.specs.IoError.{error_kind};
+ghost use Rattle.share_sockets.specs.Failure.{IsFailure, IsFailureUnrefused};
 ghost use Rattle.share_sockets.specs.Packets.{packet_length};
 ghost use Rattle.share_sockets.specs.Progress.{moved};
+ghost use Rattle.share_sockets.specs.declared.progress.Progress.TheVariants.{Again};
 
 use crate::packets::any_address_like;
 use crate::progress::{Progress, outcome_of};
@@ -50,7 +52,7 @@ impl DatagramSocket {
     /// this call, is no failure: the call is made again.
     pub fn receive(&self, buffer: &mut [u8]) -> io::Result<Received>
         ensures length { IfOk result (λ came. packet_length came ≤ length buffer.new) }
-        ensures fault { IfErr result IsFailure }
+        ensures fault { IfErr result IsFailureUnrefused }
     {
         match self.socket.recv(buffer) {
             Ok(count) => Ok(Received::Packet(count, None)),
@@ -62,30 +64,42 @@ impl DatagramSocket {
     /// made again.
     pub fn send(&self, bytes: &[u8]) -> io::Result<Progress>
         ensures moved { IfOk result (λ progress. moved progress ≤ length bytes.now) }
-        ensures fault { IfErr result IsFailure }
+        ensures fault { IfErr result IsFailureUnrefused }
     {
         match outcome_of(self.socket.send(bytes)) {
             Ok(progress) => Ok(progress),
-            Err(fault) => {
-                if is_refusal(&fault) {
-                    Ok(Progress::Again)
-                } else {
-                    Err(fault)
-                }
-            }
+            Err(fault) => sent_after(fault),
         }
     }
 }
 
 // Whether a far end refused what was sent to it.
-fn is_refusal(fault: &Error) -> bool {
+fn is_refusal(fault: &Error) -> bool
+    ensures refused { result ≡ true → error_kind fault.now ≡ ErrorKind.ConnectionRefused }
+    ensures other { result ≡ false → error_kind fault.now ≢ ErrorKind.ConnectionRefused }
+{
     fault.kind() == ErrorKind::ConnectionRefused
+}
+
+// What a failure of a call that sends comes to.
+fn sent_after(fault: Error) -> io::Result<Progress>
+    requires { IsFailure fault }
+    ensures moved { IfOk result (λ progress. progress ≡ Again) }
+    ensures fault { IfErr result IsFailureUnrefused }
+    ensures failed { error_kind fault ≢ ErrorKind.ConnectionRefused → result ≡ Err fault }
+{
+    if is_refusal(&fault) {
+        Ok(Progress::Again)
+    } else {
+        Err(fault)
+    }
 }
 
 // What a fault of a call that receives comes to.
 fn received_after(fault: Error) -> io::Result<Received>
     ensures length { IfOk result (λ came. packet_length came ≤ 0) }
-    ensures fault { IfErr result IsFailure }
+    ensures fault { IfErr result IsFailureUnrefused }
+    ensures failed { IsFailureUnrefused fault → result ≡ Err fault }
 {
     if is_refusal(&fault) {
         return Ok(Received::Again);

@@ -11,7 +11,6 @@ use std::io;
 use std::net::{Ipv4Addr, Ipv6Addr, Net, SocketAddr};
 
 /// A socket or a descriptor of which each read and each write moves one packet. Its calls do not wait.
-#[derive(Drop)]
 pub enum PacketSocket {
     /// A datagram socket at an address of its own.
     Bound(UdpSocket),
@@ -19,6 +18,16 @@ pub enum PacketSocket {
     Connected(UdpSocket),
     /// A descriptor that the process was given.
     Device(Device),
+}
+
+impl Drop for PacketSocket {
+    fn drop(self) {
+        match self {
+            PacketSocket::Bound(socket) => drop(socket),
+            PacketSocket::Connected(socket) => drop(socket),
+            PacketSocket::Device(device) => drop(device),
+        }
+    }
 }
 
 impl PacketSocket {

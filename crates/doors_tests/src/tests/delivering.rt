@@ -1,19 +1,38 @@
 //! Packets that go out by packet ports.
 
 use super::doors::{new_door, same};
-use mio::net::{UdpSocket, UnixStream};
-use mio::{Poll, Token};
+use mio::net::UnixStream;
+use mio::{Events, Poll, Token};
 use share_doors::{Door, PacketPort};
 use share_sockets::PacketSocket;
 use std::alloc::Global;
+use std::io;
 use std::io::Read;
-use std::net::{Ipv4Addr, SocketAddr};
+use std::net::{Ipv4Addr, Net, SocketAddr, UdpSocket};
 use std::os::fd::AsRawFd;
 use std::process::Abort;
 use std::test::Fail;
+use std::time::Duration;
+
+/// How many seconds a packet is waited for at most.
+const PATIENCE: u64 = 20;
 
 fn any_port() -> SocketAddr {
     SocketAddr::from((Ipv4Addr::LOCALHOST, 0))
+}
+
+// A socket that waits for a packet.
+fn patient(net: &impl Net) -> io::Result<UdpSocket> {
+    let socket = UdpSocket::bind(net, any_port())?;
+    socket.set_read_timeout(Some(Duration::from_secs(PATIENCE)))?;
+    Ok(socket)
+}
+
+// Waits until a socket of the door has a packet.
+fn wait(poll: &mut Poll, alloc: Global) -> Result<(), Fail> {
+    let mut events = Events::with_capacity(alloc, 8)?;
+    poll.poll(&mut events, Some(Duration::from_secs(PATIENCE)))?;
+    Ok(())
 }
 
 fn add(rt: &impl Abort, alloc: Global, door: &mut Door, socket: PacketSocket) -> usize {
@@ -32,7 +51,7 @@ fn received(socket: &UdpSocket, buffer: &mut [u8; 64]) -> usize {
 #[test]
 fn packets_go_out_by_each_port(rt: HostRuntime) -> Result<(), Fail> {
     let alloc = rt.alloc();
-    let poll = Poll::new(&rt)?;
+    let mut poll = Poll::new(&rt)?;
     let mut buffer = [0u8; 64];
     let mut door = new_door(&rt, alloc);
     door.deliver(b"nobody");
@@ -43,15 +62,16 @@ fn packets_go_out_by_each_port(rt: HostRuntime) -> Result<(), Fail> {
     let key = add(&rt, alloc, &mut door, bound);
     door.deliver(b"too early");
     same(&rt, "lost without a sender", door.lost(), 2);
-    let sender = UdpSocket::bind(&rt, any_port())?;
+    let sender = patient(&rt)?;
     sender.send_to(b"hello", address)?;
+    wait(&mut poll, alloc)?;
     door.note_port(key);
     let _ = door.discard();
     same(&rt, "dropped", door.dropped(), 1);
     door.deliver(b"first");
     same(&rt, "to the sender", received(&sender, &mut buffer), 5);
 
-    let peer = UdpSocket::bind(&rt, any_port())?;
+    let peer = patient(&rt)?;
     let connected = PacketSocket::connect(&rt, poll.registry(), Token(2), peer.local_addr()?)?;
     add(&rt, alloc, &mut door, connected);
     let (near, far) = UnixStream::pair(&rt)?;

@@ -1,4 +1,4 @@
-use Rattle.std.proofs.Common.{refl, ◌∙◌}
+use Rattle.std.proofs.Common.{refl, ◌∙◌, arith}
 use Rattle.share_doors.specs.Deliveries.{SenderIsGiven}
 use Rattle.share_doors.proofs.DeliveriesLemmas.{given_all, given_at, given_none}
 use Rattle.share_doors.proofs.deliveries.Deliveries.give_to_senders.Goals as goal
@@ -13,4 +13,6 @@ keys-preserved c = (
 )
 
 pub returns-clause-each : goal.returns-clause-each
-returns-clause-each c = given_all SenderIsGiven refl _ _ _ c.capacity.ensures.slots c.keys.invariant.1
+returns-clause-each c =
+    given_all SenderIsGiven refl c.keys.key c.args.senders.now c.keys.senders (omega (arith, c.capacity-key-end.ensures.slots))
+    c.keys.invariant.1

@@ -28,8 +28,5 @@ returns-in-More-clause-counted g c = fills_nothing _ _ _ _ c.self.view_is c.in-M
 pub returns-in-Nothing-clause-counted : goal.returns-in-Nothing-clause-counted
 returns-in-Nothing-clause-counted g c = fills_nothing _ _ _ _ c.self.view_is c.in-Nothing.ensures.book
 
-pub returns-in-Dropped-clause-counted : goal.returns-in-Dropped-clause-counted
-returns-in-Dropped-clause-counted g c = absurd (c.in-Dropped.ensures.book)
-
 pub returns-in-Over-clause-counted : goal.returns-in-Over-clause-counted
 returns-in-Over-clause-counted g c = fills_nothing _ _ _ _ c.self.view_is c.in-Over.ensures.book

@@ -2,12 +2,14 @@
 use Rattle.std.proofs.Common.{◌≡◌, ◌<◌, ℕ, ◌+◌, Bool, List, [], ◌∷◌, ◌++◌, length, arith, refl, ◌∙◌, ap, sym, subst}
 use Rattle.std.proofs.lemmas.List.{append_assoc, append-nil, length-append}
 use Rattle.share_base.specs.declared.version.Version.TheVariants.{Two}
-use Rattle.share_gateway.specs.Frames.{Framed, framed_bytes}
+use Rattle.share_gateway.specs.Frames.{Framed, GivesFrame, framed_bytes}
 use Rattle.share_model.proofs.lemmas.link.FrameLaws.{length-frame}
 use Rattle.share_model.proofs.lemmas.lists.Laws.{each-append, each-one}
 use Rattle.share_model.specs.link.Frame.{FitsFrame, Packet, frame}
-use Rattle.share_downlink.specs.Connection.{ComesMore}
-use Rattle.share_downlink.specs.Given.{CutsOff, Gives, IncomingView, Passes, capped, counted, fed, frame_size}
+use Rattle.share_downlink.specs.Connection.{ComesMore, FirstGives, FirstNone, FirstOne}
+use Rattle.share_downlink.specs.declared.connection.First.{First}
+use Rattle.share_downlink.specs.declared.connection.First.TheVariants.{Given, Waits, More}
+use Rattle.share_downlink.specs.Given.{CutsOff, Gives, GivesFrames, IncomingView, Passes, capped, counted, frame_size}
 use Rattle.share_downlink.specs.Given.{no_packet, offset_after, packet}
 use Rattle.share_downlink.specs.Steps.{GivesOne, Stays}
 use Rattle.share_downlink.specs.declared.counts.Counts.{Counts}
@@ -62,14 +64,15 @@ cuts_one {T} delivers t u v c d e old mid new flow seq tariff cuts gives =
     })
 
 -- packets were given after others
-gives_more : {T : Type 0} (delivers : T → ℕ → List ℕ → Bool → T → Type 0) (t u v : T) (c d e : Counts)
-    (ps qs : List Framed) → Gives delivers t c ps u d → Gives delivers u d qs v e → Gives delivers t c (ps ++ qs) v e
-gives_more {T} delivers t u _ c d _ ps _ first no_packet =
+gives_more : {T : Type 0} (delivers : T → ℕ → List ℕ → Bool → T → Type 0) (t u : T) (c d : Counts)
+    (ps : List Framed) → Gives delivers t c ps u d → (v : T) (e : Counts) (qs : List Framed)
+    → Gives delivers u d qs v e → Gives delivers t c (ps ++ qs) v e
+gives_more {T} delivers t u c d ps first _ _ _ no_packet =
     subst (λ (x : List Framed). Gives delivers t c x u d) (sym (append-nil ps)) first
-gives_more {T} delivers t u _ c d _ ps _ first (packet qs before b given f is_known after delivered) =
+gives_more {T} delivers t u c d ps first _ _ _ (packet qs before b given f is_known after delivered) =
     subst (λ (x : List Framed). Gives delivers t c x after (counted is_known (frame_size f.packet.payload) b))
     (append_assoc ps qs (f ∷ []))
-    (packet (ps ++ qs) before b (gives_more delivers t u before c d b ps qs first given) f is_known after delivered)
+    (packet (ps ++ qs) before b (gives_more delivers t u c d ps first before b qs given) f is_known after delivered)
 
 -- no byte came, and nothing was given
 pub passes_nothing : {T : Type 0} (delivers : T → ℕ → List ℕ → Bool → T → Type 0) (t : T) (c : Counts)
@@ -84,7 +87,7 @@ passes_cut {T} delivers t u v c d e i j k passes cuts = record {
   came = passes.came;
   packets = passes.packets ++ cuts.packets;
   good = each-append (λ (g : Framed). FitsFrame Two g.tariff g.packet) passes.packets cuts.packets passes.good cuts.good;
-  given = gives_more delivers t u v c d e passes.packets cuts.packets passes.given cuts.given;
+  given = gives_more delivers t u c d passes.packets passes.given v e cuts.packets cuts.given;
   bytes = passes.bytes ∙ ap (λ (x : List ℕ). framed_bytes passes.packets ++ x) cuts.bytes
       ∙ sym (append_assoc (framed_bytes passes.packets) (framed_bytes cuts.packets) k.bytes)
       ∙ ap (λ (x : List ℕ). x ++ k.bytes) (sym (framed-more passes.packets cuts.packets));
@@ -113,42 +116,10 @@ pub passes_same : {T : Type 0} (delivers : T → ℕ → List ℕ → Bool → T
 passes_same {T} delivers t u c d i j k passes same =
     subst (λ (x : IncomingView). Passes delivers t c i u d x) (sym same) passes
 
--- ---- A first frame
-
-pub comes_nothing : (i : IncomingView) → ComesMore i i
-comes_nothing i = record { came = []; bytes = sym (append-nil i.bytes); offset = refl }
-
-pub comes_then : (i j k : IncomingView) → ComesMore i j → ComesMore j k → ComesMore i k
-comes_then i j k first more = record {
-  came = first.came ++ more.came;
-  bytes = more.bytes ∙ ap (λ (x : List ℕ). x ++ more.came) first.bytes ∙ append_assoc i.bytes first.came more.came;
-  offset = more.offset ∙ first.offset;
-}
-
-pub comes_same : (i j k : IncomingView) → ComesMore i j → k ≡ j → ComesMore i k
-comes_same i j k comes same = subst (λ (x : IncomingView). ComesMore i x) (sym same) comes
-
--- a piece came
-pub comes_fed : (piece : List ℕ) (i j : IncomingView) → j ≡ fed piece i → ComesMore i j
-comes_fed piece i j is = record {
-  came = piece;
-  bytes = ap (λ (x : IncomingView). x.bytes) is;
-  offset = ap (λ (x : IncomingView). x.offset) is;
-}
-
 -- ---- One frame after the other
 
 pub stays_same : {T : Type 0} (t : T) (c : Counts) (i : IncomingView) → Stays t c i t c i
 stays_same t c i = record { taker = refl; counts = refl; bytes = refl }
-
--- nothing was given after that
-pub cuts_stay : {T : Type 0} (delivers : T → ℕ → List ℕ → Bool → T → Type 0) (t u v : T) (c d e : Counts)
-    (old mid new : IncomingView) → CutsOff delivers t c old u d mid → Stays u d mid v e new
-    → CutsOff delivers t c old v e new
-cuts_stay {T} delivers t u v c d e old mid new cuts stays =
-    subst (λ (x : T). CutsOff delivers t c old x e new) (sym stays.taker)
-    (subst (λ (x : Counts). CutsOff delivers t c old u x new) (sym stays.counts)
-    (subst (λ (x : IncomingView). CutsOff delivers t c old u d x) (sym stays.bytes) cuts))
 
 -- a frame that was given leaves fewer bytes
 pub gives_less : {T : Type 0} (delivers : T → ℕ → List ℕ → Bool → T → Type 0) (t u : T) (c d : Counts)
@@ -160,3 +131,59 @@ gives_less {T} delivers t u c d old new flow seq tariff gives =
     ∙ length-append (frame Two tariff head) new.bytes in
     let long = length-frame Two tariff head in
     omega (arith, all, long)
+
+-- it takes its own bytes away
+pub frame_left : (old new given payload : List ℕ) (flow seq tariff held : ℕ)
+    → GivesFrame old tariff (record { flow = flow; seq = seq; payload = given }) new → payload ≡ given
+    → held ≡ length old → held ≡ 17 + length payload + length new
+frame_left old new given payload flow seq tariff held gives same held_is =
+    let head : Packet = record { flow = flow; seq = seq; payload = given } in
+    let all = ap (λ (x : List ℕ). length x) gives.bytes ∙ length-append (frame Two tariff head) new in
+    let long = length-frame Two tariff head in
+    let size = ap (λ (x : List ℕ). length x) same in
+    omega (arith, all, long, size, held_is)
+
+-- ---- The connections of a downlink
+
+pub gives_none : {T : Type 0} (delivers : T → ℕ → List ℕ → Bool → T → Type 0) (t : T) (c : Counts)
+    → GivesFrames delivers t c t c
+gives_none {T} delivers t c = record { packets = []; good = tt; given = no_packet }
+
+pub gives_then : {T : Type 0} (delivers : T → ℕ → List ℕ → Bool → T → Type 0) (t u v : T) (c d e : Counts)
+    → GivesFrames delivers t c u d → GivesFrames delivers u d v e → GivesFrames delivers t c v e
+gives_then {T} delivers t u v c d e first more = record {
+  packets = first.packets ++ more.packets;
+  good = each-append (λ (g : Framed). FitsFrame Two g.tariff g.packet) first.packets more.packets first.good more.good;
+  given = gives_more delivers t u c d first.packets first.given v e more.packets more.given;
+}
+
+pub gives_same : {T : Type 0} (delivers : T → ℕ → List ℕ → Bool → T → Type 0) (t u v : T) (c d e : Counts)
+    → GivesFrames delivers t c u d → v ≡ u → e ≡ d → GivesFrames delivers t c v e
+gives_same {T} delivers t u v c d e gives same is =
+    subst (λ (x : T). GivesFrames delivers t c x e) (sym same)
+    (subst (λ (x : Counts). GivesFrames delivers t c u x) (sym is) gives)
+
+one_gives : {T : Type 0} (delivers : T → ℕ → List ℕ → Bool → T → Type 0) (t u : T) (c d : Counts)
+    (i j : IncomingView) → FirstOne delivers t c i u d j → GivesFrames delivers t c u d
+one_gives {T} delivers t u c d i j one =
+    let f : Framed = record {
+      tariff = one.tariff;
+      packet = record { flow = one.flow; seq = one.seq; payload = j.payload };
+    } in
+    subst (λ (x : Counts). GivesFrames delivers t c u x) (sym one.gives.counts)
+    (record {
+      packets = f ∷ [];
+      good = each-one (λ (g : Framed). FitsFrame Two g.tariff g.packet) f one.gives.gives.fits;
+      given = packet [] t c no_packet f one.gives.is_known u one.gives.delivered;
+    })
+
+none_gives : {T : Type 0} (delivers : T → ℕ → List ℕ → Bool → T → Type 0) (t u : T) (c d : Counts)
+    (i j : IncomingView) → FirstNone t c i u d j → GivesFrames delivers t c u d
+none_gives {T} delivers t u c d i j none =
+    gives_same delivers t t u c c d (gives_none delivers t c) none.taker none.counts
+
+pub first_gives : {T : Type 0} (delivers : T → ℕ → List ℕ → Bool → T → Type 0) (first : First) (t u : T)
+    (c d : Counts) (i j : IncomingView) → FirstGives delivers t c i first u d j → GivesFrames delivers t c u d
+first_gives {T} delivers Given t u c d i j gives = one_gives delivers t u c d i j gives
+first_gives {T} delivers Waits t u c d i j gives = none_gives delivers t u c d i j gives
+first_gives {T} delivers More t u c d i j gives = none_gives delivers t u c d i j gives

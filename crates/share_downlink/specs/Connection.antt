@@ -1,11 +1,12 @@
 -- What comes of a connection.
-use Rattle.std.specs.Prelude.{◌≡◌, ◌≢◌, ℕ, Bool, List, [], ◌++◌, length, Result, Ok, Err}
+use Rattle.std.specs.Prelude.{◌≡◌, ◌≢◌, ◌⊎◌, ℕ, Bool, true, false, List, [], ◌++◌, Option, None, Some, Result, Ok, Err}
+use Rattle.std.specs.declared.net.SocketAddr.{SocketAddr}
 use Rattle.share_base.specs.declared.version.Version.TheVariants.{Two}
 use Rattle.share_frame.specs.Reading.{IsFirstBad}
-use Rattle.share_gateway.specs.Frames.{Framed, framed_bytes}
 use Rattle.share_model.specs.run.History.{IsBeginning}
 use Rattle.share_downlink.specs.Given.{IncomingView, Passes}
 use Rattle.share_downlink.specs.Steps.{GivesOne}
+use Rattle.share_downlink.specs.declared.connection.ClosedConnection.{ClosedConnection}
 use Rattle.share_downlink.specs.declared.connection.ClosedWhy.{ClosedWhy}
 use Rattle.share_downlink.specs.declared.connection.ClosedWhy.TheVariants.{
   Ended,
@@ -18,6 +19,16 @@ use Rattle.share_downlink.specs.declared.connection.ClosedWhy.TheVariants.{
 use Rattle.share_downlink.specs.declared.connection.First.{First}
 use Rattle.share_downlink.specs.declared.connection.First.TheVariants.{Given, Waits, More}
 use Rattle.share_downlink.specs.declared.counts.Counts.{Counts}
+
+-- a connection is over for this reason, unless there was one before
+abbrev pub ended : ClosedWhy → Option ClosedWhy → Option ClosedWhy
+ended why None = Some why
+ended why (Some before) = Some before
+
+-- what is reported of a connection, if it is over
+abbrev pub closed_of : ℕ → SocketAddr → Option ClosedWhy → Option ClosedConnection
+closed_of token from None = None
+closed_of token from (Some why) = Some (record { token = token; from = from; why = why })
 
 -- bytes of the stream came
 pub record ComesMore (old new : IncomingView) : Type 0 where
@@ -65,6 +76,21 @@ EndsPieces Crowded i = ⊥
 
 abbrev pub EndsFirst : ClosedWhy → IncomingView → Type 0
 EndsFirst why i = EndsPieces why i
+
+-- it is over for a reason that its bytes show, or as it was
+abbrev pub EndsOrStays : Option ClosedWhy → Option ClosedWhy → IncomingView → Type 0
+EndsOrStays old new i = (new ≡ old) ⊎ ((why : ClosedWhy) × (new ≡ ended why old) × EndsPieces why i)
+
+-- if more may be at hand, it is not over
+abbrev pub MayEnd : Bool → Option ClosedWhy → Option ClosedWhy → IncomingView → Type 0
+MayEnd true old new i = new ≡ old
+MayEnd false old new i = EndsOrStays old new i
+
+-- nor if its first frame was given
+abbrev pub FirstMayEnd : First → Option ClosedWhy → Option ClosedWhy → IncomingView → Type 0
+FirstMayEnd Given old new i = new ≡ old
+FirstMayEnd More old new i = new ≡ old
+FirstMayEnd Waits old new i = EndsOrStays old new i
 
 -- bytes of the stream came, and the packet of the frame in front of all that were there was given
 pub record FirstOne {T : Type 0} (delivers : T → ℕ → List ℕ → Bool → T → Type 0) (before : T) (c : Counts)

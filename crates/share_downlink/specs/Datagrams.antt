@@ -1,10 +1,9 @@
 -- Frames that come as datagrams.
-use Rattle.std.specs.Prelude.{◌≡◌, ◌⊎◌, ℕ, ◌+◌, Bool, List, drop, length}
+use Rattle.std.specs.Prelude.{◌≡◌, ◌⊎◌, ℕ, ◌+◌, Bool, List, length}
 use Rattle.share_base.specs.declared.version.Version.TheVariants.{Two}
 use Rattle.share_gateway.specs.Frames.{Framed}
 use Rattle.share_model.specs.link.Frame.{FitsFrame, frame}
 use Rattle.share_downlink.specs.Given.{capped, counted, no_counts}
-use Rattle.share_downlink.specs.declared.counts.Counts.{Counts}
 use Rattle.share_downlink.specs.declared.datagrams.Tally.{Tally}
 
 abbrev pub no_tally : Tally

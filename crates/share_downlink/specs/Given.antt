@@ -36,6 +36,13 @@ pub data Gives {T : Type 0} (delivers : T → ℕ → List ℕ → Bool → T �
       → delivers before f.packet.flow f.packet.payload is_known after
       → Gives delivers first counts (packets ++ f ∷ []) after (counted is_known (frame_size f.packet.payload) c)
 
+-- packets were given, each that of a frame
+pub record GivesFrames {T : Type 0} (delivers : T → ℕ → List ℕ → Bool → T → Type 0) (before : T) (c : Counts)
+    (after : T) (d : Counts) : Type 0 where
+  pub packets : List Framed
+  pub good : Each (λ (f : Framed). FitsFrame Two f.tariff f.packet) packets
+  pub given : Gives delivers before c packets after d
+
 -- where in a stream the bytes after these frames begin, if the first of them begins there
 abbrev pub offset_after : ℕ → List Framed → ℕ
 offset_after offset [] = offset

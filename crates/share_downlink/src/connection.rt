@@ -1,8 +1,9 @@
 //! One connection on which the frames of another gateway come in.
-ghost use Rattle.std.specs.Prelude.{◌≡◌, ◌≢◌, ◌≤◌, ◌<◌, [], None, Some, IfOk, IfErr, MatchResult, length};
+ghost use Rattle.std.specs.Prelude.{◌≡◌, ◌≢◌, ◌≤◌, ◌<◌, [], true, false, None, Some, IfOk, IfErr, MatchResult, length};
 ghost use Rattle.share_base.specs.declared.version.Version.TheVariants.{Two};
 ghost use Rattle.share_model.specs.run.History.{IsBeginning};
-ghost use Rattle.share_downlink.specs.Connection.{EndsFirst, EndsPieces, FirstGives, IsEndOf, PiecesGive, Reads};
+ghost use Rattle.share_downlink.specs.Connection.{EndsFirst, EndsPieces, FirstGives, FirstMayEnd, IsEndOf, MayEnd};
+ghost use Rattle.share_downlink.specs.Connection.{PiecesGive, Reads, closed_of, ended};
 
 use crate::counts::Counts;
 use crate::deliver::Deliver;
@@ -60,7 +61,6 @@ pub(crate) enum First {
 }
 
 /// A connection of another gateway.
-#[derive(Drop)]
 pub(crate) struct Connection {
     stream: Stream,
     incoming: Incoming,
@@ -71,6 +71,21 @@ pub(crate) struct Connection {
     is_readable: bool,
     // Why nothing more is taken of it, if so.
     over: Option<ClosedWhy>,
+}
+
+impl Drop for Connection {
+    fn drop(self) {
+        let Connection {
+            stream,
+            incoming,
+            token: _,
+            from: _,
+            is_readable: _,
+            over: _,
+        } = self;
+        drop(stream);
+        drop(incoming);
+    }
 }
 
 impl Connection {
@@ -95,12 +110,16 @@ impl Connection {
     }
 
     /// The token that its events carry.
-    pub(crate) fn token(&self) -> usize {
+    pub(crate) fn token(&self) -> usize
+        ensures { result ≡ self.now.token }
+    {
         self.token
     }
 
     /// The address that it came from.
-    pub(crate) fn from(&self) -> SocketAddr {
+    pub(crate) fn from(&self) -> SocketAddr
+        ensures { result ≡ self.now.from }
+    {
         self.from
     }
 
@@ -121,8 +140,7 @@ impl Connection {
 
     /// Nothing more is taken of it, for this reason, unless there was one before.
     pub(crate) fn end(&mut self, why: ClosedWhy)
-        ensures over { self.new.over ≢ None }
-        ensures same { self.new ≡ record self.old { over = self.new.over } }
+        ensures { self.new ≡ record self.old { over = ended why self.old.over } }
     {
         if self.over.is_none() {
             self.over = Some(why);
@@ -130,7 +148,9 @@ impl Connection {
     }
 
     /// What is reported of it once it is closed, if it is over.
-    pub(crate) fn closed(&self) -> Option<ClosedConnection> {
+    pub(crate) fn closed(&self) -> Option<ClosedConnection>
+        ensures { result ≡ closed_of self.now.token self.now.from self.now.over }
+    {
         let why = self.over?;
         Some(ClosedConnection {
             token: self.token,
@@ -142,7 +162,8 @@ impl Connection {
     /// Reads pieces and gives the packets of their frames. Returns whether more may be at hand. It is over if nothing
     /// more comes of it.
     pub(crate) fn give<D: Deliver>(&mut self, counts: &mut Counts, taker: &mut D) -> bool
-        ensures { PiecesGive D.delivers taker.old counts.old self.old.incoming taker.new counts.new
+        ensures over { MayEnd result self.old.over self.new.over self.new.incoming }
+        ensures given { PiecesGive D.delivers taker.old counts.old self.old.incoming taker.new counts.new
             self.new.incoming }
     {
         match self.give_pieces(counts, taker) {
@@ -177,7 +198,8 @@ impl Connection {
 
     /// Reads until the first frame is whole, and gives its packet. It is over if nothing more comes of it.
     pub(crate) fn give_first<D: Deliver>(&mut self, counts: &mut Counts, taker: &mut D) -> First
-        ensures { FirstGives D.delivers taker.old counts.old self.old.incoming result taker.new counts.new
+        ensures over { FirstMayEnd result self.old.over self.new.over self.new.incoming }
+        ensures given { FirstGives D.delivers taker.old counts.old self.old.incoming result taker.new counts.new
             self.new.incoming }
     {
         match self.read_first(counts, taker) {

@@ -1,5 +1,5 @@
 //! Frames that come as datagrams.
-ghost use Rattle.std.specs.Prelude.{◌≡◌, true, None, IfSome};
+ghost use Rattle.std.specs.Prelude.{◌≡◌, ◌≤◌, true, length, None, IfSome};
 ghost use Rattle.share_downlink.specs.Datagrams.{GivesDatagram, IsFrameTo, IsNoFrame, TakesDatagrams};
 ghost use Rattle.share_downlink.specs.Datagrams.{dropped_one, no_tally};
 
@@ -59,6 +59,7 @@ impl Tally {
 // The number of the flow, if bytes are exactly one frame.
 fn whole_frame(bytes: &[u8]) -> Option<FlowNo>
     ensures frame { IfSome result (λ flow. IsFrameTo flow bytes.now) }
+    ensures long { IfSome result (λ _. HEADER2 ≤ length bytes.now) }
     ensures other { result ≡ None → IsNoFrame bytes.now }
 {
     match read_frame2(bytes) {
@@ -74,7 +75,6 @@ fn whole_frame(bytes: &[u8]) -> Option<FlowNo>
 }
 
 /// A socket on which the frames of another gateway come in, each as a datagram. A contract sees what it counts.
-#[derive(Drop)]
 pub struct Datagrams {
     socket: PacketSocket,
     // The address from which alone datagrams are taken, if they are limited.
@@ -82,6 +82,18 @@ pub struct Datagrams {
     tally: Tally,
     // Whether the socket may have datagrams.
     is_readable: bool,
+}
+
+impl Drop for Datagrams {
+    fn drop(self) {
+        let Datagrams {
+            socket,
+            from: _,
+            tally: _,
+            is_readable: _,
+        } = self;
+        drop(socket);
+    }
 }
 
 impl Model for Datagrams {

@@ -1,4 +1,6 @@
 //! The connections of a downlink.
+ghost use Rattle.std.specs.Prelude.{◌≡◌, IfOk};
+ghost use Rattle.share_downlink.specs.Given.{GivesFrames, no_counts};
 
 use crate::connection::{ClosedConnection, ClosedWhy, Connection, First};
 use crate::counts::Counts;
@@ -6,6 +8,7 @@ use crate::deliver::Deliver;
 use share_base::Refusal;
 use share_sockets::Stream;
 use std::alloc::Global;
+use std::marker::Model;
 use std::net::SocketAddr;
 
 /// How many connections wait for their first frame at most.
@@ -13,7 +16,7 @@ pub const MAX_WAITING: usize = 16;
 
 /// The connections of a downlink, the oldest first. The first one is the current one, and gives its packets. If the
 /// first frame of another one is whole, that one becomes the current one: all that are older are over.
-#[derive(Drop)]
+/// A contract sees what it counts.
 pub struct Downlink {
     connections: Vec<Connection>,
     counts: Counts,
@@ -21,9 +24,30 @@ pub struct Downlink {
     may_be_over: bool,
 }
 
+impl Drop for Downlink {
+    fn drop(self) {
+        let Downlink {
+            connections,
+            counts: _,
+            may_be_over: _,
+        } = self;
+        drop(connections);
+    }
+}
+
+impl Model for Downlink {
+    ghost use Rattle.share_downlink.specs.declared.counts.Counts.{Counts};
+
+    ghost Value = { Counts };
+
+    ghost view = { λ d. d.counts };
+}
+
 impl Downlink {
     /// No connections. `NoMemory` if memory is refused.
-    pub fn new(alloc: Global) -> Result<Downlink, Refusal> {
+    pub fn new(alloc: Global) -> Result<Downlink, Refusal>
+        ensures { IfOk result (λ d. d ≡ no_counts) }
+    {
         match Vec::with_capacity(alloc, MAX_WAITING + 2) {
             Err(_) => Err(Refusal::NoMemory),
             Ok(connections) => Ok(Downlink {
@@ -35,7 +59,9 @@ impl Downlink {
     }
 
     /// What is counted of the frames that came.
-    pub fn counts(&self) -> Counts {
+    pub fn counts(&self) -> Counts
+        ensures { result ≡ self.now }
+    {
         self.counts
     }
 
@@ -59,7 +85,9 @@ impl Downlink {
 
     /// Adds a connection that comes from an address, whose events carry this token. If too many wait for their first
     /// frame then, the one that waits for longest is over. Returns false without memory for it, and then it is closed.
-    pub fn admit(&mut self, alloc: Global, stream: Stream, from: SocketAddr, token: usize) -> bool {
+    pub fn admit(&mut self, alloc: Global, stream: Stream, from: SocketAddr, token: usize) -> bool
+        ensures { self.new ≡ self.old }
+    {
         let Ok(connection) = Connection::new(alloc, stream, from, token) else {
             return false;
         };
@@ -71,7 +99,9 @@ impl Downlink {
     }
 
     // Ends the connection that waits for longest, if too many wait.
-    fn end_crowded(&mut self) {
+    fn end_crowded(&mut self)
+        ensures { self.new ≡ self.old }
+    {
         if self.waiting() <= MAX_WAITING {
             return;
         }
@@ -92,7 +122,9 @@ impl Downlink {
     }
 
     // Ends the first connection from this index on that is not over.
-    fn end_next(&mut self, from: usize) {
+    fn end_next(&mut self, from: usize)
+        ensures { self.new ≡ self.old }
+    {
         'connections: for index in from..self.connections.len() {
             let Some(connection) = self.connections.get_mut(index) else {
                 return;
@@ -107,7 +139,9 @@ impl Downlink {
     }
 
     /// The socket of the connection with this token was reported ready.
-    pub fn note(&mut self, token: usize) {
+    pub fn note(&mut self, token: usize)
+        ensures { self.new ≡ self.old }
+    {
         for index in 0..self.connections.len() {
             if let Some(connection) = self.connections.get_mut(index) {
                 if connection.token() == token {
@@ -119,7 +153,9 @@ impl Downlink {
 
     /// Reads a bounded number of pieces of each connection, the oldest first, and gives the packets of their frames.
     /// Nothing is given of a connection once a newer one is the current one. Returns whether more may be at hand.
-    pub fn take<D: Deliver>(&mut self, taker: &mut D) -> bool {
+    pub fn take<D: Deliver>(&mut self, taker: &mut D) -> bool
+        ensures { GivesFrames D.delivers taker.old self.old taker.new self.new }
+    {
         let mut is_more = false;
         for index in 0..self.connections.len() {
             is_more |= self.serve(index, taker);
@@ -128,7 +164,9 @@ impl Downlink {
     }
 
     // Serves the connection of an index, if it is not over. Returns whether more of it may be at hand.
-    fn serve<D: Deliver>(&mut self, index: usize, taker: &mut D) -> bool {
+    fn serve<D: Deliver>(&mut self, index: usize, taker: &mut D) -> bool
+        ensures { GivesFrames D.delivers taker.old self.old taker.new self.new }
+    {
         if self.current() == Some(index) {
             return self.give(index, taker);
         }
@@ -143,7 +181,9 @@ impl Downlink {
     }
 
     // Gives the packets of a connection. Returns whether more may be at hand.
-    fn give<D: Deliver>(&mut self, index: usize, taker: &mut D) -> bool {
+    fn give<D: Deliver>(&mut self, index: usize, taker: &mut D) -> bool
+        ensures { GivesFrames D.delivers taker.old self.old taker.new self.new }
+    {
         let Some(connection) = self.connections.get_mut(index) else {
             return false;
         };
@@ -153,7 +193,9 @@ impl Downlink {
     }
 
     // Gives the first packet of a connection that is not over.
-    fn give_first<D: Deliver>(&mut self, index: usize, taker: &mut D) -> First {
+    fn give_first<D: Deliver>(&mut self, index: usize, taker: &mut D) -> First
+        ensures { GivesFrames D.delivers taker.old self.old taker.new self.new }
+    {
         let Some(connection) = self.connections.get_mut(index) else {
             return First::Waits;
         };
@@ -166,7 +208,9 @@ impl Downlink {
     }
 
     // Ends all connections before this index.
-    fn replace_before(&mut self, index: usize) {
+    fn replace_before(&mut self, index: usize)
+        ensures { self.new ≡ self.old }
+    {
         for older in 0..index {
             if let Some(connection) = self.connections.get_mut(older) {
                 connection.end(ClosedWhy::Replaced);
@@ -176,7 +220,9 @@ impl Downlink {
     }
 
     /// Closes a connection that is over, and says which it was and why. `None` if no connection is over.
-    pub fn close_over(&mut self) -> Option<ClosedConnection> {
+    pub fn close_over(&mut self) -> Option<ClosedConnection>
+        ensures { self.new ≡ self.old }
+    {
         if !self.may_be_over {
             return None;
         }

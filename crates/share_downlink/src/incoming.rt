@@ -99,7 +99,7 @@ impl Incoming {
         ensures more { result ≡ None → IsBeginning Two self.new.bytes }
         ensures bad { IfSome result (λ place. IsFirstBad Two place self.new.bytes) }
     {
-        loop {
+        'frames: loop {
             match self.give_first(counts, taker) {
                 FrameCut::Frame { .. } => (),
                 FrameCut::More => return None,

@@ -1,5 +1,5 @@
 //! The text of the metrics of a status.
-ghost use Rattle.std.specs.Prelude.{◌≡◌, ◌++◌, IfOk, OnOk};
+ghost use Rattle.std.specs.Prelude.{◌≡◌, ◌++◌, IfOk, OnOk, flat_map};
 ghost use Rattle.share_metrics.specs.Metrics.{closing, family_head, family_suffix, gateway_family, gateway_text};
 ghost use Rattle.share_metrics.specs.Metrics.{kind_of, metrics_text, number_line, sample_suffix, samples_text};
 ghost use Rattle.share_metrics.specs.Metrics.{tenant_family, tenant_sample, tenants_text};
@@ -47,7 +47,18 @@ fn push_gateway(
 ) -> Result<(), AllocError>
     ensures { OnOk result (text.new.items ≡ text.old.items ++ gateway_text exposition status.now) }
 {
-    let families = GATEWAY_FAMILIES;
+    push_gateway_families(text, exposition, &GATEWAY_FAMILIES, status)
+}
+
+fn push_gateway_families(
+    text: &mut Vec<u8>,
+    exposition: Exposition,
+    families: &[GatewayFamily],
+    status: &Status<'_>,
+) -> Result<(), AllocError>
+    ensures { OnOk result
+        (text.new.items ≡ text.old.items ++ flat_map (gateway_family exposition status.now) families.now) }
+{
     'families: for index in 0..families.len() {
         push_gateway_family(text, exposition, families[index], status)?;
     }
@@ -89,7 +100,18 @@ fn push_tenants(
 ) -> Result<(), AllocError>
     ensures { OnOk result (text.new.items ≡ text.old.items ++ tenants_text exposition tenants.now) }
 {
-    let families = TENANT_FAMILIES;
+    push_tenant_families(text, exposition, &TENANT_FAMILIES, tenants)
+}
+
+fn push_tenant_families(
+    text: &mut Vec<u8>,
+    exposition: Exposition,
+    families: &[TenantFamily],
+    tenants: &[TenantStatus<'_>],
+) -> Result<(), AllocError>
+    ensures { OnOk result
+        (text.new.items ≡ text.old.items ++ flat_map (tenant_family exposition tenants.now) families.now) }
+{
     'families: for index in 0..families.len() {
         push_tenant_family(text, exposition, families[index], tenants)?;
     }

@@ -1,15 +1,13 @@
 -- Heads of the grammar, and what they ask for.
-use Rattle.std.proofs.Common.{◌≡◌, ℕ, ◌<◌, ◌⊎◌, List, [], ◌++◌, length, map, drop, ap, sym, ◌∙◌, inl, inr, absurd}
+use Rattle.std.proofs.Common.{◌≡◌, ℕ, List, map, drop, ap, sym, ◌∙◌, inl}
 use Rattle.std.specs.Prelude.{Some, option_copied}
-use Rattle.httparse.proofs.GrammarLemmas.{request_unique, ReadsRequest-append}
+use Rattle.httparse.proofs.GrammarLemmas.{request_unique}
 use Rattle.httparse.specs.Borrowed.{HoldsSomeRequest, header_parts}
-use Rattle.httparse.specs.Grammar.{HasNoRequest, NeverHasRequest, ReadsRequest, RequestHead}
-use Rattle.httparse.specs.Spans.{RequestOverflows, name_and_value}
+use Rattle.httparse.specs.Grammar.{ReadsRequest, RequestHead}
 use Rattle.httparse.specs.declared.borrowed.Request.{Request as Parsed}
 use Rattle.share_web.specs.Fields.{Fields}
-use Rattle.share_web.specs.Requests.{AsksBy, IsUnread, request_by, request_of, refused}
+use Rattle.share_web.specs.Requests.{AsksBy, request_by, request_of}
 use Rattle.share_web.specs.declared.request.Request.{Request}
-use Rattle.share_web.specs.declared.target.Refusal.TheVariants.{HeadTooLarge}
 
 -- the answer to what was read is made of these parts
 abbrev pub AnswersParts : List ℕ → Parsed → Request → Type 0
@@ -25,21 +23,3 @@ read_asks head address len r asked held by h rest reads =
     inl (by k.method k.target held.1.method held.1.path
     ∙ ap (λ (fields : Fields). request_by address k.method k.target fields) held.1.fields
     ∙ ap (λ (g : RequestHead). request_of address g) (sym same))
-
-pub held_is_read : (head : List ℕ) (len : ℕ) (r : Parsed) (asked : Request) → HoldsSomeRequest head r len
-    → HasNoRequest head → IsUnread head asked
-held_is_read head len r asked held none = absurd (none held.0 (drop len head) held.1.reads)
-
-pub overflowing : (head address : List ℕ) (asked : Request) → RequestOverflows 64 head → asked ≡ refused HeadTooLarge
-    → (h : RequestHead) (rest : List ℕ) → ReadsRequest head h rest → AsksBy address h asked
-overflowing head address asked over is h rest reads =
-    inr (over [] h (rest ++ []) (ReadsRequest-append head h rest [] reads), is)
-
-pub never_reads : (head address : List ℕ) (asked : Request) → NeverHasRequest head
-    → (h : RequestHead) (rest : List ℕ) → ReadsRequest head h rest → AsksBy address h asked
-never_reads head address asked never h rest reads =
-    absurd (never [] h (rest ++ []) (ReadsRequest-append head h rest [] reads))
-
-pub not_reads : (head address : List ℕ) (asked : Request) → HasNoRequest head
-    → (h : RequestHead) (rest : List ℕ) → ReadsRequest head h rest → AsksBy address h asked
-not_reads head address asked none h rest reads = absurd (none h rest reads)

@@ -1,5 +1,5 @@
 //! The head of a request, as its bytes come.
-ghost use Rattle.std.specs.Prelude.{◌≡◌, [], IfOk, OnOk};
+ghost use Rattle.std.specs.Prelude.{◌≡◌, ℕ, [], OnErr, OnOk, take};
 ghost use Rattle.share_web.specs.Heads.{is_ended, is_over, taken, with_byte};
 
 use std::alloc::{AllocError, Global};
@@ -32,9 +32,11 @@ impl Head {
         }
     }
 
-    /// Takes the bytes that came, up to the end of the head. The others are left out.
+    /// Takes the bytes that came, up to the end of the head. The others are left out. If memory is refused, the first
+    /// of them have been taken.
     pub fn take(&mut self, piece: &[u8]) -> Result<(), AllocError>
-        ensures { OnOk result (self.new ≡ taken self.old piece.now) }
+        ensures ok { OnOk result (self.new ≡ taken self.old piece.now) }
+        ensures front { OnErr result ((count : ℕ) × (self.new ≡ taken self.old (take count piece.now))) }
     {
         'bytes: for index in 0..piece.len() {
             self.add(piece[index])?;
@@ -42,9 +44,10 @@ impl Head {
         Ok(())
     }
 
-    // Takes a byte, unless the head is over.
+    // Takes a byte, unless the head is over or memory is refused.
     fn add(&mut self, byte: u8) -> Result<(), AllocError>
-        ensures { OnOk result (self.new ≡ with_byte self.old byte) }
+        ensures ok { OnOk result (self.new ≡ with_byte self.old byte) }
+        ensures kept { OnErr result (self.new ≡ self.old) }
     {
         if self.is_over() {
             return Ok(());

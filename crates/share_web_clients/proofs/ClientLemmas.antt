@@ -1,12 +1,11 @@
 -- Bytes that come and go call by call.
-use Rattle.std.proofs.Common.{◌≡◌, ◌+◌, ◌⊎◌, ℕ, List, [], ◌++◌, Bool, true, false, drop, refl, sym, ap, ◌∙◌, inl, inr}
-use Rattle.std.proofs.Common.{absurd, arith}
+use Rattle.std.proofs.Common.{◌≡◌, ◌+◌, ◌⊎◌, ℕ, List, [], ◌++◌, true, false, drop, refl, sym, ap, ◌∙◌, inl, inr}
+use Rattle.std.proofs.Common.{arith}
 use Rattle.std.proofs.lemmas.List.{drop-drop, drop_all}
 use Rattle.share_web.proofs.HeadLemmas.{taken-append, taken-nothing, taken-over}
 use Rattle.share_web.specs.Heads.{is_over, taken}
 use Rattle.share_web_clients.specs.Clients.{Asks, ClientView, Closes, Reads, Sends, is_answering, is_open}
-use Rattle.share_web_clients.specs.declared.client.Stage.{Stage}
-use Rattle.share_web_clients.specs.declared.client.Stage.TheVariants.{Reading, Asked, Answering, Closing, Over}
+use Rattle.share_web_clients.specs.declared.client.Stage.TheVariants.{Over}
 
 -- ---- Bytes that come
 
@@ -25,6 +24,9 @@ reads_no_byte c d same stage =
     ends : (d.stage ≡ c.stage) ⊎ (d.stage ≡ Over) → (d.stage ≡ c.stage) ⊎ ((d.stage ≡ Over) ⊎ Asks c d)
     ends (inl e) = inl e
     ends (inr e) = inr (inl e)
+
+pub reads_nothing : (c : ClientView) → Reads c c
+reads_nothing c = reads_no_byte c c refl (inl refl)
 
 stage_more : (a b c : ClientView) → Reads b c → (b.stage ≡ a.stage) ⊎ ((b.stage ≡ Over) ⊎ Asks a b)
     → (c.stage ≡ b.stage) ⊎ ((c.stage ≡ Over) ⊎ Asks b c)

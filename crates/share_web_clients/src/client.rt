@@ -38,7 +38,6 @@ pub enum Stage {
 
 /// A connection, which asks for one thing. A contract sees how far it has come, its head, what is left of its answer,
 /// and what its socket may be ready for.
-#[derive(Drop)]
 pub struct WebClient {
     stream: Stream,
     head: Head,
@@ -51,6 +50,25 @@ pub struct WebClient {
     stage: Stage,
     is_readable: bool,
     is_writable: bool,
+}
+
+impl Drop for WebClient {
+    fn drop(self) {
+        let WebClient {
+            stream,
+            head,
+            answer,
+            sent: _,
+            token: _,
+            begun: _,
+            stage: _,
+            is_readable: _,
+            is_writable: _,
+        } = self;
+        drop(stream);
+        drop(head);
+        drop(answer);
+    }
 }
 
 impl Model for WebClient {
@@ -188,10 +206,13 @@ impl WebClient {
         if !self.stage.is_open() {
             return;
         }
-        if self.head.take(piece).is_err() {
-            self.stage = Stage::Over;
-        } else if self.head.is_over() {
-            self.stage = Stage::Asked;
+        match self.head.take(piece) {
+            Err(_) => self.stage = Stage::Over,
+            Ok(()) => {
+                if self.head.is_over() {
+                    self.stage = Stage::Asked;
+                }
+            }
         }
     }
 

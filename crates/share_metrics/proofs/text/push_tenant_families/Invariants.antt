@@ -1,7 +1,7 @@
 use Rattle.std.proofs.Common.{◌≡◌, ◌++◌, take}
 use Rattle.std.specs.Prelude.{flat_map}
 use Rattle.share_metrics.specs.Metrics.{tenant_family}
-use Rattle.share_metrics.proofs.text.push_tenants.Given as goal
+use Rattle.share_metrics.proofs.text.push_tenant_families.Given as goal
 
 abbrev pub invariant-families : goal.invariant-families
 invariant-families l =

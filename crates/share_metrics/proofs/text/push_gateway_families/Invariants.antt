@@ -1,7 +1,7 @@
 use Rattle.std.proofs.Common.{◌≡◌, ◌++◌, take}
 use Rattle.std.specs.Prelude.{flat_map}
 use Rattle.share_metrics.specs.Metrics.{gateway_family}
-use Rattle.share_metrics.proofs.text.push_gateway.Given as goal
+use Rattle.share_metrics.proofs.text.push_gateway_families.Given as goal
 
 abbrev pub invariant-families : goal.invariant-families
 invariant-families l =

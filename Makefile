@@ -39,6 +39,7 @@ examples/datagrams.py
 examples/downlink.py
 examples/ask.py
 examples/web.py
+examples/hostile_gateway.py all_at_once
 STRIDELINK=bin/stridelink-script examples/bill.py
 examples/books.py
 endef
@@ -80,7 +81,7 @@ demo:
 
 check:
 	@echo 'proving what changed since the last check, then tests and examples: an hour where nothing is kept' >&2
-	RT_SECONDS=120 rt all test
+	RT_SECONDS=120 .ci/rt all test
 	$(examples)
 
 build: bin/stridelink bin/stridelink-script bin/stridelink-link
@@ -108,7 +109,7 @@ test:
 	@echo 'the gate: every proof from nothing, the edits that must fail, the tests and the program; more than an hour' >&2
 	.ci/layers
 	.ci/kit
-	.ci/costs record rt ci
+	.ci/costs record .ci/rt ci
 	.ci/costs record --more .ci/edits --named --built
 	.ci/memory
 	.ci/places
@@ -133,6 +134,7 @@ soak: build gateway
 	python3 bench/shares.py
 	python3 bench/gateway_shares.py
 	python3 bench/gateway_soak.py
+	examples/hostile_gateway.py
 	python3 bench/tunnel.py
 
 fuzz: build

@@ -664,9 +664,10 @@ def rotations_without_a_pause(run):
     expect_equal(sum(far.samples[-1][1].values()), billed, "bytes that came")
 
 
-def floods(run, gateway, lengths="700"):
-    """Lets each tenant flood by a program of its own: from which time on."""
-    flooding = [run.keep(Flood(tenant.ports[0], [f"{name}:{lengths}"])) for name, tenant in gateway.tenants.items()]
+def floods(run, gateway, lengths="700", names=None):
+    """Lets each tenant, or those with these names, flood by a program of its own: from which time on."""
+    ports = {name: gateway.tenants[name].ports[0] for name in names or gateway.tenants}
+    flooding = [run.keep(Flood(port, [f"{name}:{lengths}"])) for name, port in ports.items()]
     began = time.monotonic() + measured.TOGETHER
     for flood in flooding:
         flood.say(f"go {began}")

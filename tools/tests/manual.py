@@ -146,6 +146,7 @@ def fault_texts(text):
     """The texts of faults in a source, with the names that the page has in their places."""
     found = re.findall(r'#\[error\("(.*?)"\)\]', text) + re.findall(r'write!\(\s*f,\s*"(\w.*?)"', text)
     found += re.findall(r'&str = "(cannot .*?)"', text) + re.findall(r'write_str\("(.*?) ?"\)', text)
+    found += re.findall(r'=> "(cannot .*?) ?"', text)
     return {re.sub(r"\{(\w+)\}", lambda put: PLACES.get(put.group(1), put.group(0)), each) for each in found}
 
 
@@ -153,7 +154,7 @@ def gateway_faults(run):
     """Each fault text of a gateway's program stands among the diagnostics."""
     texts = set()
     for path in (("gateway", "faults.rt"), ("gateway", "asking.rt"), ("gateway", "texts.rt"),
-                 ("share_asking", "talk.rt"), ("share_reactor", "faults.rt")):
+                 ("share_asking", "talk.rt"), ("share_news", "faults.rt")):
         texts |= fault_texts(source(*path))
     wanted = [text for text in texts if "{" not in text and text != "LINE" and not re.match(r"(unix|udp|fd)", text)]
     expect_all(sorted(wanted), 10, section(page(GATEWAY_PAGE), "DIAGNOSTICS"), "faults of a gateway")
@@ -194,8 +195,9 @@ def settings(run):
     tables = re.findall(r"Place::(\w+)[^\n]*? => &\[(.*?)\]", keys, re.DOTALL)
     known = {(place, spelled[key]) for place, names in tables for key in re.findall(r"Key::(\w+)", names)
              if place != "File"}
-    titles = {"Uplink": "uplink", "Books": "books", "Control": "control", "Downlink": "downlink", "Tariff": "tariff",
-              "Currency": "currency", "Tenant": "tenant", "CurrencyTicket": "Tickets", "TenantTicket": "Tickets"}
+    titles = {"Uplink": "uplink", "Books": "books", "Control": "control", "Downlink": "downlink", "Web": "web",
+              "Tariff": "tariff", "Currency": "currency", "Tenant": "tenant", "CurrencyTicket": "Tickets",
+              "TenantTicket": "Tickets"}
     for place, key in sorted(known):
         paragraph(subsection(text, titles[place]), key)
     rows = table_of_settings()

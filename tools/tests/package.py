@@ -301,7 +301,7 @@ def units(run):
 def documents(run):
     """The pages for operators are in the package, as they are here."""
     for name in ("README.md", "SECURITY.md", "docs/RUNNING.md", "docs/SERVING.md", "docs/GATEWAY.md",
-                 "docs/CONFIGURATION.md", "docs/SPECIFICATION.md"):
+                 "docs/CONFIGURATION.md", "docs/TUNNEL.md", "docs/SPECIFICATION.md"):
         path = "/usr/share/doc/stridelink/" + os.path.basename(name)
         shown = installed().tell("sh", "-c", 'cat "$1" 2> /dev/null || zcat "$1.gz"', "sh", path)
         expect_equal(shown, text(os.path.join(TOP, name)), name)

@@ -16,6 +16,7 @@ use Rattle.share_downlink.specs.declared.connection.ClosedWhy.TheVariants.{
   Replaced,
   Crowded,
 }
+use Rattle.share_downlink.specs.declared.connection.Connection.{Connection}
 use Rattle.share_downlink.specs.declared.connection.First.{First}
 use Rattle.share_downlink.specs.declared.connection.First.TheVariants.{Given, Waits, More}
 use Rattle.share_downlink.specs.declared.counts.Counts.{Counts}
@@ -77,20 +78,28 @@ EndsPieces Crowded i = ⊥
 abbrev pub EndsFirst : ClosedWhy → IncomingView → Type 0
 EndsFirst why i = EndsPieces why i
 
--- it is over for a reason that its bytes show, or as it was
-abbrev pub EndsOrStays : Option ClosedWhy → Option ClosedWhy → IncomingView → Type 0
-EndsOrStays old new i = (new ≡ old) ⊎ ((why : ClosedWhy) × (new ≡ ended why old) × EndsPieces why i)
+-- its socket has no more bytes, or it is over for a reason that its bytes show
+abbrev pub EndsOrWaits : Option ClosedWhy → Connection → Type 0
+EndsOrWaits old c =
+    ((c.over ≡ old) × (c.is_readable ≡ false))
+    ⊎ ((why : ClosedWhy) × (c.over ≡ ended why old) × EndsPieces why c.incoming)
 
--- if more may be at hand, it is not over
-abbrev pub MayEnd : Bool → Option ClosedWhy → Option ClosedWhy → IncomingView → Type 0
-MayEnd true old new i = new ≡ old
-MayEnd false old new i = EndsOrStays old new i
+-- more may be at hand if its socket may have bytes and it is not over
+abbrev pub MayEnd : Bool → Option ClosedWhy → Connection → Type 0
+MayEnd true old c = (c.over ≡ old) × (c.is_readable ≡ true)
+MayEnd false old c = EndsOrWaits old c
 
--- nor if its first frame was given
-abbrev pub FirstMayEnd : First → Option ClosedWhy → Option ClosedWhy → IncomingView → Type 0
-FirstMayEnd Given old new i = new ≡ old
-FirstMayEnd More old new i = new ≡ old
-FirstMayEnd Waits old new i = EndsOrStays old new i
+-- whether its socket may have bytes, if its first frame is not whole
+abbrev pub IsReadyAfter : First → Bool → Type 0
+IsReadyAfter Given is_readable = Unit {0}
+IsReadyAfter Waits is_readable = is_readable ≡ false
+IsReadyAfter More is_readable = is_readable ≡ true
+
+-- the same while it waits for its first frame
+abbrev pub FirstMayEnd : First → Option ClosedWhy → Connection → Type 0
+FirstMayEnd Given old c = c.over ≡ old
+FirstMayEnd More old c = (c.over ≡ old) × (c.is_readable ≡ true)
+FirstMayEnd Waits old c = EndsOrWaits old c
 
 -- bytes of the stream came, and the packet of the frame in front of all that were there was given
 pub record FirstOne {T : Type 0} (delivers : T → ℕ → List ℕ → Bool → T → Type 0) (before : T) (c : Counts)

@@ -2,8 +2,8 @@
 ghost use Rattle.std.specs.Prelude.{◌≡◌, ◌≢◌, ◌≤◌, ◌<◌, [], true, false, None, Some, IfOk, IfErr, MatchResult, length};
 ghost use Rattle.share_base.specs.declared.version.Version.TheVariants.{Two};
 ghost use Rattle.share_model.specs.run.History.{IsBeginning};
-ghost use Rattle.share_downlink.specs.Connection.{EndsFirst, EndsPieces, FirstGives, FirstMayEnd, IsEndOf, MayEnd};
-ghost use Rattle.share_downlink.specs.Connection.{PiecesGive, Reads, closed_of, ended};
+ghost use Rattle.share_downlink.specs.Connection.{EndsFirst, EndsPieces, FirstGives, FirstMayEnd, IsEndOf};
+ghost use Rattle.share_downlink.specs.Connection.{IsReadyAfter, MayEnd, PiecesGive, Reads, closed_of, ended};
 
 use crate::counts::Counts;
 use crate::deliver::Deliver;
@@ -162,7 +162,7 @@ impl Connection {
     /// Reads pieces and gives the packets of their frames. Returns whether more may be at hand. It is over if nothing
     /// more comes of it.
     pub(crate) fn give<D: Deliver>(&mut self, counts: &mut Counts, taker: &mut D) -> bool
-        ensures over { MayEnd result self.old.over self.new.over self.new.incoming }
+        ensures over { MayEnd result self.old.over self.new }
         ensures given { PiecesGive D.delivers taker.old counts.old self.old.incoming taker.new counts.new
             self.new.incoming }
     {
@@ -183,6 +183,7 @@ impl Connection {
         ensures given { PiecesGive D.delivers taker.old counts.old self.old.incoming taker.new counts.new
             self.new.incoming }
         ensures over { self.new.over ≡ self.old.over }
+        ensures ready { IfOk result (λ is_more. is_more ≡ self.new.is_readable) }
         ensures why { IfErr result (λ why. EndsPieces why self.new.incoming) }
     {
         'pieces: for _ in 0..PIECES {
@@ -198,7 +199,7 @@ impl Connection {
 
     /// Reads until the first frame is whole, and gives its packet. It is over if nothing more comes of it.
     pub(crate) fn give_first<D: Deliver>(&mut self, counts: &mut Counts, taker: &mut D) -> First
-        ensures over { FirstMayEnd result self.old.over self.new.over self.new.incoming }
+        ensures over { FirstMayEnd result self.old.over self.new }
         ensures given { FirstGives D.delivers taker.old counts.old self.old.incoming result taker.new counts.new
             self.new.incoming }
     {
@@ -222,6 +223,7 @@ impl Connection {
             (λ why. FirstGives D.delivers taker.old counts.old self.old.incoming First.Waits taker.new counts.new
             self.new.incoming) }
         ensures over { self.new.over ≡ self.old.over }
+        ensures ready { IfOk result (λ first. IsReadyAfter first self.new.is_readable) }
         ensures why { IfErr result (λ why. EndsFirst why self.new.incoming) }
     {
         'pieces: for _ in 0..PIECES_OF_FIRST {
@@ -251,6 +253,7 @@ impl Connection {
     fn read(&mut self) -> Result<bool, ClosedWhy>
         requires { IsBeginning Two self.old.incoming.bytes }
         ensures came { Reads self.old.incoming result self.new.incoming }
+        ensures ready { IfOk result (λ is_more. is_more ≡ self.new.is_readable) }
         ensures over { self.new.over ≡ self.old.over }
     {
         if !self.is_readable {

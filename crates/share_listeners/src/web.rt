@@ -48,11 +48,7 @@ impl Drop for Web {
 
 impl Web {
     /// No connections at a listener.
-    pub fn new(
-        alloc: Global,
-        listener: Listener,
-        address: SocketAddr,
-    ) -> Result<Web, AllocError> {
+    pub fn new(alloc: Global, listener: Listener, address: SocketAddr) -> Result<Web, AllocError> {
         let address = format!(in alloc; "{address}")?;
         Ok(Web {
             listener,

@@ -4,20 +4,20 @@ use crate::reactor::Reactor;
 use share_base::FlowNo;
 use share_book::Book;
 use share_gateway::Tenant;
-use share_rotation::Sent;
 use share_metrics::metrics_text;
+use share_rotation::Sent;
 use share_status::{
     DiskStatus, Status, TenantStatus, UplinkState as Shown, UplinkStatus, status_text,
 };
-use share_web::Exposition;
 use share_tariff::PlainShelf;
 use share_uplink::UplinkState;
+use share_web::Exposition;
 use std::alloc::{AllocError, Global};
 
 /// The version of the program, and what it is proved with.
 const VERSION: &str = "0.1.0";
 
-const PROVED: &str = "rattle-kit-13f logic dac8208d650f15bf";
+const PROVED: &str = "rattle-kit-13b logic dac8208d650f15bf";
 
 /// The form of a status.
 #[derive(Clone, Copy, Debug, PartialEq, Eq)]

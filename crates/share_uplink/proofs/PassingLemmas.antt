@@ -1,6 +1,6 @@
 -- What the wire takes, call by call.
 use Rattle.std.proofs.Common.{◌≡◌, ◌≤◌, ◌-◌, ℕ, Bool, true, false, if◌then◌else◌, Result, Ok, Err, IfOk, IfErr}
-use Rattle.std.proofs.Common.{List, [], ◌∷◌, ◌++◌, length, take, drop, arith, refl, sym, ap, ◌∙◌, subst}
+use Rattle.std.proofs.Common.{List, [], ◌∷◌, ◌++◌, length, take, drop, arith, refl, sym, subst}
 use Rattle.std.proofs.lemmas.Bool.Decides.{nat_tests}
 use Rattle.std.proofs.lemmas.List.{length-append, length-drop, length-take}
 use Rattle.std.specs.List.{concat}
@@ -9,7 +9,7 @@ use Rattle.share_gateway.specs.Outbox.{OutboxView, first_whole, goes_whole, read
 use Rattle.share_sockets.specs.declared.progress.Progress.{Progress}
 use Rattle.share_sockets.specs.declared.progress.Progress.TheVariants.{Moved, Again, Waits, Over}
 use Rattle.share_transit.specs.Transit.{TransitView}
-use Rattle.share_uplink.specs.Passing.{WireTakes, SendsFrames, SendsOne, frame, frame_out, no_frame, nothing, piece}
+use Rattle.share_uplink.specs.Passing.{WireTakes, SendsFrames, SendsOne, frame, no_frame, nothing, piece}
 
 -- one piece
 pub takes_piece : (t : TransitView) (n : ℕ) (new : TransitView) → n ≤ length (ready_of t.outbox)
@@ -32,9 +32,12 @@ whole_by : (b : Bool) (first others : List ℕ) (out allowed : ℕ)
 whole_by true first others out allowed fit =
     let none : out ≡ 0 = (fit refl).0 in
     let few : length first ≤ allowed = (fit refl).1 in
-    omega
-    (arith, length-take (allowed - out) (drop out (first ++ others)), length-drop out (first ++ others),
-    length-append first others)
+    omega (
+      arith,
+      length-take (allowed - out) (drop out (first ++ others)),
+      length-drop out (first ++ others),
+      length-append first others,
+    )
 whole_by false first others out allowed fit = omega arith
 
 whole_few : (frames : List (List ℕ)) (out allowed : ℕ)

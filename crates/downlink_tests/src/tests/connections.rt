@@ -1,6 +1,6 @@
 //! Connections that follow one another.
 
-use super::takers::{Taker, frame, same};
+use super::takers::{Taker, back, frame, front, same};
 use mio::net::UnixStream;
 use share_downlink::{ClosedWhy, Downlink, MAX_WAITING};
 use share_gateway::Field;
@@ -63,13 +63,13 @@ fn a_newer_connection_waits_for_its_first_frame(rt: HostRuntime) -> Result<(), F
 
     let mut new = connect(&rt, alloc, &mut downlink, 2)?;
     let first = frame(alloc, 3, 1, b"cc")?;
-    new.write_all(&first.as_slice()[..18])?;
+    new.write_all(front(first.as_slice(), 18))?;
     old.write_all(frame(alloc, 2, 2, b"bbb")?.as_slice())?;
     take(&mut downlink, &mut taker);
     same(&rt, "before a first frame", closed(&mut downlink), None);
     same(&rt, "two packets", taker.packets.len(), 2);
 
-    new.write_all(&first.as_slice()[18..])?;
+    new.write_all(back(first.as_slice(), 18))?;
     take(&mut downlink, &mut taker);
     old.write_all(frame(alloc, 1, 3, b"late")?.as_slice())?;
     take(&mut downlink, &mut taker);

@@ -1,6 +1,6 @@
 //! Frames that come as datagrams.
 
-use super::takers::{Taker, frame, same};
+use super::takers::{Taker, back, frame, front, same};
 use mio::net::UdpSocket;
 use mio::{Poll, Token};
 use share_downlink::{Datagrams, takes_address};
@@ -29,8 +29,8 @@ fn a_datagram_is_exactly_one_frame(rt: HostRuntime) -> Result<(), Fail> {
     let pieces = [
         first.as_slice(),
         two.as_slice(),
-        &first.as_slice()[..20],
-        &first.as_slice()[20..],
+        front(first.as_slice(), 20),
+        back(first.as_slice(), 20),
         b"".as_slice(),
         other.as_slice(),
     ];

@@ -42,10 +42,20 @@ pub(super) fn frame(
     payload: &[u8],
 ) -> Result<Vec<u8>, AllocError> {
     let mut bytes = Vec::with_capacity(alloc, HEADER2 + payload.len())?;
-    let header = header2(FlowNo(flow), seq, 1, payload.len() as u16);
+    let header = header2(FlowNo(flow), seq, 1, payload.len().min(9000) as u16);
     bytes.extend_from_slice(header.as_slice())?;
     bytes.extend_from_slice(payload)?;
     Ok(bytes)
+}
+
+/// The first bytes, so many if there are as many.
+pub(super) fn front(bytes: &[u8], count: usize) -> &[u8] {
+    &bytes[..count.min(bytes.len())]
+}
+
+/// The bytes after these.
+pub(super) fn back(bytes: &[u8], count: usize) -> &[u8] {
+    &bytes[count.min(bytes.len())..]
 }
 
 /// The row's value is the wanted one.

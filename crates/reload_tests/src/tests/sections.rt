@@ -62,12 +62,7 @@ const ROWS: [Row; 29] = [
         "[downlink]",
         DOWNLINK,
     ),
-    (
-        "",
-        "[web]\nlisten = \"127.0.0.1:9107\"\n",
-        "[web]",
-        WEB,
-    ),
+    ("", "[web]\nlisten = \"127.0.0.1:9107\"\n", "[web]", WEB),
     ("cell = 48", "cell = 1", "", ""),
     ("amount = 300", "amount = 301", "", ""),
     ("packets = 256", "packets = 1", "", ""),
@@ -92,12 +87,7 @@ const FAR_ROWS: [Row; 10] = [
     ("from = \"192.0.2.7\"", "", "[downlink]", DOWNLINK),
     ("127.0.0.1:9107", "127.0.0.1:9108", "[web]", WEB),
     ("127.0.0.1:9107", "[::1]:9107", "[web]", WEB),
-    (
-        "[web]\nlisten = \"127.0.0.1:9107\"\n",
-        "",
-        "[web]",
-        WEB,
-    ),
+    ("[web]\nlisten = \"127.0.0.1:9107\"\n", "", "[web]", WEB),
     (
         "",
         "[uplink]\nconnect = \"192.0.2.9:7003\"\n",

@@ -1,9 +1,9 @@
-use Rattle.std.proofs.Common.{refl, ◌∙◌}
+use Rattle.std.proofs.Common.{arith, refl, ◌∙◌, rules}
 use Rattle.share_downlink.proofs.GivenLemmas.{passes_come, passes_cut, passes_nothing, passes_same}
 use Rattle.share_downlink.proofs.connection.Connection.give_pieces.Goals as goal
 
 pub pieces-init : goal.pieces-init
-pieces-init g c = record { given = passes_nothing g.D.Deliver.delivers _ _ _; over = refl }
+pieces-init g c = record { given = passes_nothing g.D.Deliver.delivers _ _ _; over = refl; ready = λ some. absurd (omega arith) }
 
 pub returns-in-Some-clause-given : goal.returns-in-Some-clause-given
 returns-in-Some-clause-given g c =
@@ -28,4 +28,5 @@ pieces-preserved g c = record {
       (passes_cut g.D.Deliver.delivers _ _ _ _ _ _ _ _ _ c.pieces.invariant.given c.give_all.ensures.given)
       c.in_ok-read.ensures.came;
   over = c.read.ensures.over ∙ c.pieces.invariant.over;
+  ready = λ some. search rules;
 }

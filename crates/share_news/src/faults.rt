@@ -1,4 +1,6 @@
 //! Why a gateway did not begin, or did not go on.
+ghost use Rattle.std.specs.Prelude.{◌≡◌};
+ghost use Rattle.share_news.specs.declared.faults.NotRun.TheVariants.{NoMemory, System};
 
 use share_settings::{Port, Text};
 use std::alloc::AllocError;
@@ -70,12 +72,16 @@ impl fmt::Display for PortName<'_> {
 }
 
 impl From<io::Error> for NotRun {
+    ghost from_gives = { λ fault why. why ≡ System fault };
+
     fn from(fault: io::Error) -> NotRun {
         NotRun::System(fault)
     }
 }
 
 impl From<AllocError> for NotRun {
+    ghost from_gives = { λ _ why. why ≡ NoMemory };
+
     fn from(_: AllocError) -> NotRun {
         NotRun::NoMemory
     }

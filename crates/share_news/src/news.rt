@@ -15,9 +15,16 @@ use std::net::SocketAddr;
 use std::time::Clock;
 
 /// The messages of a gateway.
-#[derive(Drop)]
 pub struct News {
     messages: Messages,
+}
+
+// This is written out, as those of other types with many parts, so that no crate above proves how each part is dropped.
+impl Drop for News {
+    fn drop(self) {
+        let News { messages } = self;
+        drop(messages);
+    }
 }
 
 impl News {

@@ -2,9 +2,9 @@
 use Rattle.std.specs.Prelude.{ℕ, ◌+◌, ◌-◌, ◌^◌, min}
 use Rattle.share_model.specs.funding.Graph.{NameBytes}
 
--- the tenant's name, and the number of its flow; how many packets were taken, and how many bytes their payloads have; how
--- many packets of packet ports were read, and how many packets were dropped; how many packets it was given to deliver, and
--- how often one was lost
+-- the tenant's name, and the number of its flow; how many packets were taken, and how many bytes their payloads have;
+-- how many packets of packet ports were read, and how many packets were dropped; how many packets it was given to
+-- deliver, and how often one was lost
 pub record DoorView : Type 0 where
   pub tenant : NameBytes
   pub flow : ℕ

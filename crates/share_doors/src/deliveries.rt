@@ -40,8 +40,8 @@ impl Deliveries {
         self.lost
     }
 
-    /// Gives a packet to each port, and to each connection as a record of the tenant. Each that does not take it at once
-    /// loses it. If there is neither, it is lost once.
+    /// Gives a packet to each port, and to each connection as a record of the tenant. Each that does not take it at
+    /// once loses it. If there is neither, it is lost once.
     pub(crate) fn give(
         &mut self,
         ports: &mut Slab<PacketPort>,

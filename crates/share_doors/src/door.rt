@@ -235,8 +235,8 @@ impl Door {
         }
     }
 
-    /// Takes packets, one of each connection and each port in turn, as far as the book has room. Packets of ports that are
-    /// no payloads are dropped. Without room nothing is read.
+    /// Takes packets, one of each connection and each port in turn, as far as the book has room. Packets of ports that
+    /// are no payloads are dropped. Without room nothing is read.
     pub fn fill<S: Rates>(&mut self, alloc: Global, book: &mut Book<S>) -> Filled
         ensures same { self.new ≡ record self.old {
           packets = self.new.packets;

@@ -35,7 +35,10 @@ pub struct RefusedLine {
 impl fmt::Display for RefusedLine {
     fn fmt<W: fmt::Write>(&self, f: &mut fmt::Formatter<W>) -> fmt::Result {
         let (number, refused, last) = (self.number, self.refused, self.last.name());
-        write!(f, "ingress {number}: {refused} packets refused, the last as {last}")
+        write!(
+            f,
+            "ingress {number}: {refused} packets refused, the last as {last}"
+        )
     }
 }
 

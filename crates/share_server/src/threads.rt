@@ -214,10 +214,9 @@ fn accepted<R: Wait + Eprint, S: Rates, L: LinkBrand>(
         Kind::Ingress => (&server.ingress, "ingress"),
     };
     let count = server.count(kind);
-    server.connections.tell(
-        rt,
-        format_args!("waiting for {word} {number} of {count}"),
-    );
+    server
+        .connections
+        .tell(rt, format_args!("waiting for {word} {number} of {count}"));
     let accepted = listener.accept();
     if server.connections.is_ending() {
         drop(accepted);

@@ -10,8 +10,8 @@ use mio::{Interest, Registry, Token};
 use std::io;
 use std::os::fd::RawFd;
 
-/// A descriptor that the process was given, of which each read and each write moves one packet. It stays open as long as
-/// the process runs, so its number is never that of another file.
+/// A descriptor that the process was given, of which each read and each write moves one packet. It stays open as long
+/// as the process runs, so its number is never that of another file.
 #[derive(Drop)]
 pub struct Device {
     number: RawFd,

@@ -1,5 +1,5 @@
-//! Sockets whose calls do not wait: streams, and listeners that accept them, over TCP and over Unix sockets; and sockets
-//! and descriptors that move packets.
+//! Sockets whose calls do not wait: streams, and listeners that accept them, over TCP and over Unix sockets; and
+//! sockets and descriptors that move packets.
 #![tactic(auto)]
 
 mod datagrams;

@@ -27,8 +27,8 @@ pub enum Received {
     Over,
 }
 
-/// What the answer to a read of a datagram socket comes to. A packet of no bytes is a packet. An error is that of a packet
-/// that was sent before, and the socket goes on.
+/// What the answer to a read of a datagram socket comes to. A packet of no bytes is a packet. An error is that of a
+/// packet that was sent before, and the socket goes on.
 pub fn datagram_of(answer: Result<(usize, Option<SocketAddr>)>) -> Received
     ensures packet { IfOk answer (λ came. result ≡ Packet came.0 came.1) }
     ensures waits { IfErr answer (λ fault. error_kind fault ≡ ErrorKind.WouldBlock → result ≡ Waits) }
@@ -70,7 +70,8 @@ pub fn packet_of(answer: Result<usize>) -> Result<Received>
     }
 }
 
-/// Whether a datagram socket took a whole packet of this length. An error is that of this packet, and the socket goes on.
+/// Whether a datagram socket took a whole packet of this length. An error is that of this packet, and the socket goes
+/// on.
 pub fn took_datagram(answer: Result<usize>, length: usize) -> bool
     ensures took { IfOk answer (λ count. result ≡ (count == length)) }
     ensures lost { IfErr answer (λ _. result ≡ false) }
@@ -105,8 +106,8 @@ fn lost_or_failed(fault: Error) -> Result<bool>
     }
 }
 
-// Whether an error of this number says that one packet was not taken: there is no room for it, the device is down, or it
-// takes no packet of this length or with these bytes.
+// Whether an error of this number says that one packet was not taken: there is no room for it, the device is down, or
+// it takes no packet of this length or with these bytes.
 fn loses_one_packet(number: Option<i32>) -> bool
     ensures { result ≡ loses_one_packet number }
 {

@@ -262,7 +262,8 @@ fn in_range<'a>(command: &mut Command<'a>, asked: Asked<'a>) -> Result<Asked<'a>
     }
 }
 
-// What words ask for of a command line, which stays its caller's: a function that owns it would drop it in each way out.
+// What words ask for of a command line, which stays its caller's: a function that owns it would drop it in each way
+// out.
 fn asked_of<'a>(
     alloc: Global,
     command: &mut Command<'a>,

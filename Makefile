@@ -14,7 +14,7 @@ SOURCES := crates.txt $(shell find crates -name '*.rt' -o -name '*.antt' | grep 
 PREFIX ?= /usr/local
 
 TOOL_PACKAGES := mandoc man-db tshark gnuplot-nox python3 python3-prometheus-client postgresql systemd bash-completion \
-    binutils dpkg-dev lintian zstd socat iproute2
+    binutils dpkg-dev lintian zstd socat iproute2 iperf3 iputils-ping chromium prometheus curl
 
 # The proved programs go to bin/ with their command, and the scripts of examples/ play them.
 define examples
@@ -35,7 +35,11 @@ examples/hostile.py
 examples/bill.py
 examples/fuzz.py
 examples/gateway.py
+examples/datagrams.py
+examples/downlink.py
 examples/ask.py
+examples/web.py
+examples/hostile_gateway.py all_at_once
 STRIDELINK=bin/stridelink-script examples/bill.py
 examples/books.py
 endef
@@ -51,7 +55,8 @@ help:
 	@echo 'make test        passes the gate: docs/GATE.md'
 	@echo 'make edits       tries the wrong bodies that the gate leaves out'
 	@echo 'make bench       measures the program'
-	@echo 'make soak        puts long loads on a server and a gateway, and counts shares at the far end of the uplink'
+	@echo 'make soak        puts long loads on a server and a gateway, and counts shares at the far ends of uplinks and'
+	@echo '                 tunnels'
 	@echo 'make fuzz        compares the program with plain models for MINUTES minutes (10)'
 	@echo 'make tools       installs what the tools around a server use (apt-get)'
 	@echo 'make tools-test  tries these tools with the programs in bin/, or with the command that STRIDELINK names'
@@ -76,7 +81,7 @@ demo:
 
 check:
 	@echo 'proving what changed since the last check, then tests and examples: an hour where nothing is kept' >&2
-	RT_SECONDS=120 rt all test
+	RT_SECONDS=120 .ci/rt all test
 	$(examples)
 
 build: bin/stridelink bin/stridelink-script bin/stridelink-link
@@ -103,7 +108,8 @@ bin/stridelink-gateway: $(SOURCES)
 test:
 	@echo 'the gate: every proof from nothing, the edits that must fail, the tests and the program; more than an hour' >&2
 	.ci/layers
-	.ci/costs record rt ci
+	.ci/kit
+	.ci/costs record .ci/rt ci
 	.ci/costs record --more .ci/edits --named --built
 	.ci/memory
 	.ci/places
@@ -121,12 +127,15 @@ bench: build gateway
 	python3 bench/gateway.py
 	python3 bench/serve.py
 	python3 bench/gateway_speed.py
+	python3 bench/tunnel_speed.py
 
 soak: build gateway
 	python3 bench/soak.py
 	python3 bench/shares.py
 	python3 bench/gateway_shares.py
 	python3 bench/gateway_soak.py
+	examples/hostile_gateway.py
+	python3 bench/tunnel.py
 
 fuzz: build
 	examples/fuzz.py --minutes $(or $(MINUTES),10)
@@ -155,9 +164,11 @@ tools-test:
 	tools/tests/manual.py
 	tools/tests/exporter.py
 	tools/tests/shares.py
+	tools/tests/page.py
 	tools/tests/unit.py
 	tools/tests/links.py
 	tools/tests/statement.py
+	tools/tests/tun.py
 	tools/tests/command.py
 	tools/tests/package.py
 	tools/tests/day.py

@@ -664,9 +664,10 @@ def rotations_without_a_pause(run):
     expect_equal(sum(far.samples[-1][1].values()), billed, "bytes that came")
 
 
-def floods(run, gateway, lengths="700"):
-    """Lets each tenant flood by a program of its own: from which time on."""
-    flooding = [run.keep(Flood(tenant.ports[0], [f"{name}:{lengths}"])) for name, tenant in gateway.tenants.items()]
+def floods(run, gateway, lengths="700", names=None):
+    """Lets each tenant, or those with these names, flood by a program of its own: from which time on."""
+    ports = {name: gateway.tenants[name].ports[0] for name in names or gateway.tenants}
+    flooding = [run.keep(Flood(port, [f"{name}:{lengths}"])) for name, port in ports.items()]
     began = time.monotonic() + measured.TOGETHER
     for flood in flooding:
         flood.say(f"go {began}")
@@ -1320,11 +1321,11 @@ def slow_ones(run):
 
 
 CASES = (checks, addresses_in_use, second_gateway, folder_without_leave, orders, status, status_under_load,
-         too_many_connections, too_many_controls, replies_not_read, asked, reloads, reload_refused, reload_under_load,
-         rotations, lives, whole, rotations_without_a_pause, shares, rate, one_against_eight, far_end_away,
-         far_end_writes, far_end_reads_nothing, wrong_records, slow_bytes, sizes, hung_up, resets,
-         stopped_and_continued, unix_sockets, unix_modes_reloaded, until_eof, grace_is_over, held_at_the_end, end_is_sent, killed, killed_between_books,
-         bad_books, disk_fills, disk_fails_at_the_end, slow_ones)
+         too_many_connections, too_many_controls, replies_not_read, asked, reloads, reload_refused,
+         reload_under_load, rotations, lives, whole, rotations_without_a_pause, shares, rate, one_against_eight,
+         far_end_away, far_end_writes, far_end_reads_nothing, wrong_records, slow_bytes, sizes, hung_up, resets,
+         stopped_and_continued, unix_sockets, unix_modes_reloaded, until_eof, grace_is_over, held_at_the_end,
+         end_is_sent, killed, killed_between_books, bad_books, disk_fills, disk_fails_at_the_end, slow_ones)
 
 
 if __name__ == "__main__":

@@ -221,8 +221,10 @@ def no_descriptor_to_begin(run):
     """Both listeners, the uplink and another handle of each listener need a descriptor each, behind that of the audit's
     file, and take them in this order. With fewer than four descriptors the system does not start a program."""
     peer = run.peer()
-    faults = ["cannot listen on " + ELSEWHERE["ingress"], "cannot listen on " + ELSEWHERE["control"],
-              "cannot connect to " + peer.address, *["cannot accept a connection"] * 2]
+    faults = [text + ": Too many open files (os error 24)" for text in (
+        "cannot listen on " + ELSEWHERE["ingress"], "cannot listen on " + ELSEWHERE["control"],
+        "cannot connect to " + peer.address)]
+    faults += ["cannot accept a connection"] * 2
     for limit, fault in enumerate(faults, 4):
         server = run.start(peer.address, before=limited(resource.RLIMIT_NOFILE, limit), **ELSEWHERE)
         server.ends(1, fault)
@@ -350,14 +352,16 @@ def tape_without_memory(run):
 def disk_is_full(run):
     """The audit does not fit on the disk, or into the largest file that there may be."""
     for count in (20, 100):
-        for words in filter(None, (small_files(run), small_disk(run))):
+        for words, why in ((small_files(run), "file too large"), (small_disk(run), "no storage space")):
+            if words is None:
+                continue
             peer = run.peer()
             server = run.server(peer, **words)
             control = server.control()
             control.fund()
             server.ingress(records(packets("a", 0, count, 1490))).close()
             control.close()
-            expect_no_audit(server, peer, count, 1507 * count)
+            expect_no_audit(server, peer, count, 1507 * count, why)
 
 
 def small_files(run):
@@ -370,7 +374,7 @@ def small_files(run):
     path = os.path.join(run.folder(), "audit")
     with open(path, "w", encoding="ascii") as old:
         old.write("an old audit\n")
-    return {"audit": path, "before": before}
+    return {"audit": path, "before": before, "further": ["--force"]}
 
 
 def small_disk(run):
@@ -385,9 +389,9 @@ def small_disk(run):
     return {"audit": os.path.join(disk, "audit"), "program": program}
 
 
-def expect_no_audit(server, peer, count, size):
-    """Wants that the server ends since it cannot write its audit, with all that it sent, and its report."""
-    server.ends(1, "cannot write the audit " + server.audit_path)
+def expect_no_audit(server, peer, count, size, why):
+    """Wants that the server ends since it cannot write its audit, and why, with all that it sent, and its report."""
+    server.ends(1, "cannot write the audit %s: %s" % (server.audit_path, why))
     peer.thread.join(PATIENCE)
     expect_equal(len(peer.got), size, "bytes that the peer got")
     report = server.text("stdout")
@@ -398,8 +402,10 @@ def expect_no_audit(server, peer, count, size):
 def audit_cannot_take_its_name(run):
     """The folder of the audit has gone since, or a folder has come to its place. The audit that was written stays in
     its new file, if that is somewhere, and this is told."""
-    for change, left in ((lambda folder: os.rename(folder, folder + " away"), "folder away"), (shutil.rmtree, None),
-                         (lambda folder: os.mkdir(os.path.join(folder, "audit")), "folder")):
+    for change, left, why in (
+            (lambda folder: os.rename(folder, folder + " away"), "folder away", "entity not found"),
+            (shutil.rmtree, None, "entity not found"),
+            (lambda folder: os.mkdir(os.path.join(folder, "audit")), "folder", "entity already exists")):
         peer = run.peer()
         place = run.folder()
         folder = os.path.join(place, "folder")
@@ -407,7 +413,7 @@ def audit_cannot_take_its_name(run):
         server = run.server(peer, audit=os.path.join(folder, "audit"))
         change(folder)
         one_packet(server)
-        expect_no_audit(server, peer, 1, 20)
+        expect_no_audit(server, peer, 1, 20, why)
         expect("\nthe whole audit is in %s.1\n" % server.audit_path in server.text("stderr"), "where the audit is")
         if left:
             with open(os.path.join(place, left, "audit.1"), encoding="ascii") as source:
@@ -423,7 +429,7 @@ def audit_reader_goes(run):
     server = run.server(peer, audit=path)
     os.close(reader)
     one_packet(server)
-    expect_no_audit(server, peer, 1, 20)
+    expect_no_audit(server, peer, 1, 20, "broken pipe")
 
 
 def full(number):

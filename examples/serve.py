@@ -1023,19 +1023,22 @@ def nothing_is_left(server):
 
 
 def fault_addresses(run):
-    """An address that is taken, one that is none, and an uplink that nobody listens on."""
+    """An address that is taken, one that is none, and an uplink that nobody listens on: each with the system's reason.
+    """
     peer = run.peer()
     with socket.socket() as taken, socket.socket() as silent:
         taken.bind((LOOPBACK, 0))
         taken.listen()
         silent.bind((LOOPBACK, 0))
         taken, silent = ("%s:%d" % some.getsockname() for some in (taken, silent))
-        for words, uplink, text in (({"ingress": taken}, peer.address, "cannot listen on " + taken),
-                                    ({"control": taken}, peer.address, "cannot listen on " + taken),
-                                    ({"control": "nonsense"}, peer.address, "cannot listen on nonsense"),
-                                    ({"ingress": taken}, silent, "cannot listen on " + taken),
-                                    ({}, silent, "cannot connect to " + silent),
-                                    ({}, "nonsense", "cannot connect to nonsense")):
+        in_use = "cannot listen on %s: address in use" % taken
+        for words, uplink, text in (({"ingress": taken}, peer.address, in_use),
+                                    ({"control": taken}, peer.address, in_use),
+                                    ({"control": "nonsense"}, peer.address,
+                                     "cannot listen on nonsense: invalid socket address"),
+                                    ({"ingress": taken}, silent, in_use),
+                                    ({}, silent, "cannot connect to %s: connection refused" % silent),
+                                    ({}, "nonsense", "cannot connect to nonsense: invalid socket address")):
             server = run.start(uplink, **words)
             server.ends(1, text)
             expect_equal(server.text("stdout"), "", "the output")
@@ -1105,16 +1108,17 @@ def fault_files(run):
     """An audit that cannot be opened is told before anything listens, one that cannot be written at the end."""
     peer = run.peer()
     missing = os.path.join(run.folder(), "missing", "audit")
-    for path in (missing, "/"):
+    for path, why in ((missing, "entity not found"), ("/", "is a directory")):
         server = run.start(peer.address, audit=path)
-        server.ends(1, "cannot write the audit " + path)
+        server.ends(1, "cannot write the audit %s: %s" % (path, why))
         nothing_is_left(server)
     expect(peer.connection is None, "the uplink was connected")
     server = run.server(peer, audit="/dev/full")
     one_packet(server)
-    server.ends(1, "cannot write the audit /dev/full")
+    lost = "cannot write the audit /dev/full: no storage space"
+    server.ends(1, lost)
     expect(server.text("stdout").startswith(total("clock", 20)), "no report")
-    for path, fault in ((None, "cannot write the output"), ("/dev/full", "cannot write the audit /dev/full")):
+    for path, fault in ((None, "cannot write the output"), ("/dev/full", lost)):
         with open("/dev/full", "wb") as full:
             peer = run.peer()
             server = run.server(peer, audit=path, stdout=full)
@@ -1127,8 +1131,36 @@ def fault_files(run):
                 expect_equal(server.text("audit"), ONE_PACKET, "the audit")
 
 
+def audit_exists(run):
+    """An audit that exists, and a link to one, is refused before anything listens, and stays as it was. So does one
+    that comes while the server runs: the new one then stays beside it. A link to nothing is no audit."""
+    folder, peer = run.folder(), run.peer()
+    old, link = os.path.join(folder, "old"), os.path.join(folder, "link")
+    with open(old, "w") as sink:
+        sink.write("an old audit\n")
+    os.symlink(old, link)
+    for path in (old, link):
+        server = run.start(peer.address, audit=path)
+        server.ends(1, path + " exists: --force replaces it")
+        nothing_is_left(server)
+        expect_equal((open(old).read(), sorted(os.listdir(folder))), ("an old audit\n", ["link", "old"]), "files")
+    expect(peer.connection is None, "the uplink was connected")
+    os.remove(old)
+    server = run.start(peer.address, audit=link)
+    server.ends(1, "cannot write the audit %s: entity not found" % link)
+    late = os.path.join(folder, "late")
+    server = run.server(peer, audit=late)
+    with open(late, "w") as sink:
+        sink.write("a late audit\n")
+    one_packet(server)
+    server.ends(1, "cannot write the audit %s: entity already exists" % late)
+    expect("\nthe whole audit is in %s.1\n" % late in server.text("stderr"), "where the audit is")
+    expect_equal((open(late).read(), open(late + ".1").read()), ("a late audit\n", ONE_PACKET), "the audits")
+
+
 def audit_files(run):
-    """An old audit stays until the new one is whole; a link and a pipe are written in place."""
+    """With --force an old audit is replaced, and stays until the new one is whole; a link and a pipe are written in
+    place."""
     folder = run.folder()
     old, link = os.path.join(folder, "old"), os.path.join(folder, "link")
     with open(old, "w") as sink:
@@ -1136,7 +1168,7 @@ def audit_files(run):
     os.symlink(old, link)
     for path in (old, link):
         peer = run.peer()
-        server = run.server(peer, audit=path)
+        server = run.server(peer, audit=path, further=["--force"])
         control = server.control()
         expect(open(old).read().startswith("an old audit" if path == old else "audit 2"), "the old audit is gone")
         control.fund()
@@ -1167,7 +1199,7 @@ def ended_by_a_signal(run):
         with open(old, "w") as sink:
             sink.write("an old audit\n")
         peer = run.peer()
-        server = run.server(peer, audit=old)
+        server = run.server(peer, audit=old, further=["--force"])
         control = server.control()
         control.fund()
         client = server.ingress(record("a", b"1st"))
@@ -1181,6 +1213,102 @@ def ended_by_a_signal(run):
         control.vanish()
 
 
+def wait_for_line(server, line):
+    """Waits until a server that runs has told a line that begins so; the line."""
+    def told():
+        found = [text for text in server.text("stderr").splitlines() if text.startswith(line)]
+        expect(server.process.poll() is None, "the server has ended")
+        return found
+
+    return wait_for(told, line)[-1]
+
+
+def tells_what_it_waits_for(run):
+    """A server tells what it waits for: its uplink, each connection in turn, their ends, and what is left to be sent.
+    """
+    peer = run.peer()
+    server = run.server(peer, clerks=2)
+    wait_for_line(server, "waiting for control 1 of 2")
+    first = server.control()
+    wait_for_line(server, "waiting for control 2 of 2")
+    second = server.control()
+    wait_for_line(server, "waiting for ingress 1 of 1")
+    client = server.ingress()
+    wait_for_line(server, "waiting for all connections to end")
+    for connection in (first, second, client):
+        connection.close()
+    server.ends()
+    told = [line for line in server.text("stderr").splitlines() if line.startswith(("waiting", "the stop"))]
+    wanted = ["waiting for the uplink at " + peer.address, "waiting for control 1 of 2", "waiting for control 2 of 2",
+              "waiting for ingress 1 of 1", "waiting for all connections to end", "the stop is set",
+              "waiting for what is left to be sent", "waiting for the uplink's peer to end"]
+    expect_equal(told, wanted, "what the server waited for")
+    check(server, peer, [])
+
+
+def tells_of_an_uplink(run):
+    """A server whose uplink is lost tells it, with the reason, when a write fails; one whose far end reads nothing
+    tells once that it waits."""
+    peer = run.peer(lambda peer: reset(peer.connection))
+    server = run.server(peer)
+    control = server.control()
+    control.fund()
+    client, some = server.ingress(), packets("a", 0, 200, 1000)
+    for packet in some:
+        client.sendall(record(*packet))
+        time.sleep(0.01)
+        if "the uplink is lost" in server.text("stderr"):
+            break
+    line = wait_for_line(server, "the uplink is lost: ")
+    expect(line.split(": ")[1] in ("connection reset", "broken pipe"), "the reason: " + line)
+    control.ask_wanted(["mkcur x"], ["ok"])
+    client.close()
+    control.close()
+    server.ends(1, "the uplink failed")
+    expect_equal(server.text("stderr").count("the uplink is lost"), 1, "how often the loss is told")
+    peer = run.peer(lambda peer: peer.go_on.wait(), narrow=True)
+    server = run.server(peer)
+    control = server.control()
+    control.fund()
+    client = server.ingress()
+    sending = run.thread(send_quietly, client, packets("a", 0, 3000, 1000))
+    wait_for_line(server, "waiting for the uplink, which takes nothing")
+    time.sleep(2.1 * GRACE)
+    expect_equal(server.text("stderr").count("takes nothing"), 1, "how often it is told that the uplink takes nothing")
+    peer.go_on.set()
+    sending.finish()
+    client.close()
+    control.close()
+    server.ends(seconds=END)
+    expect("the uplink is lost" not in server.text("stderr"), "a loss is told of an uplink that was slow")
+
+
+def tells_of_refused_packets(run):
+    """Packets that are refused are told of while the server runs: the first of a connection, then each time that there
+    are twice as many, and at the end."""
+    peer = run.peer()
+    server = run.server(peer, workers=2)
+    control = server.control()
+    control.fund(2)
+    control.ask_wanted(["hold a"], ["ok"])
+    first, second = server.ingress(), server.ingress()
+    for count in range(1, 12):
+        second.sendall(record("nobody", b"x"))
+        if count & (count - 1) == 0:
+            wait_for_line(server, "ingress 2: %d packets refused, the last as NoFlow" % count)
+    first.sendall(record("a", b"x") * 3)
+    wait_for_line(server, "ingress 1: 1 packets refused, the last as BufferFull")
+    for connection in (first, second, control):
+        connection.close()
+    server.ends()
+    told = [line for line in server.text("stderr").splitlines() if " refused, " in line]
+    expect_equal([line for line in told if line.startswith("ingress 1")],
+                 ["ingress 1: 1 packets refused, the last as BufferFull"], "what is told of connection 1")
+    expect_equal(told[-1], "ingress 2: 11 packets refused, the last as NoFlow", "what is told at the end")
+    expect_equal(len(told), 6, "how many lines are told of refused packets")
+    check(server, peer)
+
+
 CASES = (served, quiet, control_lines, long_packets, much_of_one_connection, accepted_in_order, idle, ends_held,
          lone_packets, full_queue, shares_at_slow_far_ends, shares_of_tariffs, shares_beside_busy_loops,
          shares_as_tickets_change, few_are_refused, malformed, cut, clients_vanish, clients_stall, peer_closes_at_once,
@@ -1188,7 +1316,8 @@ CASES = (served, quiet, control_lines, long_packets, much_of_one_connection, acc
          spent_life_late_clients, spent_life_under_load, spent_life_blocked_often, until_eof_idle, until_eof_floods,
          until_eof_of_no_input, until_eof_before_a_slow_far_end,
          until_eof_beside_slow_ones, until_eof_open, ends_asleep_and_awake, fault_words, fault_addresses, fault_memory,
-         fault_accept, fault_thread, fault_control_thread, fault_files, audit_files, ended_by_a_signal)
+         fault_accept, fault_thread, fault_control_thread, fault_files, audit_exists, audit_files,
+         ended_by_a_signal, tells_what_it_waits_for, tells_of_an_uplink, tells_of_refused_packets)
 
 
 if __name__ == "__main__":

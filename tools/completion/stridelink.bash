@@ -10,7 +10,7 @@ _stridelink() {
     case ${COMP_WORDS[1]} in
         run) wanted="--life --strict --help" ;;
         serve)
-            wanted="--ingress --control --uplink --audit --workers --life --clerks --until-eof --verbose --help"
+            wanted="--ingress --control --uplink --audit --workers --life --clerks --force --until-eof --verbose --help"
             ;;
         bill) wanted="--csv --json --books --plan --help" ;;
         gateway) wanted="--check --grace --until-eof --quiet --help" ;;

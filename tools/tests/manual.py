@@ -114,10 +114,10 @@ def tool_options(run):
     paragraph."""
     text = page(TOOL_PAGE)
     synopsis, paragraphs = section(text, "SYNOPSIS"), section(text, "DESCRIPTION")
-    for name in ("bill", "verify", "shares", "exporter", "statement", "age"):
+    for name in ("bill", "verify", "shares", "exporter", "statement", "age", "tun"):
         usage = re.search(r"usage: (.*?)\n\n", expect_works(name, "--help"), re.DOTALL).group(1)
         own = " ".join(re.findall(r"^     stridelink-%s (.*)$" % name, synopsis, re.MULTILINE))
-        options = re.findall(r"--[a-z]+(?: [A-Z]+)?", usage)
+        options = re.findall(r"--[a-z][a-z0-9]*(?: [A-Z]+)?", usage)
         expect_all(options + re.findall(r"(?<![-A-Z])[A-Z]{2,}", usage), 2, own, "words of " + name)
         missing = [each for each in options if not re.search("^     %s( |$)" % each, paragraphs, re.MULTILINE)]
         expect(not missing, "options of %s without a paragraph: %s" % (name, missing))
@@ -138,14 +138,16 @@ def faults(run):
     texts = [text for path in (("share_served", "faults.rt"), ("link", "services.rt"),
                                ("share_script", "script.rt"))
              for text in re.findall(r'#\[error\("(.*?)"\)\]', source(*path)) if text != "{0}"]
-    names = [text.replace("{0}", "FILE" if "audit" in text else "ADDR") for text in texts]
-    expect_all(sorted(set(names)), 14, section(page(COMMANDS), "DIAGNOSTICS"), "faults")
+    names = [text.replace("{0}", "FILE" if "audit" in text or "exists" in text else "ADDR").replace("{1}", "REASON")
+             for text in texts]
+    expect_all(sorted(set(names)), 15, section(page(COMMANDS), "DIAGNOSTICS"), "faults")
 
 
 def fault_texts(text):
     """The texts of faults in a source, with the names that the page has in their places."""
     found = re.findall(r'#\[error\("(.*?)"\)\]', text) + re.findall(r'write!\(\s*f,\s*"(\w.*?)"', text)
     found += re.findall(r'&str = "(cannot .*?)"', text) + re.findall(r'write_str\("(.*?) ?"\)', text)
+    found += re.findall(r'=> "(cannot .*?) ?"', text)
     return {re.sub(r"\{(\w+)\}", lambda put: PLACES.get(put.group(1), put.group(0)), each) for each in found}
 
 
@@ -153,7 +155,7 @@ def gateway_faults(run):
     """Each fault text of a gateway's program stands among the diagnostics."""
     texts = set()
     for path in (("gateway", "faults.rt"), ("gateway", "asking.rt"), ("gateway", "texts.rt"),
-                 ("share_asking", "talk.rt"), ("share_reactor", "faults.rt")):
+                 ("share_asking", "talk.rt"), ("share_news", "faults.rt")):
         texts |= fault_texts(source(*path))
     wanted = [text for text in texts if "{" not in text and text != "LINE" and not re.match(r"(unix|udp|fd)", text)]
     expect_all(sorted(wanted), 10, section(page(GATEWAY_PAGE), "DIAGNOSTICS"), "faults of a gateway")
@@ -194,8 +196,9 @@ def settings(run):
     tables = re.findall(r"Place::(\w+)[^\n]*? => &\[(.*?)\]", keys, re.DOTALL)
     known = {(place, spelled[key]) for place, names in tables for key in re.findall(r"Key::(\w+)", names)
              if place != "File"}
-    titles = {"Uplink": "uplink", "Books": "books", "Control": "control", "Downlink": "downlink", "Tariff": "tariff",
-              "Currency": "currency", "Tenant": "tenant", "CurrencyTicket": "Tickets", "TenantTicket": "Tickets"}
+    titles = {"Uplink": "uplink", "Books": "books", "Control": "control", "Downlink": "downlink", "Web": "web",
+              "Tariff": "tariff", "Currency": "currency", "Tenant": "tenant", "CurrencyTicket": "Tickets",
+              "TenantTicket": "Tickets"}
     for place, key in sorted(known):
         paragraph(subsection(text, titles[place]), key)
     rows = table_of_settings()
@@ -218,21 +221,34 @@ def example_file(run):
     expect_equal((done.returncode, done.stdout.decode()), (0, path + ": ok\n"), "the example of stridelink-gateway(5)")
 
 
+def tunnel_files(run):
+    """The files of docs/TUNNEL.md have no fault, as the program says."""
+    with open(os.path.join(TOP, "docs", "TUNNEL.md"), encoding="utf-8") as file:
+        texts = re.findall(r"```toml\n(.*?)```", file.read(), re.DOTALL)
+    expect_equal(len(texts), 2, "files of docs/TUNNEL.md")
+    for text in texts:
+        path = write(run.folder(), "tunnel.toml", text)
+        done = subprocess.run([GATEWAY, "gateway", "--check", path], stdout=subprocess.PIPE, stderr=subprocess.STDOUT,
+                              timeout=LIMIT, check=False)
+        expect_equal((done.returncode, done.stdout.decode()), (0, path + ": ok\n"), "a file of docs/TUNNEL.md")
+
+
 def told(run):
     """Each line of --verbose stands in the page, with capital letters for what is put in, and each word for an end."""
     texts = set()
     for path in (("share_served", "setup.rt"), ("share_server", "threads.rt"), ("share_served", "shutdown.rt"),
-                 ("share_connections", "connections.rt")):
+                 ("share_server", "refused.rt"), ("share_connections", "connections.rt"), ("link", "services.rt")):
         text = source(*path)
         texts |= set(re.findall(r'format_args!\("(.*?)"\)', text)) | set(re.findall(r'tell\(rt, "(.*?)"\)', text))
-        texts |= set(re.findall(r'format_args!\(\s*"(.*?)"', text))
+        texts |= set(re.findall(r'format_args!\(\s*"(.*?)"', text)) | set(re.findall(r'write!\(\s*f,\s*"(.*?)"', text))
+        texts |= set(re.findall(r'eprintln!\(rt; "(waiting .*?)"\)', text))
     letters = {"address": "ADDR", "number": "N", "how:?": "HOW", "text": "WHY", "count": "C", "tally": "T",
-               "commands": "C", "arrivals": "A", "turns": "T"}
+               "commands": "C", "arrivals": "A", "turns": "T", "reason": "REASON", "refused": "R", "last": "REFUSAL"}
     lines = set()
     for text in texts:
         for word in (("control", "ingress") if "{word}" in text else ("",)):
             lines.add(re.sub(r"\{(.*?)\}", lambda put: letters[put.group(1)], text.replace("{word}", word)))
-    expect_all(sorted(lines), 9, page(COMMANDS), "what --verbose tells")
+    expect_all(sorted(lines), 20, page(COMMANDS), "what --verbose tells")
     ends = re.findall(r'=> "([A-Z][A-Za-z]+)"', source("share_served", "ingress.rt"))
     how = re.search(r"enum How \{(.*?)\}", source("share_control", "attending.rt"), re.DOTALL).group(1)
     expect_all(ends + re.findall(r"^    ([A-Z]\w+),", how, re.MULTILINE), 12, page(COMMANDS), "how connections end")
@@ -306,4 +322,4 @@ def answered(run, script):
 
 
 try_cases(lint, options, gateway_options, tool_options, numbers, faults, gateway_faults, gateway_lines, settings,
-          example_file, told, statuses, refusals, lines_and_answers, examples)
+          example_file, tunnel_files, told, statuses, refusals, lines_and_answers, examples)

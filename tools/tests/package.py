@@ -24,7 +24,7 @@ EXAMPLES = "/usr/share/doc/stridelink/examples"
 COMPLETION = "/usr/share/bash-completion/completions/stridelink"
 ONE_PACKET = ("open acme 16 1", "mktkt 300 base", "fund 1 flow acme", "send acme 68656c6c6f", "turn 17")
 UNITS = "/lib/systemd/system/"
-TOOL_NAMES = ("bill", "verify", "shares", "exporter", "statement", "age")
+TOOL_NAMES = ("bill", "verify", "shares", "exporter", "statement", "age", "tun")
 SETTINGS = {"PATH": "/usr/sbin:/usr/bin:/sbin:/bin", "HOME": "/tmp", "TERM": "dumb", "LC_ALL": "C.UTF-8"}
 
 # Makes the mounts of a root in the folder $1, which end with the command that then runs in it. Its /usr, /etc and /var
@@ -301,7 +301,7 @@ def units(run):
 def documents(run):
     """The pages for operators are in the package, as they are here."""
     for name in ("README.md", "SECURITY.md", "docs/RUNNING.md", "docs/SERVING.md", "docs/GATEWAY.md",
-                 "docs/CONFIGURATION.md", "docs/SPECIFICATION.md"):
+                 "docs/CONFIGURATION.md", "docs/TUNNEL.md", "docs/SPECIFICATION.md"):
         path = "/usr/share/doc/stridelink/" + os.path.basename(name)
         shown = installed().tell("sh", "-c", 'cat "$1" 2> /dev/null || zcat "$1.gz"', "sh", path)
         expect_equal(shown, text(os.path.join(TOP, name)), name)

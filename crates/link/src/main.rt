@@ -4,17 +4,19 @@
 ghost use Rattle.share_words.specs.Orders.{CanBeServed};
 ghost use Rattle.link.specs.Serves.{HasServed, IsStatusOfService};
 
+mod audit;
 mod services;
 mod serving;
 mod streams;
 
+use crate::audit::NotedAudit;
 use crate::services::tell_served;
 use crate::serving::serve;
 use crate::streams::StandIns;
 use share_asked::{PlainTariffs, fail, given_words, not_here, show};
 use share_model::{PatientWriter, PlainWriter, TellingWriter};
 use share_script::ScriptFault;
-use share_server::{AuditFile, Keep};
+use share_server::Keep;
 use share_words::{Asked, ServeOrders, parse};
 use std::alloc::Global;
 use std::fs::Files;
@@ -35,7 +37,7 @@ where
     R: Print + Eprint + Copy + Send + Sync + 'static,
     I: Read + Send + Drop + 'static,
     requires { CanBeServed orders.life orders.workers orders.clerks }
-    ensures { IsStatusOfService (HasServed ⟦<AuditFile<'a, R> as Keep>⟧.kept
+    ensures { IsStatusOfService (HasServed ⟦<NotedAudit<'a, R> as Keep>⟧.kept
         ⟦<PatientWriter<PlainWriter<Printer<'a, R>>> as TellingWriter>⟧.told
         ⟦<PatientWriter<PlainWriter<Printer<'a, R>>> as TellingWriter>⟧.answers) result }
 {

@@ -5,30 +5,34 @@ ghost use Rattle.share_base.specs.declared.version.Version.TheVariants.{Two};
 
 use share_base::Version;
 use share_journal::Journal;
-use share_served::{AuditFile, ServeFault, Sockets};
+use share_served::{AuditFile, Reason, ServeFault, Sockets, has_file};
 use share_words::{ServeOrders, Shown};
 use std::alloc::Global;
 use std::fs::Files;
+use std::io;
 use std::io::{Eprint, ErrorKind};
 use std::net::{Net, TcpListener, TcpStream};
 use std::process::ExitCode;
 use thiserror::Error;
 
 /// Why a server did not run, or what went wrong in its run, with the word of the command line that it is about.
-#[derive(Clone, Copy, Debug, PartialEq, Eq, Error)]
+#[derive(Clone, Copy, Debug, Error)]
 pub enum Unserved<'a> {
     /// Memory was refused.
     #[error("out of memory")]
     NoMemory,
     /// The file of the audit could not be made, or the audit could not be written.
-    #[error("cannot write the audit {0}")]
-    Audit(Shown<'a>),
+    #[error("cannot write the audit {0}: {1}")]
+    Audit(Shown<'a>, Reason),
+    /// The file of the audit exists, and is not to be replaced.
+    #[error("{0} exists: --force replaces it")]
+    Exists(Shown<'a>),
     /// The server cannot listen on an address.
-    #[error("cannot listen on {0}")]
-    Listen(Shown<'a>),
+    #[error("cannot listen on {0}: {1}")]
+    Listen(Shown<'a>, Reason),
     /// The uplink's peer could not be reached.
-    #[error("cannot connect to {0}")]
-    Connect(Shown<'a>),
+    #[error("cannot connect to {0}: {1}")]
+    Connect(Shown<'a>, Reason),
     /// The run had a fault.
     #[error("{0}")]
     Run(ServeFault),
@@ -40,37 +44,54 @@ fn listen<'a, R: Net<Listener = TcpListener, Stream = TcpStream>>(
 ) -> Result<TcpListener, Unserved<'a>> {
     match TcpListener::bind(rt, address) {
         Ok(listener) => Ok(listener),
-        Err(_) => Err(Unserved::Listen(Shown(address))),
+        Err(fault) => Err(Unserved::Listen(Shown(address), Reason(fault))),
+    }
+}
+
+// Connects to the uplink's peer. A verbose server tells that it waits for it.
+fn connect<'a, R>(rt: &R, orders: ServeOrders<'a>) -> Result<TcpStream, Unserved<'a>>
+where
+    R: Net<Listener = TcpListener, Stream = TcpStream> + Eprint,
+{
+    let address = Shown(orders.uplink);
+    if orders.is_verbose {
+        let _ = eprintln!(rt; "waiting for the uplink at {address}");
+    }
+    match TcpStream::connect(rt, orders.uplink) {
+        Ok(uplink) => Ok(uplink),
+        Err(fault) => Err(Unserved::Connect(address, Reason(fault))),
     }
 }
 
 // Listens on both addresses, and connects to the uplink's peer.
-fn sockets<'a, R: Net<Listener = TcpListener, Stream = TcpStream>>(
-    rt: &R,
-    orders: ServeOrders<'a>,
-) -> Result<Sockets, Unserved<'a>> {
+fn sockets<'a, R>(rt: &R, orders: ServeOrders<'a>) -> Result<Sockets, Unserved<'a>>
+where
+    R: Net<Listener = TcpListener, Stream = TcpStream> + Eprint,
+{
     let ingress = listen(rt, orders.ingress)?;
     let control = listen(rt, orders.control)?;
-    match TcpStream::connect(rt, orders.uplink) {
-        Ok(uplink) => Ok(Sockets {
-            ingress,
-            control,
-            uplink,
-        }),
-        Err(_) => Err(Unserved::Connect(Shown(orders.uplink))),
-    }
+    let uplink = connect(rt, orders)?;
+    Ok(Sockets {
+        ingress,
+        control,
+        uplink,
+    })
 }
 
-// Opens the file of the audit.
+// Opens the file of the audit. One that exists is refused, unless it is to be replaced.
 fn audit_file<'a, R: Files>(
     rt: &'a R,
     alloc: Global,
-    path: &'a str,
+    orders: ServeOrders<'a>,
 ) -> Result<AuditFile<'a, R>, Unserved<'a>> {
-    match AuditFile::open(rt, alloc, path) {
+    let path = orders.audit;
+    if !orders.is_forced && has_file(rt, path) {
+        return Err(Unserved::Exists(Shown(path)));
+    }
+    match AuditFile::open(rt, alloc, path, orders.is_forced) {
         Ok(audit) => Ok(audit),
         Err(fault) if fault.kind() == ErrorKind::OutOfMemory => Err(Unserved::NoMemory),
-        Err(_) => Err(Unserved::Audit(Shown(path))),
+        Err(fault) => Err(Unserved::Audit(Shown(path), Reason(fault))),
     }
 }
 
@@ -82,14 +103,14 @@ pub fn prepared<'a, R>(
     orders: ServeOrders<'a>,
 ) -> Result<(Journal, AuditFile<'a, R>, Sockets), Unserved<'a>>
 where
-    R: Net<Listener = TcpListener, Stream = TcpStream> + Files,
+    R: Net<Listener = TcpListener, Stream = TcpStream> + Files + Eprint,
     ensures { IfOk result (λ made. made.0 ≡ record { life = orders.entry.life; version = Two; entries = [] }) }
 {
     let Ok(mut journal) = Journal::new(alloc, orders.life) else {
         return Err(Unserved::NoMemory);
     };
     journal.choose(Version::Two);
-    let audit = match audit_file(rt, alloc, orders.audit) {
+    let audit = match audit_file(rt, alloc, orders) {
         Ok(audit) => audit,
         Err(fault) => {
             drop(journal);
@@ -106,13 +127,20 @@ where
     }
 }
 
-/// What went wrong in a run whose audit goes to this file, if something did.
-pub fn result_of_run<'a>(served: Result<(), ServeFault>, audit: &'a str) -> Result<(), Unserved<'a>>
+/// What went wrong in a run whose audit goes to this file, if something did, and why the audit was not written.
+pub fn result_of_run<'a>(
+    served: Result<(), ServeFault>,
+    audit: &'a str,
+    why: Option<io::Error>,
+) -> Result<(), Unserved<'a>>
     ensures { MatchResult result (λ _. IsOk served) (λ _. IsErr served) }
 {
     match served {
         Ok(()) => Ok(()),
-        Err(ServeFault::Audit) => Err(Unserved::Audit(Shown(audit))),
+        Err(ServeFault::Audit) => {
+            let why = why.unwrap_or(io::Error::from(ErrorKind::Other));
+            Err(Unserved::Audit(Shown(audit), Reason(why)))
+        }
         Err(fault) => Err(Unserved::Run(fault)),
     }
 }

@@ -4,11 +4,13 @@ ghost use Rattle.share_asked.specs.Rates.{program_rates};
 ghost use Rattle.share_words.specs.Orders.{CanBeServed};
 ghost use Rattle.link.specs.Serves.{HasServed};
 
+use crate::audit::NotedAudit;
 use crate::services::{Unserved, prepared, result_of_run};
 use share_model::{PatientWriter, PlainWriter, Rates, TellingWriter};
-use share_server::{AuditFile, Keep, Plan, serve_on};
+use share_server::{Keep, Plan, serve_on};
 use share_words::ServeOrders;
 use std::alloc::Global;
+use std::cell::Cell;
 use std::fs::Files;
 use std::io;
 use std::io::{Eprint, Print, Printer, Read};
@@ -33,7 +35,7 @@ where
     I: Read + Send + Drop + 'static,
     requires rates { S.rates shelf ≡ program_rates }
     requires orders { CanBeServed orders.life orders.workers orders.clerks }
-    ensures { OnOk result (HasServed ⟦<AuditFile<'a, R> as Keep>⟧.kept
+    ensures { OnOk result (HasServed ⟦<NotedAudit<'a, R> as Keep>⟧.kept
         ⟦<PatientWriter<PlainWriter<Printer<'a, R>>> as TellingWriter>⟧.told
         ⟦<PatientWriter<PlainWriter<Printer<'a, R>>> as TellingWriter>⟧.answers) }
 {
@@ -44,6 +46,11 @@ where
             drop(input);
             return Err(fault);
         }
+    };
+    let fault = Cell::new(None);
+    let keep = NotedAudit {
+        audit,
+        fault: &fault,
     };
     let plan = Plan {
         workers: orders.workers as usize,
@@ -65,8 +72,8 @@ where
         sockets,
         plan,
         until,
-        audit,
+        keep,
         &mut output,
     );
-    result_of_run(served, orders.audit)
+    result_of_run(served, orders.audit, fault.get())
 }

@@ -1,5 +1,5 @@
-//! What the words of the command line ask for: runs of scripts and bills over the program's tariffs, texts of help, faults,
-//! and the exit statuses of all these.
+//! What the words of the command line ask for: runs of scripts and bills over the program's tariffs, texts of help,
+//! faults, and the exit statuses of all these.
 #![tactic(auto)]
 
 mod bills;

@@ -36,7 +36,8 @@ impl<T: Drop> From<AllocFailed<T>> for AskFault {
     }
 }
 
-/// Sends lines, prints their replies in order, and returns whether one is a refusal. Few lines go ahead of their replies.
+/// Sends lines, prints their replies in order, and returns whether one is a refusal. Few lines go ahead of their
+/// replies.
 pub fn ask<S: Write, R: BufRead, W: Write>(
     alloc: Global,
     lines: &[&str],

@@ -1,5 +1,5 @@
--- Nothing is lost between books: the payloads that were taken of a tenant are those written whole, followed by those that
--- wait.
+-- Nothing is lost between books: the payloads that were taken of a tenant are those written whole, followed by those
+-- that wait.
 use Rattle.std.specs.Prelude.{◌≡◌, ◌⊎◌, ◌≤◌, ◌-◌, ℕ, Bool, true, false, not, List, [], ◌∷◌, ◌++◌, length}
 use Rattle.std.specs.Prelude.{take, drop, find, nat_le, bytes_eq, Option, None, Some, is_some, MatchOption, MatchBool}
 use Rattle.std.specs.Prelude.{MatchResult, Result, Ok, Err}

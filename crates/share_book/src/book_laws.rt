@@ -23,11 +23,11 @@ pub fn shares_of_books()
 {}
 
 /// Nothing is lost between books. Over all books of a gateway, the first opened over a plan, and each of the others
-/// carrying over what waited in the one before: the payloads of a tenant that were written whole, followed by those that
-/// wait in the open book, are the payloads that were taken of it, in order, each once, but for those that were dropped
-/// when a book was carried over. The first of the packets that waited are carried, as many as the new limit lets wait,
-/// and the others are left in the closed book, which counts them, and dropped with it: all of a tenant that the new plan
-/// lacks, and none if the new limit has room for all.
+/// carrying over what waited in the one before: the payloads of a tenant that were written whole, followed by those
+/// that wait in the open book, are the payloads that were taken of it, in order, each once, but for those that were
+/// dropped when a book was carried over. The first of the packets that waited are carried, as many as the new limit
+/// lets wait, and the others are left in the closed book, which counts them, and dropped with it: all of a tenant that
+/// the new plan lacks, and none if the new limit has room for all.
 pub fn books_lose_nothing()
     ensures order { (name : NameBytes) (taken written : List (List ℕ)) (b : BookView) → History name taken written b
         → taken ≡ written ++ waiting_in b name }

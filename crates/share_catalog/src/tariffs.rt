@@ -1,5 +1,6 @@
 //! The tariffs of a book, as its row spells them.
-ghost use Rattle.std.specs.Prelude.{◌≡◌, ◌<◌, ◌≤◌, ◌+◌, ◌*◌, ◌∷◌, ◌++◌, [], codes, length, true, MatchOption, IsTrue, ◌↔◌};
+ghost use Rattle.std.specs.Prelude.{◌≡◌, ◌<◌, ◌≤◌, ◌+◌, ◌*◌, ◌∷◌, ◌++◌, [], ◌↔◌};
+ghost use Rattle.std.specs.Prelude.{codes, length, true, MatchOption, IsTrue};
 ghost use Rattle.std.specs.List.{list_all};
 ghost use Rattle.share_catalog.specs.Reads.{Reads};
 ghost use Rattle.share_catalog.specs.Texts.{is_tariff, tariff_text, tariffs_text, IsTariff, AreTariffs};
@@ -60,8 +61,8 @@ impl Tariffs {
         self.tariffs.as_slice()
     }
 
-    /// Adds a tariff after the others. It answers `false`, and adds nothing, if there are eight already or the tariff is
-    /// out of its range.
+    /// Adds a tariff after the others. It answers `false`, and adds nothing, if there are eight already or the tariff
+    /// is out of its range.
     pub fn add(&mut self, tariff: BookTariff) -> bool
         ensures added { IsTrue result → (self.new ≡ self.old ++ tariff ∷ []) × (is_tariff tariff ≡ true) }
         ensures refused { ¬ IsTrue result → self.new ≡ self.old }

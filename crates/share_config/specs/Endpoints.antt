@@ -4,9 +4,11 @@ use Rattle.std.specs.List.{list_any}
 use Rattle.share_settings.specs.Ports.{PortsView}
 use Rattle.share_settings.specs.Same.{same_port, peer_port, listener_port}
 use Rattle.share_settings.specs.declared.port.Port.{Port}
+use Rattle.share_settings.specs.declared.port.Port.TheVariants.{Tcp}
 use Rattle.share_settings.specs.declared.section.Uplink.{Uplink}
 use Rattle.share_settings.specs.declared.section.Control.{Control}
 use Rattle.share_settings.specs.declared.section.Downlink.{Downlink}
+use Rattle.share_settings.specs.declared.section.Web.{Web}
 use Rattle.share_config.specs.declared.endpoint.Endpoint.{Endpoint}
 use Rattle.share_config.specs.declared.key.Key.{Key}
 use Rattle.share_config.specs.declared.key.Key.TheVariants as key
@@ -29,6 +31,10 @@ abbrev pub downlink_endpoints : Option Downlink → List Endpoint
 downlink_endpoints None = []
 downlink_endpoints (Some d) = endpoint place.Downlink key.Listen 1 (peer_port d.listen) ∷ []
 
+abbrev pub web_endpoints : Option Web → List Endpoint
+web_endpoints None = []
+web_endpoints (Some w) = endpoint place.Web key.Listen 1 (Tcp w.listen) ∷ []
+
 -- the ports of a table, numbered from n
 abbrev pub ports_from : Place → ℕ → List Port → List Endpoint
 ports_from p n [] = []
@@ -40,9 +46,10 @@ tenants_from n [] = []
 tenants_from n (t ∷ ts) = ports_from (place.Tenant n) 1 t.ports ++ tenants_from (n + 1) ts
 
 -- all addresses, in the order in which they are compared
-abbrev pub endpoints_of : Option Uplink → Control → Option Downlink → List PortsView → List Endpoint
-endpoints_of uplink control downlink tenants =
-    uplink_endpoints uplink ++ (control_endpoint control ∷ []) ++ downlink_endpoints downlink ++ tenants_from 1 tenants
+abbrev pub endpoints_of : Option Uplink → Control → Option Downlink → Option Web → List PortsView → List Endpoint
+endpoints_of uplink control downlink web tenants =
+    uplink_endpoints uplink ++ (control_endpoint control ∷ []) ++ downlink_endpoints downlink ++ web_endpoints web
+    ++ tenants_from 1 tenants
 
 abbrev pub is_same_endpoint : Endpoint → Endpoint → Bool
 is_same_endpoint a b = same_port a.port b.port

@@ -14,7 +14,7 @@ use Rattle.share_config.specs.declared.fault.Reason.TheVariants as reason
 use Rattle.share_config.specs.declared.fault.ConfigFault.{ConfigFault}
 use Rattle.share_config.specs.declared.fault.ConfigFault.TheVariants.{NoMemory, NotToml, Unknown, Wrong, NoPlan}
 use Rattle.share_config.specs.Reading.{Said, ◌>>=◌, wrong, array_in, table_in, needed, optional, known, each}
-use Rattle.share_config.specs.Sections.{uplink_of, books_of, control_of, downlink_of}
+use Rattle.share_config.specs.Sections.{uplink_of, books_of, control_of, downlink_of, web_of}
 use Rattle.share_config.specs.Lists.{tariffs_of}
 use Rattle.share_config.specs.Tenants.{currency_of, tenant_of, ports_of}
 use Rattle.share_config.specs.Endpoints.{endpoints_of, once}
@@ -56,17 +56,19 @@ settings_of all = do
   control ← needed (table_at control_of) place.File key.Control ms
   given ← optional (some_table downlink_of) None place.File key.Downlink ms
   downlink ← reached uplink given
+  web ← optional (some_table web_of) None place.File key.Web ms
   tariffs ← tariffs_of ms
   currencies ← optional (list_in currency_of) [] place.File key.Currency ms
   tenants ← optional (list_in tenant_of) [] place.File key.Tenant ms
   plan ← plan_of currencies tenants
   ports ← optional (list_in ports_of) [] place.File key.Tenant ms
-  addresses ← once (endpoints_of uplink control downlink ports)
+  addresses ← once (endpoints_of uplink control downlink web ports)
   Ok (record {
     uplink = uplink;
     books = books;
     control = control;
     downlink = downlink;
+    web = web;
     tariffs = tariffs;
     plan = plan;
     ports = ports;

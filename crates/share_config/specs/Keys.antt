@@ -12,6 +12,7 @@ spelling key.Uplink = codes "uplink"
 spelling key.Books = codes "books"
 spelling key.Control = codes "control"
 spelling key.Downlink = codes "downlink"
+spelling key.Web = codes "web"
 spelling key.Tariff = codes "tariff"
 spelling key.Currency = codes "currency"
 spelling key.Tenant = codes "tenant"
@@ -39,11 +40,12 @@ spelling key.Of = codes "of"
 
 abbrev pub keys_of : Place → List Key
 keys_of place.File =
-    key.Uplink ∷ key.Books ∷ key.Control ∷ key.Tariff ∷ key.Currency ∷ key.Tenant ∷ key.Downlink ∷ []
+    key.Uplink ∷ key.Books ∷ key.Control ∷ key.Tariff ∷ key.Currency ∷ key.Tenant ∷ key.Downlink ∷ key.Web ∷ []
 keys_of place.Uplink = key.Connect ∷ key.Rate ∷ key.Buffer ∷ []
 keys_of place.Books = key.Folder ∷ key.Text ∷ key.Events ∷ key.Period ∷ []
 keys_of place.Control = key.Listen ∷ key.Mode ∷ []
 keys_of place.Downlink = key.Listen ∷ key.From ∷ []
+keys_of place.Web = key.Listen ∷ []
 keys_of (place.Tariff n) = key.Cell ∷ key.Overhead ∷ key.Price ∷ []
 keys_of (place.Currency n) = key.Name ∷ key.Tickets ∷ []
 keys_of (place.Tenant n) =

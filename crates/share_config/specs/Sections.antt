@@ -10,6 +10,7 @@ use Rattle.share_settings.specs.declared.section.BookText.TheVariants.{Lengths, 
 use Rattle.share_settings.specs.declared.section.Books.{Books}
 use Rattle.share_settings.specs.declared.section.Control.{Control}
 use Rattle.share_settings.specs.declared.section.Downlink.{Downlink}
+use Rattle.share_settings.specs.declared.section.Web.{Web}
 use Rattle.share_config.specs.declared.key.Key.{Key}
 use Rattle.share_config.specs.declared.key.Key.TheVariants as key
 use Rattle.share_config.specs.declared.key.Place.{Place}
@@ -17,7 +18,7 @@ use Rattle.share_config.specs.declared.key.Place.TheVariants as place
 use Rattle.share_config.specs.declared.fault.Reason.{Reason}
 use Rattle.share_config.specs.declared.fault.Reason.TheVariants as reason
 use Rattle.share_spellings.specs.Amounts.{rate_of, period_of, mode_of}
-use Rattle.share_spellings.specs.Addresses.{host_of, peer_of, listener_of, path_of}
+use Rattle.share_spellings.specs.Addresses.{address_of, host_of, peer_of, listener_of, path_of}
 use Rattle.share_config.specs.Reading.{Said, ◌>>=◌, wrong, found, text_in, number_in, needed, optional, known}
 
 -- a text that says a value
@@ -85,3 +86,11 @@ downlink_of all = do
   listen ← needed (value_in peer_of reason.Peer) place.Downlink key.Listen ms
   from ← optional (some_in host_of reason.Host) None place.Downlink key.From ms
   Ok (record { listen = listen; from = from })
+
+-- ---- The web listener
+
+abbrev pub web_of : Members → Said Web
+web_of all = do
+  ms ← known place.Web all
+  listen ← needed (value_in address_of reason.Address) place.Web key.Listen ms
+  Ok (record { listen = listen })

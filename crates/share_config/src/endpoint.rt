@@ -2,13 +2,14 @@
 ghost use Rattle.std.specs.Prelude.{◌≡◌, ◌++◌, ◌∷◌, [], IfOk, IfErr, OnOk, Ok, Err};
 ghost use Rattle.std.specs.List.{list_any};
 ghost use Rattle.share_config.specs.Endpoints.{endpoint, uplink_endpoints, control_endpoint, downlink_endpoints};
-ghost use Rattle.share_config.specs.Endpoints.{ports_from, tenants_from, endpoints_of, is_same_endpoint, once};
+ghost use Rattle.share_config.specs.Endpoints.{web_endpoints, ports_from, tenants_from, endpoints_of, is_same_endpoint};
+ghost use Rattle.share_config.specs.Endpoints.{once};
 ghost use Rattle.share_config.specs.declared.key.Key.TheVariants as key;
 ghost use Rattle.share_config.specs.declared.fault.ConfigFault.TheVariants.{NoMemory};
 
 use crate::fault::{ConfigFault, Reason};
 use crate::key::{Key, Place};
-use share_settings::{Control, Downlink, Port, TenantPorts, Uplink};
+use share_settings::{Control, Downlink, Port, TenantPorts, Uplink, Web};
 use std::alloc::Global;
 
 /// An address that a file gives: the table and the key that give it, and which of the key's addresses it is, from 1.
@@ -20,25 +21,27 @@ pub(crate) struct Endpoint {
     port: Port,
 }
 
-/// The fault of the first address that is given before: in `[uplink]`, in `[control]`, in `[downlink]`, or among the
-/// ports of the tenants.
+/// The fault of the first address that is given before: in `[uplink]`, in `[control]`, in `[downlink]`, in `[web]`, or
+/// among the ports of the tenants.
 pub(crate) fn check_addresses(
     alloc: Global,
     uplink: Option<Uplink>,
     control: &Control,
     downlink: Option<Downlink>,
+    web: Option<Web>,
     tenants: &[TenantPorts],
 ) -> Result<(), ConfigFault>
     ensures ok { OnOk result
-        (once (endpoints_of uplink control.now downlink tenants.now)
-        ≡ Ok (endpoints_of uplink control.now downlink tenants.now)) }
+        (once (endpoints_of uplink control.now downlink web tenants.now)
+        ≡ Ok (endpoints_of uplink control.now downlink web tenants.now)) }
     ensures fault { IfErr result (λ e. ¬ (e ≡ NoMemory)
-        → once (endpoints_of uplink control.now downlink tenants.now) ≡ Err e) }
+        → once (endpoints_of uplink control.now downlink web tenants.now) ≡ Err e) }
 {
     let mut list = Vec::new(alloc);
     push_uplink(&mut list, uplink)?;
     push_control(alloc, &mut list, control)?;
     push_downlink(&mut list, downlink)?;
+    push_web(&mut list, web)?;
     push_tenants(alloc, &mut list, tenants)?;
     check_once(list.as_slice())
 }
@@ -106,6 +109,24 @@ fn push_downlink(list: &mut Vec<Endpoint>, downlink: Option<Downlink>) -> Result
                 key: Key::Listen,
                 number: 1,
                 port: downlink.listen.port(),
+            },
+        ),
+    }
+}
+
+fn push_web(list: &mut Vec<Endpoint>, web: Option<Web>) -> Result<(), ConfigFault>
+    ensures ok { OnOk result (list.new.items ≡ list.old.items ++ web_endpoints web) }
+    ensures fault { IfErr result (λ e. e ≡ NoMemory) }
+{
+    match web {
+        None => Ok(()),
+        Some(web) => push(
+            list,
+            Endpoint {
+                place: Place::Web,
+                key: Key::Listen,
+                number: 1,
+                port: Port::Tcp(web.listen),
             },
         ),
     }

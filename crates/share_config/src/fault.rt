@@ -25,6 +25,8 @@ pub enum Reason {
     Peer,
     #[error("not an address such as 127.0.0.1:7002 or unix:/run/stridelink/uplink")]
     Listener,
+    #[error("not an address such as 127.0.0.1:9107")]
+    Address,
     #[error("not an IP address such as 192.0.2.7")]
     Host,
     #[error("port {number}: not 127.0.0.1:7101, unix:PATH, udp:ADDRESS, udp-to:ADDRESS or fd:3")]

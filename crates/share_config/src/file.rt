@@ -4,7 +4,7 @@ ghost use Rattle.toml.specs.View.{table_view};
 ghost use Rattle.toml.specs.Parse.{parse_document};
 ghost use Rattle.toml.specs.Errors.{IsMemory};
 ghost use Rattle.share_config.specs.Reading.{needed, optional};
-ghost use Rattle.share_config.specs.Sections.{uplink_of, books_of, control_of, downlink_of};
+ghost use Rattle.share_config.specs.Sections.{uplink_of, books_of, control_of, downlink_of, web_of};
 ghost use Rattle.share_config.specs.Tenants.{currency_of, tenant_of, ports_of};
 ghost use Rattle.share_config.specs.Files.{some_table, table_at, list_in, reached, plan_of, settings_of, IsFault};
 ghost use Rattle.share_config.specs.Files.{IsNotToml};
@@ -17,10 +17,10 @@ use crate::entry::{Entry, read_all};
 use crate::fault::{ConfigFault, Reason};
 use crate::key::{Key, Place};
 use crate::reading::{array_in, at, check_keys, table_in};
-use crate::section::{books, control, downlink, uplink};
+use crate::section::{books, control, downlink, uplink, web};
 use crate::tariff::tariffs;
 use share_gateway::{Currency, Plan, Tenant};
-use share_settings::{Books, Control, Downlink, Settings, TenantPorts, Text, Uplink};
+use share_settings::{Books, Control, Downlink, Settings, TenantPorts, Text, Uplink, Web};
 use std::alloc::Global;
 use toml::Table;
 
@@ -71,17 +71,19 @@ fn settings(alloc: Global, table: &Table) -> Result<Settings, ConfigFault>
     let books = books_at(alloc, table)?;
     let control = control_at(alloc, table)?;
     let downlink = reached(uplink, downlink_at(alloc, table)?)?;
+    let web = web_at(alloc, table)?;
     let tariffs = tariffs(alloc, table)?;
     let currencies = list_at::<Currency>(alloc, table, Key::Currency)?;
     let tenants = list_at::<Tenant>(alloc, table, Key::Tenant)?;
     let plan = plan(currencies, tenants)?;
     let ports = list_at::<TenantPorts>(alloc, table, Key::Tenant)?;
-    check_addresses(alloc, uplink, &control, downlink, ports.as_slice())?;
+    check_addresses(alloc, uplink, &control, downlink, web, ports.as_slice())?;
     Ok(Settings {
         uplink,
         books,
         control,
         downlink,
+        web,
         tariffs,
         plan,
         ports,
@@ -114,6 +116,21 @@ fn downlink_at(alloc: Global, table: &Table) -> Result<Option<Downlink>, ConfigF
         Some(value) => {
             let downlink = downlink(alloc, table_in(value, Place::File, Key::Downlink)?)?;
             Ok(Some(downlink))
+        }
+    }
+}
+
+fn web_at(alloc: Global, table: &Table) -> Result<Option<Web>, ConfigFault>
+    ensures ok { IfOk result (λ web.
+        optional (some_table web_of) None place.File key.Web (table_view table.now) ≡ Ok web) }
+    ensures fault { IfErr result (λ e. ¬ (e ≡ NoMemory)
+        → optional (some_table web_of) None place.File key.Web (table_view table.now) ≡ Err e) }
+{
+    match at(table, Key::Web) {
+        None => Ok(None),
+        Some(value) => {
+            let web = web(alloc, table_in(value, Place::File, Key::Web)?)?;
+            Ok(Some(web))
         }
     }
 }

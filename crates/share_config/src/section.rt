@@ -2,11 +2,11 @@
 ghost use Rattle.std.specs.Prelude.{◌≡◌, IfOk, IfErr, Ok, Err, None, Some};
 ghost use Rattle.toml.specs.View.{table_view};
 ghost use Rattle.share_config.specs.Sections.{uplink_of, books_of, control_of, downlink_of, book_text_of, mode_at};
-ghost use Rattle.share_config.specs.Sections.{paced};
+ghost use Rattle.share_config.specs.Sections.{paced, web_of};
 ghost use Rattle.share_config.specs.Sections.{value_in, some_in};
 ghost use Rattle.share_config.specs.Reading.{needed, optional};
 ghost use Rattle.share_spellings.specs.Amounts.{rate_of, period_of, mode_of};
-ghost use Rattle.share_spellings.specs.Addresses.{peer_of, host_of, path_of, listener_of};
+ghost use Rattle.share_spellings.specs.Addresses.{address_of, peer_of, host_of, path_of, listener_of};
 ghost use Rattle.share_config.specs.declared.key.Key.TheVariants as key;
 ghost use Rattle.share_config.specs.declared.key.Place.TheVariants as place;
 ghost use Rattle.share_config.specs.declared.fault.Reason.TheVariants as reason;
@@ -16,12 +16,12 @@ ghost use Rattle.share_config.specs.declared.fault.ConfigFault.TheVariants.{NoMe
 use crate::fault::{ConfigFault, Reason};
 use crate::key::{Key, Place};
 use crate::reading::{at, check_keys, found, needed_text, optional_number, text_in};
-use share_settings::{BookText, Books, Control, Downlink, Listener, Peer, Text, Uplink};
+use share_settings::{BookText, Books, Control, Downlink, Listener, Peer, Text, Uplink, Web};
 use share_spellings::{
-    read_host, read_listener, read_mode, read_path, read_peer, read_period, read_rate,
+    read_address, read_host, read_listener, read_mode, read_path, read_peer, read_period, read_rate,
 };
 use std::alloc::Global;
-use std::net::IpAddr;
+use std::net::{IpAddr, SocketAddr};
 use toml::Table;
 
 /// The mode of a Unix socket, if the file gives none.
@@ -218,4 +218,26 @@ fn from(table: &Table) -> Result<Option<IpAddr>, ConfigFault>
     let text = text_in(value, Place::Downlink, Key::From)?;
     let from = found(read_host(text), Place::Downlink, Key::From, Reason::Host)?;
     Ok(Some(from))
+}
+
+/// The web listener of its table.
+pub(crate) fn web(alloc: Global, table: &Table) -> Result<Web, ConfigFault>
+    ensures ok { IfOk result (λ web. web_of (table_view table.now) ≡ Ok web) }
+    ensures fault { IfErr result (λ e. ¬ (e ≡ NoMemory) → web_of (table_view table.now) ≡ Err e) }
+{
+    check_keys(alloc, table, Place::Web)?;
+    let listen = web_address(table)?;
+    Ok(Web { listen })
+}
+
+fn web_address(table: &Table) -> Result<SocketAddr, ConfigFault>
+    ensures ok { IfOk result (λ address.
+        needed (value_in address_of reason.Address) place.Web key.Listen (table_view table.now) ≡ Ok address) }
+    ensures fault { IfErr result (λ e.
+        needed (value_in address_of reason.Address) place.Web key.Listen (table_view table.now) ≡ Err e) }
+{
+    match needed_text(table, Place::Web, Key::Listen) {
+        Err(fault) => Err(fault),
+        Ok(text) => found(read_address(text), Place::Web, Key::Listen, Reason::Address),
+    }
 }

@@ -1,5 +1,6 @@
 //! The connections that are open, and how they are ended.
 
+use crate::reason::Reason;
 use crate::uplink::Wire;
 use share_locked::{Attendant, Pace, Stop};
 use std::alloc::{AllocError, Global};
@@ -8,7 +9,7 @@ use std::io::{Eprint, ErrorKind, Read};
 use std::net::{Shutdown, TcpListener, TcpStream};
 use std::os::fd::OwnedFd;
 use std::sync::{Arc, Condvar, Mutex, Wait};
-use std::thread::{Parker, Threads};
+use std::thread::Threads;
 use std::time::Duration;
 use std::{io, thread};
 
@@ -58,7 +59,6 @@ pub struct Connections {
     pace: Pace,
     // Set when nothing is left to watch.
     over: Stop,
-    watcher: Parker,
     is_verbose: bool,
 }
 
@@ -102,7 +102,6 @@ impl Connections {
             link_ended: Stop::new(),
             pace,
             over: Stop::new(),
-            watcher: Parker::new(),
             is_verbose,
         })
     }
@@ -112,6 +111,11 @@ impl Connections {
         if self.is_verbose {
             let _ = rt.eprintln(line);
         }
+    }
+
+    /// Whether standard error tells what happens.
+    pub fn is_verbose(&self) -> bool {
+        self.is_verbose
     }
 
     pub fn wire(&self) -> &Wire {
@@ -186,19 +190,56 @@ impl Connections {
         self.shut(rt, Kind::Control, Shutdown::Read);
         self.shut(rt, Kind::Ingress, Shutdown::Read);
         self.pace.hurry();
-        self.watcher.unpark();
+        self.wire.watcher().unpark();
     }
 
     /// Ends the watch, since nothing is left to watch.
     pub fn end_watch(&self) {
         self.over.set();
-        self.watcher.unpark();
+        self.wire.watcher().unpark();
     }
 
-    /// Waits until the end begins. Then it ends replies that are not written in time, and an uplink that takes nothing
-    /// for as long.
-    pub fn watch<R: Wait>(&self, rt: &R) {
-        self.watcher.park(rt);
+    /// Watches the uplink until nothing is left to watch, and tells its loss. From the beginning of the end on it ends
+    /// replies that are not written in time, and an uplink that takes nothing for as long.
+    pub fn watch<R: Wait + Eprint>(&self, rt: &R) {
+        self.watch_until_end(rt);
+        self.watch_end(rt);
+        self.tell_loss(rt);
+    }
+
+    // Waits until the end begins, or nothing is left to watch. It tells that the uplink takes nothing, once for each
+    // write call.
+    fn watch_until_end<R: Wait + Eprint>(&self, rt: &R) {
+        let mut steps = 0;
+        let mut told = 0;
+        for _ in rt.forever() {
+            if self.ending.is_set() || self.over.is_set() {
+                return;
+            }
+            self.wire
+                .watcher()
+                .park_timeout(rt, Duration::from_millis(GRACE * REST));
+            self.tell_loss(rt);
+            let now = self.wire.steps();
+            if now == steps && now % 2 == 1 && now != told {
+                self.tell(rt, "waiting for the uplink, which takes nothing");
+                told = now;
+            }
+            steps = now;
+        }
+    }
+
+    // Tells that the uplink is lost, once.
+    fn tell_loss<R: Eprint>(&self, rt: &R) {
+        if let Some(fault) = self.wire.take_fault() {
+            let reason = Reason(fault);
+            self.tell(rt, format_args!("the uplink is lost: {reason}"));
+        }
+    }
+
+    // From the beginning of the end on: ends replies that are not written in time, and an uplink that takes nothing for
+    // as long.
+    fn watch_end<R: Wait + Eprint>(&self, rt: &R) {
         let mut steps = self.wire.steps();
         if self.rest(rt) {
             return;
@@ -207,8 +248,8 @@ impl Connections {
         for _ in rt.forever() {
             let now = self.wire.steps();
             if now == steps && now % 2 == 1 {
+                self.tell(rt, "the uplink takes nothing, and is ended");
                 self.wire.tear();
-                return;
             }
             steps = now;
             if self.rest(rt) {
@@ -218,12 +259,15 @@ impl Connections {
     }
 
     // Waits for `GRACE` rests, or until nothing is left to watch. Returns true if nothing is.
-    fn rest<R: Wait>(&self, rt: &R) -> bool {
+    fn rest<R: Wait + Eprint>(&self, rt: &R) -> bool {
         for _ in 0..GRACE {
             if self.over.is_set() {
                 return true;
             }
-            self.watcher.park_timeout(rt, Duration::from_millis(REST));
+            self.wire
+                .watcher()
+                .park_timeout(rt, Duration::from_millis(REST));
+            self.tell_loss(rt);
         }
         self.over.is_set()
     }

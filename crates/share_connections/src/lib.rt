@@ -2,7 +2,9 @@
 #![tactic(auto)]
 
 mod connections;
+mod reason;
 mod uplink;
 
 pub use connections::{ConnectionReader, Connections, Kind, Listening, end_at_eof};
+pub use reason::Reason;
 pub use uplink::{Uplink, Wire};

@@ -5,7 +5,8 @@ use std::io;
 use std::io::{ErrorKind, Read, Write};
 use std::net::{Shutdown, TcpStream};
 use std::sync::Arc;
-use std::sync::atomic::{AtomicU64, Ordering};
+use std::sync::atomic::{AtomicI32, AtomicU64, Ordering};
+use std::thread::Parker;
 use std::time::{Clock, Duration, Instant};
 
 /// How long bytes that the peer sent are read and thrown away, in seconds.
@@ -17,6 +18,12 @@ const MOST_READS: u64 = 4096;
 /// How many bytes each of them reads, at most.
 const AWAY: usize = 4096;
 
+/// Stands for no fault, where the system's number of a fault would.
+const NO_FAULT: i32 = 0;
+
+/// Stands for a fault that has no number.
+const NO_NUMBER: i32 = -1;
+
 /// The connection, how many times a write call on it began or ended, which is odd during a call, and how many calls
 /// began since the last push.
 #[derive(Drop)]
@@ -24,6 +31,9 @@ pub struct Wire {
     stream: TcpStream,
     steps: AtomicU64,
     busy: AtomicU64,
+    // The system's number of the fault of a write call that nobody took yet.
+    fault: AtomicI32,
+    watcher: Parker,
 }
 
 /// The writer of the link. Its offers are write calls on the connection.
@@ -38,6 +48,38 @@ impl Wire {
             stream,
             steps: AtomicU64::new(0),
             busy: AtomicU64::new(0),
+            fault: AtomicI32::new(NO_FAULT),
+            watcher: Parker::new(),
+        }
+    }
+
+    /// Where the thread sleeps that watches the connection. A write call that fails wakes it.
+    pub fn watcher(&self) -> &Parker {
+        &self.watcher
+    }
+
+    /// Why a write call failed, if one did and its fault was not taken yet.
+    pub fn take_fault(&self) -> Option<io::Error> {
+        match self.fault.swap(NO_FAULT, Ordering::SeqCst) {
+            NO_FAULT => None,
+            NO_NUMBER => Some(io::Error::from(ErrorKind::WriteZero)),
+            number => Some(io::Error::from_raw_os_error(number)),
+        }
+    }
+
+    // A write call failed, so the link makes no further one.
+    fn fail(&self, number: i32) {
+        self.fault.store(number, Ordering::SeqCst);
+        self.watcher.unpark();
+    }
+
+    // Notes what a write call of some bytes answered.
+    fn note(&self, written: &io::Result<usize>, length: usize) {
+        match written {
+            Ok(0) if length > 0 => self.fail(NO_NUMBER),
+            Ok(_) => (),
+            Err(fault) if fault.kind() == ErrorKind::Interrupted => (),
+            Err(fault) => self.fail(fault.raw_os_error().unwrap_or(NO_NUMBER)),
         }
     }
 
@@ -123,6 +165,7 @@ impl Write for Uplink {
         let mut stream = &self.wire.stream;
         let written = stream.write(buf);
         self.wire.end_write();
+        self.wire.note(&written, buf.len());
         written
     }
 

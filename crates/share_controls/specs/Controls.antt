@@ -6,8 +6,8 @@ use Rattle.share_controls.specs.declared.connection.Front.{Front}
 use Rattle.share_controls.specs.declared.connection.Front.TheVariants.{Line, OverLong, Nothing}
 
 -- the token of its events; what is at the front of its lines, and when the last line came there, or the connection was
--- made, in nanoseconds; the line that was given last, and the bytes that came after it; the replies that were not taken;
--- what its socket may be ready for; whether no line comes any more; and whether nothing goes out any more
+-- made, in nanoseconds; the line that was given last, and the bytes that came after it; the replies that were not
+-- taken; what its socket may be ready for; whether no line comes any more; and whether nothing goes out any more
 pub record ControlView : Type 0 where
   pub token : ℕ
   pub front : Front

@@ -275,8 +275,8 @@ impl<W, S: Rates> Engine<W, S> {
         self.link.arrive(&flow, body)
     }
 
-    /// A packet comes for the flow of a name, as `arrive` says, whose number is the one that `free_flow` gives: the name
-    /// is not looked up again. It takes no memory.
+    /// A packet comes for the flow of a name, as `arrive` says, whose number is the one that `free_flow` gives: the
+    /// name is not looked up again. It takes no memory.
     pub fn arrive_at(&mut self, flow: Name, number: FlowNo, body: Body) -> Reply
         requires body { length body.payload ≤ max_payload self.old.live.version }
         requires free { free_flow self.old.live flow ≡ Some number }

@@ -1,5 +1,5 @@
-//! A folder of books on disk. share_catalog says which names and bytes its files have, and share_archive in which order a
-//! book is closed and recovered. This crate makes the calls.
+//! A folder of books on disk. share_catalog says which names and bytes its files have, and share_archive in which order
+//! a book is closed and recovered. This crate makes the calls.
 #![tactic(auto)]
 
 mod begin;

@@ -12,8 +12,8 @@ use std::io;
 use std::io::Write;
 use std::marker::Model;
 
-/// The file of the open book's text. A contract sees the number of the book, and the digest's state, which has the bytes
-/// that were written (`HasText`).
+/// The file of the open book's text. A contract sees the number of the book, and the digest's state, which has the
+/// bytes that were written (`HasText`).
 #[derive(Drop)]
 pub struct OpenText {
     file: File,

@@ -1,2 +1,5 @@
+pub mod DeliveriesLemmas
 pub mod FillsLemmas
+pub mod OutgoingLemmas
+pub mod PacketLemmas
 pub mod RecordLemmas

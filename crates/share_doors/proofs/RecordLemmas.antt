@@ -5,15 +5,13 @@ use Rattle.std.proofs.lemmas.List.{take_all}
 use Rattle.share_model.specs.funding.Graph.{NameBytes}
 use Rattle.share_model.specs.ingress.Records.{record_of}
 use Rattle.share_book.specs.Audited.{Audited}
-use Rattle.share_book.specs.Book.{TakesPacket}
-use Rattle.share_book.specs.declared.book.Taken.{Taken}
 use Rattle.share_ingress.specs.Found.{NeedsMore}
 use Rattle.share_gateway.specs.Records.{CutsRecord, GivesItem, NamesOnly, RecordsView, item_for}
 use Rattle.share_gateway.specs.declared.records.Cut.TheVariants.{More as MoreCut, Bad}
-use Rattle.share_doors.specs.Takes.{EndsWith, Feeds, GivesPayload, GivesRecord, HoldsMore, HoldsPart, PassesRecords}
+use Rattle.share_doors.specs.Takes.{CutsFirst, EndsWith, Feeds, GivesPayload, HoldsMore, HoldsPart, PassesRecords}
 use Rattle.share_doors.specs.Takes.{IsEndOf, IsNoRecord}
 use Rattle.share_doors.specs.declared.sender.Came.{Came}
-use Rattle.share_doors.specs.declared.sender.Came.TheVariants.{Packet, Nothing, More, Over}
+use Rattle.share_doors.specs.declared.sender.Came.TheVariants.{Packet, Dropped, Nothing, More, Over}
 use Rattle.share_doors.specs.declared.sender.ClosedWhy.{ClosedWhy}
 use Rattle.share_doors.specs.declared.sender.ClosedWhy.TheVariants.{
   Ended,
@@ -39,29 +37,30 @@ holds_fed a b c n held fed = record {
   name = fed.name ∙ held.name;
 }
 
--- the first record was given
-pub gives_record : (name : NameBytes) (n : ℕ) (a b c : RecordsView) (before after : Audited) (answer : Taken)
-    → HoldsMore a b → GivesItem b c → length c.payload ≡ n → TakesPacket before name c.payload answer after
-    → GivesRecord name n a before c after
-gives_record name n a b c before after answer held gives count packet = record {
+-- the first record was cut
+pub cuts_first : (a b c : RecordsView) (lent : List ℕ) → lent ≡ c.payload → HoldsMore a b → GivesItem b c
+    → CutsFirst (length lent) a c
+cuts_first a b c lent same held gives = record {
   came = held.came;
   record_is = sym held.bytes ∙ gives.bytes
       ∙ ap (λ (x : List ℕ). record_of (item_for x c.payload) ++ c.bytes) held.name;
-  count = count;
-  answer = answer;
-  packet = packet;
+  count = ap length (sym same);
 }
 
--- what came of a payload that was given
-pub passes_payload : (name : NameBytes) (a b c : RecordsView) (before book after : Audited) (answer : Came)
-    → HoldsMore a b → GivesItem b c → book ≡ before → GivesPayload name c.payload book answer after
-    → PassesRecords name a before answer c after
-passes_payload name a b c before book after (Packet n) held gives same took =
-    gives_record name n a b c before after took.1.0 held gives took.0
-    (subst (λ (x : Audited). TakesPacket x name c.payload took.1.0 after) same took.1.1)
-passes_payload name a b c before book after Nothing held gives same took = absurd took
-passes_payload name a b c before book after More held gives same took = absurd took
-passes_payload name a b c before book after (Over why) held gives same took =
+-- what came of a payload that was cut
+pub passes_payload : (name : NameBytes) (n : ℕ) (a c : RecordsView) (before after : Audited) (answer : Came)
+    → CutsFirst n a c → GivesPayload name c.payload before answer after → PassesRecords name a before answer c after
+passes_payload name n a c before after (Packet m) cut took = record {
+  came = cut.came;
+  record_is = cut.record_is;
+  count = took.0;
+  answer = took.1.0;
+  packet = took.1.1;
+}
+passes_payload name n a c before after Dropped cut took = absurd took
+passes_payload name n a c before after Nothing cut took = absurd took
+passes_payload name n a c before after More cut took = absurd took
+passes_payload name n a c before after (Over why) cut took =
     subst (λ (x : ClosedWhy). EndsWith x a c) (sym took) tt
 
 -- what is held begins with no record

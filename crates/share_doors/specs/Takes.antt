@@ -10,7 +10,7 @@ use Rattle.share_book.specs.declared.book.Taken.{Taken}
 use Rattle.share_ingress.specs.Found.{NeedsMore}
 use Rattle.share_gateway.specs.Records.{NamesOnly, NamesOther, RecordsView, item_for}
 use Rattle.share_doors.specs.declared.sender.Came.{Came}
-use Rattle.share_doors.specs.declared.sender.Came.TheVariants.{Packet, Nothing, More, Over}
+use Rattle.share_doors.specs.declared.sender.Came.TheVariants.{Packet, Dropped, Nothing, More, Over}
 use Rattle.share_doors.specs.declared.sender.ClosedWhy.{ClosedWhy}
 use Rattle.share_doors.specs.declared.sender.ClosedWhy.TheVariants.{
   Ended,
@@ -40,6 +40,7 @@ pub record TakesBytes (name : NameBytes) (n : ℕ) (before after : Audited) : Ty
 -- one packet of the tenant was taken, or nothing changed
 abbrev pub GivesOne : NameBytes → Audited → Came → Audited → Type 0
 GivesOne name before (Packet n) after = TakesBytes name n before after
+GivesOne name before Dropped after = ⊥
 GivesOne name before Nothing after = after ≡ before
 GivesOne name before More after = after ≡ before
 GivesOne name before (Over why) after = after ≡ before
@@ -79,10 +80,17 @@ pub record GivesRecord (name : NameBytes) (n : ℕ) (old : RecordsView) (before 
   pub answer : Taken
   pub packet : TakesPacket before name new.payload answer after
 
+-- bytes came, and of all that are held the first record was cut, whose payload has n bytes
+pub record CutsFirst (n : ℕ) (old new : RecordsView) : Type 0 where
+  pub came : List ℕ
+  pub record_is : old.bytes ++ came ≡ record_of (item_for old.name new.payload) ++ new.bytes
+  pub count : length new.payload ≡ n
+
 -- this payload went into the book, and has n bytes; or it is lost without memory, and no other answer comes
 abbrev pub GivesPayload : NameBytes → List ℕ → Audited → Came → Audited → Type 0
 GivesPayload name payload before (Packet n) after =
     (length payload ≡ n) × ((answer : Taken) × TakesPacket before name payload answer after)
+GivesPayload name payload before Dropped after = ⊥
 GivesPayload name payload before Nothing after = ⊥
 GivesPayload name payload before More after = ⊥
 GivesPayload name payload before (Over why) after = why ≡ NoMemory
@@ -114,6 +122,23 @@ EndsWith Asked old new = ⊥
 -- what becomes of the records of a connection that is asked for a packet
 abbrev pub PassesRecords : NameBytes → RecordsView → Audited → Came → RecordsView → Audited → Type 0
 PassesRecords name old before (Packet n) new after = GivesRecord name n old before new after
+PassesRecords name old before Dropped new after = ⊥
 PassesRecords name old before Nothing new after = HoldsPart old new
 PassesRecords name old before More new after = HoldsMore old new
 PassesRecords name old before (Over why) new after = EndsWith why old new
+
+-- what a search for the next record of a connection comes to
+abbrev pub FindsRecord : RecordsView → Came → RecordsView → Type 0
+FindsRecord old (Packet n) new = CutsFirst n old new
+FindsRecord old Dropped new = ⊥
+FindsRecord old Nothing new = HoldsPart old new
+FindsRecord old More new = HoldsMore old new
+FindsRecord old (Over why) new = EndsWith why old new
+
+-- what becomes of the records of a connection whose next packet is dropped
+abbrev pub DropsRecord : RecordsView → Came → RecordsView → Type 0
+DropsRecord old (Packet n) new = ⊥
+DropsRecord old Dropped new = (n : ℕ) × CutsFirst n old new
+DropsRecord old Nothing new = HoldsPart old new
+DropsRecord old More new = HoldsMore old new
+DropsRecord old (Over why) new = EndsWith why old new

@@ -1,5 +1,6 @@
 //! What is done with all connections of a tenant.
 
+use crate::packet_port::PacketPort;
 use crate::sender::{ClosedWhy, Sender};
 use slab::Slab;
 
@@ -52,4 +53,14 @@ pub(crate) fn count_at(senders: &Slab<Sender>, port: usize) -> usize {
         }
     }
     count
+}
+
+/// The key of a packet port that is over.
+pub(crate) fn over_port(ports: &Slab<PacketPort>) -> Option<usize> {
+    'keys: for key in 0..ports.capacity() {
+        if ports.get(key).is_some_and(|port| port.is_over()) {
+            return Some(key);
+        }
+    }
+    None
 }

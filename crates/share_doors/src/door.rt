@@ -1,11 +1,14 @@
-//! The connections of one tenant, which are served in turn.
-ghost use Rattle.std.specs.Prelude.{◌≡◌, ◌+◌, ◌<◌, ◌≤◌, false};
-ghost use Rattle.share_doors.specs.Door.{counted};
-ghost use Rattle.share_doors.specs.Fills.{Fills};
+//! The connections and the packet ports of one tenant, which are served in turn.
+ghost use Rattle.std.specs.Prelude.{◌≡◌, ◌+◌, ◌<◌, ◌≤◌, true, false};
+ghost use Rattle.share_doors.specs.Door.{counted, dropped_one, new_door, one_more};
+ghost use Rattle.share_doors.specs.Fills.{Drops, Fills};
 ghost use Rattle.share_doors.specs.Takes.{TakesOnly, can_take};
 ghost use Rattle.share_doors.specs.declared.door.Filled.TheVariants.{Full};
 
-use crate::connections::{Looked, count_at, end_all, look_over};
+use crate::connections::{Looked, count_at, end_all, look_over, over_port};
+use crate::deliveries::Deliveries;
+use crate::packet_port::{ClosedPort, PacketPort};
+use crate::packet_reader::PacketReader;
 use crate::sender::{Came, ClosedSender, Sender};
 use share_base::{FlowNo, Name};
 use share_book::Book;
@@ -16,6 +19,9 @@ use std::marker::Model;
 
 /// How many packets are taken in one call.
 const PACKETS: u32 = 256;
+
+/// How many packets are read at most that wait in a socket which is removed.
+const WAITING: u32 = 4096;
 
 /// How many connections one tenant has at most at the same time.
 pub const MAX_SENDERS: usize = 64;
@@ -31,20 +37,28 @@ pub enum Filled {
     More,
 }
 
-/// The door of a tenant: its connections. A contract sees the tenant and its flow, and how much was taken.
+/// The door of a tenant: its connections and its packet ports. A contract sees the tenant and its flow, how much was
+/// taken, how many packets of packet ports were read and how many were dropped, and how many were given to deliver and
+/// how often one was lost.
 pub struct Door {
     tenant: Name,
     flow: FlowNo,
     senders: Slab<Sender>,
-    // The key of the connection that is served next.
+    ports: Slab<PacketPort>,
+    reader: PacketReader,
+    // Which one is served next: a port by its key, and a connection by its key after those of ports.
     next: usize,
     // Whether packets may be at hand.
     is_ready: bool,
-    // Whether a connection may be over that was not closed.
+    // Whether a connection may be over that was not closed, and whether a port may.
     may_be_over: bool,
+    may_have_closed: bool,
     // How many packets were taken, and how many bytes their payloads have.
     packets: u64,
     bytes: u64,
+    // How many were dropped.
+    dropped: u64,
+    deliveries: Deliveries,
 }
 
 impl Drop for Door {
@@ -53,13 +67,21 @@ impl Drop for Door {
             tenant: _,
             flow: _,
             senders,
+            ports,
+            reader,
             next: _,
             is_ready: _,
             may_be_over: _,
+            may_have_closed: _,
             packets: _,
             bytes: _,
+            dropped: _,
+            deliveries,
         } = self;
         drop(senders);
+        drop(ports);
+        drop(reader);
+        drop(deliveries);
     }
 }
 
@@ -69,7 +91,16 @@ impl Model for Door {
     ghost Value = { DoorView };
 
     ghost view = { λ d.
-        record { tenant = d.tenant; flow = d.flow; packets = d.packets; bytes = d.bytes } };
+        record {
+          tenant = d.tenant;
+          flow = d.flow;
+          packets = d.packets;
+          bytes = d.bytes;
+          read = d.reader.count;
+          dropped = d.dropped;
+          given = d.deliveries.given;
+          lost = d.deliveries.lost;
+        } };
 }
 
 // Whether a packet of the tenant would be taken.
@@ -80,19 +111,24 @@ fn has_room<S: Rates>(book: &Book<S>, tenant: Name) -> bool
 }
 
 impl Door {
-    /// The door of a tenant that has this flow, with no connections.
+    /// The door of a tenant that has this flow, with no connections and no packet ports.
     pub fn new(alloc: Global, tenant: Name, flow: FlowNo) -> Door
-        ensures { result ≡ record { tenant = tenant; flow = flow; packets = 0; bytes = 0 } }
+        ensures { result ≡ new_door tenant flow }
     {
         Door {
             tenant,
             flow,
             senders: Slab::new(alloc),
+            ports: Slab::new(alloc),
+            reader: PacketReader::new(alloc),
             next: 0,
             is_ready: false,
             may_be_over: false,
+            may_have_closed: false,
             packets: 0,
             bytes: 0,
+            dropped: 0,
+            deliveries: Deliveries::new(),
         }
     }
 
@@ -124,6 +160,20 @@ impl Door {
         self.bytes
     }
 
+    /// How many packets were dropped.
+    pub fn dropped(&self) -> u64
+        ensures { result ≡ self.now.dropped }
+    {
+        self.dropped
+    }
+
+    /// How many packets that were delivered its ports and connections lost.
+    pub fn lost(&self) -> u64
+        ensures { result ≡ self.now.lost }
+    {
+        self.deliveries.lost()
+    }
+
     /// How many connections it has.
     pub fn len(&self) -> usize {
         self.senders.len()
@@ -147,22 +197,56 @@ impl Door {
         }
     }
 
+    /// Adds a packet port, and returns its key, or `None` without memory for it, and then its socket is let go.
+    pub fn add_port(&mut self, alloc: Global, port: PacketPort) -> Option<usize>
+        ensures { self.new ≡ self.old }
+    {
+        if self.reader.make_room(alloc).is_err() {
+            return None;
+        }
+        match self.ports.insert(port) {
+            Err(_) => None,
+            Ok(key) => {
+                self.is_ready = true;
+                Some(key)
+            }
+        }
+    }
+
     /// The socket of a connection was reported ready, and if so, that its far end sends no more.
     pub fn note(&mut self, key: usize, is_read_closed: bool)
         ensures { self.new ≡ self.old }
     {
         if let Some(sender) = self.senders.get_mut(key) {
             sender.note(is_read_closed);
+            sender.go_on();
             self.is_ready = true;
             self.may_be_over |= is_read_closed;
         }
     }
 
-    /// Takes packets, one of each connection in turn, as far as the book has room.
+    /// The socket of a packet port was reported ready.
+    pub fn note_port(&mut self, key: usize)
+        ensures { self.new ≡ self.old }
+    {
+        if let Some(port) = self.ports.get_mut(key) {
+            port.note();
+            self.is_ready = true;
+        }
+    }
+
+    /// Takes packets, one of each connection and each port in turn, as far as the book has room. Packets of ports that
+    /// are no payloads are dropped. Without room nothing is read.
     pub fn fill<S: Rates>(&mut self, alloc: Global, book: &mut Book<S>) -> Filled
-        ensures same { self.new ≡ record self.old { packets = self.new.packets; bytes = self.new.bytes } }
+        ensures same { self.new ≡ record self.old {
+          packets = self.new.packets;
+          bytes = self.new.bytes;
+          read = self.new.read;
+          dropped = self.new.dropped;
+        } }
         ensures book { TakesOnly self.old.tenant book.old.audited book.new.audited }
         ensures counted { Fills self.old book.old.audited self.new book.new.audited }
+        ensures waits { can_take book.old.audited self.old.tenant ≡ false → self.new ≡ self.old }
         ensures full { result ≡ Full → can_take book.new.audited self.old.tenant ≡ false }
         ensures plan { book.new.plan ≡ book.old.plan }
     {
@@ -179,7 +263,7 @@ impl Door {
             } else {
                 idle = idle.saturating_add(1);
             }
-            if idle > self.senders.capacity() {
+            if idle > self.places() {
                 self.is_ready = false;
                 return Filled::Emptied;
             }
@@ -187,13 +271,64 @@ impl Door {
         Filled::More
     }
 
-    // Asks the next connection for a packet. Returns false if it has none.
+    // How many keys ports and connections have at most.
+    fn places(&self) -> usize {
+        self.ports
+            .capacity()
+            .saturating_add(self.senders.capacity())
+    }
+
+    // Asks the next port or connection for a packet. Returns false if it has none.
     fn serve_next<S: Rates>(&mut self, alloc: Global, book: &mut Book<S>) -> bool
+        requires { can_take book.old.audited self.old.tenant ≡ true }
         ensures counted { Fills self.old book.old.audited self.new book.new.audited }
         ensures plan { book.new.plan ≡ book.old.plan }
     {
-        let key = self.next;
-        self.next = following(key, self.senders.capacity());
+        let place = self.next;
+        self.next = following(place, self.places());
+        let ports = self.ports.capacity();
+        if place < ports {
+            self.serve_port(alloc, book, place)
+        } else {
+            self.serve_sender(alloc, book, place - ports)
+        }
+    }
+
+    // Asks a port for a packet. Returns false if it has none.
+    fn serve_port<S: Rates>(&mut self, alloc: Global, book: &mut Book<S>, key: usize) -> bool
+        requires { can_take book.old.audited self.old.tenant ≡ true }
+        ensures counted { Fills self.old book.old.audited self.new book.new.audited }
+        ensures plan { book.new.plan ≡ book.old.plan }
+    {
+        let Some(port) = self.ports.get_mut(key) else {
+            return false;
+        };
+        if port.is_over() {
+            return false;
+        }
+        match port.give(&mut self.reader, alloc, self.tenant, book) {
+            Came::Packet(bytes) => {
+                self.count(bytes);
+                true
+            }
+            Came::Dropped => {
+                self.count_dropped();
+                true
+            }
+            Came::More => true,
+            Came::Nothing => false,
+            Came::Over(_) => {
+                self.may_have_closed = true;
+                false
+            }
+        }
+    }
+
+    // Asks a connection for a packet. Returns false if it has none.
+    fn serve_sender<S: Rates>(&mut self, alloc: Global, book: &mut Book<S>, key: usize) -> bool
+        ensures counted { Fills self.old book.old.audited self.new book.new.audited }
+        ensures plan { book.new.plan ≡ book.old.plan }
+    {
         let Some(sender) = self.senders.get_mut(key) else {
             return false;
         };
@@ -207,10 +342,166 @@ impl Door {
                 self.count(bytes);
                 true
             }
+            Came::Dropped => unreachable!(),
             Came::More => true,
             Came::Nothing => false,
             Came::Over(_) => false,
         }
+    }
+
+    /// Reads packets, one of each connection and each port in turn, and drops them. Returns `More` if more may be at
+    /// hand.
+    pub fn discard(&mut self) -> Filled
+        ensures { Drops self.old self.new }
+    {
+        if !self.is_ready {
+            return Filled::Emptied;
+        }
+        let mut idle: usize = 0;
+        'packets: for _ in 0..PACKETS {
+            if self.discard_next() {
+                idle = 0;
+            } else {
+                idle = idle.saturating_add(1);
+            }
+            if idle > self.places() {
+                self.is_ready = false;
+                return Filled::Emptied;
+            }
+        }
+        Filled::More
+    }
+
+    // Drops the packet of the next port or connection. Returns false if it has none.
+    fn discard_next(&mut self) -> bool
+        ensures { Drops self.old self.new }
+    {
+        let place = self.next;
+        self.next = following(place, self.places());
+        let ports = self.ports.capacity();
+        if place < ports {
+            self.discard_of_port(place)
+        } else {
+            self.discard_of_sender(place - ports)
+        }
+    }
+
+    fn discard_of_port(&mut self, key: usize) -> bool
+        ensures { Drops self.old self.new }
+    {
+        let Some(port) = self.ports.get_mut(key) else {
+            return false;
+        };
+        if port.is_over() {
+            return false;
+        }
+        match port.discard(&mut self.reader) {
+            Came::Packet(_) => unreachable!(),
+            Came::Dropped => {
+                self.count_dropped();
+                true
+            }
+            Came::More => true,
+            Came::Nothing => false,
+            Came::Over(_) => {
+                self.may_have_closed = true;
+                false
+            }
+        }
+    }
+
+    fn discard_of_sender(&mut self, key: usize) -> bool
+        ensures { Drops self.old self.new }
+    {
+        let Some(sender) = self.senders.get_mut(key) else {
+            return false;
+        };
+        if sender.is_over() {
+            return false;
+        }
+        let came = sender.discard();
+        self.may_be_over |= sender.may_be_over();
+        match came {
+            Came::Packet(_) => unreachable!(),
+            Came::Dropped => {
+                self.count_dropped();
+                true
+            }
+            Came::More => true,
+            Came::Nothing => false,
+            Came::Over(_) => false,
+        }
+    }
+
+    /// Gives a packet to each port, and to each connection as a record. One that does not take it at once loses it, and
+    /// so does a tenant with neither.
+    pub fn deliver(&mut self, payload: &[u8])
+        ensures { self.new ≡ record self.old { given = one_more self.old.given; lost = self.new.lost } }
+    {
+        self.deliveries
+            .give(&mut self.ports, &mut self.senders, self.tenant, payload);
+        // A descriptor may have failed.
+        self.may_have_closed = true;
+    }
+
+    /// Removes a packet port that goes to another tenant, or is gone. What waits in its socket is dropped.
+    pub fn remove_port(&mut self, key: usize) -> Option<PacketPort>
+        ensures { Drops self.old self.new }
+    {
+        let mut port = self.ports.try_remove(key)?;
+        self.drop_waiting(&mut port);
+        port.forget_sender();
+        Some(port)
+    }
+
+    // Drops what waits in the socket of a port.
+    fn drop_waiting(&mut self, port: &mut PacketPort)
+        ensures { Drops self.old self.new }
+    {
+        'packets: for _ in 0..WAITING {
+            if !self.drop_packet(port) {
+                break;
+            }
+        }
+    }
+
+    // Drops the next packet of a port. Returns false if it has none.
+    fn drop_packet(&mut self, port: &mut PacketPort) -> bool
+        ensures { Drops self.old self.new }
+    {
+        match port.discard(&mut self.reader) {
+            Came::Packet(_) => unreachable!(),
+            Came::Dropped => {
+                self.count_dropped();
+                true
+            }
+            Came::More => true,
+            Came::Nothing => false,
+            Came::Over(_) => false,
+        }
+    }
+
+    /// Closes a packet port that is over, and says which it was. `None` if no port is over.
+    pub fn close_port_over(&mut self) -> Option<ClosedPort>
+        ensures { self.new ≡ self.old }
+    {
+        if !self.may_have_closed {
+            return None;
+        }
+        match over_port(&self.ports) {
+            None => {
+                self.may_have_closed = false;
+                None
+            }
+            Some(key) => self.ports.try_remove(key)?.closed(),
+        }
+    }
+
+    // Counts a packet that is dropped.
+    fn count_dropped(&mut self)
+        ensures { self.new ≡ dropped_one self.old }
+    {
+        self.dropped = self.dropped.saturating_add(1);
     }
 
     // Counts a packet whose payload has so many bytes.

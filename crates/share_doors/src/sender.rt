@@ -1,11 +1,15 @@
 //! One connection on which packets of a tenant come in.
-ghost use Rattle.std.specs.Prelude.{◌≡◌, IfErr, IfOk};
+ghost use Rattle.std.specs.Prelude.{◌≡◌, [], IfErr, IfOk};
 ghost use Rattle.share_ingress.specs.Found.{NeedsMore};
 ghost use Rattle.share_sockets.specs.Progress.{moved};
-ghost use Rattle.share_doors.specs.Takes.{Feeds, GivesOne, GivesPayload, HoldsMore, IsEndOf, PassesRecords};
+ghost use Rattle.share_doors.specs.Door.{one_more};
+ghost use Rattle.share_doors.specs.Outgoing.{GoesOn, Sends};
+ghost use Rattle.share_doors.specs.Takes.{DropsRecord, Feeds, FindsRecord, GivesOne, GivesPayload, HoldsMore, IsEndOf};
+ghost use Rattle.share_doors.specs.Takes.{PassesRecords};
 
 use crate::held::HeldRecords;
-use share_base::Name;
+use crate::outgoing::Outgoing;
+use share_base::{MAX_PAYLOAD, Name};
 use share_book::{Book, Taken};
 use share_gateway::{Cut, streams_are_cut_into_records};
 use share_model::Rates;
@@ -19,6 +23,9 @@ const PIECE: usize = 4096;
 
 /// How many pieces are read for one packet at most: a whole record has at most 9067 bytes.
 const PIECES: u32 = 4;
+
+/// How many calls are made at most to write one record.
+const WRITES: u32 = 64;
 
 /// Why a connection is over.
 #[derive(Clone, Copy, Debug, PartialEq, Eq)]
@@ -39,11 +46,13 @@ pub enum ClosedWhy {
     Asked,
 }
 
-/// What came of a connection that was asked for a packet.
+/// What came of a connection or a packet port that was asked for a packet.
 #[derive(Clone, Copy, Debug, PartialEq, Eq)]
 pub enum Came {
     /// A packet, which the book took. Its payload has so many bytes.
     Packet(usize),
+    /// A packet that is dropped: it is no payload, or finds no memory.
+    Dropped,
     /// No whole packet is here before the socket is ready again.
     Nothing,
     /// A packet is here, or may be, which was not taken in this call.
@@ -74,6 +83,11 @@ pub struct Sender {
     may_have_hung_up: bool,
     // Why nothing more is taken of it, if so.
     over: Option<ClosedWhy>,
+    // The record that it is being given, and whether it takes more.
+    outgoing: Outgoing,
+    takes_records: bool,
+    // How many packets it was given.
+    given: u64,
 }
 
 impl Drop for Sender {
@@ -87,9 +101,13 @@ impl Drop for Sender {
             is_read_closed: _,
             may_have_hung_up: _,
             over: _,
+            outgoing,
+            takes_records: _,
+            given: _,
         } = self;
         drop(stream);
         drop(records);
+        drop(outgoing);
     }
 }
 
@@ -113,6 +131,9 @@ impl Sender {
                 is_read_closed: false,
                 may_have_hung_up: false,
                 over: None,
+                outgoing: Outgoing::new(alloc),
+                takes_records: true,
+                given: 0,
             }),
         }
     }
@@ -197,9 +218,38 @@ impl Sender {
             book.new.audited }
         ensures plan { book.new.plan ≡ book.old.plan }
     {
+        match self.find_record() {
+            Came::Packet(_) => self.put(alloc, tenant, book),
+            Came::Dropped => unreachable!(),
+            Came::Nothing => Came::Nothing,
+            Came::More => Came::More,
+            Came::Over(why) => Came::Over(why),
+        }
+    }
+
+    /// Drops its next packet. Returns `Dropped` if it has one. It is over if nothing more comes of it.
+    pub fn discard(&mut self) -> Came
+        ensures { DropsRecord self.old.records result self.new.records }
+    {
+        match self.find_record() {
+            Came::Packet(_) => Came::Dropped,
+            Came::Dropped => unreachable!(),
+            Came::Nothing => Came::Nothing,
+            Came::More => Came::More,
+            Came::Over(why) => {
+                self.end(why);
+                Came::Over(why)
+            }
+        }
+    }
+
+    // Cuts its next record, whose payload has so many bytes.
+    fn find_record(&mut self) -> Came
+        ensures { FindsRecord self.old.records result self.new.records }
+    {
         'pieces: for _ in 0..PIECES {
             match self.records.next() {
-                Cut::Item => return self.put(alloc, tenant, book),
+                Cut::Item => return Came::Packet(self.records.payload().len()),
                 Cut::Bad => return Came::Over(ClosedWhy::Malformed),
                 Cut::More => (),
             }
@@ -259,6 +309,73 @@ impl Sender {
             ClosedWhy::Ended
         } else {
             ClosedWhy::CutShort
+        }
+    }
+
+    /// Gives it a packet as a record of the tenant, unless it has not taken all of the record before. Returns whether
+    /// the record was begun. What is left of it is kept, and goes before all else.
+    pub fn deliver(&mut self, tenant: Name, payload: &[u8]) -> bool
+        ensures given { self.new.given ≡ one_more self.old.given }
+        ensures sends { Sends tenant payload.now self.old.outgoing result self.new.outgoing }
+    {
+        self.given = self.given.saturating_add(1);
+        self.go_on();
+        if self.is_over() || !self.takes_records || !self.outgoing.is_empty() {
+            return false;
+        }
+        self.begin(tenant, payload)
+    }
+
+    // Begins a record. It is given up if none of it is taken at once. Returns whether some was.
+    fn begin(&mut self, tenant: Name, payload: &[u8]) -> bool
+        requires { self.old.outgoing ≡ [] }
+        ensures given { self.new.given ≡ self.old.given }
+        ensures sends { Sends tenant payload.now self.old.outgoing result self.new.outgoing }
+    {
+        if payload.is_empty() || payload.len() > MAX_PAYLOAD {
+            return false;
+        }
+        if self.outgoing.begin(tenant, payload).is_err() {
+            return false;
+        }
+        let length = self.outgoing.bytes().len();
+        self.go_on();
+        if self.takes_records && self.outgoing.bytes().len() < length {
+            return true;
+        }
+        self.outgoing.clear();
+        false
+    }
+
+    /// Writes what is left of a record, as far as the socket takes it.
+    pub fn go_on(&mut self)
+        ensures given { self.new.given ≡ self.old.given }
+        ensures left { GoesOn self.old.outgoing self.new.outgoing }
+    {
+        'writes: for _ in 0..WRITES {
+            if self.outgoing.is_empty() || !self.write() {
+                return;
+            }
+        }
+    }
+
+    // Writes once. Returns whether the socket may take more.
+    fn write(&mut self) -> bool
+        ensures given { self.new.given ≡ self.old.given }
+        ensures left { GoesOn self.old.outgoing self.new.outgoing }
+    {
+        match self.stream.try_write(self.outgoing.bytes()) {
+            Ok(Progress::Moved(count)) => {
+                self.outgoing.took(count);
+                true
+            }
+            Ok(Progress::Again) => true,
+            Ok(Progress::Waits) => false,
+            Ok(Progress::Over) | Err(_) => {
+                self.takes_records = false;
+                self.outgoing.clear();
+                false
+            }
         }
     }
 }

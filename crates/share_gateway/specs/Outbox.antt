@@ -1,6 +1,6 @@
 -- What a contract sees of an outbox, and what its calls do. An outbox holds frames on their way to the wire: they leave
 -- in the order in which they came, byte by byte, and stay until their last byte is out.
-use Rattle.std.specs.Prelude.{◌≡◌, ℕ, ◌+◌, ◌-◌, min, Bool, true, false, ◌&&◌, nat_lt, nat_le, if◌then◌else◌}
+use Rattle.std.specs.Prelude.{◌≡◌, ℕ, ◌+◌, ◌-◌, ◌==◌, min, Bool, true, false, ◌&&◌, nat_lt, nat_le, if◌then◌else◌}
 use Rattle.std.specs.Prelude.{List, [], ◌∷◌, ◌++◌, length, map, take, drop}
 use Rattle.std.specs.List.{concat}
 use Rattle.share_model.specs.declared.writer.Answer.{Answer}
@@ -40,6 +40,19 @@ allow_more n o = record o { allowed = min (o.allowed + n) (length (frame_bytes o
 -- the bytes that may go next: of those that are not out, as many as are allowed
 abbrev pub ready_of : OutboxView → List ℕ
 ready_of o = take (o.allowed - o.out) (drop o.out (frame_bytes o))
+
+-- no byte of a frame of n bytes is out, and all of them are allowed
+abbrev pub goes_whole : ℕ → ℕ → ℕ → Bool
+goes_whole n out allowed = out == 0 && nat_le n allowed
+
+-- the first of these frames, if no byte of it is out and all of them are allowed
+abbrev pub first_whole : List (List ℕ) → ℕ → ℕ → List ℕ
+first_whole [] out allowed = []
+first_whole (frame ∷ frames) out allowed = if goes_whole (length frame) out allowed then frame else []
+
+-- the frame that may go next as one piece
+abbrev pub ready_frame : OutboxView → List ℕ
+ready_frame o = first_whole o.frames o.out o.allowed
 
 -- so many bytes of these frames are out, and so many may be: a frame that is out whole is gone
 unfoldable pub passed : List (List ℕ) → ℕ → ℕ → OutboxView

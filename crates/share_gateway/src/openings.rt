@@ -1,5 +1,6 @@
 //! The opening of a plan: the commands that make it on a new link, one after the other.
-ghost use Rattle.std.specs.Prelude.{◌≡◌, ◌<◌, ◌+◌, [], ◌∷◌, ◌++◌, length, drop, slice_get, MatchOption, Some, option_map};
+ghost use Rattle.std.specs.Prelude.{◌≡◌, ◌<◌, ◌+◌, [], ◌∷◌, ◌++◌};
+ghost use Rattle.std.specs.Prelude.{length, drop, slice_get, MatchOption, Some, option_map};
 ghost use Rattle.share_gateway.specs.Plan.{gap};
 ghost use Rattle.share_gateway.specs.Opening.{opening, grantees, grants_to, grant_entry, fund_command, open_command};
 ghost use Rattle.share_gateway.specs.Opening.{gap_commands, grant_commands, grant_to, ToTenant};

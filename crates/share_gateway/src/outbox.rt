@@ -1,10 +1,11 @@
 //! Frames on their way to the wire.
 ghost use Rattle.std.specs.Prelude.{◌≡◌, ◌≤◌, ◌<◌, ◌+◌, ◌-◌, ◌++◌, [], ◌∷◌, List, ℕ};
-ghost use Rattle.std.specs.Prelude.{true, false, length, IfOk, IfErr, None};
+ghost use Rattle.std.specs.Prelude.{true, false, if◌then◌else◌, length, IfOk, IfErr, None};
 ghost use Rattle.std.specs.List.{concat};
 ghost use Rattle.share_base.specs.Refusal.{IsRefused};
 ghost use Rattle.share_gateway.specs.Outbox.{OutboxView, empty_outbox, room_of, takes, with_frame, allow_more};
 ghost use Rattle.share_gateway.specs.Outbox.{ready_of, without_whole, send_more, begun_again, frame_bytes};
+ghost use Rattle.share_gateway.specs.Outbox.{goes_whole, ready_frame};
 ghost use Rattle.share_gateway.specs.OutboxHistory.{History, AreParts};
 
 use crate::byte_queue::ByteQueue;
@@ -116,6 +117,17 @@ impl Outbox {
         &self.bytes.as_slice()[self.out..self.allowed]
     }
 
+    /// The first frame, if no byte of it is out and all of them are allowed, and otherwise no bytes.
+    pub fn frame(&self) -> &[u8]
+        ensures { result.now ≡ ready_frame self.now }
+    {
+        let length = match self.lengths.front() {
+            None => 0,
+            Some(length) => whole_length(*length as usize, self.out, self.allowed),
+        };
+        &self.bytes.as_slice()[..length]
+    }
+
     /// Says that so many bytes more are out, the first of those that are ready. A frame that is out whole is gone.
     pub fn sent(&mut self, count: usize)
         requires { count ≤ length (ready_of self.old) }
@@ -150,6 +162,17 @@ impl Outbox {
         self.out -= length;
         self.allowed -= length;
         true
+    }
+}
+
+// The length of a frame, if no byte of it is out and all of them are allowed, and otherwise 0.
+fn whole_length(length: usize, out: usize, allowed: usize) -> usize
+    ensures { result ≡ (if goes_whole length out allowed then length else 0) }
+{
+    if out == 0 && length <= allowed {
+        length
+    } else {
+        0
     }
 }
 

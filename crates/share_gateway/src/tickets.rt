@@ -8,8 +8,8 @@ use crate::plan::Plan;
 use share_base::{Name, Refusal};
 
 impl Plan {
-    /// The ticket of a grant, numbered from 1, of a currency or a tenant: tickets are numbered from 1 in the order of the
-    /// opening. Otherwise `NoCurrency` if neither has the name, or `NoTicket` if it has fewer grants.
+    /// The ticket of a grant, numbered from 1, of a currency or a tenant: tickets are numbered from 1 in the order of
+    /// the opening. Otherwise `NoCurrency` if neither has the name, or `NoTicket` if it has fewer grants.
     pub fn ticket_of(&self, name: Name, number: u64) -> Result<u64, Refusal>
         ensures ticket { result ≡ grant_ticket self.now name number }
         ensures stands { IfOk result (λ ticket. IsTicketOf self.now name number ticket) }

@@ -67,8 +67,8 @@ module _ {R : Type 0} (gives : R → List ℕ → Got → R → Type 0) where
   abbrev pub Gave : Got → R → Type 0
   Gave got reader = (before : R) × (buffer : List ℕ) × gives before buffer got reader
 
-  -- why it ended so, in this call or an earlier one: the last read found the end, or failed; memory was asked for; or no
-  -- turn was left
+  -- why it ended so, in this call or an earlier one: the last read found the end, or failed; memory was asked for; or
+  -- no turn was left
   abbrev pub EndStands : Reading R → Ended → Type 0
   EndStands r End = (r.held ≡ []) × Gave EndOfInput r.reader
   EndStands r Cut = IsCut r.held × Gave EndOfInput r.reader

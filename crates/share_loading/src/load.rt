@@ -1,11 +1,9 @@
 //! The settings of a file.
 ghost use Rattle.std.specs.Prelude.{◌≡◌, IfOk, IfErr, None};
 ghost use Rattle.share_gateway.specs.Opened.{first_refused};
-ghost use Rattle.share_loading.specs.Supported.{first_unsupported};
 ghost use Rattle.share_loading.specs.Loads.{IsSaid, IsRefused, IsSound, IsCheckFault};
 
 use crate::refused::Refused;
-use crate::supported::first_unsupported;
 use share_check::check_plan;
 use share_config::read_settings;
 use share_settings::Settings;
@@ -14,7 +12,7 @@ use std::fs::{File, Files};
 use std::io::Read;
 use std::{fs, io, str};
 
-/// The settings that a file says, or its first fault. Their plan can be opened, and a gateway has each of them.
+/// The settings that a file says, or its first fault. Their plan can be opened.
 pub fn read_file<R: Files<File = File>>(
     rt: &R,
     alloc: Global,
@@ -36,7 +34,7 @@ fn bytes_of<R: Files<File = File>>(rt: &R, alloc: Global, path: &str) -> io::Res
 }
 
 /// The settings that the bytes of a file say, or their first fault, in this order: they are no text; the text is no
-/// file of a gateway; the plan cannot be opened; a setting is not supported.
+/// file of a gateway; the plan cannot be opened.
 pub fn load_settings(alloc: Global, bytes: &[u8]) -> Result<Settings, Refused>
     ensures ok { IfOk result (IsSaid bytes.now) }
     ensures fault { IfErr result (IsRefused bytes.now) }
@@ -51,17 +49,13 @@ pub fn load_settings(alloc: Global, bytes: &[u8]) -> Result<Settings, Refused>
     }
 }
 
-// Settings whose plan is sound, and of which a gateway has each.
+// Settings whose plan is sound.
 fn checked(alloc: Global, settings: Settings) -> Result<Settings, Refused>
-    ensures ok { IfOk result (λ s. (s ≡ settings)
-        × (first_refused settings.tariffs settings.plan ≡ None) × (first_unsupported settings ≡ None)) }
+    ensures ok { IfOk result (λ s. (s ≡ settings) × (first_refused settings.tariffs settings.plan ≡ None)) }
     ensures fault { IfErr result (IsCheckFault settings) }
 {
-    if let Err(fault) = check_plan(alloc, &settings) {
-        return Err(Refused::Plan(fault));
-    }
-    match first_unsupported(&settings) {
-        Some(fault) => Err(Refused::Unsupported(fault)),
-        None => Ok(settings),
+    match check_plan(alloc, &settings) {
+        Ok(_) => Ok(settings),
+        Err(fault) => Err(Refused::Plan(fault)),
     }
 }

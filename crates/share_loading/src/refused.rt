@@ -1,6 +1,5 @@
 //! Why a file is refused.
 
-use crate::supported::Unsupported;
 use share_check::Unsound;
 use share_config::ConfigFault;
 use std::io::Error as IoError;
@@ -19,9 +18,6 @@ pub enum Refused {
     /// Its plan cannot be opened.
     #[error("{0}")]
     Plan(Unsound),
-    /// It has a setting that a gateway does not have.
-    #[error("{0}")]
-    Unsupported(Unsupported),
 }
 
 impl Refused {

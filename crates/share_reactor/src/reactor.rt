@@ -1,15 +1,14 @@
 //! The loop of a gateway.
+ghost use Rattle.std.specs.Prelude.{◌≡◌, min, IfNone, IfSome, IsSome};
+ghost use Rattle.std.specs.Duration.{as_nanos};
 
-use crate::controls::Controls;
-use crate::doorways::Doorways;
-use crate::input::Input;
-use crate::news::News;
-use crate::ports::{PortPlace, remove_file};
-use crate::sources::{Source, Sources};
 use mio::event::Event;
 use mio::{Events, Poll, Token};
 use share_base::FlowNo;
 use share_catalog::Closing;
+use share_doorways::{Doorways, PortPlace, Source, Sources, remove_file};
+use share_listeners::{Controls, FarEnd, Input, Web};
+use share_news::News;
 use share_reload::{ControlHolds, Roster};
 use share_rotation::{Books, Frame, Left, Made};
 use share_settings::Settings;
@@ -65,7 +64,6 @@ pub(crate) enum Ending {
 }
 
 /// A gateway that runs.
-#[derive(Drop)]
 pub struct Reactor<'b> {
     pub(crate) alloc: Global,
     pub(crate) poll: Poll,
@@ -73,8 +71,10 @@ pub struct Reactor<'b> {
     pub(crate) doorways: Doorways,
     pub(crate) controls: Controls,
     pub(crate) control_place: PortPlace,
-    pub(crate) uplink: Uplink,
+    pub(crate) web: Option<Web>,
+    pub(crate) uplink: Option<Uplink>,
     pub(crate) uplink_token: Token,
+    pub(crate) far_end: Option<FarEnd>,
     pub(crate) input: Input,
     pub(crate) books: &'b mut Books,
     pub(crate) news: News,
@@ -86,8 +86,51 @@ pub struct Reactor<'b> {
     pub(crate) ending: Ending,
 }
 
+// This is written out so that functions that have a reactor do not prove how each part is dropped.
+impl<'b> Drop for Reactor<'b> {
+    fn drop(self) {
+        let Reactor {
+            alloc: _,
+            poll,
+            sources,
+            doorways,
+            controls,
+            control_place,
+            web,
+            uplink,
+            uplink_token: _,
+            far_end,
+            input,
+            books: _,
+            news,
+            settings,
+            roster,
+            holds,
+            grace: _,
+            ending: _,
+        } = self;
+        drop(poll);
+        drop(sources);
+        drop(doorways);
+        drop(controls);
+        drop(control_place);
+        drop(web);
+        drop(uplink);
+        drop(far_end);
+        drop(input);
+        drop(news);
+        drop(settings);
+        drop(roster);
+        drop(holds);
+    }
+}
+
 // The shorter of two pauses, of which one may be for ever.
-fn shorter(pause: Option<Duration>, other: Duration) -> Option<Duration> {
+fn shorter(pause: Option<Duration>, other: Duration) -> Option<Duration>
+    ensures ends { IsSome result }
+    ensures both { IfSome pause (λ p. IfSome result (λ q. as_nanos q ≡ min (as_nanos p) (as_nanos other))) }
+    ensures alone { IfNone pause (IfSome result (λ q. as_nanos q ≡ as_nanos other)) }
+{
     match pause {
         Some(pause) if pause < other => Some(pause),
         _ => Some(other),
@@ -126,7 +169,8 @@ impl Reactor<'_> {
     fn note(&mut self, event: &Event) {
         match self.sources.get(event.token()) {
             None | Some(Source::Disk) => (),
-            Some(Source::Uplink) => self.uplink.note(event.is_readable(), event.is_writable()),
+            Some(Source::Uplink) => self.note_uplink(event),
+            Some(Source::Downlink | Source::DownlinkConnection) => self.note_far_end(event.token()),
             Some(Source::Input) => self.input.note(),
             Some(Source::ControlListener) => self.controls.note_listener(),
             Some(Source::Port(port)) => self.doorways.note_port(port),
@@ -136,6 +180,40 @@ impl Reactor<'_> {
             Some(Source::Control(key)) => {
                 self.controls
                     .note(key, event.is_readable(), event.is_writable())
+            }
+            Some(Source::WebListener) => self.note_web_listener(),
+            Some(Source::WebClient(key)) => self.note_web(key, event),
+        }
+    }
+
+    fn note_web_listener(&mut self) {
+        if let Some(web) = &mut self.web {
+            web.note_listener();
+        }
+    }
+
+    fn note_web(&mut self, key: usize, event: &Event) {
+        if let Some(web) = &mut self.web {
+            web.note(key, event.is_readable(), event.is_writable());
+        }
+    }
+
+    fn note_uplink(&mut self, event: &Event) {
+        if let Some(uplink) = &mut self.uplink {
+            uplink.note(event.is_readable(), event.is_writable());
+        }
+    }
+
+    fn note_far_end(&mut self, token: Token) {
+        let is_listener = self.sources.get(token) == Some(Source::Downlink);
+        match &mut self.far_end {
+            None => (),
+            Some(far_end) => {
+                if is_listener {
+                    far_end.note();
+                } else {
+                    far_end.note_connection(token);
+                }
             }
         }
     }
@@ -151,11 +229,12 @@ impl Reactor<'_> {
         let mut is_busy = self.accept(rt, now);
         is_busy |= self.fill();
         self.make_turns();
-        self.doorways
-            .close_over(rt, &mut self.sources, &mut self.news);
+        self.close_over(rt);
         is_busy |= self.write_text(rt, now);
         is_busy |= self.send(rt, now);
+        is_busy |= self.receive(rt);
         is_busy |= self.obey(rt, path, now);
+        is_busy |= self.serve_web(rt, now);
         is_busy |= self.go_on(rt, now);
         if !matches!(self.ending, Ending::Closing(_)) {
             self.news.tell_remainders(rt, self.books);
@@ -167,7 +246,7 @@ impl Reactor<'_> {
     fn rest(&self, is_busy: bool) -> Rest {
         if is_busy {
             Rest::Some
-        } else if !self.books.can_turn() {
+        } else if self.uplink.is_none() || !self.books.can_turn() {
             Rest::Nothing
         } else if self.books.is_allowed() {
             Rest::Some
@@ -185,13 +264,27 @@ impl Reactor<'_> {
         let controls = self
             .controls
             .accept(rt, alloc, registry, sources, news, now);
-        ports || controls
+        let frames = match &mut self.far_end {
+            None => false,
+            Some(far_end) => far_end.accept(rt, alloc, registry, sources, news, now),
+        };
+        ports || controls || frames
     }
 
-    // Takes packets, unless the end has begun.
+    // Closes the connections and the ports of tenants that are over.
+    fn close_over<R: Clock + Eprint>(&mut self, rt: &R) {
+        let registry = self.poll.registry();
+        self.doorways
+            .close_over(rt, registry, &mut self.sources, &mut self.news);
+    }
+
+    // Takes packets, unless the end has begun. Without an uplink they are read and dropped.
     fn fill(&mut self) -> bool {
         if !matches!(self.ending, Ending::No) {
             return false;
+        }
+        if self.uplink.is_none() {
+            return self.doorways.discard();
         }
         match self.books.book() {
             None => false,
@@ -201,6 +294,9 @@ impl Reactor<'_> {
 
     // Makes turns, until 64 KiB are scheduled. After each the buffer of the flow that was sent is filled up.
     fn make_turns(&mut self) {
+        if self.uplink.is_none() {
+            return;
+        }
         let mut scheduled: u32 = 0;
         for _ in 0..MAX_TURNS {
             if scheduled >= ROUND_BYTES {
@@ -237,14 +333,30 @@ impl Reactor<'_> {
 
     // Dials the uplink, and gives it what may go.
     fn send<R: Net + Clock + Eprint>(&mut self, rt: &R, now: Instant) -> bool {
+        let Some(uplink) = &mut self.uplink else {
+            return false;
+        };
         let registry = self.poll.registry();
-        let dialled = self.uplink.tick(rt, registry, self.uplink_token, now);
-        self.news.tell_uplink(rt, dialled, &self.uplink);
-        let work = self.uplink.work(self.books.transit(), now);
-        self.news.tell_uplink(rt, work, &self.uplink);
+        let dialled = uplink.tick(rt, registry, self.uplink_token, now);
+        self.news.tell_uplink(rt, dialled, uplink);
+        let work = uplink.work(self.books.transit(), now);
+        self.news.tell_uplink(rt, work, uplink);
         match work {
             Work::Busy | Work::Connected => true,
             Work::Rests | Work::Lost | Work::Unreachable => false,
+        }
+    }
+
+    // Gives the packets that came by the downlink to their tenants.
+    fn receive<R: Clock + Eprint>(&mut self, rt: &R) -> bool {
+        match &mut self.far_end {
+            None => false,
+            Some(far_end) => far_end.take(
+                rt,
+                &mut self.doorways,
+                &mut self.sources,
+                &mut self.news,
+            ),
         }
     }
 
@@ -334,16 +446,28 @@ impl Reactor<'_> {
 
     // How long nothing has to be done, if no source is ready before. `None` is for ever.
     fn pause(&self, rest: Rest, now: Instant) -> Option<Duration> {
-        let mut pause = self.uplink.pause(now);
+        let mut pause = match &self.uplink {
+            None => None,
+            Some(uplink) => uplink.pause(now),
+        };
         match rest {
             Rest::Some => return Some(Duration::from_millis(0)),
             Rest::Paced => pause = shorter(pause, Duration::from_millis(1)),
             Rest::Nothing => (),
         }
-        for at in [self.books.due(), self.doorways.due(), self.controls.due()] {
+        let far_end = self.far_end.as_ref().and_then(|far_end| far_end.due());
+        for at in [
+            self.books.due(),
+            self.doorways.due(),
+            self.controls.due(),
+            far_end,
+        ] {
             if let Some(at) = at {
                 pause = shorter(pause, at.saturating_duration_since(now));
             }
+        }
+        if let Some(left) = self.web_pause(now) {
+            pause = shorter(pause, left);
         }
         self.pause_at_end(pause, now)
     }

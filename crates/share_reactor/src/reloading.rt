@@ -1,11 +1,11 @@
 //! How the file is read anew while a gateway runs.
 
-use crate::faults::NotRun;
 use crate::reactor::Reactor;
 use share_base::FlowNo;
 use share_doors::Door;
 use share_gateway::{Plan, Tenant};
 use share_loading::{Refused, read_file};
+use share_news::NotRun;
 use share_orders::fault_text;
 use share_reload::{ControlHolds, reload_fault};
 use share_rotation::NextPlan;
@@ -64,8 +64,8 @@ fn push_key(keys: &mut Vec<usize>, key: usize) -> Result<(), NotRun> {
 }
 
 impl Reactor<'_> {
-    /// Reads the file anew, and has the next book begin with its plan. Returns the reply. If the file is refused, nothing
-    /// changes.
+    /// Reads the file anew, and has the next book begin with its plan. Returns the reply. If the file is refused,
+    /// nothing changes.
     pub(crate) fn reload<R: Files<File = File> + Net + Clock + Eprint>(
         &mut self,
         rt: &R,
@@ -89,7 +89,7 @@ impl Reactor<'_> {
         }
     }
 
-    // Takes settings over. If a port cannot be listened at, or memory is refused, nothing changes.
+    // Takes settings over. If a port cannot be opened, or memory is refused, nothing changes.
     fn take_over<R: Files<File = File> + Net>(
         &mut self,
         rt: &R,
@@ -152,7 +152,7 @@ impl Reactor<'_> {
         }
     }
 
-    // Listens at the ports of a tenant at which nobody listens yet.
+    // Opens the ports of a tenant that are not open yet.
     fn add_ports<R: Files + Net>(
         &mut self,
         rt: &R,
@@ -173,9 +173,10 @@ impl Reactor<'_> {
 
     // Removes what a reload has added.
     fn undo<R: Files>(&mut self, rt: &R, added: &Added) {
+        let registry = self.poll.registry();
         for index in 0..added.ports.len() {
             self.doorways
-                .remove_port(rt, &mut self.sources, added.ports[index]);
+                .remove_port(rt, registry, &mut self.sources, added.ports[index]);
         }
         for index in 0..added.doors.len() {
             self.doorways
@@ -183,9 +184,12 @@ impl Reactor<'_> {
         }
     }
 
-    // Gives each port to its tenant, and closes the ports and the doors that are gone. The next book begins with the plan.
+    // Gives each port to its tenant, and closes the ports and the doors that are gone. The next book begins with the
+    // plan.
     fn commit<R: Files>(&mut self, rt: &R, settings: Settings, holds: ControlHolds) {
-        self.doorways.keep_ports(rt, &mut self.sources, &settings);
+        let registry = self.poll.registry();
+        self.doorways
+            .keep_ports(rt, self.alloc, registry, &mut self.sources, &settings);
         self.doorways
             .keep_doors(&mut self.sources, settings.plan.tenants());
         let mut settings = settings;

@@ -1,11 +1,9 @@
 //! How a gateway is run, from its sockets to what was left.
 
-use crate::faults::NotRun;
-use crate::news::News;
-use crate::reactor::{Ending, Options, Reactor};
+use crate::reactor::{Options, Reactor};
 use crate::start::Ground;
 use share_disk::{Folder, OpenText};
-use share_messages::Messages;
+use share_news::NotRun;
 use share_reload::{ControlHolds, Roster};
 use share_rotation::{Books, Left, UseBooks, tariffs_of, with_books};
 use share_settings::{Settings, Text};
@@ -126,6 +124,14 @@ impl<R: Files<File = File> + Net + Clock + Wait + Eprint> UseBooks<R, Result<Lef
     }
 }
 
+// The names and the numbers of the first tenants.
+fn roster_of(alloc: Global, settings: &Settings) -> Result<Roster, NotRun> {
+    match Roster::of(alloc, &settings.plan) {
+        Ok(roster) => Ok(roster),
+        Err(_) => Err(NotRun::NoMemory),
+    }
+}
+
 // A gateway that is ready to run.
 fn reactor_of<'b>(
     alloc: Global,
@@ -134,36 +140,7 @@ fn reactor_of<'b>(
     ground: Ground,
     options: Options,
 ) -> Result<Reactor<'b>, NotRun> {
-    let Ok(roster) = Roster::of(alloc, &settings.plan) else {
-        return Err(NotRun::NoMemory);
-    };
+    let roster = roster_of(alloc, &settings)?;
     let holds = ControlHolds::new(alloc, &settings.plan)?;
-    let Ground {
-        poll,
-        sources,
-        doorways,
-        controls,
-        control_place,
-        uplink,
-        uplink_token,
-        input,
-    } = ground;
-    Ok(Reactor {
-        alloc,
-        poll,
-        sources,
-        doorways,
-        controls,
-        control_place,
-        uplink,
-        uplink_token,
-        input,
-        books,
-        news: News::new(Messages::new(alloc, options.is_quiet)),
-        settings,
-        roster,
-        holds,
-        grace: options.grace,
-        ending: Ending::No,
-    })
+    Ok(ground.into_reactor(alloc, settings, roster, holds, books, options))
 }

@@ -1,143 +1,63 @@
 //! The sockets of a gateway: how they are opened, and how their files are removed.
 
-use crate::controls::Controls;
-use crate::doorways::Doorways;
-use crate::faults::NotRun;
-use crate::input::Input;
-use crate::ports::{Port, PortPlace, listen, place_of_control, remove_file};
-use crate::reactor::Reactor;
-use crate::sources::{Source, Sources};
+use crate::reactor::{Ending, Options, Reactor};
 use mio::{Poll, Registry, Token, Waker};
-use share_base::FlowNo;
-use share_doors::Door;
-use share_settings::{Control, Peer, Settings, TenantPorts};
+use share_doorways::{
+    Doorways, PortPlace, Source, Sources, listen, not_opened, open_doors, open_port,
+    place_of_control, remove_file, token_of,
+};
+use share_listeners::{Controls, FarEnd, Input, Web};
+use share_messages::Messages;
+use share_news::{News, NotRun};
+use share_reload::{ControlHolds, Roster};
+use share_rotation::Books;
+use share_settings::{Control, Peer, Settings, Web as WebSettings};
 use share_sockets::Listener;
-use share_uplink::Uplink;
+use share_uplink::{Transport, Uplink};
 use std::alloc::Global;
 use std::fs::Files;
-use std::io::{Error, ErrorKind};
 use std::net::Net;
 use std::time::{Clock, Instant};
 
 /// What a gateway has before its first book begins: its sockets.
-#[derive(Drop)]
 pub(crate) struct Ground {
     pub(crate) poll: Poll,
     pub(crate) sources: Sources,
     pub(crate) doorways: Doorways,
     pub(crate) controls: Controls,
     pub(crate) control_place: PortPlace,
-    pub(crate) uplink: Uplink,
+    pub(crate) web: Option<Web>,
+    pub(crate) uplink: Option<Uplink>,
     pub(crate) uplink_token: Token,
+    pub(crate) far_end: Option<FarEnd>,
     pub(crate) input: Input,
 }
 
-// Adds a source and returns its token.
-fn token_of(sources: &mut Sources, source: Source) -> Result<Token, NotRun> {
-    match sources.add(source) {
-        Some(token) => Ok(token),
-        None => Err(NotRun::NoMemory),
+// This is written out so that functions that have a ground do not prove how each part is dropped.
+impl Drop for Ground {
+    fn drop(self) {
+        let Ground {
+            poll,
+            sources,
+            doorways,
+            controls,
+            control_place,
+            web,
+            uplink,
+            uplink_token: _,
+            far_end,
+            input,
+        } = self;
+        drop(poll);
+        drop(sources);
+        drop(doorways);
+        drop(controls);
+        drop(control_place);
+        drop(web);
+        drop(uplink);
+        drop(far_end);
+        drop(input);
     }
-}
-
-// What is said of a place that cannot be listened at.
-fn not_listened(alloc: Global, place: &PortPlace, fault: Error) -> NotRun {
-    match place.copy(alloc) {
-        Ok(port) => NotRun::Place { port, fault },
-        Err(_) => NotRun::NoMemory,
-    }
-}
-
-/// Listens at a port of the tenant with this door, and adds it.
-pub(crate) fn open_port<R: Files + Net>(
-    rt: &R,
-    alloc: Global,
-    registry: &Registry,
-    sources: &mut Sources,
-    doorways: &mut Doorways,
-    door: usize,
-    place: &PortPlace,
-    mode: u32,
-) -> Result<usize, NotRun> {
-    let token = token_of(sources, Source::ControlListener)?;
-    let listener = match listen(rt, registry, token, place, mode) {
-        Ok(listener) => listener,
-        Err(fault) => {
-            drop(sources.remove(token));
-            return Err(not_listened(alloc, place, fault));
-        }
-    };
-    let place = place.copy(alloc)?;
-    let added = doorways.add_port(Port {
-        place,
-        listener,
-        token,
-        door,
-        is_ready: true,
-    });
-    match added {
-        Some(port) => {
-            sources.set(token, Source::Port(port));
-            Ok(port)
-        }
-        None => Err(NotRun::NoMemory),
-    }
-}
-
-// Listens at the ports of a tenant.
-fn open_ports<R: Files + Net>(
-    rt: &R,
-    alloc: Global,
-    registry: &Registry,
-    sources: &mut Sources,
-    doorways: &mut Doorways,
-    door: usize,
-    ports: &TenantPorts,
-) -> Result<(), NotRun> {
-    for index in 0..ports.ports.len() {
-        let place = &ports.ports[index];
-        open_port(
-            rt, alloc, registry, sources, doorways, door, place, ports.mode,
-        )?;
-    }
-    Ok(())
-}
-
-// Adds the door of a tenant, and listens at its ports.
-fn open_door<R: Files + Net>(
-    rt: &R,
-    alloc: Global,
-    registry: &Registry,
-    sources: &mut Sources,
-    doorways: &mut Doorways,
-    settings: &Settings,
-    index: usize,
-) -> Result<(), NotRun> {
-    let Some(tenant) = settings.plan.tenants().get(index) else {
-        return Ok(());
-    };
-    let Some(ports) = settings.ports.get(index) else {
-        return Ok(());
-    };
-    let Some(door) = doorways.add_door(Door::new(alloc, tenant.name, FlowNo(tenant.flow))) else {
-        return Err(NotRun::NoMemory);
-    };
-    open_ports(rt, alloc, registry, sources, doorways, door, ports)
-}
-
-// Adds the doors of all tenants, and listens at their ports.
-fn open_doors<R: Files + Net>(
-    rt: &R,
-    alloc: Global,
-    registry: &Registry,
-    sources: &mut Sources,
-    doorways: &mut Doorways,
-    settings: &Settings,
-) -> Result<(), NotRun> {
-    for index in 0..settings.plan.tenants().len() {
-        open_door(rt, alloc, registry, sources, doorways, settings, index)?;
-    }
-    Ok(())
 }
 
 // Listens for control connections.
@@ -152,18 +72,50 @@ fn open_control<R: Files + Net>(
     let token = token_of(sources, Source::ControlListener)?;
     match listen(rt, registry, token, place, control.mode) {
         Ok(listener) => Ok(listener),
-        Err(fault) => Err(not_listened(alloc, place, fault)),
+        Err(fault) => Err(not_opened(alloc, place, fault)),
     }
 }
 
-// The uplink over TCP. Another one, and a gateway without one, are not supported.
-fn uplink_of(settings: &Settings, now: Instant) -> Result<Uplink, NotRun> {
-    match settings.uplink {
-        Some(uplink) => match uplink.to {
-            Peer::Tcp(address) => Ok(Uplink::new(address, uplink.buffer, now)),
-            Peer::Udp(_) => Err(NotRun::System(Error::from(ErrorKind::Unsupported))),
-        },
-        None => Err(NotRun::System(Error::from(ErrorKind::Unsupported))),
+// The uplink, if there is one.
+fn uplink_of(settings: &Settings, now: Instant) -> Option<Uplink> {
+    let uplink = settings.uplink?;
+    let (address, transport) = match uplink.to {
+        Peer::Tcp(address) => (address, Transport::Stream),
+        Peer::Udp(address) => (address, Transport::Datagrams),
+    };
+    Some(Uplink::new(address, transport, uplink.buffer, now))
+}
+
+// Listens for web connections, if the settings ask for it.
+fn open_web<R: Files + Net>(
+    rt: &R,
+    alloc: Global,
+    registry: &Registry,
+    sources: &mut Sources,
+    web: Option<WebSettings>,
+) -> Result<Option<Web>, NotRun> {
+    let Some(web) = web else {
+        return Ok(None);
+    };
+    let token = token_of(sources, Source::WebListener)?;
+    let place = PortPlace::Tcp(web.listen);
+    match listen(rt, registry, token, &place, 0) {
+        Ok(listener) => Ok(Some(Web::new(alloc, listener, web.listen)?)),
+        Err(fault) => Err(not_opened(alloc, &place, fault)),
+    }
+}
+
+// The downlink, if there is one.
+fn open_far_end(
+    net: &impl Net,
+    alloc: Global,
+    registry: &Registry,
+    sources: &mut Sources,
+    settings: &Settings,
+) -> Result<Option<FarEnd>, NotRun> {
+    match &settings.downlink {
+        None => Ok(None),
+        Some(downlink) => Ok(Some(FarEnd::open(net, alloc, registry, sources, downlink)?)),
     }
 }
 
@@ -186,11 +138,12 @@ impl Ground {
     ) -> Result<Ground, NotRun> {
         let mut sources = Sources::new(alloc);
         let mut doorways = Doorways::new(alloc)?;
-        let uplink = uplink_of(settings, Instant::now(rt)?)?;
+        let uplink = uplink_of(settings, Instant::now(rt)?);
         let uplink_token = token_of(&mut sources, Source::Uplink)?;
         let poll = Poll::new(rt)?;
         let input = open_input(&poll, &mut sources, until_eof)?;
         let control_place = place_of_control(alloc, &settings.control.listen)?;
+        let far_end = open_far_end(rt, alloc, poll.registry(), &mut sources, settings)?;
         match open_all(
             rt,
             alloc,
@@ -200,14 +153,16 @@ impl Ground {
             settings,
             &control_place,
         ) {
-            Ok(controls) => Ok(Ground {
+            Ok((controls, web)) => Ok(Ground {
                 poll,
                 sources,
                 doorways,
                 controls,
                 control_place,
+                web,
                 uplink,
                 uplink_token,
+                far_end,
                 input,
             }),
             Err(fault) => {
@@ -223,6 +178,49 @@ impl Ground {
         Ok(Waker::new(self.poll.registry(), token)?)
     }
 
+    /// The gateway that has these sockets.
+    pub(crate) fn into_reactor<'b>(
+        self,
+        alloc: Global,
+        settings: Settings,
+        roster: Roster,
+        holds: ControlHolds,
+        books: &'b mut Books,
+        options: Options,
+    ) -> Reactor<'b> {
+        let Ground {
+            poll,
+            sources,
+            doorways,
+            controls,
+            control_place,
+            web,
+            uplink,
+            uplink_token,
+            far_end,
+            input,
+        } = self;
+        Reactor {
+            alloc,
+            poll,
+            sources,
+            doorways,
+            controls,
+            control_place,
+            web,
+            uplink,
+            uplink_token,
+            far_end,
+            input,
+            books,
+            news: News::new(Messages::new(alloc, options.is_quiet)),
+            settings,
+            roster,
+            holds,
+            grace: options.grace,
+            ending: Ending::No,
+        }
+    }
     /// Removes the files of Unix sockets.
     pub(crate) fn remove_files<R: Files>(&self, rt: &R) {
         self.doorways.remove_files(rt);
@@ -230,7 +228,8 @@ impl Ground {
     }
 }
 
-// Listens at all ports, and for control connections.
+// Opens all ports, and listens for control connections and for web connections. The web listener comes before the
+// control listener, whose file is not removed if a later listener fails.
 fn open_all<R: Files + Net>(
     rt: &R,
     alloc: Global,
@@ -239,22 +238,28 @@ fn open_all<R: Files + Net>(
     doorways: &mut Doorways,
     settings: &Settings,
     control_place: &PortPlace,
-) -> Result<Controls, NotRun> {
+) -> Result<(Controls, Option<Web>), NotRun> {
     let registry = poll.registry();
     open_doors(rt, alloc, registry, sources, doorways, settings)?;
-    let listener = open_control(
+    let web = open_web(rt, alloc, registry, sources, settings.web)?;
+    match open_control(
         rt,
         alloc,
         registry,
         sources,
         &settings.control,
         control_place,
-    )?;
-    Ok(Controls::new(alloc, listener))
+    ) {
+        Ok(listener) => Ok((Controls::new(alloc, listener), web)),
+        Err(fault) => {
+            drop(web);
+            Err(fault)
+        }
+    }
 }
 
 impl Reactor<'_> {
-    /// Listens at a port of the tenant with this door while the gateway runs. Returns the key of the port.
+    /// Opens a port of the tenant with this door while the gateway runs. Returns the key of the port.
     pub(crate) fn open_port<R: Files + Net>(
         &mut self,
         rt: &R,

@@ -4,34 +4,58 @@ use crate::reactor::Reactor;
 use share_base::FlowNo;
 use share_book::Book;
 use share_gateway::Tenant;
+use share_metrics::metrics_text;
 use share_rotation::Sent;
 use share_status::{
     DiskStatus, Status, TenantStatus, UplinkState as Shown, UplinkStatus, status_text,
 };
 use share_tariff::PlainShelf;
 use share_uplink::UplinkState;
-use std::alloc::AllocError;
+use share_web::Exposition;
+use std::alloc::{AllocError, Global};
 
 /// The version of the program, and what it is proved with.
 const VERSION: &str = "0.1.0";
 
 const PROVED: &str = "rattle-kit-13b logic dac8208d650f15bf";
 
+/// The form of a status.
+#[derive(Clone, Copy, Debug, PartialEq, Eq)]
+pub(crate) enum Form {
+    /// The line that answers `status`.
+    Line,
+    Metrics(Exposition),
+}
+
+impl Form {
+    fn text(self, alloc: Global, status: &Status<'_>) -> Result<Vec<u8>, AllocError> {
+        match self {
+            Form::Line => status_text(alloc, status),
+            Form::Metrics(exposition) => metrics_text(alloc, exposition, status),
+        }
+    }
+}
+
 impl Reactor<'_> {
     /// The line that answers `status`, while a book is open.
     pub(crate) fn status(&self) -> Result<Vec<u8>, AllocError> {
+        self.status_in(Form::Line)
+    }
+
+    /// The status in a form, while a book is open.
+    pub(crate) fn status_in(&self, form: Form) -> Result<Vec<u8>, AllocError> {
         match self.books.open_book() {
-            Some(book) => self.status_of(book),
+            Some(book) => self.status_of(book, form),
             None => Ok(Vec::new(self.alloc)),
         }
     }
 
-    fn status_of(&self, book: &Book<PlainShelf>) -> Result<Vec<u8>, AllocError> {
+    fn status_of(&self, book: &Book<PlainShelf>, form: Form) -> Result<Vec<u8>, AllocError> {
         let fault = self.fault_text()?;
         let mut tenants = Vec::with_capacity(self.alloc, book.plan().tenants().len())?;
         self.add_tenants(book, &mut tenants)?;
         let events = book.engine().events();
-        status_text(
+        form.text(
             self.alloc,
             &Status {
                 version: VERSION,
@@ -47,7 +71,7 @@ impl Reactor<'_> {
                     fault: fault.as_deref(),
                 },
                 tenants: tenants.as_slice(),
-                downlink: None,
+                downlink: self.far_end.as_ref().map(|far_end| far_end.status()),
             },
         )
     }
@@ -80,16 +104,17 @@ impl Reactor<'_> {
     }
 
     fn uplink_status(&self) -> Option<UplinkStatus> {
-        let state = match self.uplink.state() {
+        let uplink = self.uplink.as_ref()?;
+        let state = match uplink.state() {
             UplinkState::Up => Shown::Up,
             UplinkState::Dialling => Shown::Dialling,
         };
         Some(UplinkStatus {
             state,
-            address: self.uplink.address(),
-            sent: self.uplink.sent(),
+            address: uplink.address(),
+            sent: uplink.sent(),
             outbox: self.books.outbox(),
-            lost: self.uplink.lost(),
+            lost: uplink.lost(),
         })
     }
 
@@ -122,8 +147,8 @@ impl Reactor<'_> {
             sent_bytes,
             amount: engine.account(flow).unwrap_or(0),
             connections: self.doorways.connections(flow),
-            dropped: 0,
-            lost: 0,
+            dropped: self.doorways.dropped(flow),
+            lost: self.doorways.lost(flow),
         }
     }
 }

@@ -67,11 +67,11 @@ pub fn bill_matches_book<S: Rates, I: TellingReader>(book: &Book<S>)
     let _ = book.engine();
 }
 
-/// The whole text of a book is an audit, which makes the book's run again. It is read as a script on a new link with the
-/// tariffs of the book and a life that is not shorter. If no line finds that memory is lacking, its lines are answered by
-/// the replies of the book's events, one line each. They come to what the book's link holds, and to the bytes of the
-/// frames that the book has put into its outbox (`ample`). Whether a line lacked memory is seen in the answers: if none
-/// of their lines is `no 1 NoMemory`, none did (`answered`). So it is of each run of such a text by
+/// The whole text of a book is an audit, which makes the book's run again. It is read as a script on a new link with
+/// the tariffs of the book and a life that is not shorter. If no line finds that memory is lacking, its lines are
+/// answered by the replies of the book's events, one line each. They come to what the book's link holds, and to the
+/// bytes of the frames that the book has put into its outbox (`ample`). Whether a line lacked memory is seen in the
+/// answers: if none of their lines is `no 1 NoMemory`, none did (`answered`). So it is of each run of such a text by
 /// `share_script::run_script`: what it printed, what its link holds, and what its tape has (`script`).
 pub fn whole_texts_replay()
     ensures ample { (a : Audited) (text : IsRunAndText a) → a.kind ≡ Whole → (life : ℕ) (lacks : List Bool)

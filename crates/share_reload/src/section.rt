@@ -2,7 +2,7 @@
 ghost use Rattle.std.specs.Prelude.{◌≡◌, ◌↔◌, IsTrue};
 ghost use Rattle.share_reload.specs.Sections.{IsFirstChange};
 
-use share_settings::{Books, Control, Downlink, Listener, Peer, Port, Settings, Uplink};
+use share_settings::{Books, Control, Downlink, Listener, Peer, Port, Settings, Uplink, Web};
 use std::fmt;
 use std::net::{IpAddr, SocketAddr};
 
@@ -13,6 +13,7 @@ pub enum Section {
     Books,
     Control,
     Downlink,
+    Web,
 }
 
 impl fmt::Display for Section {
@@ -22,11 +23,12 @@ impl fmt::Display for Section {
             Section::Books => "[books]",
             Section::Control => "[control]",
             Section::Downlink => "[downlink]",
+            Section::Web => "[web]",
         })
     }
 }
 
-/// The first section that differs in any of its values, in the order of `Section`. `None` if all four are the same, so
+/// The first section that differs in any of its values, in the order of `Section`. `None` if all five are the same, so
 /// only tariffs, currencies, tenants and ports may differ.
 pub fn changed_section(old: &Settings, new: &Settings) -> Option<Section>
     ensures { IsFirstChange old.now new.now result }
@@ -42,6 +44,9 @@ pub fn changed_section(old: &Settings, new: &Settings) -> Option<Section>
     }
     if !is_downlink_kept(old.downlink, new.downlink) {
         return Some(Section::Downlink);
+    }
+    if !is_web_kept(old.web, new.web) {
+        return Some(Section::Web);
     }
     None
 }
@@ -113,6 +118,22 @@ fn is_same_downlink(old: Downlink, new: Downlink) -> bool
     ensures { IsTrue result ↔ (old ≡ new) }
 {
     is_same_peer(old.listen, new.listen) && is_same_host(old.from, new.from)
+}
+
+fn is_web_kept(old: Option<Web>, new: Option<Web>) -> bool
+    ensures { IsTrue result ↔ (old ≡ new) }
+{
+    match (old, new) {
+        (None, None) => true,
+        (Some(old), Some(new)) => is_same_web(old, new),
+        _ => false,
+    }
+}
+
+fn is_same_web(old: Web, new: Web) -> bool
+    ensures { IsTrue result ↔ (old ≡ new) }
+{
+    is_same_address(old.listen, new.listen)
 }
 
 fn is_same_host(old: Option<IpAddr>, new: Option<IpAddr>) -> bool

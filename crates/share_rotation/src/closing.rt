@@ -125,8 +125,8 @@ impl Books {
         self.succession = Succession::none();
     }
 
-    // Carries packets over. When all are, the book begins, and the packets that found no room are dropped. Returns false
-    // if more can be carried only when the disk has written.
+    // Carries packets over. When all are, the book begins, and the packets that found no room are dropped. Returns
+    // false if more can be carried only when the disk has written.
     fn carry(&mut self) -> bool {
         if !self.life.carry() {
             return self.queue.has_page();

@@ -17,8 +17,8 @@ use share_model::{Rates, Tape, TellingReader, TellingWriter};
 use share_script::{ScriptFault, print_bytes, run_script};
 use std::alloc::Global;
 
-/// Runs a script on a new link over this shelf, and prints the answers and the bytes of the link in hexadecimal. If that
-/// fails, a beginning of the text for what was read of the script was printed.
+/// Runs a script on a new link over this shelf, and prints the answers and the bytes of the link in hexadecimal. If
+/// that fails, a beginning of the text for what was read of the script was printed.
 pub fn run<S: Rates + Drop, I: TellingReader, O: TellingWriter>(
     alloc: Global,
     shelf: S,

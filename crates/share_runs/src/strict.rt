@@ -1,5 +1,6 @@
 //! A script's output up to its first refusal.
-ghost use Rattle.std.specs.Prelude.{◌≡◌, ◌↔◌, ◌≤◌, ◌<◌, ◌+◌, ◌++◌, [], ◌∷◌, take, drop, length, IsTrue, OnOk, OnErr, false};
+ghost use Rattle.std.specs.Prelude.{◌≡◌, ◌↔◌, ◌≤◌, ◌<◌, ◌+◌, ◌++◌, [], ◌∷◌};
+ghost use Rattle.std.specs.Prelude.{take, drop, length, IsTrue, OnOk, OnErr, false};
 ghost use Rattle.std.specs.Io.KnownBytes.{Appends};
 ghost use Rattle.share_model.specs.io.Calls.{OfferRefused};
 ghost use Rattle.share_model.specs.io.Printing.{bytes_told};

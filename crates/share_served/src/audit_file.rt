@@ -26,12 +26,35 @@ pub trait Keep {
         ensures { kept self journal.now result };
 }
 
+/// A file that keeps the fault of a write call, since the writers above it only say that there was one.
+#[derive(Drop)]
+struct NotedFile<F> {
+    file: F,
+    fault: Option<io::Error>,
+}
+
+impl<F: Write> Write for NotedFile<F> {
+    fn write(&mut self, buf: &[u8]) -> io::Result<usize> {
+        let written = self.file.write(buf);
+        match &written {
+            Err(fault) if fault.kind() != ErrorKind::Interrupted => self.fault = Some(*fault),
+            _ => (),
+        }
+        written
+    }
+
+    fn flush(&mut self) -> io::Result<()> {
+        self.file.flush()
+    }
+}
+
 /// Where an audit goes. If the path names a regular file or nothing, the audit goes into a new file beside it, which
 /// takes its name at the end; if no audit is written, it is removed. Otherwise the audit goes into what the path names.
 pub struct AuditFile<'a, R: Files> {
     files: &'a R,
     path: &'a str,
-    output: PatientWriter<PlainWriter<BufWriter<R::File>>>,
+    is_forced: bool,
+    output: PatientWriter<PlainWriter<BufWriter<NotedFile<R::File>>>>,
     // The path of the new file, if there is one.
     beside: Option<String>,
 }
@@ -41,6 +64,7 @@ impl<'a, R: Files> Drop for AuditFile<'a, R> {
         let AuditFile {
             files,
             path: _,
+            is_forced: _,
             output,
             beside,
         } = self;
@@ -60,6 +84,11 @@ pub fn found_at<R: Files>(files: &R, path: &str) -> io::Result<Option<Metadata>>
     }
 }
 
+/// Whether there is a regular file at a path, or at the end of a link there. An audit replaces it only by force.
+pub fn has_file<R: Files>(files: &R, path: &str) -> bool {
+    fs::metadata(files, path).is_ok_and(|found| found.is_file())
+}
+
 // The path with a dot and a number after it.
 fn numbered_path(alloc: Global, path: &str, number: u32) -> Result<String, AllocError> {
     let mut name = String::new(alloc);
@@ -67,9 +96,22 @@ fn numbered_path(alloc: Global, path: &str, number: u32) -> Result<String, Alloc
     Ok(name)
 }
 
+// Gives a file this path, at which there may be an old file only if it is to be replaced.
+fn rename<R: Files>(files: &R, from: &str, path: &str, is_forced: bool) -> io::Result<()> {
+    if !is_forced && found_at(files, path)?.is_some() {
+        return Err(io::Error::from(ErrorKind::AlreadyExists));
+    }
+    fs::rename(files, from, path)
+}
+
 // Gives the new file of a whole audit this path. If that fails, standard error tells where the audit is.
-fn take_name<R: Files + Eprint>(files: &R, beside: String, path: &str) -> io::Result<()> {
-    let renamed = fs::rename(files, beside.as_str(), path);
+fn take_name<R: Files + Eprint>(
+    files: &R,
+    beside: String,
+    path: &str,
+    is_forced: bool,
+) -> io::Result<()> {
+    let renamed = rename(files, beside.as_str(), path, is_forced);
     if renamed.is_err() {
         let name = beside.as_str();
         let _ = eprintln!(files; "the whole audit is in {name}");
@@ -79,12 +121,18 @@ fn take_name<R: Files + Eprint>(files: &R, beside: String, path: &str) -> io::Re
 }
 
 impl<'a, R: Files> AuditFile<'a, R> {
-    /// Opens the file of this path for an audit. Nothing of an old audit is lost by that.
-    pub fn open(files: &'a R, alloc: Global, path: &'a str) -> io::Result<AuditFile<'a, R>> {
+    /// Opens the file of this path for an audit. Nothing of an old audit is lost by that. The audit replaces one at the
+    /// end only by force.
+    pub fn open(
+        files: &'a R,
+        alloc: Global,
+        path: &'a str,
+        is_forced: bool,
+    ) -> io::Result<AuditFile<'a, R>> {
         match found_at(files, path)? {
-            None => AuditFile::open_beside(files, alloc, path),
+            None => AuditFile::open_beside(files, alloc, path, is_forced),
             Some(found) if found.is_file() => {
-                let audit = AuditFile::open_beside(files, alloc, path)?;
+                let audit = AuditFile::open_beside(files, alloc, path, is_forced)?;
                 let permitted = audit.file().set_permissions(found.permissions());
                 match permitted {
                     Ok(()) => Ok(audit),
@@ -96,13 +144,18 @@ impl<'a, R: Files> AuditFile<'a, R> {
             }
             Some(_) => {
                 let file = OpenOptions::new().write(true).open(files, path)?;
-                AuditFile::over(files, alloc, path, file, None)
+                AuditFile::over(files, alloc, path, is_forced, file, None)
             }
         }
     }
 
     // Makes a new file beside this path, under the first name that is free.
-    fn open_beside(files: &'a R, alloc: Global, path: &'a str) -> io::Result<AuditFile<'a, R>> {
+    fn open_beside(
+        files: &'a R,
+        alloc: Global,
+        path: &'a str,
+        is_forced: bool,
+    ) -> io::Result<AuditFile<'a, R>> {
         for number in 1..=MOST_NAMES {
             let beside = numbered_path(alloc, path, number)?;
             let opened = OpenOptions::new()
@@ -110,7 +163,9 @@ impl<'a, R: Files> AuditFile<'a, R> {
                 .create_new(true)
                 .open(files, beside.as_str());
             match opened {
-                Ok(file) => return AuditFile::over(files, alloc, path, file, Some(beside)),
+                Ok(file) => {
+                    return AuditFile::over(files, alloc, path, is_forced, file, Some(beside));
+                }
                 Err(fault) if fault.kind() == ErrorKind::AlreadyExists => (),
                 Err(fault) => return Err(fault),
             }
@@ -123,10 +178,12 @@ impl<'a, R: Files> AuditFile<'a, R> {
         files: &'a R,
         alloc: Global,
         path: &'a str,
+        is_forced: bool,
         file: R::File,
         beside: Option<String>,
     ) -> io::Result<AuditFile<'a, R>> {
-        let buffered = match BufWriter::with_capacity(alloc, ROOM, file) {
+        let noted = NotedFile { file, fault: None };
+        let buffered = match BufWriter::with_capacity(alloc, ROOM, noted) {
             Ok(buffered) => buffered,
             Err(fault) => {
                 if let Some(beside) = beside {
@@ -138,19 +195,21 @@ impl<'a, R: Files> AuditFile<'a, R> {
         Ok(AuditFile {
             files,
             path,
+            is_forced,
             output: PatientWriter(PlainWriter(buffered)),
             beside,
         })
     }
 
     fn file(&self) -> &R::File {
-        self.output.0.0.get_ref()
+        &self.output.0.0.get_ref().file
     }
 
     // Writes the audit of a journal.
     fn write_out(&mut self, journal: &Journal) -> io::Result<()> {
         if journal.audit(&mut self.output).is_err() {
-            return Err(io::Error::from(ErrorKind::Other));
+            let fault = self.output.0.0.get_ref().fault;
+            return Err(fault.unwrap_or(io::Error::from(ErrorKind::WriteZero)));
         }
         self.output.0.0.flush()
     }
@@ -178,7 +237,7 @@ impl<'a, R: Files> AuditFile<'a, R> {
         }
         self.write_out(journal)?;
         match self.beside.take() {
-            Some(beside) => take_name(self.files, beside, self.path),
+            Some(beside) => take_name(self.files, beside, self.path, self.is_forced),
             None => Ok(()),
         }
     }

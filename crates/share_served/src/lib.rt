@@ -9,9 +9,10 @@ mod setup;
 mod shutdown;
 mod slots;
 
-pub use audit_file::{AuditFile, Keep, found_at};
+pub use audit_file::{AuditFile, Keep, found_at, has_file};
 pub use faults::{FoundFaults, ServeFault};
 pub use ingress::{why_text, work};
 pub use setup::{Doors, Fresh, Plan, Setting, Sockets, set_up};
+pub use share_connections::Reason;
 pub use shutdown::{EndedLink, close};
 pub use slots::{LinkedEnd, Places, Slot, all_clerks, all_ends, filled, make_places, with_clerks};

@@ -77,6 +77,7 @@ fn finish<S: Rates, R: Clock + Eprint, K: Keep, O: TellingWriter>(
     found.uplink = recorder.engine().broken();
     found.audit = !keep.keep(recorder.journal());
     found.output = report(recorder.engine(), output).is_err();
+    connections.tell(rt, "waiting for the uplink's peer to end");
     wire.read_away(rt);
     found
 }

@@ -1,6 +1,7 @@
 //! A link that is served over sockets: its threads, and its run from the first connection to the report.
 #![tactic(auto)]
 
+mod refused;
 mod serve;
 mod threads;
 

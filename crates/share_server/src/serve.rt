@@ -24,8 +24,8 @@ use std::time::Clock;
 /// Serves a new link of version 2 with this journal, which is empty and of version 2, over these sockets: accepts the
 /// control connections and then the ingress connections, and runs until all have ended and what they brought is sent.
 /// Then it settles, keeps the audit, and writes the report to the output, both even if something went wrong. If a
-/// reader is given, its end ends the connections. The error is the first fault, in the order of `ServeFault`. If the run
-/// cannot begin, nothing is kept and nothing is written.
+/// reader is given, its end ends the connections. The error is the first fault, in the order of `ServeFault`. If the
+/// run cannot begin, nothing is kept and nothing is written.
 pub fn serve_on<R, S, I, K, O>(
     rt: &R,
     alloc: Global,

@@ -1,17 +1,67 @@
 //! The threads of a running server.
 
+use crate::refused::RefusedPackets;
 use share_connections::{ConnectionReader, Connections, Kind, Uplink};
 use share_control::{Attended, How, attend};
-use share_locked::{Clerk, LinkBrand, LinkEnd, Port, serve_while};
+use share_locked::{Attendant, Clerk, LinkBrand, LinkEnd, Port, serve_while};
 use share_model::{PlainReader, PlainWriter, Rates};
 use share_script::IncomingLines;
-use share_served::{FoundFaults, LinkedEnd, Slot, why_text, work};
+use share_served::{FoundFaults, LinkedEnd, Reason, Slot, why_text, work};
 use std::alloc::Global;
 use std::io::{Eprint, ErrorKind};
 use std::net::{TcpListener, TcpStream};
-use std::sync::{Arc, Wait};
+use std::sync::{Arc, Mutex, Wait};
 use std::thread::{Scope, Threads};
 use std::{io, thread};
+
+/// Follows the link's service, and tells which packets the link refused.
+#[derive(Drop)]
+struct Teller<'a, R, S: Rates, L: LinkBrand> {
+    rt: &'a R,
+    server: &'a Server<S, L>,
+    refused: Mutex<RefusedPackets>,
+}
+
+impl<'a, R: Wait + Eprint, S: Rates, L: LinkBrand> Teller<'a, R, S, L> {
+    fn new(rt: &'a R, server: &'a Server<S, L>) -> Teller<'a, R, S, L> {
+        Teller {
+            rt,
+            server,
+            refused: Mutex::new(RefusedPackets::new()),
+        }
+    }
+
+    // Counts the packets that were refused since the last call, and tells of those connections that have had twice as
+    // many as were told of, or of all that had more.
+    fn tell_refused(&self, is_end: bool) {
+        let connections = &*self.server.connections;
+        if !connections.is_verbose() {
+            return;
+        }
+        let mut refused = self.refused.lock(self.rt);
+        let locked = self.server.port.lock(self.rt);
+        refused.count(locked.recorder().journal().entries());
+        drop(locked);
+        for at in 0..self.server.ends.len() {
+            if let Some(line) = refused.line(at, is_end) {
+                connections.tell(self.rt, line);
+            }
+        }
+        drop(refused);
+    }
+}
+
+impl<'a, R: Wait + Eprint, S: Rates, L: LinkBrand> Attendant for Teller<'a, R, S, L> {
+    fn rests(&self) {
+        self.server.connections.rests();
+        self.tell_refused(false);
+    }
+
+    fn ends<W: Wait>(&self, rt: &W) {
+        self.server.connections.ends(rt);
+        self.tell_refused(true);
+    }
+}
 
 /// What the threads share.
 #[derive(Drop)]
@@ -138,6 +188,9 @@ fn accept<R: Wait + Eprint, S: Rates, L: LinkBrand>(
     match accepted(rt, server, kind, number) {
         Ok(stream) => stream,
         Err(fault) => {
+            let reason = Reason(fault);
+            let line = format_args!("cannot accept a connection: {reason}");
+            server.connections.tell(rt, line);
             if fault.kind() == ErrorKind::OutOfMemory {
                 found.memory = true;
             } else {
@@ -160,6 +213,10 @@ fn accepted<R: Wait + Eprint, S: Rates, L: LinkBrand>(
         Kind::Control => (&server.control, "control"),
         Kind::Ingress => (&server.ingress, "ingress"),
     };
+    let count = server.count(kind);
+    server
+        .connections
+        .tell(rt, format_args!("waiting for {word} {number} of {count}"));
     let accepted = listener.accept();
     if server.connections.is_ending() {
         drop(accepted);
@@ -252,8 +309,10 @@ where
         }
         accept_kind(scope, rt, server, Kind::Control, &mut found);
         accept_kind(scope, rt, server, Kind::Ingress, &mut found);
+        connections.tell(rt, "waiting for all connections to end");
         connections.wait(rt);
         connections.tell(rt, "the stop is set");
+        connections.tell(rt, "waiting for what is left to be sent");
         found
     })
 }
@@ -268,6 +327,7 @@ where
     thread::scope(thread::scope_env(), rt, |scope| -> FoundFaults {
         let mut found = found;
         let connections = &*server.connections;
+        let teller = Teller::new(rt, server);
         let watch = scope.spawn(move || connections.watch(rt));
         if watch.is_err() {
             found.thread = true;
@@ -277,7 +337,7 @@ where
             rt,
             &server.port,
             connections.pace(),
-            connections,
+            &teller,
             |is_served| -> FoundFaults { accept_all(rt, server, is_served, found) },
         );
         found.life = end == Some(LinkEnd::Spent);

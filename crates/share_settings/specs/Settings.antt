@@ -6,6 +6,7 @@ use Rattle.share_settings.specs.declared.section.Uplink.{Uplink}
 use Rattle.share_settings.specs.declared.section.Books.{Books}
 use Rattle.share_settings.specs.declared.section.Control.{Control}
 use Rattle.share_settings.specs.declared.section.Downlink.{Downlink}
+use Rattle.share_settings.specs.declared.section.Web.{Web}
 use Rattle.share_settings.specs.Ports.{PortsView}
 
 pub record SettingsView : Type 0 where
@@ -13,6 +14,7 @@ pub record SettingsView : Type 0 where
   pub books : Books
   pub control : Control
   pub downlink : Option Downlink
+  pub web : Option Web
   pub tariffs : List Rate
   pub plan : PlanView
   pub ports : List PortsView

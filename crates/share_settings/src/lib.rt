@@ -1,4 +1,5 @@
-//! What a gateway is set to do: its uplink, books, control, ports, downlink, tariffs and plan. No file is read here.
+//! What a gateway is set to do: its uplink, books, control, ports, downlink, web listener, tariffs and plan. No file is
+//! read here.
 #![tactic(auto)]
 
 mod port;
@@ -7,6 +8,6 @@ mod settings;
 mod text;
 
 pub use port::{Listener, Peer, Port, TenantPorts};
-pub use section::{BookText, Books, Control, Downlink, Uplink};
+pub use section::{BookText, Books, Control, Downlink, Uplink, Web};
 pub use settings::Settings;
 pub use text::Text;

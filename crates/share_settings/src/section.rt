@@ -1,7 +1,7 @@
 //! The sections of the settings that are not lists.
 use crate::port::{Listener, Peer};
 use crate::text::Text;
-use std::net::IpAddr;
+use std::net::{IpAddr, SocketAddr};
 
 /// Where frames go to.
 #[derive(Clone, Copy, Debug)]
@@ -47,4 +47,10 @@ pub struct Downlink {
     pub listen: Peer,
     /// The address from which alone connections are taken, if they are limited.
     pub from: Option<IpAddr>,
+}
+
+/// Where browsers and scrapes of metrics come in.
+#[derive(Clone, Copy, Debug)]
+pub struct Web {
+    pub listen: SocketAddr,
 }

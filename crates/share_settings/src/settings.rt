@@ -1,6 +1,6 @@
 //! All settings of a gateway.
 use crate::port::TenantPorts;
-use crate::section::{Books, Control, Downlink, Uplink};
+use crate::section::{Books, Control, Downlink, Uplink, Web};
 use share_gateway::Plan;
 use share_model::Rate;
 use std::marker::Model;
@@ -12,6 +12,7 @@ pub struct Settings {
     pub books: Books,
     pub control: Control,
     pub downlink: Option<Downlink>,
+    pub web: Option<Web>,
     pub tariffs: Vec<Rate>,
     pub plan: Plan,
     pub ports: Vec<TenantPorts>,
@@ -27,6 +28,7 @@ impl Model for Settings {
       books = s.books;
       control = s.control;
       downlink = s.downlink;
+      web = s.web;
       tariffs = s.tariffs.items;
       plan = s.plan;
       ports = s.ports.items;

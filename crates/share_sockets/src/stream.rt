@@ -9,7 +9,7 @@ use mio::net::{TcpStream, UnixStream};
 use mio::{Interest, Registry, Token};
 use std::io;
 use std::io::{Error, Read, Write};
-use std::net::{Net, SocketAddr};
+use std::net::{Net, Shutdown, SocketAddr};
 use std::os::fd::{AsRawFd, RawFd};
 use std::rc::Rc;
 
@@ -74,6 +74,14 @@ impl Stream {
             Stream::Tcp(stream) => stream.set_nodelay(nodelay),
             Stream::Unix(_) => Ok(()),
         }
+    }
+
+    /// Ends the half of the stream that is written. What was written goes out before that.
+    pub fn end_writing(&self) {
+        let _ = match self {
+            Stream::Tcp(stream) => stream.shutdown(Shutdown::Write),
+            Stream::Unix(stream) => stream.shutdown(Shutdown::Write),
+        };
     }
 
     /// Whether the far end has ended the stream, or the stream has failed, and nothing of it is unread.

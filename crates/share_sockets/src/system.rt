@@ -1,4 +1,6 @@
-//! Calls on sockets that `mio` does not offer.
+//! Calls on sockets and descriptors that `mio` does not offer.
+ghost use Rattle.std.specs.Prelude.{◌≤◌, length, IfOk};
+ghost use Rattle.libc.specs.Io.{Moved};
 
 use crate::progress::{is_end, outcome_of};
 use libc::net as c;
@@ -13,10 +15,58 @@ pub(crate) fn set_send_buffer(fd: RawFd, bytes: u64) -> io::Result<()> {
     let mut value = [0u8; 16];
     value[..4].copy_from_slice(&bytes.to_ne_bytes());
     let status = unsafe { c::setsockopt(fd, c::SOL_SOCKET, c::SO_SNDBUF, &value, 4) };
+    done(status)
+}
+
+// What the status of a call says.
+fn done(status: i32) -> io::Result<()> {
     if status < 0 {
         Err(Error::from_raw_os_error(os::errno()))
     } else {
         Ok(())
+    }
+}
+
+/// Has later calls of a descriptor not wait.
+pub(crate) fn set_nonblocking(fd: RawFd) -> io::Result<()> {
+    done(os::set_nonblocking(fd, true))
+}
+
+/// Whether a descriptor is a socket.
+pub(crate) fn is_socket(fd: RawFd) -> bool {
+    let mut value = [0u8; 16];
+    let mut length: u32 = 4;
+    let status = unsafe { c::getsockopt(fd, c::SOL_SOCKET, c::SO_RCVBUF, &mut value, &mut length) };
+    status >= 0
+}
+
+/// Reads once.
+pub(crate) fn read(fd: RawFd, buffer: &mut [u8]) -> io::Result<usize>
+    ensures { IfOk result (λ count. count ≤ length buffer.new) }
+{
+    count_of(libc::read(fd, buffer), buffer)
+}
+
+/// Writes once.
+pub(crate) fn write(fd: RawFd, bytes: &[u8]) -> io::Result<usize> {
+    count_of(libc::write(fd, bytes), bytes)
+}
+
+/// Writes once to a socket, and raises no signal if nobody reads.
+pub(crate) fn send(fd: RawFd, bytes: &[u8]) -> io::Result<usize> {
+    let flags = c::MSG_NOSIGNAL | c::MSG_DONTWAIT;
+    count_of(unsafe { c::send(fd, bytes, flags) }, bytes)
+}
+
+// How many of these bytes a call moved.
+fn count_of(moved: isize, bytes: &[u8]) -> io::Result<usize>
+    requires { Moved (length bytes.now) moved }
+    ensures { IfOk result (λ count. count ≤ length bytes.now) }
+{
+    if moved < 0 {
+        Err(Error::from_raw_os_error(os::errno()))
+    } else {
+        Ok(moved as usize)
     }
 }
 

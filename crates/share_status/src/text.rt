@@ -22,7 +22,8 @@ use std::alloc::{AllocError, Global};
 use std::net::SocketAddr;
 use std::str;
 
-/// The line of a status, with its line feed. It reads as the JSON of `specs/Status.antt`, with its members in their order.
+/// The line of a status, with its line feed. It reads as the JSON of `specs/Status.antt`, with its members in their
+/// order.
 pub fn status_text(alloc: Global, status: &Status<'_>) -> Result<Vec<u8>, AllocError>
     ensures line { IfOk result (λ text. text.items ≡ status_line status.now ++ codes "\n") }
     ensures reads_back { OnOk result (document (status_line status.now) ≡ Some (status_of status.now)) }

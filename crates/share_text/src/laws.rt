@@ -1,5 +1,5 @@
-//! What holds of every line that is written. The function here does nothing: its contract is a law, which is proved with
-//! it.
+//! What holds of every line that is written. The function here does nothing: its contract is a law, which is proved
+//! with it.
 ghost use Rattle.std.specs.Prelude.{◌≡◌, ◌++◌, ◌∷◌, ℕ, List, true, false, Ok, Err, codes};
 ghost use Rattle.share_base.specs.declared.refusal.Refusal.TheVariants.{Range};
 ghost use Rattle.share_base.specs.declared.version.Version.{Version};

@@ -1,7 +1,7 @@
 //! The outbox, and the text of a book on its way to the disk.
 ghost use Rattle.std.specs.Prelude.{◌≡◌, ◌≤◌, ◌<◌, ◌+◌, ◌-◌, ◌++◌, true, false, length, take, IfOk, IfErr, None};
 ghost use Rattle.share_base.specs.Refusal.{IsRefused};
-ghost use Rattle.share_gateway.specs.Outbox.{begun_again, frame_bytes, ready_of, room_of, send_more};
+ghost use Rattle.share_gateway.specs.Outbox.{begun_again, frame_bytes, ready_frame, ready_of, room_of, send_more};
 ghost use Rattle.share_transit.specs.Transit.{Hands, TurnsInto, empty_transit, handed_count, settled, text_written};
 
 use crate::page::Page;
@@ -130,6 +130,13 @@ impl Transit {
         ensures { result.now ≡ ready_of self.now.outbox }
     {
         self.outbox.ready()
+    }
+
+    /// The first frame, if no byte of it is out and all of them may go to the wire, and otherwise no bytes.
+    pub fn frame(&self) -> &[u8]
+        ensures { result.now ≡ ready_frame self.now.outbox }
+    {
+        self.outbox.frame()
     }
 
     /// Says that the wire took so many bytes, the first of those that are ready.

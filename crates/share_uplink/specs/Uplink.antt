@@ -14,10 +14,10 @@ use Rattle.share_uplink.specs.declared.state.UplinkState.TheVariants.{Up, Dialli
 use Rattle.share_uplink.specs.declared.state.Work.{Work}
 use Rattle.share_uplink.specs.declared.state.Work.TheVariants.{Rests, Busy, Connected, Lost, Unreachable}
 
--- the address and the size that is asked for its send buffer; whether it is connected, and if not, whether a dial began;
--- since when either is so, or else when it is dialled; the pause before the next dial but one, in milliseconds; what its
--- socket may be ready for; how many bytes the last connection was given, and all of them; how many may be lost at the
--- near end, by the last loss and by all; and what kind of fault the last loss or failed dial had
+-- the address and the size that is asked for its send buffer; whether it is connected, and if not, whether a dial
+-- began; since when either is so, or else when it is dialled; the pause before the next dial but one, in milliseconds;
+-- what its socket may be ready for; how many bytes the last connection was given, and all of them; how many may be lost
+-- at the near end, by the last loss and by all; and what kind of fault the last loss or failed dial had
 pub record UplinkView : Type 0 where
   pub address : SocketAddr
   pub buffer : ℕ
@@ -106,8 +106,8 @@ given_more n u = record u { given = capped (u.given + n); sent = capped (u.sent 
 abbrev pub connected : ℕ → UplinkView → UplinkView
 connected now u = record u { state = Up; dials = false; since = now; given = 0 }
 
--- how many bytes of a connection its socket may hold: at most what it was given, and at most twice what was asked for and
--- a segment of 65536
+-- how many bytes of a connection its socket may hold: at most what it was given, and at most twice what was asked for
+-- and a segment of 65536
 abbrev pub at_risk : UplinkView → ℕ
 at_risk u = min u.given (2 * u.buffer + 65536)
 
@@ -140,8 +140,8 @@ pub record Gives (u : UplinkView) (n : ℕ) (v : UplinkView) (after : TransitVie
   pub writes : v.writes ≡ true → u.writes ≡ true
   pub busy : has_work v.reads v.writes after ≡ is_busy
 
--- What the states allow. One that is connected was given bytes, or was given bytes and lost. One that is not is connected
--- or was not reached once a dial ends, and nothing changes before.
+-- What the states allow. One that is connected was given bytes, or was given bytes and lost. One that is not is
+-- connected or was not reached once a dial ends, and nothing changes before.
 abbrev pub Works : UplinkState → Bool → ℕ → UplinkView → ℕ → Work → UplinkView → TransitView → Type 0
 Works Up ends now u n Rests v after = Gives u n v after false
 Works Up ends now u n Busy v after = Gives u n v after true

@@ -3,16 +3,18 @@ ghost use Rattle.std.specs.Prelude.{◌≡◌, true, false, Ok, IfOk};
 ghost use Rattle.share_uplink.specs.Passing.{WireTakes};
 ghost use Rattle.share_uplink.specs.Uplink.{has_work};
 
+use crate::datagrams::exchange_frames;
+use crate::socket::Socket;
 use crate::state::far_end_closed;
 use share_sockets::{Progress, Stream};
 use share_transit::Transit;
 use std::io;
 
 /// How many calls on the socket are made before the rest of the round has its turn.
-const CALLS: u32 = 64;
+pub(crate) const CALLS: u32 = 64;
 
 /// How many bytes are read in one call.
-const PIECE: usize = 4096;
+pub(crate) const PIECE: usize = 4096;
 
 /// What a stream may be ready for.
 #[derive(Clone, Copy, Debug)]
@@ -32,9 +34,21 @@ pub(crate) fn has_work(ready: Ready, transit: &Transit) -> bool
     ready.writes && !transit.ready().is_empty()
 }
 
-/// Throws away what came, and then sends what may go. Returns what the stream may still be ready for, or why it is
-/// over. Nothing is sent once the far end is known to have ended it.
-pub(crate) fn exchange(stream: &Stream, ready: Ready, transit: &mut Transit) -> io::Result<Ready>
+/// Throws away what came, and then sends what may go. Returns what the socket may still be ready for, or why it is
+/// over.
+pub(crate) fn exchange(socket: &Socket, ready: Ready, transit: &mut Transit) -> io::Result<Ready>
+    ensures wire { WireTakes transit.old transit.new }
+    ensures reads { IfOk result (λ after. after.reads ≡ true → ready.reads ≡ true) }
+    ensures writes { IfOk result (λ after. after.writes ≡ true → ready.writes ≡ true) }
+{
+    match socket {
+        Socket::Stream(stream) => exchange_bytes(stream, ready, transit),
+        Socket::Datagrams(socket) => exchange_frames(socket, ready, transit),
+    }
+}
+
+// The same over a stream. Nothing is sent once the far end is known to have ended it.
+fn exchange_bytes(stream: &Stream, ready: Ready, transit: &mut Transit) -> io::Result<Ready>
     ensures wire { WireTakes transit.old transit.new }
     ensures reads { IfOk result (λ after. after.reads ≡ true → ready.reads ≡ true) }
     ensures writes { IfOk result (λ after. after.writes ≡ true → ready.writes ≡ true) }

@@ -5,7 +5,7 @@ ghost use Rattle.std.specs.Time.{instant_nanos};
 ghost use Rattle.share_uplink.specs.States.{dials_of, since_of, state_of};
 ghost use Rattle.share_uplink.specs.declared.state.UplinkState.TheVariants.{Up};
 
-use share_sockets::Stream;
+use crate::socket::Socket;
 use std::io::{Error, ErrorKind};
 use std::mem;
 use std::time::Instant;
@@ -16,9 +16,9 @@ pub(crate) enum State {
     /// It is dialled at this time.
     Away(Instant),
     /// A dial began at this time.
-    Dialling(Stream, Instant),
+    Dialling(Socket, Instant),
     /// It is connected since this time.
-    Up(Stream, Instant),
+    Up(Socket, Instant),
 }
 
 impl State {
@@ -46,7 +46,7 @@ impl State {
     /// Why a dial that began has failed, if it has.
     pub(crate) fn fault(&self) -> Option<Error> {
         match self {
-            State::Dialling(stream, _) => stream.take_fault(),
+            State::Dialling(socket, _) => socket.take_fault(),
             _ => None,
         }
     }
@@ -60,8 +60,8 @@ impl State {
         ensures same { result ≡ false → self.new ≡ self.old }
     {
         match mem::replace(self, State::Away(now)) {
-            State::Dialling(stream, _) => {
-                *self = State::Up(stream, now);
+            State::Dialling(socket, _) => {
+                *self = State::Up(socket, now);
                 true
             }
             other => {

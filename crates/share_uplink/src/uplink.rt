@@ -12,12 +12,11 @@ ghost use Rattle.share_uplink.specs.declared.state.Work.TheVariants.{Rests};
 ghost use Rattle.share_uplink.specs.declared.uplink.Due.TheVariants.{Nothing, Dial, GiveUp};
 
 use crate::passing::{Ready, exchange, has_work};
+use crate::socket::{Transport, begin};
 use crate::state::{State, UplinkState, Work, no_answer};
-use mio::{Interest, Registry, Token};
-use share_sockets::Stream;
+use mio::{Registry, Token};
 use share_timing::Redial;
 use share_transit::Transit;
-use std::io;
 use std::io::Error;
 use std::marker::Model;
 use std::net::{Net, SocketAddr};
@@ -34,10 +33,11 @@ enum Due {
     GiveUp,
 }
 
-/// An uplink over TCP. Bytes that come from the far end are thrown away. A contract sees its address and its state, and
-/// what it counts.
+/// An uplink over TCP or UDP. Bytes that come from the far end are thrown away. A contract sees its address and its
+/// state, and what it counts.
 pub struct Uplink {
     address: SocketAddr,
+    transport: Transport,
     // How many bytes its socket is to hold.
     buffer: u64,
     state: State,
@@ -58,6 +58,7 @@ impl Drop for Uplink {
     fn drop(self) {
         let Uplink {
             address: _,
+            transport: _,
             buffer: _,
             state,
             redial,
@@ -104,12 +105,13 @@ const NOT_READY: Ready = Ready {
 
 impl Uplink {
     /// An uplink that is to be dialled at once. Its socket is to hold so many bytes that were written and that the far
-    /// end has not acknowledged. Linux doubles that.
-    pub fn new(address: SocketAddr, buffer: u64, now: Instant) -> Uplink
+    /// end has not acknowledged, or that have not left if it sends datagrams. Linux doubles that.
+    pub fn new(address: SocketAddr, transport: Transport, buffer: u64, now: Instant) -> Uplink
         ensures { result ≡ new_uplink address buffer (instant_nanos now) }
     {
         Uplink {
             address,
+            transport,
             buffer,
             state: State::Away(now),
             redial: Redial::new(),
@@ -237,11 +239,18 @@ impl Uplink {
         requires due { is_due (instant_nanos now) self.old ≡ true }
         ensures { UplinkTicks self.old (instant_nanos now) result self.new }
     {
-        match begin(net, self.address, self.buffer, registry, token) {
+        match begin(
+            net,
+            self.transport,
+            self.address,
+            self.buffer,
+            registry,
+            token,
+        ) {
             Err(fault) => self.miss(now, fault),
-            Ok(stream) => {
+            Ok(socket) => {
                 self.ready = NOT_READY;
-                self.state = State::Dialling(stream, now);
+                self.state = State::Dialling(socket, now);
                 Work::Rests
             }
         }
@@ -327,11 +336,11 @@ impl Uplink {
         ensures wire { UplinkWorks transit.old result transit.new }
         ensures counts { UplinkCounts self.old transit.old (instant_nanos now) result self.new transit.new }
     {
-        let State::Up(stream, _) = &self.state else {
+        let State::Up(socket, _) = &self.state else {
             return Work::Rests;
         };
         let waiting = transit.waiting();
-        let outcome = exchange(stream, self.ready, transit);
+        let outcome = exchange(socket, self.ready, transit);
         self.count(waiting.saturating_sub(transit.waiting()));
         match outcome {
             Err(fault) => self.lose(now, fault),
@@ -386,19 +395,4 @@ fn dial_time_left(since: Instant, now: Instant) -> Duration
     ensures { as_nanos result ≡ 5_000_000_000 - (instant_nanos now - instant_nanos since) }
 {
     Duration::from_secs(DIAL_SECONDS).saturating_sub(now.saturating_duration_since(since))
-}
-
-// Begins to connect, with events under this token.
-fn begin(
-    net: &impl Net,
-    address: SocketAddr,
-    buffer: u64,
-    registry: &Registry,
-    token: Token,
-) -> io::Result<Stream> {
-    let mut stream = Stream::connect(net, address)?;
-    stream.set_send_buffer(buffer)?;
-    stream.set_nodelay(true)?;
-    stream.register(registry, token, Interest::READABLE | Interest::WRITABLE)?;
-    Ok(stream)
 }

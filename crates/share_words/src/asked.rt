@@ -24,6 +24,8 @@ pub struct ServeOrders<'a> {
     pub uplink: &'a str,
     /// The file of the audit.
     pub audit: &'a str,
+    /// Whether a file that exists is replaced by the audit.
+    pub is_forced: bool,
     /// The events of the link's life.
     pub life: u64,
     /// How many ingress connections are accepted.

@@ -87,7 +87,9 @@ Exit statuses:
 
 /// On the server: what it accepts and in which order, how it ends, the lines of control connections, and the statuses.
 pub const SERVER: &str =
-    "Addresses are HOST:PORT; with port 0 the system picks one, which --verbose tells.
+    "This is one life of one link, without a file and without books. 'stridelink gateway'
+connects again when the uplink is lost, keeps books, and runs for months.
+Addresses are HOST:PORT; with port 0 the system picks one, which --verbose tells.
 Order:
   it makes the journal of the life, tries FILE, listens on A and B, connects to C
   it accepts J control connections, each answered as soon as it is there
@@ -115,15 +117,21 @@ a flow, and each write call on the uplink is one, refused commands and packets t
 When it is spent the ingress connections are ended, lines are answered 'no 2 Spent',
 and the status is 1.
 FILE is a script: 'stridelink run --life L < FILE' prints the very bytes that C got.
-Where FILE is a regular file or not there, a file beside it is written, FILE.1 or
-the next number that is free, and takes the name FILE at the end; until then an old
-FILE stays as it was. An audit that cannot take that name stays where it is, which
-standard error tells. Anything else is written in place.
+A FILE that exists is refused before anything listens, unless --force is given; so is
+a link to one. Where FILE is a regular file or not there, a file beside it is written,
+FILE.1 or the next number that is free, and takes the name FILE at the end; until then
+an old FILE stays as it was. An audit that cannot take that name stays where it is,
+which standard error tells. So does one that finds a new FILE there, without --force.
+Anything else, such as a device or a pipe, is written in place.
 With --until-eof the end of standard input ends the run: no more connections are
 accepted, of those that are there only what had come is taken, and what was queued
 is sent. A reply that can't be written for some seconds then ends its connection,
 and an uplink that takes nothing for so long has failed.
-A signal ends the process without an audit, and the file beside stays.
+A signal, such as that of Ctrl-C, ends the process without an audit, and the file
+beside stays.
+With --verbose standard error has a line for each address, connection and end, for what
+the server waits for, for the loss of the uplink when a write on it fails, and for
+packets that are refused: stridelink(1) lists the lines.
 Exit statuses:
   0  all connections have ended, and all that came was sent or refused, or waits in
      a flow that is held or has no tickets; refused lines, and the way in which a

@@ -49,6 +49,8 @@ const UPLINK_HELP: &str = "where the frames go";
 
 const AUDIT_HELP: &str = "where the audit is written at the end";
 
+const FORCE_HELP: &str = "let the audit replace a file that exists";
+
 const UNTIL_EOF_HELP: &str = "end all connections where standard input ends";
 
 const VERBOSE_HELP: &str = "tell on standard error what happens";
@@ -128,6 +130,7 @@ fn serve_command<'a>(alloc: Global) -> Result<Command<'a>, AllocError> {
         .about("serves a link on sockets")
         .after_long_help(help::SERVER);
     with_numbers(alloc, with_places(alloc, serve)?)?
+        .arg(flag(alloc, "force", FORCE_HELP))?
         .arg(flag(alloc, "until-eof", UNTIL_EOF_HELP))?
         .arg(flag(alloc, "verbose", VERBOSE_HELP))
 }
@@ -175,6 +178,7 @@ fn serve_orders<'a>(serve: &ArgMatches<'a>) -> ServeOrders<'a> {
         control: serve.get_str("control").unwrap_or(""),
         uplink: serve.get_str("uplink").unwrap_or(""),
         audit: serve.get_str("audit").unwrap_or(""),
+        is_forced: serve.get_flag("force"),
         life: serve.get_one::<u64>("life").unwrap_or(0),
         workers: serve.get_one::<u64>("workers").unwrap_or(0),
         clerks: serve.get_one::<u64>("clerks").unwrap_or(0),
@@ -258,7 +262,8 @@ fn in_range<'a>(command: &mut Command<'a>, asked: Asked<'a>) -> Result<Asked<'a>
     }
 }
 
-// What words ask for of a command line, which stays its caller's: a function that owns it would drop it in each way out.
+// What words ask for of a command line, which stays its caller's: a function that owns it would drop it in each way
+// out.
 fn asked_of<'a>(
     alloc: Global,
     command: &mut Command<'a>,

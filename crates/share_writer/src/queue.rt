@@ -120,8 +120,8 @@ impl DiskQueue {
         let _ = self.pages.push(EmptyPage::of(page));
     }
 
-    /// Has the bytes of a page that `page` gave written after all that were given before. After the last book was closed
-    /// they are forgotten. With pages from elsewhere there may be more than `PAGES`, and then it waits for one.
+    /// Has the bytes of a page that `page` gave written after all that were given before. After the last book was
+    /// closed they are forgotten. With pages from elsewhere there may be more than `PAGES`, and then it waits for one.
     pub fn write<R: Wait>(&mut self, rt: &R, page: Page)
         ensures { self.new ≡ with_bytes page self.old }
     {
@@ -175,7 +175,8 @@ impl DiskQueue {
         tariffs: Tariffs,
         close: BookClose,
     ) -> bool
-        ensures { MatchBool result ((self.new ≡ with_close self.old) × (self.old.is_over ≡ false)) (self.new ≡ self.old) }
+        ensures { MatchBool result ((self.new ≡ with_close self.old) × (self.old.is_over ≡ false))
+            (self.new ≡ self.old) }
     {
         if self.is_over || self.closing() >= MOST_CLOSES {
             return false;

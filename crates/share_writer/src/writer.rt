@@ -125,7 +125,8 @@ impl<'s> Writer<'s> {
 // Writes all these bytes at the end of a text. Returns false if the disk was abandoned before: then a beginning of them
 // is written.
 fn write_whole<R: Wait>(rt: &R, attempts: Attempts<'_>, text: &mut OpenText, bytes: &[u8]) -> bool
-    ensures whole { IsTrue result → (before : List ℕ) → HasText text.old before → HasText text.new (before ++ bytes.now) }
+    ensures whole { IsTrue result → (before : List ℕ) → HasText text.old before
+        → HasText text.new (before ++ bytes.now) }
     ensures part { (before : List ℕ) → HasText text.old before
         → (count : ℕ) × HasText text.new (before ++ take count bytes.now) }
 {

@@ -1,7 +1,7 @@
 //! Files: the example, the smallest one, and what is wrong with changed ones.
 
 use super::assertions::{holds, same};
-use super::rows::{EXAMPLE, FILE, Row, SHAPES, SMALL, TWICE, VALUES};
+use super::rows::{EXAMPLE, FILE, Row, SHAPES, SMALL, TWICE, VALUES, WEB};
 use share_base::Name;
 use share_config::{ConfigFault, read_settings};
 use share_gateway::{Grant, Tenant};
@@ -50,6 +50,7 @@ fn wrong_files_are_refused(rt: HostRuntime) {
     are_refused(&rt, rt.alloc(), VALUES.as_slice());
     are_refused(&rt, rt.alloc(), SHAPES.as_slice());
     are_refused(&rt, rt.alloc(), TWICE.as_slice());
+    are_refused(&rt, rt.alloc(), WEB.as_slice());
 }
 
 fn name(rt: &impl Abort, text: &str) -> Name {
@@ -67,7 +68,7 @@ fn is_peer(peer: Peer, text: &str) -> bool {
     }
 }
 
-// The uplink and the downlink are those of the example.
+// The uplink, the downlink and the web listener are those of the example.
 fn has_links(rt: &impl Abort, settings: &Settings) {
     let uplink = settings.uplink.expect(rt, "an uplink");
     holds(rt, "connect", is_peer(uplink.to, "192.0.2.7:7003"));
@@ -76,6 +77,8 @@ fn has_links(rt: &impl Abort, settings: &Settings) {
     let downlink = settings.downlink.expect(rt, "a downlink");
     holds(rt, "listen", is_peer(downlink.listen, "192.0.2.1:7003"));
     holds(rt, "from", downlink.from.is_none());
+    let web = settings.web.expect(rt, "a web listener");
+    holds(rt, "web", is_address(web.listen, "127.0.0.1:9107"));
 }
 
 // The books and the control listener are those of the example.

@@ -37,6 +37,9 @@ tickets = [ { amount = 200, of = "gold" }, { amount = 50 } ]
 
 [downlink]                       # optional
 listen = "192.0.2.1:7003"        # or "udp:.."
+
+[web]                            # optional
+listen = "127.0.0.1:9107"
 "#;
 
 /// The file that the rows change.
@@ -89,6 +92,52 @@ pub(super) struct Row {
     pub line: Option<usize>,
     pub fault: &'static str,
 }
+
+/// Web listeners.
+pub(super) const WEB: [Row; 7] = [
+    Row {
+        old: "[books]",
+        new: "[web]\nlisten = \"localhost:9107\"\n\n[books]",
+        line: None,
+        fault: "[web]: listen: not an address such as 127.0.0.1:9107",
+    },
+    Row {
+        old: "[books]",
+        new: "[web]\nlisten = \"127.0.0.1:0\"\n\n[books]",
+        line: None,
+        fault: "[web]: listen: not an address such as 127.0.0.1:9107",
+    },
+    Row {
+        old: "[books]",
+        new: "[web]\nlisten = \"unix:/run/stridelink/web\"\n\n[books]",
+        line: None,
+        fault: "[web]: listen: not an address such as 127.0.0.1:9107",
+    },
+    Row {
+        old: "[books]",
+        new: "[web]\n\n[books]",
+        line: None,
+        fault: "[web]: listen: missing",
+    },
+    Row {
+        old: "[books]",
+        new: "[web]\nlisten = 9107\n\n[books]",
+        line: None,
+        fault: "[web]: listen: not a text",
+    },
+    Row {
+        old: "[books]",
+        new: "[web]\nlisten = \"127.0.0.1:9107\"\nmode = \"0600\"\n\n[books]",
+        line: None,
+        fault: "[web]: mode: unknown key",
+    },
+    Row {
+        old: "[uplink]",
+        new: "web = \"127.0.0.1:9107\"\n\n[uplink]",
+        line: None,
+        fault: "the file: web: not a table",
+    },
+];
 
 /// Values that are out of their range.
 pub(super) const VALUES: [Row; 38] = [
@@ -534,7 +583,19 @@ pub(super) const SHAPES: [Row; 33] = [
 ];
 
 /// Addresses that are given before.
-pub(super) const TWICE: [Row; 8] = [
+pub(super) const TWICE: [Row; 10] = [
+    Row {
+        old: "[books]",
+        new: "[web]\nlisten = \"192.0.2.7:7003\"\n\n[books]",
+        line: None,
+        fault: "[web]: listen: address 1 of this key is given before",
+    },
+    Row {
+        old: "[books]",
+        new: "[web]\nlisten = \"127.0.0.1:7101\"\n\n[books]",
+        line: None,
+        fault: "tenant 1: port: address 1 of this key is given before",
+    },
     Row {
         old: "\"udp:127.0.0.1:7201\"",
         new: "\"127.0.0.1:7101\"",

@@ -1,6 +1,6 @@
-//! The memory of packets that are carried over: no request is made for them, and what is dropped is given back. Requests
-//! are refused and blocks are counted by the allocator of `.ci/allocator.c` alone, with which `.ci/memory` runs this
-//! test; with any other no request is refused, and no block is missed.
+//! The memory of packets that are carried over: no request is made for them, and what is dropped is given back.
+//! Requests are refused and blocks are counted by the allocator of `.ci/allocator.c` alone, with which `.ci/memory`
+//! runs this test; with any other no request is refused, and no block is missed.
 
 use super::assertions::{holds, same};
 use super::books::{drain, opened, resume};

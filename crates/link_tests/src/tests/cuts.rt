@@ -54,7 +54,8 @@ const RUNS: [Run; 3] = [
     },
     // One frame, which any byte of it makes cost a cell of 48 and an overhead of 16.
     Run {
-        ready: "open a 4 2 = flow 1; mktkt 10 base = ticket 1; fund 1 flow a = ok; send a 6869 = packet 1 1; events = 4",
+        ready: "open a 4 2 = flow 1; mktkt 10 base = ticket 1; fund 1 flow a = ok; \
+                send a 6869 = packet 1 1; events = 4",
         after: "mktkt 1 base = ticket 2; fund 2 flow a = ok; send a 6869 = packet 1 2; tickets 1 = 11",
         frames: &[(1, 1, 2)],
         bytes: [

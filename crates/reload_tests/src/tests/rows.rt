@@ -42,7 +42,7 @@ port = [ "[2001:db8::7]:7102" ]
 tickets = [ { amount = 100, of = "gold" } ]
 "#;
 
-/// The same sections with a downlink, and without tenants.
+/// The same sections with a downlink and a web listener, and without tenants.
 pub(super) const FAR: &str = r#"[books]
 folder = "/var/lib/stridelink/far"
 
@@ -52,6 +52,9 @@ listen = "127.0.0.1:7002"
 [downlink]
 listen = "192.0.2.1:7003"
 from = "192.0.2.7"
+
+[web]
+listen = "127.0.0.1:9107"
 "#;
 
 /// The sections before the tenants of a plan.

@@ -19,7 +19,9 @@ const CONTROL: &str = "[control] needs a restart";
 
 const DOWNLINK: &str = "[downlink] needs a restart";
 
-const ROWS: [Row; 28] = [
+const WEB: &str = "[web] needs a restart";
+
+const ROWS: [Row; 29] = [
     ("", "", "", ""),
     ("192.0.2.7:7003", "192.0.2.8:7003", "[uplink]", UPLINK),
     ("192.0.2.7:7003", "192.0.2.7:7004", "[uplink]", UPLINK),
@@ -60,6 +62,7 @@ const ROWS: [Row; 28] = [
         "[downlink]",
         DOWNLINK,
     ),
+    ("", "[web]\nlisten = \"127.0.0.1:9107\"\n", "[web]", WEB),
     ("cell = 48", "cell = 1", "", ""),
     ("amount = 300", "amount = 301", "", ""),
     ("packets = 256", "packets = 1", "", ""),
@@ -70,7 +73,7 @@ const ROWS: [Row; 28] = [
     ("flow = 3", "flow = 2", "", "bond is flow 3"),
 ];
 
-const FAR_ROWS: [Row; 7] = [
+const FAR_ROWS: [Row; 10] = [
     ("", "", "", ""),
     ("192.0.2.1:7003", "192.0.2.1:7004", "[downlink]", DOWNLINK),
     (
@@ -82,6 +85,9 @@ const FAR_ROWS: [Row; 7] = [
     ("192.0.2.7", "192.0.2.8", "[downlink]", DOWNLINK),
     ("192.0.2.7", "2001:db8::7", "[downlink]", DOWNLINK),
     ("from = \"192.0.2.7\"", "", "[downlink]", DOWNLINK),
+    ("127.0.0.1:9107", "127.0.0.1:9108", "[web]", WEB),
+    ("127.0.0.1:9107", "[::1]:9107", "[web]", WEB),
+    ("[web]\nlisten = \"127.0.0.1:9107\"\n", "", "[web]", WEB),
     (
         "",
         "[uplink]\nconnect = \"192.0.2.9:7003\"\n",

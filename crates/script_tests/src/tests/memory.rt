@@ -246,9 +246,9 @@ fn ran(
     }
 }
 
-/// A script of which some lines find no memory. Each of its reads gives a line: its life, the script, the read that gives
-/// the first of these lines, counted from 1, and the read that gives the first line after them, 0 for the buffers, which
-/// are made before the first read; what is printed without memory for them, and what with ample memory.
+/// A script of which some lines find no memory. Each of its reads gives a line: its life, the script, the read that
+/// gives the first of these lines, counted from 1, and the read that gives the first line after them, 0 for the
+/// buffers, which are made before the first read; what is printed without memory for them, and what with ample memory.
 type Row<'a> = (u64, &'a [u8], (usize, usize), &'static [u8], &'static [u8]);
 
 const ROWS: [Row<'static>; 10] = [

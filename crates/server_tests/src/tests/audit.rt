@@ -68,7 +68,7 @@ fn takes_the_name<R: Files + Eprint + Abort>(
         in_folder(alloc, folder, "a.1")?,
     );
     let journal = empty(alloc)?;
-    let audit = AuditFile::open(rt, alloc, path.as_str())?;
+    let audit = AuditFile::open(rt, alloc, path.as_str(), true)?;
     assert!(rt; holds(rt, path.as_str(), old), "the old file is not there");
     assert!(rt; holds(rt, beside.as_str(), Some("")), "no file beside");
     audit.write(&journal)?;
@@ -89,10 +89,10 @@ fn leaves_the_old<R: Files + Eprint + Abort>(
     );
     let journal = empty(alloc)?;
     fs::write(rt, path.as_str(), OLD)?;
-    drop(AuditFile::open(rt, alloc, path.as_str())?);
+    drop(AuditFile::open(rt, alloc, path.as_str(), true)?);
     assert!(rt; holds(rt, path.as_str(), Some(OLD)), "the old file is lost");
     assert!(rt; holds(rt, beside.as_str(), None), "the file beside is left");
-    let audit = AuditFile::open(rt, alloc, path.as_str())?;
+    let audit = AuditFile::open(rt, alloc, path.as_str(), true)?;
     fs::remove_file(rt, beside.as_str())?;
     assert!(rt; audit.write(&journal).is_err(), "the fault is not told");
     assert!(rt; holds(rt, path.as_str(), Some(OLD)), "the old file is lost");
@@ -111,13 +111,32 @@ fn leaves_other_files<R: Files + Eprint + Abort>(
     );
     let journal = empty(alloc)?;
     fs::write(rt, taken.as_str(), OLD)?;
-    let audit = AuditFile::open(rt, alloc, path.as_str())?;
+    let audit = AuditFile::open(rt, alloc, path.as_str(), true)?;
     audit.write(&journal)?;
     assert!(rt; holds(rt, path.as_str(), Some(AUDIT)), "no audit");
     assert!(rt;
         holds(rt, taken.as_str(), Some(OLD)),
         "another file is lost"
     );
+    Ok(())
+}
+
+// Checks that without force a file that came meanwhile stays as it was, and the audit beside it.
+fn replaces_by_force_alone<R: Files + Eprint + Abort>(
+    rt: &R,
+    alloc: Global,
+    folder: &str,
+) -> Result<(), Fail> {
+    let (path, beside) = (
+        in_folder(alloc, folder, "i")?,
+        in_folder(alloc, folder, "i.1")?,
+    );
+    let journal = empty(alloc)?;
+    let audit = AuditFile::open(rt, alloc, path.as_str(), false)?;
+    fs::write(rt, path.as_str(), OLD)?;
+    assert!(rt; audit.write(&journal).is_err(), "the fault is not told");
+    assert!(rt; holds(rt, path.as_str(), Some(OLD)), "a file is lost");
+    assert!(rt; holds(rt, beside.as_str(), Some(AUDIT)), "no audit");
     Ok(())
 }
 
@@ -134,12 +153,12 @@ fn writes_in_place<R: Files + Eprint + Abort>(
     let journal = empty(alloc)?;
     fs::write(rt, path.as_str(), OLD)?;
     rt.symlink(path.as_str(), link.as_str())?;
-    let audit = AuditFile::open(rt, alloc, link.as_str())?;
+    let audit = AuditFile::open(rt, alloc, link.as_str(), true)?;
     assert!(rt; holds(rt, path.as_str(), Some(OLD)), "the old file is lost");
     audit.write(&journal)?;
     assert!(rt; holds(rt, path.as_str(), Some(AUDIT)), "no audit");
     assert!(rt;
-        AuditFile::open(rt, alloc, folder).is_err(),
+        AuditFile::open(rt, alloc, folder, true).is_err(),
         "a folder is no file"
     );
     Ok(())
@@ -228,7 +247,7 @@ fn is_told<R: Files + Eprint + Abort>(
         taken,
         is_renamed,
     };
-    let audit = AuditFile::open(&files, alloc, path)
+    let audit = AuditFile::open(&files, alloc, path, true)
         .ok()
         .expect(rt, "a file");
     audit.keep(journal)
@@ -323,6 +342,7 @@ fn files_of_audits(rt: HostRuntime) -> Result<(), Fail> {
     takes_the_name(&rt, alloc, folder.as_str(), Some(AUDIT))?;
     leaves_the_old(&rt, alloc, folder.as_str())?;
     leaves_other_files(&rt, alloc, folder.as_str())?;
+    replaces_by_force_alone(&rt, alloc, folder.as_str())?;
     writes_in_place(&rt, alloc, folder.as_str())?;
     faults_are_told(&rt, alloc, folder.as_str(), empty(alloc)?, &WRITES)?;
     faults_are_told(

@@ -1,6 +1,6 @@
 //! Servers that find no memory before they run: each of their requests is refused in turn, up to that of the first
-//! thread. Requests are refused by the allocator of `.ci/allocator.c` alone, with which `.ci/memory` runs this test; with
-//! any other one server runs and ends.
+//! thread. Requests are refused by the allocator of `.ci/allocator.c` alone, with which `.ci/memory` runs this test;
+//! with any other one server runs and ends.
 
 use crate::tests::serving::{InMemory, PLAN, journal_of, open_sockets};
 use running_tests::ByByte;

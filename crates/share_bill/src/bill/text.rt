@@ -158,8 +158,8 @@ fn take_line<S: Rates, I: TellingReader + Drop>(
     }
 }
 
-// Takes the lines after the first one, and answers the number of the line that would come next. A life has no events for
-// more lines than these.
+// Takes the lines after the first one, and answers the number of the line that would come next. A life has no events
+// for more lines than these.
 fn take_lines<S: Rates, I: TellingReader + Drop>(
     alloc: Global,
     bill: &mut Bill<S>,

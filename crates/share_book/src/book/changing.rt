@@ -26,8 +26,8 @@ impl<S: Rates> Book<S> {
         reply
     }
 
-    /// Ends the hold of a tenant. Refusals, in order: `Spent`, which is no event, `NoFlow` and `NotHeld`, which are. The
-    /// plan changes with it. It takes no memory. The condition: the text has room for a line.
+    /// Ends the hold of a tenant. Refusals, in order: `Spent`, which is no event, `NoFlow` and `NotHeld`, which are.
+    /// The plan changes with it. It takes no memory. The condition: the text has room for a line.
     pub fn resume(&mut self, tenant: Name) -> Reply
         requires { lacks_text self.old.audited ≡ false }
         ensures { Changes self.old (Resume tenant) (with_hold tenant false self.old.plan) result self.new }
@@ -44,8 +44,8 @@ impl<S: Rates> Book<S> {
 
     /// Amends a grant, numbered from 1, of a currency or a tenant: its ticket has this amount, and so has the grant of
     /// the plan. Refusals, in order: `Spent`; `NoCurrency` if neither has the name; `NoTicket` if it has fewer grants,
-    /// which are no events; and `Range` unless the amount is 1 to 2^20, which is one. It takes no memory. The condition:
-    /// the text has room for a line.
+    /// which are no events; and `Range` unless the amount is 1 to 2^20, which is one. It takes no memory. The
+    /// condition: the text has room for a line.
     pub fn amend(&mut self, name: Name, number: u64, amount: u64) -> Reply
         requires { lacks_text self.old.audited ≡ false }
         ensures { Amends self.old name number amount result self.new }

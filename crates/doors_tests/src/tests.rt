@@ -1,0 +1,5 @@
+//! Tests of the doors of tenants.
+
+mod delivering;
+mod doors;
+mod records;

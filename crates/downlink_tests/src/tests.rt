@@ -1,0 +1,5 @@
+//! Tests of the far end of a gateway.
+
+mod connections;
+mod datagrams;
+mod takers;

@@ -1,0 +1,20 @@
+use Rattle.share_doors.proofs.FillsLemmas.{drops_none, drops_record}
+use Rattle.share_doors.proofs.door.Door.discard_of_sender.Goals as goal
+
+pub returns-in_default : goal.returns-in_default
+returns-in_default c = drops_none _ _ c.self.view_is
+
+pub returns-then-is_over : goal.returns-then-is_over
+returns-then-is_over c = drops_none _ _ c.self.view_is
+
+pub returns-in-Dropped : goal.returns-in-Dropped
+returns-in-Dropped c = drops_record _ _ _ c.self.view_is c.count_dropped.ensures
+
+pub returns-in-More : goal.returns-in-More
+returns-in-More c = drops_none _ _ c.self.view_is
+
+pub returns-in-Nothing : goal.returns-in-Nothing
+returns-in-Nothing c = drops_none _ _ c.self.view_is
+
+pub returns-in-Over : goal.returns-in-Over
+returns-in-Over c = drops_none _ _ c.self.view_is

@@ -1,0 +1,5 @@
+use Rattle.share_doors.specs.Fills.{Drops}
+use Rattle.share_doors.proofs.door.Door.drop_waiting.Given as goal
+
+abbrev pub invariant-packets : goal.invariant-packets
+invariant-packets l = Drops l.initial.self l.self

@@ -1,0 +1,14 @@
+//! The ports of all tenants: how they are opened, what comes by them, and what becomes of them when the file is read
+//! anew.
+#![tactic(auto)]
+
+mod doorways;
+mod keeping;
+mod opening;
+mod ports;
+mod sources;
+
+pub use doorways::Doorways;
+pub use opening::{not_opened, open_doors, open_port, token_of};
+pub use ports::{PortPlace, listen, place_of_control, remove_file};
+pub use sources::{Source, Sources};

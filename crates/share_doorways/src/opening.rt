@@ -1,0 +1,146 @@
+//! How the ports of tenants are opened.
+
+use crate::doorways::Doorways;
+use crate::ports::{Opened, Opening, Port, PortPlace, open_at};
+use crate::sources::{Source, Sources};
+use mio::{Registry, Token};
+use share_base::FlowNo;
+use share_doors::Door;
+use share_news::NotRun;
+use share_settings::{Settings, TenantPorts};
+use std::alloc::Global;
+use std::fs::Files;
+use std::io::Error;
+use std::net::Net;
+
+/// Adds a source and returns its token.
+pub fn token_of(sources: &mut Sources, source: Source) -> Result<Token, NotRun> {
+    match sources.add(source) {
+        Some(token) => Ok(token),
+        None => Err(NotRun::NoMemory),
+    }
+}
+
+/// The fault of a place that cannot be opened.
+pub fn not_opened(alloc: Global, place: &PortPlace, fault: Error) -> NotRun {
+    match place.copy(alloc) {
+        Ok(port) => NotRun::Place { port, fault },
+        Err(_) => NotRun::NoMemory,
+    }
+}
+
+/// Opens a port of the tenant with this door, and adds it.
+pub fn open_port<R: Files + Net>(
+    rt: &R,
+    alloc: Global,
+    registry: &Registry,
+    sources: &mut Sources,
+    doorways: &mut Doorways,
+    door: usize,
+    place: &PortPlace,
+    mode: u32,
+) -> Result<usize, NotRun> {
+    let token = token_of(sources, Source::ControlListener)?;
+    let opened = match open_at(rt, registry, token, place, mode) {
+        Ok(opened) => opened,
+        Err(fault) => {
+            drop(sources.remove(token));
+            return Err(not_opened(alloc, place, fault));
+        }
+    };
+    let place = place.copy(alloc)?;
+    match add_port(alloc, doorways, opened, place, token, door) {
+        Some(port) => {
+            sources.set(token, Source::Port(port));
+            Ok(port)
+        }
+        None => Err(NotRun::NoMemory),
+    }
+}
+
+// Adds what was opened at a place. Returns its key.
+fn add_port(
+    alloc: Global,
+    doorways: &mut Doorways,
+    opened: Opened,
+    place: PortPlace,
+    token: Token,
+    door: usize,
+) -> Option<usize> {
+    match opened {
+        Opened::Listener(listener) => doorways.add_port(Port {
+            place,
+            opening: Opening::Listener {
+                listener,
+                is_ready: true,
+            },
+            token,
+            door,
+        }),
+        Opened::Packets(socket) => {
+            let port = doorways.add_port(Port {
+                place,
+                opening: Opening::Closed,
+                token,
+                door,
+            })?;
+            doorways.add_socket(alloc, port, socket)
+        }
+    }
+}
+
+// Opens the ports of a tenant.
+fn open_ports<R: Files + Net>(
+    rt: &R,
+    alloc: Global,
+    registry: &Registry,
+    sources: &mut Sources,
+    doorways: &mut Doorways,
+    door: usize,
+    ports: &TenantPorts,
+) -> Result<(), NotRun> {
+    for index in 0..ports.ports.len() {
+        let place = &ports.ports[index];
+        open_port(
+            rt, alloc, registry, sources, doorways, door, place, ports.mode,
+        )?;
+    }
+    Ok(())
+}
+
+// Adds the door of a tenant, and opens its ports.
+fn open_door<R: Files + Net>(
+    rt: &R,
+    alloc: Global,
+    registry: &Registry,
+    sources: &mut Sources,
+    doorways: &mut Doorways,
+    settings: &Settings,
+    index: usize,
+) -> Result<(), NotRun> {
+    let Some(tenant) = settings.plan.tenants().get(index) else {
+        return Ok(());
+    };
+    let Some(ports) = settings.ports.get(index) else {
+        return Ok(());
+    };
+    let Some(door) = doorways.add_door(Door::new(alloc, tenant.name, FlowNo(tenant.flow))) else {
+        return Err(NotRun::NoMemory);
+    };
+    open_ports(rt, alloc, registry, sources, doorways, door, ports)
+}
+
+/// Adds the doors of all tenants, and opens their ports.
+pub fn open_doors<R: Files + Net>(
+    rt: &R,
+    alloc: Global,
+    registry: &Registry,
+    sources: &mut Sources,
+    doorways: &mut Doorways,
+    settings: &Settings,
+) -> Result<(), NotRun> {
+    for index in 0..settings.plan.tenants().len() {
+        open_door(rt, alloc, registry, sources, doorways, settings, index)?;
+    }
+    Ok(())
+}

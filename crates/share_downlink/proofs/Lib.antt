@@ -1,0 +1,2 @@
+pub mod DatagramsLemmas
+pub mod GivenLemmas

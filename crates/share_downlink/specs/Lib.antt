@@ -1,0 +1,4 @@
+pub mod Connection
+pub mod Datagrams
+pub mod Given
+pub mod Steps

@@ -1,0 +1,218 @@
+//! The control connections.
+
+use mio::{Interest, Registry, Token};
+use share_controls::ControlConnection;
+use share_doorways::{Source, Sources};
+use share_news::News;
+use share_sockets::{Listener, Stream};
+use slab::Slab;
+use std::alloc::Global;
+use std::io::{Eprint, ErrorKind};
+use std::time::{Clock, Duration, Instant};
+
+/// How many control connections there are at most at the same time.
+const MAX_CONTROLS: usize = 16;
+
+/// How many connections are accepted in a round.
+const ACCEPTS: u32 = 64;
+
+/// After how many seconds the listener is tried again if connections cannot be accepted.
+const RETRY_SECONDS: u64 = 1;
+
+/// The listener of control connections, and those that are open.
+pub struct Controls {
+    listener: Listener,
+    connections: Slab<ControlConnection>,
+    // Whether connections may wait.
+    is_ready: bool,
+    // When the listener is tried again, if its connections could not be accepted.
+    retry: Option<Instant>,
+}
+
+// This is written out so that no crate above proves how each part is dropped.
+impl Drop for Controls {
+    fn drop(self) {
+        let Controls {
+            listener,
+            connections,
+            is_ready: _,
+            retry: _,
+        } = self;
+        drop(listener);
+        drop(connections);
+    }
+}
+
+impl Controls {
+    /// No connections at a listener.
+    pub fn new(alloc: Global, listener: Listener) -> Controls {
+        Controls {
+            listener,
+            connections: Slab::new(alloc),
+            is_ready: true,
+            retry: None,
+        }
+    }
+
+    /// Connections may wait.
+    pub fn note_listener(&mut self) {
+        self.is_ready = true;
+    }
+
+    /// A connection was reported ready.
+    pub fn note(&mut self, key: usize, readable: bool, writable: bool) {
+        if let Some(connection) = self.connections.get_mut(key) {
+            connection.note(readable, writable);
+        }
+    }
+
+    /// All keys of connections are below this number.
+    pub fn bound(&self) -> usize {
+        self.connections.capacity()
+    }
+
+    /// The connection of a key.
+    pub fn get(&mut self, key: usize) -> Option<&mut ControlConnection> {
+        self.connections.get_mut(key)
+    }
+
+    /// When the listener is tried again.
+    pub fn due(&self) -> Option<Instant> {
+        self.retry
+    }
+
+    /// Accepts the connections that wait. Returns true if more may.
+    pub fn accept<R: Clock + Eprint>(
+        &mut self,
+        rt: &R,
+        alloc: Global,
+        registry: &Registry,
+        sources: &mut Sources,
+        news: &mut News,
+        now: Instant,
+    ) -> bool {
+        self.retry_listener(now);
+        for _ in 0..ACCEPTS {
+            match self.next_stream(rt, news, now) {
+                None => return false,
+                Some(stream) => self.admit(rt, alloc, registry, sources, news, now, stream),
+            }
+        }
+        true
+    }
+
+    fn retry_listener(&mut self, now: Instant) {
+        if let Some(at) = self.retry {
+            if at.saturating_duration_since(now).is_zero() {
+                self.retry = None;
+                self.is_ready = true;
+            }
+        }
+    }
+
+    // The next connection that waits.
+    fn next_stream<R: Clock + Eprint>(
+        &mut self,
+        rt: &R,
+        news: &mut News,
+        now: Instant,
+    ) -> Option<Stream> {
+        if !self.is_ready {
+            return None;
+        }
+        match self.listener.accept() {
+            Ok(stream) => Some(stream),
+            Err(fault) => {
+                self.is_ready = false;
+                if fault.kind() != ErrorKind::WouldBlock {
+                    self.retry = now.checked_add(Duration::from_secs(RETRY_SECONDS));
+                    news.tell_not_accepted(rt, &fault);
+                }
+                None
+            }
+        }
+    }
+
+    // Adds a connection. If there are as many as there may be, the one whose last line is longest ago is closed first.
+    fn admit<R: Clock + Eprint>(
+        &mut self,
+        rt: &R,
+        alloc: Global,
+        registry: &Registry,
+        sources: &mut Sources,
+        news: &mut News,
+        now: Instant,
+        stream: Stream,
+    ) {
+        if self.connections.len() >= MAX_CONTROLS {
+            if let Some(key) = self.stalest() {
+                self.remove(sources, key);
+                news.tell_control_closed(rt);
+            }
+        }
+        let Some(token) = sources.add(Source::ControlListener) else {
+            return;
+        };
+        match self.join(alloc, registry, token, now, stream) {
+            None => drop(sources.remove(token)),
+            Some(key) => sources.set(token, Source::Control(key)),
+        }
+    }
+
+    // The key of the connection whose last line is longest ago.
+    fn stalest(&self) -> Option<usize> {
+        let mut found: Option<(usize, Instant)> = None;
+        for key in 0..self.connections.capacity() {
+            if let Some(connection) = self.connections.get(key) {
+                let at = connection.last_line();
+                if found.is_none_or(|(_, first)| at < first) {
+                    found = Some((key, at));
+                }
+            }
+        }
+        found.map(|(key, _)| key)
+    }
+
+    // Registers a connection and adds it. Returns its key.
+    fn join(
+        &mut self,
+        alloc: Global,
+        registry: &Registry,
+        token: Token,
+        now: Instant,
+        stream: Stream,
+    ) -> Option<usize> {
+        let mut stream = stream;
+        let both = Interest::READABLE | Interest::WRITABLE;
+        if stream.register(registry, token, both).is_err() {
+            return None;
+        }
+        match ControlConnection::new(alloc, stream, token.0, now) {
+            Err(_) => None,
+            Ok(connection) => self.connections.insert(connection).ok(),
+        }
+    }
+
+    // Closes a connection.
+    fn remove(&mut self, sources: &mut Sources, key: usize) {
+        if let Some(connection) = self.connections.try_remove(key) {
+            let token = Token(connection.token());
+            drop(connection);
+            drop(sources.remove(token));
+        }
+    }
+
+    /// Gives the socket of a connection the replies that wait, and closes it if it is over. Returns true if more may be
+    /// done for it at once.
+    pub fn send(&mut self, sources: &mut Sources, key: usize) -> bool {
+        let Some(connection) = self.connections.get_mut(key) else {
+            return false;
+        };
+        connection.send();
+        if !connection.is_over() {
+            return connection.is_busy();
+        }
+        self.remove(sources, key);
+        false
+    }
+}

@@ -1,0 +1,13 @@
+//! What comes to a gateway besides the packets of its tenants: control connections, web connections, the frames of
+//! another gateway, and the end of standard input.
+#![tactic(auto)]
+
+mod controls;
+mod far_end;
+mod input;
+mod web;
+
+pub use controls::Controls;
+pub use far_end::FarEnd;
+pub use input::Input;
+pub use web::Web;

@@ -1,0 +1,297 @@
+//! What a gateway prints of what happens.
+
+use crate::faults::PortName;
+use share_base::Name;
+use share_doors::{ClosedWhy, PortEnd};
+use share_downlink::{ClosedConnection, ClosedWhy as DownlinkClosed};
+use share_gateway::Field;
+use share_messages::{Kind, Messages};
+use share_rotation::Books;
+use share_settings::Port;
+use share_uplink::{Uplink, Work};
+use std::io;
+use std::io::Eprint;
+use std::net::SocketAddr;
+use std::time::Clock;
+
+/// The messages of a gateway.
+pub struct News {
+    messages: Messages,
+}
+
+// This is written out, as those of other types with many parts, so that no crate above proves how each part is dropped.
+impl Drop for News {
+    fn drop(self) {
+        let News { messages } = self;
+        drop(messages);
+    }
+}
+
+impl News {
+    /// No messages.
+    pub fn new(messages: Messages) -> News {
+        News { messages }
+    }
+
+    /// Prints what became of the uplink.
+    pub fn tell_uplink<R: Clock + Eprint>(&mut self, rt: &R, work: Work, uplink: &Uplink) {
+        match work {
+            Work::Rests | Work::Busy => (),
+            Work::Connected => {
+                let address = uplink.address();
+                self.messages
+                    .say(rt, Kind::Connected, None, format_args!("to {address}"));
+            }
+            Work::Lost => self.tell_lost(rt, uplink),
+            Work::Unreachable => self.tell_unreachable(rt, uplink),
+        }
+    }
+
+    fn tell_lost<R: Clock + Eprint>(&mut self, rt: &R, uplink: &Uplink) {
+        let (address, most) = (uplink.address(), uplink.lost_at_most());
+        match uplink.last_fault() {
+            Some(fault) => self.messages.say(
+                rt,
+                Kind::Lost,
+                None,
+                format_args!("{address}: {fault}; {most} bytes at most may be lost"),
+            ),
+            None => self.messages.say(
+                rt,
+                Kind::Lost,
+                None,
+                format_args!("{address}; {most} bytes at most may be lost"),
+            ),
+        }
+    }
+
+    fn tell_unreachable<R: Clock + Eprint>(&mut self, rt: &R, uplink: &Uplink) {
+        let address = uplink.address();
+        if let Some(fault) = uplink.last_fault() {
+            self.messages.say(
+                rt,
+                Kind::Unreachable,
+                None,
+                format_args!("{address}: {fault}"),
+            );
+        }
+    }
+
+    /// Prints that a connection came to the downlink.
+    pub fn tell_downlink<R: Clock + Eprint>(&mut self, rt: &R, from: SocketAddr) {
+        self.messages.say(rt, Kind::Downlink, None, format_args!("{from}: connected"));
+    }
+
+    /// Prints that a connection to the downlink was closed at once, since it comes from another address.
+    pub fn tell_stranger<R: Clock + Eprint>(&mut self, rt: &R, from: SocketAddr) {
+        self.messages.say(
+            rt,
+            Kind::Downlink,
+            None,
+            format_args!("{from}: closed at once, not from the address that is set"),
+        );
+    }
+
+    /// Prints how many datagrams of the downlink were dropped since the start.
+    pub fn tell_dropped_datagrams<R: Clock + Eprint>(&mut self, rt: &R, dropped: u64) {
+        self.messages.say(
+            rt,
+            Kind::Downlink,
+            None,
+            format_args!("{dropped} datagrams dropped since the start"),
+        );
+    }
+
+    /// Prints why a connection of the downlink was closed. The current one is another.
+    pub fn tell_downlink_closed<R: Clock + Eprint>(
+        &mut self,
+        rt: &R,
+        closed: &ClosedConnection,
+        current: Option<SocketAddr>,
+    ) {
+        let from = closed.from;
+        match closed.why {
+            DownlinkClosed::BadFrame { offset, field } => {
+                let field = field_text(field);
+                self.messages.say(
+                    rt,
+                    Kind::Downlink,
+                    None,
+                    format_args!("{from}: no frame at byte {offset}: {field}"),
+                );
+            }
+            DownlinkClosed::Failed(kind) => {
+                self.messages
+                    .say(rt, Kind::Downlink, None, format_args!("{from}: {kind}"));
+            }
+            DownlinkClosed::Replaced => self.tell_replaced(rt, from, current),
+            DownlinkClosed::Ended => self.tell_far_end(rt, from, "closed by the far end"),
+            DownlinkClosed::CutShort => self.tell_far_end(rt, from, "a frame was cut short"),
+            DownlinkClosed::Crowded => {
+                self.tell_far_end(rt, from, "too many connections wait for their first frame");
+            }
+        }
+    }
+
+    fn tell_far_end<R: Clock + Eprint>(&mut self, rt: &R, from: SocketAddr, why: &str) {
+        self.messages
+            .say(rt, Kind::Downlink, None, format_args!("{from}: {why}"));
+    }
+
+    fn tell_replaced<R: Clock + Eprint>(
+        &mut self,
+        rt: &R,
+        from: SocketAddr,
+        current: Option<SocketAddr>,
+    ) {
+        match current {
+            None => self.tell_far_end(rt, from, "replaced"),
+            Some(current) => self.messages.say(
+                rt,
+                Kind::Downlink,
+                None,
+                format_args!("{from}: replaced by {current}"),
+            ),
+        }
+    }
+
+    /// Prints why a connection of a tenant was closed, unless its far end ended it.
+    pub fn tell_closed<R: Clock + Eprint>(&mut self, rt: &R, tenant: Name, why: ClosedWhy) {
+        let said = match why {
+            ClosedWhy::Ended | ClosedWhy::HungUp | ClosedWhy::Asked => return,
+            ClosedWhy::Failed(kind) => {
+                self.messages
+                    .say(rt, Kind::Closed, Some(tenant), format_args!("{kind}"));
+                return;
+            }
+            ClosedWhy::CutShort => "a record was cut short",
+            ClosedWhy::Malformed => "no record of this tenant",
+            ClosedWhy::NoMemory => "out of memory: a packet is lost",
+        };
+        self.messages
+            .say(rt, Kind::Closed, Some(tenant), format_args!("{said}"));
+    }
+
+    /// Prints why a packet port of a tenant was closed.
+    pub fn tell_port_closed<R: Clock + Eprint>(
+        &mut self,
+        rt: &R,
+        tenant: Name,
+        place: &Port,
+        why: &PortEnd,
+    ) {
+        let port = PortName(place);
+        match why {
+            PortEnd::Ended => self.messages.say(
+                rt,
+                Kind::Closed,
+                Some(tenant),
+                format_args!("{port}: the far end closed it"),
+            ),
+            PortEnd::Failed(fault) => {
+                self.messages.say(
+                    rt,
+                    Kind::Closed,
+                    Some(tenant),
+                    format_args!("{port}: {fault}"),
+                )
+            }
+        }
+    }
+
+    /// Prints that a connection of a tenant was closed at once.
+    pub fn tell_too_many<R: Clock + Eprint>(&mut self, rt: &R, tenant: Name) {
+        self.messages.say(
+            rt,
+            Kind::Refused,
+            Some(tenant),
+            format_args!("a connection beyond the limit of its listener"),
+        );
+    }
+
+    /// Prints that a control connection was closed for another one.
+    pub fn tell_control_closed<R: Clock + Eprint>(&mut self, rt: &R) {
+        self.messages.say(
+            rt,
+            Kind::Control,
+            None,
+            format_args!("too many connections: the one that was silent for longest is closed"),
+        );
+    }
+
+    /// Prints that a connection could not be accepted.
+    pub fn tell_not_accepted<R: Clock + Eprint>(&mut self, rt: &R, fault: &io::Error) {
+        self.messages.say(
+            rt,
+            Kind::Refused,
+            None,
+            format_args!("cannot accept a connection: {fault}"),
+        );
+    }
+
+    /// Prints that the disk fails, or that it writes again.
+    pub fn tell_disk<R: Clock + Eprint>(&mut self, rt: &R, books: &Books) {
+        match books.disk_fault() {
+            Some(fault) => self
+                .messages
+                .say(rt, Kind::Disk, None, format_args!("{fault}")),
+            None => self
+                .messages
+                .say(rt, Kind::Disk, None, format_args!("writes again")),
+        }
+    }
+
+    /// Prints that the plan was read anew.
+    pub fn tell_reload<R: Clock + Eprint>(&mut self, rt: &R, path: &str) {
+        self.messages
+            .say(rt, Kind::Reload, None, format_args!("{path}"));
+    }
+
+    /// Prints which packets were dropped when a book followed another.
+    pub fn tell_remainders<R: Clock + Eprint>(&mut self, rt: &R, books: &mut Books) {
+        self.tell_packets(rt, Kind::Dropped, books);
+    }
+
+    /// Prints what was left at the end.
+    pub fn tell_left<R: Clock + Eprint>(&mut self, rt: &R, books: &mut Books) {
+        let bytes = books.left().bytes;
+        self.tell_packets(rt, Kind::Left, books);
+        if bytes > 0 {
+            self.messages.say(
+                rt,
+                Kind::Left,
+                None,
+                format_args!("{bytes} bytes of frames"),
+            );
+        }
+        self.messages.flush(rt);
+    }
+
+    // Prints the packets of each tenant that no frame carries.
+    fn tell_packets<R: Clock + Eprint>(&mut self, rt: &R, kind: Kind, books: &mut Books) {
+        for _ in 0..64 {
+            let Some(remainder) = books.next_remainder() else {
+                return;
+            };
+            let packets = remainder.packets;
+            self.messages.say(
+                rt,
+                kind,
+                Some(remainder.tenant),
+                format_args!("{packets} packets"),
+            );
+        }
+    }
+}
+
+// What the first field is called that no frame has.
+fn field_text(field: Field) -> &'static str {
+    match field {
+        Field::Magic => "its mark",
+        Field::Version => "its version",
+        Field::Tariff => "its tariff",
+        Field::Flow => "its flow number",
+        Field::Seq => "its sequence number",
+        Field::Len => "its length",
+    }
+}

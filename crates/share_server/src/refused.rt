@@ -1,0 +1,102 @@
+//! The packets that a link refused, by the ingress connection that brought them.
+
+use share_base::{Outcome, Refusal, Reply};
+use share_journal::{Entry, Source};
+use std::fmt;
+
+/// How many ingress connections a server accepts at most.
+const CONNECTIONS: usize = 8;
+
+/// The refused packets of a connection.
+#[derive(Clone, Copy, Debug)]
+struct Count {
+    // How many there were, and how many were told of.
+    refused: u64,
+    told: u64,
+    // Why the last one was refused.
+    last: Refusal,
+}
+
+/// The refused packets of all connections, by the entries of the link's journal that were counted.
+#[derive(Drop)]
+pub struct RefusedPackets {
+    counted: usize,
+    counts: [Count; CONNECTIONS],
+}
+
+/// What is told of a connection's refused packets.
+#[derive(Clone, Copy, Debug)]
+pub struct RefusedLine {
+    number: usize,
+    refused: u64,
+    last: Refusal,
+}
+
+impl fmt::Display for RefusedLine {
+    fn fmt<W: fmt::Write>(&self, f: &mut fmt::Formatter<W>) -> fmt::Result {
+        let (number, refused, last) = (self.number, self.refused, self.last.name());
+        write!(
+            f,
+            "ingress {number}: {refused} packets refused, the last as {last}"
+        )
+    }
+}
+
+// Which connection brought a packet that was refused, counted from 1, and why.
+fn refusal_in(entry: &Entry) -> Option<(u64, Refusal)> {
+    match (&entry.source, &entry.reply) {
+        (Source::Worker(worker), Outcome::Replied(Reply::Refused(refusal))) => {
+            Some((*worker, *refusal))
+        }
+        _ => None,
+    }
+}
+
+impl RefusedPackets {
+    /// None, and no entry was counted.
+    pub fn new() -> RefusedPackets {
+        let none = Count {
+            refused: 0,
+            told: 0,
+            last: Refusal::NoMemory,
+        };
+        RefusedPackets {
+            counted: 0,
+            counts: [none; CONNECTIONS],
+        }
+    }
+
+    /// Counts those of the entries that were not counted yet.
+    pub fn count(&mut self, entries: &[Entry]) {
+        for entry in entries.iter().skip(self.counted) {
+            if let Some((worker, refusal)) = refusal_in(entry) {
+                self.add(worker, refusal);
+            }
+        }
+        self.counted = entries.len();
+    }
+
+    fn add(&mut self, worker: u64, refusal: Refusal) {
+        let at = (worker as usize).wrapping_sub(1);
+        if let Some(count) = self.counts.get_mut(at) {
+            count.refused = count.refused.saturating_add(1);
+            count.last = refusal;
+        }
+    }
+
+    /// What is to be told of the connection at this place, if something is: after the first refused packet each time
+    /// that there are twice as many, so that a flood of them makes few lines. At the end all are told of.
+    pub fn line(&mut self, at: usize, is_end: bool) -> Option<RefusedLine> {
+        let count = self.counts.get_mut(at)?;
+        let is_due = count.refused >= count.told.saturating_mul(2) || is_end;
+        if count.refused == count.told || !is_due {
+            return None;
+        }
+        count.told = count.refused;
+        Some(RefusedLine {
+            number: at.saturating_add(1),
+            refused: count.refused,
+            last: count.last,
+        })
+    }
+}

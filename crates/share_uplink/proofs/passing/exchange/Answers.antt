@@ -1,5 +1,0 @@
-use Rattle.share_uplink.specs.Passing.{nothing}
-use Rattle.share_uplink.proofs.passing.exchange.Goals as goal
-
-pub returns-in_err-reads-clause-wire : goal.returns-in_err-reads-clause-wire
-returns-in_err-reads-clause-wire c = nothing _

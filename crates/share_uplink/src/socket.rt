@@ -1,0 +1,75 @@
+//! The socket of an uplink.
+
+use mio::{Interest, Registry, Token};
+use share_sockets::{DatagramSocket, Stream};
+use std::io;
+use std::io::Error;
+use std::net::{Net, SocketAddr};
+
+/// How frames go over an uplink.
+#[derive(Clone, Copy, Debug, PartialEq, Eq)]
+pub enum Transport {
+    /// Over TCP, as a stream.
+    Stream,
+    /// Over UDP, each as a datagram.
+    Datagrams,
+}
+
+/// The socket of an uplink.
+#[derive(Drop)]
+pub(crate) enum Socket {
+    Stream(Stream),
+    Datagrams(DatagramSocket),
+}
+
+impl Socket {
+    /// Why a dial that began has failed, if it has. A socket for datagrams has no far end that could refuse it.
+    pub(crate) fn take_fault(&self) -> Option<Error> {
+        match self {
+            Socket::Stream(stream) => stream.take_fault(),
+            Socket::Datagrams(_) => None,
+        }
+    }
+}
+
+/// Begins to connect, with events under this token. The socket is writable once it is connected or has failed.
+pub(crate) fn begin(
+    net: &impl Net,
+    transport: Transport,
+    address: SocketAddr,
+    buffer: u64,
+    registry: &Registry,
+    token: Token,
+) -> io::Result<Socket> {
+    match transport {
+        Transport::Stream => begin_stream(net, address, buffer, registry, token),
+        Transport::Datagrams => begin_datagrams(net, address, buffer, registry, token),
+    }
+}
+
+fn begin_stream(
+    net: &impl Net,
+    address: SocketAddr,
+    buffer: u64,
+    registry: &Registry,
+    token: Token,
+) -> io::Result<Socket> {
+    let mut stream = Stream::connect(net, address)?;
+    stream.set_send_buffer(buffer)?;
+    stream.set_nodelay(true)?;
+    stream.register(registry, token, Interest::READABLE | Interest::WRITABLE)?;
+    Ok(Socket::Stream(stream))
+}
+
+fn begin_datagrams(
+    net: &impl Net,
+    address: SocketAddr,
+    buffer: u64,
+    registry: &Registry,
+    token: Token,
+) -> io::Result<Socket> {
+    let mut socket = DatagramSocket::connect(net, address)?;
+    socket.set_send_buffer(buffer)?;
+    socket.register(registry, token, Interest::READABLE | Interest::WRITABLE)?;
+    Ok(Socket::Datagrams(socket))
+}

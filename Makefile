@@ -16,32 +16,32 @@ PREFIX ?= /usr/local
 TOOL_PACKAGES := mandoc man-db tshark gnuplot-nox python3 python3-prometheus-client postgresql systemd bash-completion \
     binutils dpkg-dev lintian zstd socat iproute2 iperf3 iputils-ping chromium prometheus curl
 
-# The proved programs go to bin/ with their command, and the scripts of examples/ play them.
-define examples
+# The proved programs go to bin/ with their command, and the programs of tests/ play them.
+define acceptance
 mkdir -p bin
 cp tools/stridelink bin/stridelink
 cp crates/stridelink/out/stridelink bin/stridelink-script
 cp crates/link/out/link bin/stridelink-link
 cp crates/gateway/out/gateway bin/stridelink-gateway
-examples/compare.sh
-examples/faults.sh
-examples/answers.sh
-examples/face.sh
-examples/slow-reader.py
-examples/terminal.py
+tests/compare.sh
+tests/faults.sh
+tests/answers.sh
+tests/face.sh
+tests/slow-reader.py
+tests/terminal.py
 examples/session.py
-examples/serve.py
-examples/hostile.py
-examples/bill.py
-examples/fuzz.py
-examples/gateway.py
-examples/datagrams.py
-examples/downlink.py
-examples/ask.py
-examples/web.py
-examples/hostile_gateway.py all_at_once
-STRIDELINK=bin/stridelink-script examples/bill.py
-examples/books.py
+tests/serve.py
+tests/hostile.py
+tests/bill.py
+tests/fuzz.py
+tests/gateway.py
+tests/datagrams.py
+tests/downlink.py
+tests/ask.py
+tests/web.py
+tests/hostile_gateway.py all_at_once
+STRIDELINK=bin/stridelink-script tests/bill.py
+tests/books.py
 endef
 
 help:
@@ -51,7 +51,7 @@ help:
 	@echo 'make serve       proves and builds that of links too, and plays a session over sockets'
 	@echo 'make build       proves and builds these two, bin/stridelink-script and bin/stridelink-link'
 	@echo 'make gateway     proves and builds bin/stridelink-gateway'
-	@echo 'make check       proves what changed since the last check, then runs the tests and the examples'
+	@echo 'make check       proves what changed since the last check, then runs all tests'
 	@echo 'make test        passes the gate: docs/GATE.md'
 	@echo 'make edits       tries the wrong bodies that the gate leaves out'
 	@echo 'make bench       measures the program'
@@ -80,9 +80,9 @@ demo:
 	@examples/demo.py
 
 check:
-	@echo 'proving what changed since the last check, then tests and examples: an hour where nothing is kept' >&2
+	@echo 'proving what changed since the last check, then all tests: an hour where nothing is kept' >&2
 	RT_SECONDS=120 .ci/rt all test
-	$(examples)
+	$(acceptance)
 
 build: bin/stridelink bin/stridelink-script bin/stridelink-link
 
@@ -114,7 +114,7 @@ test:
 	.ci/memory
 	.ci/places
 	.ci/yields
-	$(examples)
+	$(acceptance)
 	.ci/costs
 
 edits:
@@ -134,11 +134,11 @@ soak: build gateway
 	python3 bench/shares.py
 	python3 bench/gateway_shares.py
 	python3 bench/gateway_soak.py
-	examples/hostile_gateway.py
+	tests/hostile_gateway.py
 	python3 bench/tunnel.py
 
 fuzz: build
-	examples/fuzz.py --minutes $(or $(MINUTES),10)
+	tests/fuzz.py --minutes $(or $(MINUTES),10)
 
 tools:
 	DEBIAN_FRONTEND=noninteractive apt-get install -y --no-install-recommends $(TOOL_PACKAGES)

@@ -11,7 +11,7 @@ from dataclasses import dataclass
 from bench import TOP
 
 sys.dont_write_bytecode = True
-sys.path.insert(0, os.path.join(TOP, "examples"))
+sys.path.insert(0, os.path.join(TOP, "tests"))
 from gatewaying import processor_seconds  # noqa: E402
 from serving import PATIENCE, Failure, expect, expect_equal, wait_for  # noqa: E402
 

@@ -2,7 +2,7 @@
 """Measures at the far end of a gateway's uplink what share of it each tenant gets, in a table of loads.
 
 `gateway_shares.py loads`, `shaped` and `changes` are the parts; without a word all are run. The environment names the
-gateway as for examples/gateway.py. Tenants flood the gateway by a program of their own (gateway_load), and another one
+gateway as for tests/gateway.py. Tenants flood the gateway by a program of their own (gateway_load), and another one
 counts units at the far end; all sockets have the system's settings. A share is that of the units that came in a window
 of five seconds, and each window is looked at. A row has by how much a share was off at most, which shares that window
 had, and for how long no frame came at most if the far end has no rate. A share that is off by more than 0.01, and a
@@ -24,7 +24,7 @@ from dataclasses import dataclass, replace
 from bench import TOP
 from gateway_loading import Far, Floods, build_load
 
-sys.path.insert(0, os.path.join(TOP, "examples"))
+sys.path.insert(0, os.path.join(TOP, "tests"))
 from gatewaying import Play, Tenant  # noqa: E402
 from measured import DRAINED, START, WINDOW, worst_window  # noqa: E402
 from serving import Failure, Task, expect, wait_for  # noqa: E402

@@ -15,7 +15,7 @@ tenants finish. What is drawn comes from SEED (the time unless set), which is pr
   the first.
 
 Where nothing moves for a minute, the program ends. Texts take some 20 bytes a packet in the system's temporary folder,
-and are removed. The environment names the gateway as for examples/gateway.py.
+and are removed. The environment names the gateway as for tests/gateway.py.
 """
 import os
 import random
@@ -27,7 +27,7 @@ import time
 from bench import MEBIBYTE, TOP, print_row
 from gateway_loading import Far, Floods, build_load
 
-sys.path.insert(0, os.path.join(TOP, "examples"))
+sys.path.insert(0, os.path.join(TOP, "tests"))
 from gatewaying import Play, Tenant  # noqa: E402
 from serving import HEADER, SERVED, Failure, expect, expect_equal, limit_time, wait_for  # noqa: E402
 

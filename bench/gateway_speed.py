@@ -4,7 +4,7 @@
 `gateway_speed.py speed`, `replies`, `lone` and `idle` are the parts; without a word all are run. In each of ROUNDS
 rounds (5) the programs take turns, and what is printed are medians; machines are noisy, so the ratios of one run are
 what to read, which are medians of the rounds' ratios. Processor time is that of all threads of the program. The
-environment names the gateway as for examples/gateway.py. The load and the far end are a program of their own
+environment names the gateway as for tests/gateway.py. The load and the far end are a program of their own
 (gateway_load). Each row has the aim beside what was measured, if there is one. A row that misses its aim ends no run.
 
 *speed.* Four tenants flood for SECONDS seconds (1.5): frames a second at the far end, and processor time a frame. The
@@ -22,7 +22,7 @@ import time
 from bench import MEBIBYTE, TOP, build_plain, median, print_row
 from gateway_loading import Asks, Far, Floods, Pings, build_load, rate_of
 
-sys.path.insert(0, os.path.join(TOP, "examples"))
+sys.path.insert(0, os.path.join(TOP, "tests"))
 from gatewaying import Play, processor_seconds, resident  # noqa: E402
 from serving import LINK, LOOPBACK, Server  # noqa: E402
 

@@ -24,7 +24,7 @@ from dataclasses import dataclass
 from bench import MEBIBYTE, LINK, TOP, build_plain, median, print_row
 
 sys.dont_write_bytecode = True
-sys.path.insert(0, os.path.join(TOP, "examples"))
+sys.path.insert(0, os.path.join(TOP, "tests"))
 from serving import HEADER, LOOPBACK, SERVED, Server, connected, record  # noqa: E402
 
 ROUNDS = int(os.environ.get("ROUNDS", "7"))

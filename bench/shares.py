@@ -3,7 +3,7 @@
 
 `shares.py loads`, `shaped`, `changes`, `lone` and `spent` are the parts; without a word all are run. The program is
 bin/stridelink, or that of the variable STRIDELINK. Each row tells by how much a share was off at most, in the windows of
-examples/measured.py, and which shares that window had. A share that is off by more than 0.01 ends the program with
+tests/measured.py, and which shares that window had. A share that is off by more than 0.01 ends the program with
 status 1, once all rows are printed.
 
 *loads.* Four tenants with 400:300:200:100 tickets flood the server. The rate of the far end, the limit of the flows, the
@@ -27,7 +27,7 @@ import time
 
 sys.dont_write_bytecode = True
 TOP = os.path.dirname(os.path.dirname(os.path.abspath(__file__)))
-sys.path.insert(0, os.path.join(TOP, "examples"))
+sys.path.insert(0, os.path.join(TOP, "tests"))
 from measured import (MOST_ERROR, Load, check_changes, check_currency, flooded, worst_window)  # noqa: E402
 from serve import spent_life_blocked  # noqa: E402
 from serving import Failure, Run, Task, expect, record  # noqa: E402

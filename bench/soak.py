@@ -57,7 +57,7 @@ import bench
 from bench import MEBIBYTE, TOP, median, print_row
 
 sys.dont_write_bytecode = True
-sys.path.insert(0, os.path.join(TOP, "examples"))
+sys.path.insert(0, os.path.join(TOP, "tests"))
 from serving import (HEADER, LONGEST_PAYLOAD, LOOPBACK, SERVED, Failure, Server, Task, expect,  # noqa: E402
                      expect_equal, limit_time, record, total, wait_for)
 

@@ -4,7 +4,7 @@
 `tunnel.py gateway`, `htb` and `pump` are the subjects; without a word they are the gateway and htb. A gateway runs on
 each host, and its tenants have TUN devices. `htb` is no tunnel, but the same shares as classes of `tc htb` at the near
 end of the link. `pump` is a plain program in the place of the gateway (bench/pump), with shares by deficit round robin.
-`fifo` is that program without shares. The environment names the gateway as for examples/gateway.py, and SECONDS is how
+`fifo` is that program without shares. The environment names the gateway as for tests/gateway.py, and SECONDS is how
 long a case is measured (20). LINKS are the rates of the links in Mbit/s (20 200); each has 10 ms each way.
 
 Four tenants with 400:300:200:100 tickets send by iperf3 from one host to the other. The cases:

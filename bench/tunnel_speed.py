@@ -5,7 +5,7 @@ The plain program has the same reads and writes and no shares. In each of ROUNDS
 printed are medians; machines are noisy, so the ratios of one run are what to read, which are medians of the rounds'
 ratios. Four tenants with TUN devices send by iperf3 from one host to the other for SECONDS seconds (3). The megabits a
 second are of IP out of the far devices. The processor time is that of both gateways. A row has the aim beside what was
-measured, and one that misses its aim ends no run. The environment names the gateway as for examples/gateway.py, and
+measured, and one that misses its aim ends no run. The environment names the gateway as for tests/gateway.py, and
 `tunnel_speed.py pump` measures the plain program alone. A machine without network namespaces or TUN devices is skipped.
 """
 import os

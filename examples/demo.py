@@ -13,10 +13,11 @@ import threading
 import time
 
 sys.dont_write_bytecode = True
+sys.path.insert(0, os.path.join(os.path.dirname(os.path.abspath(__file__)), "..", "tests"))
 
-from bill import COLUMNS, bill_of, read_book, values_of
-from gatewaying import GATEWAY, TOP, WORDS, Play, Tenant, packet
-from serving import PROGRAM, Failure, expect, limit_time, record
+from bill import COLUMNS, bill_of, read_book, values_of  # noqa: E402
+from gatewaying import GATEWAY, TOP, WORDS, Play, Tenant, packet  # noqa: E402
+from serving import PROGRAM, Failure, expect, limit_time, record  # noqa: E402
 
 SECONDS = 15
 WINDOW = 1.0

@@ -1,12 +1,15 @@
 #!/usr/bin/env python3
 """Plays the session of docs/SERVING.md over real sockets: an operator funds two tenants, one of them sends packets, and
 the bill is proved. It prints what each side sees, and ends with status 1 if something is not as it should be."""
+import os
 import subprocess
 import sys
 
 sys.dont_write_bytecode = True
+sys.path.insert(0, os.path.join(os.path.dirname(os.path.abspath(__file__)), "..", "tests"))
 
-from serving import HEADER, PROGRAM, SERVED, Failure, Run, expect_equal, frame, frames, limit_time, record, wait_for
+from serving import (HEADER, PROGRAM, SERVED, Failure, Run, expect_equal, frame, frames, limit_time,  # noqa: E402
+                     record, wait_for)
 
 LIFE = 1000
 

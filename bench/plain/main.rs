@@ -5,7 +5,7 @@
 //! the flows that compete stand in a heap. It takes the words `run --life L`, which have to be right.
 //!
 //! With `serve` it is the link on sockets, over the mutex, the bounded channel and the threads of the standard library:
-//! the yardstick of serve.py, and what examples/serve.py was tried with. Its words are in arguments.rs. With `beside
+//! the yardstick of serve.py, and what tests/serve.py was tried with. Its words are in arguments.rs. With `beside
 //! SIZE ROUNDS` it is the yardstick of locked.py.
 
 mod arguments;

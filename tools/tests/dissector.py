@@ -131,7 +131,8 @@ def written(script):
 def examples(run):
     """The bytes of each example, in segments of 20 and of 1460 bytes."""
     cases = []
-    for script in sorted(glob.glob(os.path.join(TOP, "examples", "*.script"))):
+    for script in sorted(glob.glob(os.path.join(TOP, "examples", "*.script"))
+                         + glob.glob(os.path.join(TOP, "tests", "scripts", "*.script"))):
         data, sent = written(script)
         if data:
             cases += [(cut(data, size), sent, [], script) for size in (20, 1460)]

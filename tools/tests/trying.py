@@ -11,7 +11,7 @@ sys.dont_write_bytecode = True
 TESTS = os.path.dirname(os.path.abspath(__file__))
 TOOLS = os.path.dirname(TESTS)
 TOP = os.path.dirname(TOOLS)
-for folder in (TOOLS, os.path.join(TOP, "examples")):
+for folder in (TOOLS, os.path.join(TOP, "tests")):
     sys.path.insert(0, folder)
 
 from gatewaying import Play  # noqa: E402

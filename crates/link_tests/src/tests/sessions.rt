@@ -1,5 +1,5 @@
 //! Worked sessions of links: figures that no report shows, and writers that are interrupted and fail. The sessions
-//! whose figures a report shows are scripts of `examples/`.
+//! whose figures a report shows are scripts of `tests/scripts/`.
 
 use super::assertions::same;
 use super::made::{LIFE, linked, scripted};

@@ -1,4 +1,4 @@
-//! Lines, read and written one at a time, and the lines of a connection. Misspelled lines are scripts of `examples/`.
+//! Lines, read and written one at a time, and the lines of a connection. Misspelled lines are scripts of `tests/scripts/`.
 
 use super::VERSIONS;
 use super::allocator::{refuse_each, takes_none};

@@ -1,4 +1,4 @@
-//! Reports of links, and what writers do with them. Other reports are in the scripts of `examples/`.
+//! Reports of links, and what writers do with them. Other reports are in the scripts of `tests/scripts/`.
 
 use super::LIFE;
 use super::allocator::{refuse_each, takes_none};

@@ -1,5 +1,5 @@
 //! Whole scripts, run from a reader to a writer: those that come by the byte and those with long lines. Others are the
-//! scripts of `examples/`.
+//! scripts of `tests/scripts/`.
 
 use super::assertions::holds;
 use super::tariffs::Four;

@@ -71,7 +71,7 @@ wants 1 $'flow 1\nno 2 Spent\n' $'stridelink: line 2, \'mkcur x\': no 2 Spent\n'
     "printf 'open a 4 1\\nmkcur x\\n' | stridelink run --strict --life 1"
 wants 1 '' $'stridelink: cannot write the output\n' "stridelink run --strict $script > /dev/full"
 wants 1 $'no 3 Syntax\n' '' 'stridelink run --strict <<< walk 2> /dev/full'
-for each in examples/*.script; do
+for each in examples/*.script tests/scripts/*.script; do
     name=${each%.script}
     grep -q '^no ' "$name.output" || [[ -f $name.life ]] ||
         wants 0 "$(< "$name.output")"$'\n' '' "stridelink run --strict $each"

@@ -24,7 +24,7 @@ is given to the program again, and the first line that differs, in both answers;
 current folder, named after the seed and the case: the input, what was found and what was wanted.
 
 What a seed draws changes with this file, so what is found is kept as a test by whoever finds it: as a script with its
-output in examples/, or as a case of serve.py. Not drawn are strict runs, several connections of a kind, and whatever
+output in tests/scripts/, or as a case of serve.py. Not drawn are strict runs, several connections of a kind, and whatever
 the system takes away.
 """
 import argparse

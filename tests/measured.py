@@ -16,7 +16,7 @@ from dataclasses import dataclass, field
 
 from serving import PATIENCE, TOP, Failure, expect, wait_for
 
-EXAMPLES = os.path.join(TOP, "examples")
+TESTS = os.path.join(TOP, "tests")
 
 START = 1.0
 WINDOW = 5.0
@@ -90,7 +90,7 @@ class FarEnd:
     the time `first` by that clock."""
 
     def __init__(self, rate=0, listen="127.0.0.1:0", prefix=()):
-        words = [os.path.join(EXAMPLES, "far_end.py"), "--listen", listen, "--rate", str(rate)]
+        words = [os.path.join(TESTS, "far_end.py"), "--listen", listen, "--rate", str(rate)]
         self.program = started(words, prefix)
         self.address = self.program.first
         self.samples = []
@@ -133,7 +133,7 @@ class Flood:
     """A tenant's connection with the flows that it carries."""
 
     def __init__(self, address, words):
-        self.program = started([os.path.join(EXAMPLES, "flood.py"), address, *words])
+        self.program = started([os.path.join(TESTS, "flood.py"), address, *words])
 
     def say(self, line):
         self.program.process.stdin.write(line + "\n")

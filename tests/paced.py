@@ -15,7 +15,7 @@ import time
 from dataclasses import dataclass
 
 import measured
-from measured import EXAMPLES, WINDOW, started
+from measured import TESTS, WINDOW, started
 from serving import expect
 
 # For how long a measurement goes on at most.
@@ -52,7 +52,7 @@ class Plain:
 
     def __init__(self, run, rate):
         self.far = run.keep(measured.FarEnd())
-        self.program = run.keep(started([os.path.join(EXAMPLES, "copy_loop.py"), self.far.address, str(rate),
+        self.program = run.keep(started([os.path.join(TESTS, "copy_loop.py"), self.far.address, str(rate),
                                          run.folder()]))
 
     def rotate(self):

@@ -9,7 +9,7 @@ import sys
 
 HERE = os.path.dirname(os.path.abspath(__file__))
 PROGRAM = os.path.join(HERE, "..", "bin", "stridelink")
-SCRIPT = os.path.join(HERE, "one-packet.script")
+EXAMPLE = os.path.join(HERE, "..", "examples", "one-packet")
 SAYS = b"stridelink: reads the lines of a script; 'stridelink run --help' tells them\n"
 
 
@@ -26,14 +26,14 @@ def run(words, typed):
 
 def main():
     signal.alarm(30)
-    with open(os.path.join(HERE, "one-packet.output"), "rb") as output:
+    with open(EXAMPLE + ".output", "rb") as output:
         answers = output.read()
     rows = [
         (["run"], b"torn\n", (b"idle\nout -\n", SAYS, 0)),
         (["run", "-"], b"torn\n", (b"idle\nout -\n", SAYS, 0)),
         (["run", "--strict"], b"torn\nwalk\n", (b"idle\nno 3 Syntax\n",
                                                SAYS + b"stridelink: line 2, 'walk': no 3 Syntax\n", 1)),
-        (["run", SCRIPT], b"", (answers, b"", 0)),
+        (["run", EXAMPLE + ".script"], b"", (answers, b"", 0)),
     ]
     wrong = [(words, told) for words, typed, wanted in rows if (told := run(words, typed)) != wanted]
     for words, told in wrong:

@@ -27,8 +27,8 @@ from gateway_loading import Far, Floods, build_load
 sys.path.insert(0, os.path.join(TOP, "tests"))
 from gatewaying import Play, Tenant  # noqa: E402
 from measured import DRAINED, START, WINDOW, worst_window  # noqa: E402
-from serving import Failure, Task, expect, wait_for  # noqa: E402
-from shares import FAILED, FAR, KINDS, SHAPED, may_shape, row, shaped  # noqa: E402
+from serving import Failure, expect, wait_for  # noqa: E402
+from shares import FAILED, FAR, KINDS, SHAPED, in_pairs, may_shape, row, shaped  # noqa: E402
 
 SECONDS = float(os.environ.get("SECONDS", "8"))
 
@@ -119,26 +119,12 @@ def failed(name, fault):
     print(f"| {name:<58} | {fault} |", flush=True)
 
 
-def two_at_a_time(loads, measure):
-    """Measures loads two at a time if their uplinks are slow, since these leave the machine idle."""
-    slow = [load for load in loads if load.gateway_rate or 0 < load.rate < 1e7]
-    for pair in itertools.zip_longest(slow[::2], slow[1::2]):
-        tasks = [Task(measure, (load,)) for load in pair if load]
-        for task in tasks:
-            task.start()
-        for task in tasks:
-            task.finish(600)
-    for load in loads:
-        if load not in slow:
-            measure(load)
-
-
 def measure_loads(program):
     loads = [Load(f"{uplink}, {kind}", rate, gateway_rate, lengths=lengths, tariffs=tariffs)
              for (uplink, rate, gateway_rate), (kind, lengths, tariffs) in itertools.product(UPLINKS, KINDS)]
     loads += [Load(f"{uplink}, one connection against eight", rate, gateway_rate, (300, 100), connections=(1, 8))
               for uplink, rate, gateway_rate in UPLINKS[1:]]
-    two_at_a_time(loads, lambda load: steady(program, load))
+    in_pairs(loads, lambda load: load.gateway_rate or 0 < load.rate < 1e7, lambda load: steady(program, load))
 
 
 def measure_shaped(program):

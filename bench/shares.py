@@ -78,9 +78,9 @@ def measure(load, **where):
         row(load.name, *worst_window(list(floods.far.samples), load.wanted()), "%.0f %% of a core" % (100 * share))
 
 
-def in_pairs(loads):
+def in_pairs(loads, is_slow, measure):
     """Measures loads two at a time where their far ends are slow, since these leave the machine idle."""
-    slow = [load for load in loads if 0 < load.rate < 1e7]
+    slow = [load for load in loads if is_slow(load)]
     for pair in itertools.zip_longest(slow[::2], slow[1::2]):
         tasks = [Task(measure, (load,)) for load in pair if load]
         for task in tasks:
@@ -101,7 +101,7 @@ def measure_loads():
         loads.append(Load("%s, %s" % (speed, kind), rate, lengths=lengths, tariffs=tariffs, seconds=SECONDS))
     for speed, rate in RATES:
         loads.append(Load("%s, beside three busy loops" % speed, rate, busy=3, seconds=SECONDS))
-    in_pairs(loads)
+    in_pairs(loads, lambda load: 0 < load.rate < 1e7, measure)
 
 
 @contextlib.contextmanager

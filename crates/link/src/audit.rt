@@ -7,7 +7,7 @@ use std::fs::Files;
 use std::io;
 use std::io::Eprint;
 
-/// Where the audit goes, and where it is noted why it was not written: the result of a run only says that it was not.
+/// The file of the audit, and the place where the reason is noted if it was not written: the result of a run has none.
 #[derive(Drop)]
 pub struct NotedAudit<'a, R: Files> {
     pub audit: AuditFile<'a, R>,

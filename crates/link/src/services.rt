@@ -1,4 +1,4 @@
-//! What a server needs before it runs, and what is told after its run.
+//! A server before it runs, and the fault that is printed after its run.
 ghost use Rattle.std.specs.Prelude.{◌≡◌, [], IfOk, IsErr, IsOk, MatchResult};
 ghost use Rattle.std.specs.Process.{exit_status};
 ghost use Rattle.share_base.specs.declared.version.Version.TheVariants.{Two};
@@ -48,7 +48,7 @@ fn listen<'a, R: Net<Listener = TcpListener, Stream = TcpStream>>(
     }
 }
 
-// Connects to the uplink's peer. A verbose server tells that it waits for it.
+// Connects to the uplink's peer. A verbose server prints that it waits for it.
 fn connect<'a, R>(rt: &R, orders: ServeOrders<'a>) -> Result<TcpStream, Unserved<'a>>
 where
     R: Net<Listener = TcpListener, Stream = TcpStream> + Eprint,
@@ -95,7 +95,7 @@ fn audit_file<'a, R: Files>(
     }
 }
 
-/// What a run needs, in this order: a journal of version 2, the file of an audit, sockets. At a fault what was made
+/// The needs of a run, in this order: a journal of version 2, the file of an audit, sockets. At a fault what was made
 /// already is dropped by calls, which keeps the proof short.
 pub fn prepared<'a, R>(
     rt: &'a R,
@@ -127,7 +127,7 @@ where
     }
 }
 
-/// What went wrong in a run whose audit goes to this file, if something did, and why the audit was not written.
+/// The fault of a run whose audit goes to this file, if there is one, and why the audit was not written.
 pub fn result_of_run<'a>(
     served: Result<(), ServeFault>,
     audit: &'a str,

@@ -113,7 +113,7 @@ impl Connections {
         }
     }
 
-    /// Whether standard error tells what happens.
+    /// Whether lines about what happens are printed.
     pub fn is_verbose(&self) -> bool {
         self.is_verbose
     }
@@ -199,7 +199,7 @@ impl Connections {
         self.wire.watcher().unpark();
     }
 
-    /// Watches the uplink until nothing is left to watch, and tells its loss. From the beginning of the end on it ends
+    /// Watches the uplink until nothing is left to watch, and prints its loss. From the beginning of the end on it ends
     /// replies that are not written in time, and an uplink that takes nothing for as long.
     pub fn watch<R: Wait + Eprint>(&self, rt: &R) {
         self.watch_until_end(rt);
@@ -207,7 +207,7 @@ impl Connections {
         self.tell_loss(rt);
     }
 
-    // Waits until the end begins, or nothing is left to watch. It tells that the uplink takes nothing, once for each
+    // Waits until the end begins, or nothing is left to watch. It prints that the uplink takes nothing, once for each
     // write call.
     fn watch_until_end<R: Wait + Eprint>(&self, rt: &R) {
         let mut steps = 0;
@@ -229,7 +229,7 @@ impl Connections {
         }
     }
 
-    // Tells that the uplink is lost, once.
+    // Prints that the uplink is lost, once.
     fn tell_loss<R: Eprint>(&self, rt: &R) {
         if let Some(fault) = self.wire.take_fault() {
             let reason = Reason(fault);

@@ -53,7 +53,7 @@ impl Wire {
         }
     }
 
-    /// Where the thread sleeps that watches the connection. A write call that fails wakes it.
+    /// The parker of the thread that watches the connection. A write call that fails wakes it.
     pub fn watcher(&self) -> &Parker {
         &self.watcher
     }

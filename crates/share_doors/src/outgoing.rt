@@ -9,7 +9,7 @@ use share_ingress::FRAMING;
 use std::alloc::{AllocError, Global};
 use std::marker::Model;
 
-/// What is left of the record that a connection is being given: at most one record, and nothing between two. A contract
+/// The rest of the record that a connection is being given: at most one record, and nothing between two. A contract
 /// sees the bytes.
 #[derive(Drop)]
 pub(crate) struct Outgoing {
@@ -55,7 +55,7 @@ impl Outgoing {
         outcome
     }
 
-    /// What is left.
+    /// The bytes that are left.
     pub(crate) fn bytes(&self) -> &[u8]
         ensures { result.now ≡ self.now }
     {

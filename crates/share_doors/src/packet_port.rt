@@ -73,7 +73,7 @@ impl PacketPort {
         self.end.is_some()
     }
 
-    /// What is reported of it once it is closed, if it is over.
+    /// The report of it once it is closed, if it is over.
     pub(crate) fn closed(self) -> Option<ClosedPort> {
         let PacketPort {
             socket,

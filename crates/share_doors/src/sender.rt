@@ -46,7 +46,7 @@ pub enum ClosedWhy {
     Asked,
 }
 
-/// What came of a connection or a packet port that was asked for a packet.
+/// The answer of a connection or a packet port that was asked for a packet.
 #[derive(Clone, Copy, Debug, PartialEq, Eq)]
 pub enum Came {
     /// A packet, which the book took. Its payload has so many bytes.
@@ -243,7 +243,7 @@ impl Sender {
         }
     }
 
-    // Cuts its next record, whose payload has so many bytes.
+    // Cuts its next record, whose payload has this number of bytes.
     fn find_record(&mut self) -> Came
         ensures { FindsRecord self.old.records result self.new.records }
     {

@@ -325,7 +325,7 @@ impl Doorways {
         }
     }
 
-    /// Closes the connections and the packet ports that are over, and tells why.
+    /// Closes the connections and the packet ports that are over, and prints why.
     pub fn close_over<R: Clock + Eprint>(
         &mut self,
         rt: &R,

@@ -9,10 +9,10 @@ use std::io::{Error, ErrorKind};
 use std::net::Net;
 use std::{fs, io};
 
-/// Where something is listened to, or packets are moved.
+/// The place of a listener or of a packet port.
 pub type PortPlace = Setting;
 
-/// What a port has.
+/// The socket of a port.
 #[derive(Drop)]
 pub(crate) enum Opening {
     /// A listener, and whether connections may wait.
@@ -34,7 +34,7 @@ pub(crate) struct Port {
     pub(crate) door: usize,
 }
 
-/// What was opened at a place.
+/// The socket that was opened at a place.
 #[derive(Drop)]
 pub(crate) enum Opened {
     Listener(Listener),

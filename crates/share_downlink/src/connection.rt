@@ -49,7 +49,7 @@ pub struct ClosedConnection {
     pub why: ClosedWhy,
 }
 
-/// What came of a connection that waits for its first frame.
+/// The answer of a connection that waits for its first frame.
 #[derive(Clone, Copy, Debug, PartialEq, Eq)]
 pub(crate) enum First {
     /// Its frame is whole, and its packet was given.
@@ -147,7 +147,7 @@ impl Connection {
         }
     }
 
-    /// What is reported of it once it is closed, if it is over.
+    /// The report of it once it is closed, if it is over.
     pub(crate) fn closed(&self) -> Option<ClosedConnection>
         ensures { result ≡ closed_of self.now.token self.now.from self.now.over }
     {

@@ -1,8 +1,8 @@
-//! What is counted of the frames that came.
+//! The counts of the frames that came.
 ghost use Rattle.std.specs.Prelude.{◌≡◌};
 ghost use Rattle.share_downlink.specs.Given.{counted, no_counts};
 
-/// What is counted of the frames that came: how many there were, how many bytes they have, and how many of them had the
+/// The counts of the frames that came: how many there were, how many bytes they have, and how many of them had the
 /// number of no tenant. Counts stay at 2^64 - 1 once they are there.
 #[derive(Clone, Copy, Debug, PartialEq, Eq)]
 pub struct Counts {
@@ -23,7 +23,7 @@ impl Counts {
         }
     }
 
-    /// Counts a frame of so many bytes, whose number a tenant has or not.
+    /// Counts a frame of this number of bytes. Its flow number is that of a tenant, or not.
     pub(crate) fn count(&mut self, bytes: usize, is_known: bool)
         ensures { self.new ≡ counted is_known bytes self.old }
     {

@@ -17,7 +17,7 @@ const DATAGRAMS: u32 = 64;
 /// The most bytes of a frame, and one more: a datagram of that many is no frame.
 const ROOM: usize = 9018;
 
-/// What is counted of datagrams: the frames, and the datagrams that were dropped.
+/// The counts of datagrams: the frames, and the datagrams that were dropped.
 #[derive(Clone, Copy, Debug, PartialEq, Eq)]
 pub struct Tally {
     pub counts: Counts,
@@ -117,7 +117,7 @@ impl Datagrams {
         }
     }
 
-    /// What is counted of them.
+    /// Their counts.
     pub fn tally(&self) -> Tally
         ensures { result ≡ self.now }
     {

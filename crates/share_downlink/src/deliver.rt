@@ -1,12 +1,11 @@
-//! What takes the packets that come in.
+//! The trait of takers of the packets that come in.
 ghost use Rattle.std.specs.Prelude.{ℕ, Bool, List};
 
 use share_base::FlowNo;
 
-/// What takes the packets that come in. `delivers` is what contracts know of a call.
+/// A taker of the packets that come in. `delivers` is the relation that contracts know of a call.
 pub trait Deliver {
-    /// What takes packets before a call, the number of the flow, the payload, the answer, and what takes packets after
-    /// it.
+    /// The relation of a taker before a call, the number of the flow, the payload, the answer, and the taker after it.
     ghost delivers: { Self → ℕ → List ℕ → Bool → Self → Type 0 };
 
     /// Gives a packet to the tenant whose flow has this number. Returns whether a tenant has it.

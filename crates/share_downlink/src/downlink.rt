@@ -58,7 +58,7 @@ impl Downlink {
         }
     }
 
-    /// What is counted of the frames that came.
+    /// The counts of the frames that came.
     pub fn counts(&self) -> Counts
         ensures { result ≡ self.now }
     {
@@ -77,7 +77,7 @@ impl Downlink {
             .position(|connection| !connection.is_over())
     }
 
-    /// Where the current connection comes from.
+    /// The address from which the current connection comes.
     pub fn current_address(&self) -> Option<SocketAddr> {
         let index = self.current()?;
         Some(self.connections.get(index)?.from())

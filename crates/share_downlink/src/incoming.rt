@@ -49,7 +49,7 @@ impl Incoming {
         })
     }
 
-    /// Where in the stream the first byte is that was not given.
+    /// The place in the stream of the first byte that was not given.
     pub(crate) fn offset(&self) -> u64
         ensures { result ≡ self.now.offset }
     {

@@ -23,7 +23,7 @@ const CLOSES: u32 = 128;
 /// After how many seconds the listener is tried again if connections cannot be accepted.
 const RETRY_SECONDS: u64 = 1;
 
-/// Where the frames of another gateway come in.
+/// The downlink, on which the frames of another gateway come in.
 #[derive(Drop)]
 pub struct FarEnd {
     address: SocketAddr,
@@ -323,7 +323,7 @@ impl Connections {
         }
     }
 
-    // Closes the connections that are over, and tells why.
+    // Closes the connections that are over, and prints why.
     fn close_over<R: Clock + Eprint>(&mut self, rt: &R, sources: &mut Sources, news: &mut News) {
         for _ in 0..CLOSES {
             let Some(closed) = self.downlink.close_over() else {

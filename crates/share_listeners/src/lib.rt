@@ -1,4 +1,4 @@
-//! What comes to a gateway besides the packets of its tenants: control connections, web connections, the frames of
+//! The listeners of a gateway beside the ports of its tenants: control connections, web connections, the frames of
 //! another gateway, and the end of standard input.
 #![tactic(auto)]
 

@@ -101,7 +101,7 @@ impl GatewayFamily {
         }
     }
 
-    /// What it says.
+    /// The text that says what it is.
     pub(crate) fn help(self) -> &'static [u8]
         ensures { result.now ≡ gateway_help self }
     {
@@ -234,7 +234,7 @@ impl TenantFamily {
         }
     }
 
-    /// What it says.
+    /// The text that says what it is.
     pub(crate) fn help(self) -> &'static [u8]
         ensures { result.now ≡ tenant_help self }
     {

@@ -187,7 +187,7 @@ fn push_head(
     text.extend_from_slice(kind_of(is_counter))
 }
 
-// What stands after the name of a family in the lines that say what it is.
+// The ending of the name of a family in the lines that say what it is.
 fn family_suffix(exposition: Exposition, is_counter: bool) -> &'static [u8]
     ensures { result.now ≡ family_suffix exposition is_counter }
 {
@@ -197,7 +197,7 @@ fn family_suffix(exposition: Exposition, is_counter: bool) -> &'static [u8]
     }
 }
 
-// What stands after the name of a family in its samples.
+// The ending of the name of a family in its samples.
 fn sample_suffix(is_counter: bool) -> &'static [u8]
     ensures { result.now ≡ sample_suffix is_counter }
 {

@@ -47,7 +47,7 @@ impl fmt::Display for NotRun {
     }
 }
 
-// What could not be done at a port.
+// The call that failed at a port.
 fn not_opened(port: &Port) -> &'static str {
     match port {
         Port::Tcp(_) | Port::Unix(_) | Port::Udp(_) => "cannot listen on ",

@@ -1,4 +1,4 @@
-//! What a gateway prints of what happens, and why it did not begin or go on.
+//! The lines that a gateway prints as things happen, and why it did not begin or go on.
 #![tactic(auto)]
 
 mod faults;

@@ -1,4 +1,4 @@
-//! What a gateway prints of what happens.
+//! The lines that a gateway prints as things happen.
 
 use crate::faults::PortName;
 use share_base::Name;
@@ -284,7 +284,7 @@ impl News {
     }
 }
 
-// What the first field is called that no frame has.
+// The name of the first field that no frame has.
 fn field_text(field: Field) -> &'static str {
     match field {
         Field::Magic => "its mark",

@@ -1,4 +1,4 @@
-//! What web connections are answered.
+//! The answers to web connections.
 
 use crate::last_books::last_books;
 use crate::reactor::Reactor;

@@ -10,7 +10,7 @@ const CONNECTIONS: usize = 8;
 /// The refused packets of a connection.
 #[derive(Clone, Copy, Debug)]
 struct Count {
-    // How many there were, and how many were told of.
+    // How many there were, and how many were printed.
     refused: u64,
     told: u64,
     // Why the last one was refused.
@@ -24,7 +24,7 @@ pub struct RefusedPackets {
     counts: [Count; CONNECTIONS],
 }
 
-/// What is told of a connection's refused packets.
+/// The line about a connection's refused packets.
 #[derive(Clone, Copy, Debug)]
 pub struct RefusedLine {
     number: usize,
@@ -84,8 +84,8 @@ impl RefusedPackets {
         }
     }
 
-    /// What is to be told of the connection at this place, if something is: after the first refused packet each time
-    /// that there are twice as many, so that a flood of them makes few lines. At the end all are told of.
+    /// The line about the connection at this place, if one is due: after the first refused packet, and each time that
+    /// there are twice as many, so that a flood of them makes few lines. At the end all that are left are printed.
     pub fn line(&mut self, at: usize, is_end: bool) -> Option<RefusedLine> {
         let count = self.counts.get_mut(at)?;
         let is_due = count.refused >= count.told.saturating_mul(2) || is_end;

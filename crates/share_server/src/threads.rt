@@ -14,7 +14,7 @@ use std::sync::{Arc, Mutex, Wait};
 use std::thread::{Scope, Threads};
 use std::{io, thread};
 
-/// Follows the link's service, and tells which packets the link refused.
+/// Follows the link's service, and prints which packets the link refused.
 #[derive(Drop)]
 struct Teller<'a, R, S: Rates, L: LinkBrand> {
     rt: &'a R,
@@ -31,8 +31,8 @@ impl<'a, R: Wait + Eprint, S: Rates, L: LinkBrand> Teller<'a, R, S, L> {
         }
     }
 
-    // Counts the packets that were refused since the last call, and tells of those connections that have had twice as
-    // many as were told of, or of all that had more.
+    // Counts the packets that were refused since the last call. It prints a line about each connection that has twice
+    // as many as were printed, or, at the end, about each that has more.
     fn tell_refused(&self, is_end: bool) {
         let connections = &*self.server.connections;
         if !connections.is_verbose() {

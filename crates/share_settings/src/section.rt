@@ -49,7 +49,7 @@ pub struct Downlink {
     pub from: Option<IpAddr>,
 }
 
-/// Where browsers and scrapes of metrics come in.
+/// The listener of browsers and of scrapes of metrics.
 #[derive(Clone, Copy, Debug)]
 pub struct Web {
     pub listen: SocketAddr,

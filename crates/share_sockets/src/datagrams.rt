@@ -81,7 +81,7 @@ fn is_refusal(fault: &Error) -> bool
     fault.kind() == ErrorKind::ConnectionRefused
 }
 
-// What a failure of a call that sends comes to.
+// The result of a failure of a call that sends.
 fn sent_after(fault: Error) -> io::Result<Progress>
     requires { IsFailure fault }
     ensures moved { IfOk result (λ progress. progress ≡ Again) }
@@ -95,7 +95,7 @@ fn sent_after(fault: Error) -> io::Result<Progress>
     }
 }
 
-// What a fault of a call that receives comes to.
+// The result of a fault of a call that receives.
 fn received_after(fault: Error) -> io::Result<Received>
     ensures length { IfOk result (λ came. packet_length came ≤ 0) }
     ensures fault { IfErr result IsFailureUnrefused }

@@ -1,4 +1,4 @@
-//! What a read or a write of one packet came to.
+//! The results of reads and writes of one packet.
 ghost use Rattle.std.specs.Prelude.{◌≡◌, ◌≢◌, ◌≤◌, ◌==◌, true, false, None, Some, IfOk, IfErr, OnOk};
 ghost use Rattle.std.specs.IoError.{error_kind, raw_os_error};
 ghost use Rattle.share_sockets.specs.Failure.{IsFailure};
@@ -14,7 +14,7 @@ const EMSGSIZE: i32 = 90;
 
 const ENOBUFS: i32 = 105;
 
-/// What a read of one packet came to.
+/// The result of a read of one packet.
 #[derive(Clone, Copy, Debug)]
 pub enum Received {
     /// A packet of this many bytes, and its sender if the socket is bound to an address of its own.
@@ -27,7 +27,7 @@ pub enum Received {
     Over,
 }
 
-/// What the answer to a read of a datagram socket comes to. A packet of no bytes is a packet. An error is that of a
+/// The result of the answer to a read of a datagram socket. A packet of no bytes is a packet. An error is that of a
 /// packet that was sent before, and the socket goes on.
 pub fn datagram_of(answer: Result<(usize, Option<SocketAddr>)>) -> Received
     ensures packet { IfOk answer (λ came. result ≡ Packet came.0 came.1) }
@@ -40,7 +40,7 @@ pub fn datagram_of(answer: Result<(usize, Option<SocketAddr>)>) -> Received
     }
 }
 
-// What a fault comes to.
+// The result of a fault.
 fn datagram_after(fault: Error) -> Received
     ensures waits { error_kind fault ≡ ErrorKind.WouldBlock → result ≡ Waits }
     ensures again { error_kind fault ≢ ErrorKind.WouldBlock → result ≡ Again }
@@ -52,7 +52,7 @@ fn datagram_after(fault: Error) -> Received
     }
 }
 
-/// What the answer to a read of a descriptor comes to. A read of no bytes is its end.
+/// The result of the answer to a read of a descriptor. A read of no bytes is its end.
 pub fn packet_of(answer: Result<usize>) -> Result<Received>
     ensures packet { IfOk answer (λ count. 1 ≤ count → result ≡ Ok (Packet count None)) }
     ensures end { IfOk answer (λ count. count ≡ 0 → result ≡ Ok Over) }

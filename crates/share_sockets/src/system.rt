@@ -18,7 +18,7 @@ pub(crate) fn set_send_buffer(fd: RawFd, bytes: u64) -> io::Result<()> {
     done(status)
 }
 
-// What the status of a call says.
+// The meaning of the status of a call.
 fn done(status: i32) -> io::Result<()> {
     if status < 0 {
         Err(Error::from_raw_os_error(os::errno()))

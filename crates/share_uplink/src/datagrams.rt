@@ -1,4 +1,4 @@
-//! What goes over an uplink of datagrams.
+//! The frames that go over an uplink of datagrams.
 ghost use Rattle.std.specs.Prelude.{◌≡◌, true, IfOk, IfErr};
 ghost use Rattle.share_uplink.specs.Passing.{SendsFrames, SendsOne, WireTakes};
 

@@ -1,4 +1,4 @@
-//! What the head of a request asks for.
+//! Requests, as their heads ask.
 ghost use Rattle.std.specs.Prelude.{◌≡◌, ℕ, List, Some, length, map, option_copied};
 ghost use Rattle.httparse.specs.Borrowed.{header_parts};
 ghost use Rattle.httparse.specs.Grammar.{HasNoRequest, ReadsRequest, RequestHead};
@@ -13,14 +13,14 @@ use httparse::{EMPTY_HEADER, Error, Header, Status};
 /// The most fields of a head.
 const MAX_FIELDS: usize = 64;
 
-/// What a request asks for, and whether its answer has a body.
+/// A request: the resource that it asks for, or why it is refused, and whether its answer has a body.
 #[derive(Clone, Copy, Debug, PartialEq, Eq)]
 pub struct Request {
     pub want: Want,
     pub has_body: bool,
 }
 
-/// What a head asks of a gateway that listens at an address.
+/// The request of a head, for a gateway that listens at this address.
 pub fn asked(head: &[u8], address: &[u8]) -> Request
     ensures request { (h : RequestHead) (rest : List ℕ) → ReadsRequest head.now h rest → AsksBy address.now h result }
     ensures none { HasNoRequest head.now → IsUnread head.now result }
@@ -53,7 +53,7 @@ fn refused(why: Refusal) -> Request
     }
 }
 
-// What a request asks for that was read.
+// The want of a request whose head was read.
 fn request_in(request: &httparse::Request<'_, '_>, address: &[u8]) -> Request
     ensures { (method target : List ℕ) → option_copied request.now.method ≡ Some method
         → option_copied request.now.path ≡ Some target

@@ -1,4 +1,4 @@
-//! What can be asked for.
+//! The resources that can be asked for.
 
 /// The form of a text of metrics.
 #[derive(Clone, Copy, Debug, PartialEq, Eq)]
@@ -9,7 +9,7 @@ pub enum Exposition {
     OpenMetrics,
 }
 
-/// What a gateway serves.
+/// A resource that a gateway serves.
 #[derive(Clone, Copy, Debug, PartialEq, Eq)]
 pub enum Resource {
     /// The page that a browser shows.
@@ -35,7 +35,7 @@ pub enum Refusal {
     VersionNotSupported,
 }
 
-/// What a request asks for, or why it is refused.
+/// The resource that a request asks for, or why it is refused.
 #[derive(Clone, Copy, Debug, PartialEq, Eq)]
 pub enum Want {
     Resource(Resource),

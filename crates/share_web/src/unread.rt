@@ -50,7 +50,7 @@ fn has_other_version(head: &[u8]) -> bool
     }
 }
 
-// Where the first line feed is.
+// The place of the first line feed.
 fn line_end(head: &[u8]) -> Option<usize>
     ensures value { result ≡ position (λ byte. byte == 10) head.now }
     ensures within { IfSome result (λ end. end ≤ length head.now) }

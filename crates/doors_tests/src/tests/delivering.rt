@@ -40,7 +40,7 @@ fn add(rt: &impl Abort, alloc: Global, door: &mut Door, socket: PacketSocket) ->
         .expect(rt, "memory")
 }
 
-// What a socket has received.
+// The packet that a socket has received.
 fn received(socket: &UdpSocket, buffer: &mut [u8; 64]) -> usize {
     match socket.recv(buffer) {
         Ok(count) => count,

@@ -1,4 +1,4 @@
-//! What takes packets and remembers them, frames, and assertions that name their row.
+//! A taker of packets that remembers them, frames, and assertions that name their row.
 
 use share_base::FlowNo;
 use share_downlink::Deliver;
@@ -48,7 +48,7 @@ pub(super) fn frame(
     Ok(bytes)
 }
 
-/// The first bytes, so many if there are as many.
+/// The first bytes, as many as are asked for, or all if there are fewer.
 pub(super) fn front(bytes: &[u8], count: usize) -> &[u8] {
     &bytes[..count.min(bytes.len())]
 }

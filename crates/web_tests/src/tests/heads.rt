@@ -1,4 +1,4 @@
-//! What heads ask for, whole and in pieces.
+//! Requests of heads, whole and in pieces.
 
 use crate::tests::assertions::same;
 use share_web::{Exposition, Head, MAX_HEAD, Refusal, Request, Resource, Want, asked};

@@ -23,7 +23,7 @@ const PACKETS: u32 = 256;
 /// How many packets are read at most that wait in a socket which is removed.
 const WAITING: u32 = 4096;
 
-/// How many connections one tenant has at most at the same time.
+/// How many connections a port of a tenant has at most at the same time.
 pub const MAX_SENDERS: usize = 64;
 
 /// What came of a call that fills the buffer of a tenant.

@@ -46,11 +46,11 @@ pub struct Options {
     pub grace: u64,
     /// Whether the end of standard input begins the end.
     pub until_eof: bool,
-    /// Whether only the messages are printed that tell of a loss.
+    /// Whether only the messages of losses are printed.
     pub is_quiet: bool,
 }
 
-/// Where the end of a gateway stands.
+/// The phase of the end of a gateway.
 #[derive(Clone, Copy, Debug)]
 pub(crate) enum Ending {
     /// It was not asked for.

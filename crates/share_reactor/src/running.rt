@@ -49,7 +49,7 @@ pub fn run<R: SystemFiles + Net + Clock + Wait + Threads + Sync + Eprint>(
     }
 }
 
-// What is said of a first book that could not be begun.
+// The fault of a first book that could not be begun.
 fn no_book(alloc: Global, folder: &Folder, number: u64, fault: io::Error) -> NotRun {
     match Text::copy(alloc, folder.path()) {
         Ok(folder) => NotRun::Book {

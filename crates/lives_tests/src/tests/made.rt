@@ -86,6 +86,7 @@ pub(super) fn settings(rt: &impl Abort, alloc: Global) -> Settings {
             mode: 0o600,
         },
         downlink: None,
+        web: None,
         tariffs: rates(rt, alloc, 1),
         plan: plan(rt, alloc, 4),
         ports: Vec::new(alloc),

@@ -66,6 +66,10 @@ class Hostile:
         for worker in self.workers:
             worker.finish()
 
+    def let_go(self):
+        """Lets the hostile tenant send what it left: a connection with an unread packet stays until then."""
+        self.gateway.control.expect_all(["hold " + name for name in FLOODED] + ["resume " + HOSTILE], "ok")
+
 
 # ---- Kinds of hostile clients
 
@@ -150,6 +154,7 @@ def shares_beside(run, *kinds):
     expect(memory <= MOST_MEMORY, f"{names}: the gateway holds {memory} bytes")
     for kind in kinds:
         expect(hostile.done.get(kind.__name__), f"{kind.__name__} was not done")
+    hostile.let_go()
     wait_for(lambda: hostile.gateway.tenant(HOSTILE)["connections"] == 0, "the end of hostile connections")
 
 

@@ -1,4 +1,5 @@
-//! Lines, read and written one at a time, and the lines of a connection. Misspelled lines are scripts of `tests/scripts/`.
+//! Lines, read and written one at a time, and the lines of a connection. Misspelled lines are scripts of
+//! `tests/scripts/`.
 
 use super::VERSIONS;
 use super::allocator::{refuse_each, takes_none};

@@ -165,6 +165,7 @@ tools-test:
 	tools/tests/exporter.py
 	tools/tests/shares.py
 	tools/tests/page.py
+	tools/tests/scrape.py
 	tools/tests/unit.py
 	tools/tests/links.py
 	tools/tests/statement.py

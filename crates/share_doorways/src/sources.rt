@@ -56,8 +56,8 @@ impl Sources {
 
     /// Adds a source, and returns its token, or `None` without memory for it.
     pub fn add(&mut self, source: Source) -> Option<Token>
-        ensures free { IfSome result (λ token. source_of self.old token ≡ None) }
-        ensures added { IfSome result (λ token. ChangesOnly self.old self.new token (Some source)) }
+        ensures free { IfSome result (λ token. source_of self.old token.field-0 ≡ None) }
+        ensures added { IfSome result (λ token. ChangesOnly self.old self.new token.field-0 (Some source)) }
         ensures not { IfNone result (SameSources self.old self.new) }
     {
         match self.all.insert(source) {
@@ -68,15 +68,15 @@ impl Sources {
 
     /// What the events of a token are about.
     pub fn get(&self, token: Token) -> Option<Source>
-        ensures { result ≡ source_of self.now token }
+        ensures { result ≡ source_of self.now token.field-0 }
     {
         self.all.get(token.0).copied()
     }
 
     /// Gives a source another meaning. Without a source of this token nothing changes.
     pub fn set(&mut self, token: Token, source: Source)
-        ensures set { IsSome (source_of self.old token) → ChangesOnly self.old self.new token (Some source) }
-        ensures not { source_of self.old token ≡ None → SameSources self.old self.new }
+        ensures set { IsSome (source_of self.old token.field-0) → ChangesOnly self.old self.new token.field-0 (Some source) }
+        ensures not { source_of self.old token.field-0 ≡ None → SameSources self.old self.new }
     {
         if let Some(place) = self.all.get_mut(token.0) {
             *place = source;
@@ -85,8 +85,8 @@ impl Sources {
 
     /// Removes a source, and returns it.
     pub fn remove(&mut self, token: Token) -> Option<Source>
-        ensures removed { result ≡ source_of self.old token }
-        ensures after { ChangesOnly self.old self.new token None }
+        ensures removed { result ≡ source_of self.old token.field-0 }
+        ensures after { ChangesOnly self.old self.new token.field-0 None }
     {
         self.all.try_remove(token.0)
     }

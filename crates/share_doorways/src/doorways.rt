@@ -25,6 +25,7 @@ const RETRY_SECONDS: u64 = 1;
 const FLOWS: usize = 1024;
 
 /// The ports, and a door for each tenant.
+#[derive(Drop)]
 pub struct Doorways {
     pub(crate) ports: Slab<Port>,
     pub(crate) doors: Slab<Door>,
@@ -32,21 +33,6 @@ pub struct Doorways {
     by_flow: Vec<Option<usize>>,
     // When listeners are tried again whose connections could not be accepted.
     retry: Option<Instant>,
-}
-
-// This is written out so that no crate above proves how each part is dropped.
-impl Drop for Doorways {
-    fn drop(self) {
-        let Doorways {
-            ports,
-            doors,
-            by_flow,
-            retry: _,
-        } = self;
-        drop(ports);
-        drop(doors);
-        drop(by_flow);
-    }
 }
 
 impl Doorways {
@@ -93,8 +79,8 @@ impl Doorways {
         self.ports.insert(port).ok()
     }
 
-    /// Adds a socket to the door of a port that has nothing. Returns the port, or `None` without memory for that, and
-    /// then the port is removed.
+    /// Adds a socket to the door of a port that has nothing. Returns the port, or `None` without memory for that, and then
+    /// the port is removed.
     pub(crate) fn add_socket(
         &mut self,
         alloc: Global,

@@ -50,9 +50,8 @@ fn has_flow(tenants: &[Tenant], flow: FlowNo) -> bool {
 }
 
 impl Doorways {
-    /// Gives each port to its tenant in new settings, for whose tenants there are doors. A port that is gone is
-    /// removed. The connections of a port that goes to another tenant are closed, and what waits in its socket is
-    /// dropped.
+    /// Gives each port to its tenant in new settings, for whose tenants there are doors. A port that is gone is removed.
+    /// The connections of a port that goes to another tenant are closed, and what waits in its socket is dropped.
     pub fn keep_ports<R: Files>(
         &mut self,
         rt: &R,

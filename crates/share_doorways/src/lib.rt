@@ -1,5 +1,4 @@
-//! The ports of all tenants: how they are opened, what comes by them, and what becomes of them when the file is read
-//! anew.
+//! The ports of all tenants: how they are opened, what comes by them, and what becomes of them when the file is read anew.
 #![tactic(auto)]
 
 mod doorways;

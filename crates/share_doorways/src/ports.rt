@@ -24,6 +24,7 @@ pub(crate) enum Opening {
 }
 
 /// A port: what it has, where it is, and the door that its connections and packets come to.
+#[derive(Drop)]
 pub(crate) struct Port {
     pub(crate) place: PortPlace,
     pub(crate) opening: Opening,
@@ -31,19 +32,6 @@ pub(crate) struct Port {
     pub(crate) token: Token,
     // The key of its door.
     pub(crate) door: usize,
-}
-
-impl Drop for Port {
-    fn drop(self) {
-        let Port {
-            place,
-            opening,
-            token: _,
-            door: _,
-        } = self;
-        drop(place);
-        drop(opening);
-    }
 }
 
 /// What was opened at a place.

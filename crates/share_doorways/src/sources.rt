@@ -1,6 +1,4 @@
 //! What the events of a token are about.
-ghost use Rattle.std.specs.Prelude.{◌≡◌, ℕ, None, Some, IsSome, IfNone, IfSome};
-ghost use Rattle.share_doorways.specs.Sources.{ChangesOnly, SameSources, source_of};
 
 use mio::Token;
 use slab::Slab;
@@ -32,34 +30,22 @@ pub enum Source {
     WebClient(usize),
 }
 
-/// The sources of events. A token is the key of its source. A contract sees the source of each token.
+/// The sources of events. A token is the key of its source.
+#[derive(Drop)]
 pub struct Sources {
     all: Slab<Source>,
 }
 
-impl Drop for Sources {
-    fn drop(self) {
-        let Sources { all } = self;
-        drop(all);
-    }
-}
-
 impl Sources {
     /// No sources.
-    pub fn new(alloc: Global) -> Sources
-        ensures { (token : ℕ) → source_of result token ≡ None }
-    {
+    pub fn new(alloc: Global) -> Sources {
         Sources {
             all: Slab::new(alloc),
         }
     }
 
     /// Adds a source, and returns its token, or `None` without memory for it.
-    pub fn add(&mut self, source: Source) -> Option<Token>
-        ensures free { IfSome result (λ token. source_of self.old token.field-0 ≡ None) }
-        ensures added { IfSome result (λ token. ChangesOnly self.old self.new token.field-0 (Some source)) }
-        ensures not { IfNone result (SameSources self.old self.new) }
-    {
+    pub fn add(&mut self, source: Source) -> Option<Token> {
         match self.all.insert(source) {
             Ok(key) => Some(Token(key)),
             Err(_) => None,
@@ -67,27 +53,19 @@ impl Sources {
     }
 
     /// What the events of a token are about.
-    pub fn get(&self, token: Token) -> Option<Source>
-        ensures { result ≡ source_of self.now token.field-0 }
-    {
+    pub fn get(&self, token: Token) -> Option<Source> {
         self.all.get(token.0).copied()
     }
 
-    /// Gives a source another meaning. Without a source of this token nothing changes.
-    pub fn set(&mut self, token: Token, source: Source)
-        ensures set { IsSome (source_of self.old token.field-0) → ChangesOnly self.old self.new token.field-0 (Some source) }
-        ensures not { source_of self.old token.field-0 ≡ None → SameSources self.old self.new }
-    {
+    /// Gives a source another meaning.
+    pub fn set(&mut self, token: Token, source: Source) {
         if let Some(place) = self.all.get_mut(token.0) {
             *place = source;
         }
     }
 
     /// Removes a source, and returns it.
-    pub fn remove(&mut self, token: Token) -> Option<Source>
-        ensures removed { result ≡ source_of self.old token.field-0 }
-        ensures after { ChangesOnly self.old self.new token.field-0 None }
-    {
+    pub fn remove(&mut self, token: Token) -> Option<Source> {
         self.all.try_remove(token.0)
     }
 }

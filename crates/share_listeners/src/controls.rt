@@ -20,6 +20,7 @@ const ACCEPTS: u32 = 64;
 const RETRY_SECONDS: u64 = 1;
 
 /// The listener of control connections, and those that are open.
+#[derive(Drop)]
 pub struct Controls {
     listener: Listener,
     connections: Slab<ControlConnection>,
@@ -27,20 +28,6 @@ pub struct Controls {
     is_ready: bool,
     // When the listener is tried again, if its connections could not be accepted.
     retry: Option<Instant>,
-}
-
-// This is written out so that no crate above proves how each part is dropped.
-impl Drop for Controls {
-    fn drop(self) {
-        let Controls {
-            listener,
-            connections,
-            is_ready: _,
-            retry: _,
-        } = self;
-        drop(listener);
-        drop(connections);
-    }
 }
 
 impl Controls {

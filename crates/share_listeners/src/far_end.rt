@@ -24,23 +24,12 @@ const CLOSES: u32 = 128;
 const RETRY_SECONDS: u64 = 1;
 
 /// Where the frames of another gateway come in.
+#[derive(Drop)]
 pub struct FarEnd {
     address: SocketAddr,
     // The address from which alone frames are taken, if they are limited.
     from: Option<IpAddr>,
     way: Way,
-}
-
-// This is written out so that no crate above proves how each part is dropped.
-impl Drop for FarEnd {
-    fn drop(self) {
-        let FarEnd {
-            address: _,
-            from: _,
-            way,
-        } = self;
-        drop(way);
-    }
 }
 
 /// The way that frames come.
@@ -52,6 +41,7 @@ enum Way {
 }
 
 /// The listener, and the connections that came by it.
+#[derive(Drop)]
 struct Connections {
     listener: Listener,
     downlink: Downlink,
@@ -59,19 +49,6 @@ struct Connections {
     is_ready: bool,
     // When the listener is tried again, if its connections could not be accepted.
     retry: Option<Instant>,
-}
-
-impl Drop for Connections {
-    fn drop(self) {
-        let Connections {
-            listener,
-            downlink,
-            is_ready: _,
-            retry: _,
-        } = self;
-        drop(listener);
-        drop(downlink);
-    }
 }
 
 /// Gives packets to the doors of their tenants.

@@ -1,6 +1,4 @@
 //! Standard input, whose end ends a gateway that is to end with it.
-ghost use Rattle.std.specs.Prelude.{◌≡◌, true, false};
-ghost use Rattle.share_listeners.specs.Input.{has_ended, may_be_read};
 
 use libc::net::{POLLHUP, POLLIN};
 use libc::types::pollfd;
@@ -15,7 +13,7 @@ const PIECE: usize = 4096;
 
 const CALLS: u32 = 16;
 
-/// Standard input. What comes is thrown away. A contract sees whether its end was noted, and whether it may be read.
+/// Standard input. What comes is thrown away.
 #[derive(Drop)]
 pub struct Input {
     is_readable: bool,
@@ -36,10 +34,7 @@ impl Input {
     }
 
     /// Standard input, which is not looked at.
-    pub fn ignored() -> Input
-        ensures goes_on { has_ended result ≡ false }
-        ensures unread { may_be_read result ≡ false }
-    {
+    pub fn ignored() -> Input {
         Input {
             is_readable: false,
             has_ended: false,
@@ -47,19 +42,13 @@ impl Input {
     }
 
     /// It was reported readable.
-    pub fn note(&mut self)
-        ensures { has_ended self.new ≡ has_ended self.old }
-    {
+    pub fn note(&mut self) {
         self.is_readable = true;
     }
 
-    /// Throws away what came. Returns whether it has ended. It ends only by a read, and stays ended.
-    pub fn drain(&mut self) -> bool
-        ensures noted { result ≡ has_ended self.new }
-        ensures stays { has_ended self.old ≡ true → result ≡ true }
-        ensures unread { may_be_read self.old ≡ false → self.new ≡ self.old }
-    {
-        'calls: for _ in 0..CALLS {
+    /// Throws away what came. Returns whether it has ended.
+    pub fn drain(&mut self) -> bool {
+        for _ in 0..CALLS {
             if self.has_ended || !self.is_readable {
                 break;
             }

@@ -19,6 +19,7 @@ const MAX_CLIENTS: usize = 32;
 const RETRY_SECONDS: u64 = 1;
 
 /// The web listener, and its connections.
+#[derive(Drop)]
 pub struct Web {
     listener: Listener,
     // The address, as the Host of a request has it.
@@ -28,22 +29,6 @@ pub struct Web {
     is_ready: bool,
     // When the listener is tried again, if its connections could not be accepted.
     retry: Option<Instant>,
-}
-
-// This is written out so that no crate above proves how each part is dropped.
-impl Drop for Web {
-    fn drop(self) {
-        let Web {
-            listener,
-            address,
-            clients,
-            is_ready: _,
-            retry: _,
-        } = self;
-        drop(listener);
-        drop(address);
-        drop(clients);
-    }
 }
 
 impl Web {

@@ -19,7 +19,7 @@ pub struct News {
     messages: Messages,
 }
 
-// This is written out, as those of other types with many parts, so that no crate above proves how each part is dropped.
+// This is written out so that no crate above proves how each part is dropped.
 impl Drop for News {
     fn drop(self) {
         let News { messages } = self;

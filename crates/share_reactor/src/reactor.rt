@@ -1,6 +1,4 @@
 //! The loop of a gateway.
-ghost use Rattle.std.specs.Prelude.{◌≡◌, min, IfNone, IfSome, IsSome};
-ghost use Rattle.std.specs.Duration.{as_nanos};
 
 use mio::event::Event;
 use mio::{Events, Poll, Token};
@@ -64,6 +62,7 @@ pub(crate) enum Ending {
 }
 
 /// A gateway that runs.
+#[derive(Drop)]
 pub struct Reactor<'b> {
     pub(crate) alloc: Global,
     pub(crate) poll: Poll,
@@ -86,51 +85,8 @@ pub struct Reactor<'b> {
     pub(crate) ending: Ending,
 }
 
-// This is written out so that functions that have a reactor do not prove how each part is dropped.
-impl<'b> Drop for Reactor<'b> {
-    fn drop(self) {
-        let Reactor {
-            alloc: _,
-            poll,
-            sources,
-            doorways,
-            controls,
-            control_place,
-            web,
-            uplink,
-            uplink_token: _,
-            far_end,
-            input,
-            books: _,
-            news,
-            settings,
-            roster,
-            holds,
-            grace: _,
-            ending: _,
-        } = self;
-        drop(poll);
-        drop(sources);
-        drop(doorways);
-        drop(controls);
-        drop(control_place);
-        drop(web);
-        drop(uplink);
-        drop(far_end);
-        drop(input);
-        drop(news);
-        drop(settings);
-        drop(roster);
-        drop(holds);
-    }
-}
-
 // The shorter of two pauses, of which one may be for ever.
-fn shorter(pause: Option<Duration>, other: Duration) -> Option<Duration>
-    ensures ends { IsSome result }
-    ensures both { IfSome pause (λ p. IfSome result (λ q. as_nanos q ≡ min (as_nanos p) (as_nanos other))) }
-    ensures alone { IfNone pause (IfSome result (λ q. as_nanos q ≡ as_nanos other)) }
-{
+fn shorter(pause: Option<Duration>, other: Duration) -> Option<Duration> {
     match pause {
         Some(pause) if pause < other => Some(pause),
         _ => Some(other),

@@ -64,8 +64,8 @@ fn push_key(keys: &mut Vec<usize>, key: usize) -> Result<(), NotRun> {
 }
 
 impl Reactor<'_> {
-    /// Reads the file anew, and has the next book begin with its plan. Returns the reply. If the file is refused,
-    /// nothing changes.
+    /// Reads the file anew, and has the next book begin with its plan. Returns the reply. If the file is refused, nothing
+    /// changes.
     pub(crate) fn reload<R: Files<File = File> + Net + Clock + Eprint>(
         &mut self,
         rt: &R,
@@ -184,8 +184,7 @@ impl Reactor<'_> {
         }
     }
 
-    // Gives each port to its tenant, and closes the ports and the doors that are gone. The next book begins with the
-    // plan.
+    // Gives each port to its tenant, and closes the ports and the doors that are gone. The next book begins with the plan.
     fn commit<R: Files>(&mut self, rt: &R, settings: Settings, holds: ControlHolds) {
         let registry = self.poll.registry();
         self.doorways

@@ -1,9 +1,10 @@
 //! How a gateway is run, from its sockets to what was left.
 
-use crate::reactor::{Options, Reactor};
+use crate::reactor::{Ending, Options, Reactor};
 use crate::start::Ground;
 use share_disk::{Folder, OpenText};
-use share_news::NotRun;
+use share_messages::Messages;
+use share_news::{News, NotRun};
 use share_reload::{ControlHolds, Roster};
 use share_rotation::{Books, Left, UseBooks, tariffs_of, with_books};
 use share_settings::{Settings, Text};
@@ -142,5 +143,36 @@ fn reactor_of<'b>(
 ) -> Result<Reactor<'b>, NotRun> {
     let roster = roster_of(alloc, &settings)?;
     let holds = ControlHolds::new(alloc, &settings.plan)?;
-    Ok(ground.into_reactor(alloc, settings, roster, holds, books, options))
+    let Ground {
+        poll,
+        sources,
+        doorways,
+        controls,
+        control_place,
+        web,
+        uplink,
+        uplink_token,
+        far_end,
+        input,
+    } = ground;
+    Ok(Reactor {
+        alloc,
+        poll,
+        sources,
+        doorways,
+        controls,
+        control_place,
+        web,
+        uplink,
+        uplink_token,
+        far_end,
+        input,
+        books,
+        news: News::new(Messages::new(alloc, options.is_quiet)),
+        settings,
+        roster,
+        holds,
+        grace: options.grace,
+        ending: Ending::No,
+    })
 }

@@ -1,16 +1,13 @@
 //! The sockets of a gateway: how they are opened, and how their files are removed.
 
-use crate::reactor::{Ending, Options, Reactor};
+use crate::reactor::Reactor;
 use mio::{Poll, Registry, Token, Waker};
 use share_doorways::{
     Doorways, PortPlace, Source, Sources, listen, not_opened, open_doors, open_port,
     place_of_control, remove_file, token_of,
 };
 use share_listeners::{Controls, FarEnd, Input, Web};
-use share_messages::Messages;
-use share_news::{News, NotRun};
-use share_reload::{ControlHolds, Roster};
-use share_rotation::Books;
+use share_news::NotRun;
 use share_settings::{Control, Peer, Settings, Web as WebSettings};
 use share_sockets::Listener;
 use share_uplink::{Transport, Uplink};
@@ -20,6 +17,7 @@ use std::net::Net;
 use std::time::{Clock, Instant};
 
 /// What a gateway has before its first book begins: its sockets.
+#[derive(Drop)]
 pub(crate) struct Ground {
     pub(crate) poll: Poll,
     pub(crate) sources: Sources,
@@ -31,33 +29,6 @@ pub(crate) struct Ground {
     pub(crate) uplink_token: Token,
     pub(crate) far_end: Option<FarEnd>,
     pub(crate) input: Input,
-}
-
-// This is written out so that functions that have a ground do not prove how each part is dropped.
-impl Drop for Ground {
-    fn drop(self) {
-        let Ground {
-            poll,
-            sources,
-            doorways,
-            controls,
-            control_place,
-            web,
-            uplink,
-            uplink_token: _,
-            far_end,
-            input,
-        } = self;
-        drop(poll);
-        drop(sources);
-        drop(doorways);
-        drop(controls);
-        drop(control_place);
-        drop(web);
-        drop(uplink);
-        drop(far_end);
-        drop(input);
-    }
 }
 
 // Listens for control connections.
@@ -178,49 +149,6 @@ impl Ground {
         Ok(Waker::new(self.poll.registry(), token)?)
     }
 
-    /// The gateway that has these sockets.
-    pub(crate) fn into_reactor<'b>(
-        self,
-        alloc: Global,
-        settings: Settings,
-        roster: Roster,
-        holds: ControlHolds,
-        books: &'b mut Books,
-        options: Options,
-    ) -> Reactor<'b> {
-        let Ground {
-            poll,
-            sources,
-            doorways,
-            controls,
-            control_place,
-            web,
-            uplink,
-            uplink_token,
-            far_end,
-            input,
-        } = self;
-        Reactor {
-            alloc,
-            poll,
-            sources,
-            doorways,
-            controls,
-            control_place,
-            web,
-            uplink,
-            uplink_token,
-            far_end,
-            input,
-            books,
-            news: News::new(Messages::new(alloc, options.is_quiet)),
-            settings,
-            roster,
-            holds,
-            grace: options.grace,
-            ending: Ending::No,
-        }
-    }
     /// Removes the files of Unix sockets.
     pub(crate) fn remove_files<R: Files>(&self, rt: &R) {
         self.doorways.remove_files(rt);

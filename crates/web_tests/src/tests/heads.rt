@@ -156,7 +156,7 @@ fn rows() -> [Row; 34] {
 // The head of these bytes, which come in pieces of this size, and then more.
 fn head_of(rt: &impl Abort, alloc: Global, bytes: &[u8], size: usize, more: &[u8]) -> Head {
     let mut head = Head::new(alloc);
-    for piece in bytes.chunks(size) {
+    for piece in bytes.chunks(size.max(1)) {
         same(rt, size, head.is_over(), false);
         same(rt, size, head.take(piece).is_ok(), true);
     }

@@ -120,10 +120,9 @@ fn tenant(rt: &impl Abort, letters: &str, held: bool, first: u32) -> TenantStatu
     }
 }
 
-#[test]
-fn whole_status_is_spelled(rt: HostRuntime) -> Result<(), Fail> {
+fn tenants(rt: &impl Abort) -> [TenantStatus<'static>; 2] {
     let acme = TenantStatus {
-        name: Name::read(b"acme").ok_or("a name")?,
+        name: Name::read(b"acme").expect(rt, "a name"),
         flow: 1,
         held: false,
         tickets: 250,
@@ -139,15 +138,19 @@ fn whole_status_is_spelled(rt: HostRuntime) -> Result<(), Fail> {
         dropped: 4,
         lost: 5,
     };
-    let tenants = [acme, tenant(&rt, "b-2_x", true, 1)];
-    let address = "192.0.2.7:7003".parse().ok().ok_or("an address")?;
-    let status = Status {
+    [acme, tenant(rt, "b-2_x", true, 1)]
+}
+
+// The status of a gateway with all parts.
+fn whole<'a>(rt: &impl Abort, tenants: &'a [TenantStatus<'a>]) -> Status<'a> {
+    let address = "192.0.2.7:7003".parse().ok().expect(rt, "an address");
+    Status {
         version: "1.2.3",
         proved: "rattle 0.9",
         book: 42,
         events: 131,
         left: 16777085,
-        opened: Time::new(2026, 1, 31, 23, 59, 59).ok_or("a time")?,
+        opened: Time::new(2026, 1, 31, 23, 59, 59).expect(rt, "a time"),
         uplink: Some(UplinkStatus {
             state: UplinkState::Up,
             address,
@@ -160,7 +163,7 @@ fn whole_status_is_spelled(rt: HostRuntime) -> Result<(), Fail> {
             waiting: 512,
             fault: None,
         },
-        tenants: &tenants,
+        tenants,
         downlink: Some(DownlinkStatus {
             state: DownlinkState::Listening,
             address,
@@ -168,23 +171,28 @@ fn whole_status_is_spelled(rt: HostRuntime) -> Result<(), Fail> {
             bytes: 8000,
             strangers: 1,
         }),
-    };
+    }
+}
+
+// Both forms of the text of the whole status have its lines.
+fn have_lines(rt: &impl Abort, plain: &str, open: &str) {
+    for line in WHOLE {
+        same(rt, line, plain.contains(line), true);
+        same(rt, line, open.contains(line), true);
+    }
+    same(rt, "plain", plain.contains(PLAIN_HEAD), true);
+    same(rt, "OpenMetrics", open.contains(OPEN_HEAD), true);
+    same(rt, "plain has no end", plain.contains("# EOF"), false);
+    same(rt, "the last line", open.ends_with("} 24\n# EOF\n"), true);
+}
+
+#[test]
+fn whole_status_is_spelled(rt: HostRuntime) {
+    let tenants = tenants(&rt);
+    let status = whole(&rt, tenants.as_slice());
     let plain = text_of(&rt, rt.alloc(), Exposition::Plain, &status);
     let open = text_of(&rt, rt.alloc(), Exposition::OpenMetrics, &status);
-    let plain = str::from_utf8(plain.as_slice()).ok().ok_or("text")?;
-    let open = str::from_utf8(open.as_slice()).ok().ok_or("text")?;
-    for line in WHOLE {
-        same(&rt, line, plain.contains(line), true);
-        same(&rt, line, open.contains(line), true);
-    }
-    same(&rt, "plain", plain.contains(PLAIN_HEAD), true);
-    same(&rt, "OpenMetrics", open.contains(OPEN_HEAD), true);
-    same(
-        &rt,
-        "plain has no last line",
-        plain.contains("# EOF"),
-        false,
-    );
-    same(&rt, "the last line", open.ends_with("} 24\n# EOF\n"), true);
-    Ok(())
+    let plain = str::from_utf8(plain.as_slice()).ok().expect(&rt, "text");
+    let open = str::from_utf8(open.as_slice()).ok().expect(&rt, "text");
+    have_lines(&rt, plain, open);
 }

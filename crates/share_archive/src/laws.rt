@@ -1,4 +1,4 @@
-//! What holds of every close and every recovery. The functions here do nothing: their contracts are laws, and are
+//! Laws of every close and every recovery. The functions here do nothing: their contracts are laws, and are
 //! proved.
 ghost use Rattle.std.specs.Prelude.{◌≡◌, ◌+◌, ◌≤◌};
 ghost use Rattle.share_archive.specs.Steps.{May, Reaches, after, settled, steps_left};

@@ -1,4 +1,4 @@
-//! What the words of the command line ask for: runs of scripts and bills over the program's tariffs, texts of help,
+//! The orders of the command line: runs of scripts and bills over the program's tariffs, texts of help,
 //! faults, and the exit statuses of all these.
 #![tactic(auto)]
 

@@ -105,8 +105,8 @@ fn asked_or_text<'a>(
     }
 }
 
-// What words ask for of a command line, which stays its caller's: a function that owns it would drop it in each way
-// out.
+// The orders of the words of a command line, which stays its caller's: a function that owns it would drop it in each
+// way out.
 fn asked_of<'a>(
     alloc: Global,
     command: &mut Command<'a>,
